@@ -1,0 +1,63 @@
+-- Which bytes are a length, and the text that is written of one. Lengths are thousandths of a chain.
+use Rattle.std.specs.Prelude.{◌≡◌, ◌==◌, ℕ, ◌+◌, ◌-◌, ◌*◌, ◌/◌, ◌%◌, ◌^◌, ◌≤◌, ◌<◌, ◌⊎◌, List, [], ◌∷◌, ◌++◌, length, take, drop, decimal, if◌then◌else◌}
+use Rattle.std.specs.List.{position_or_len}
+use Rattle.std.specs.Str.Parse.{IsNumeral, digits_value}
+
+-- the byte of a decimal point
+abbrev pub point : ℕ
+point = 46
+
+-- where the first point stands, or the length where there is none
+abbrev pub place_of_point : List ℕ → ℕ
+place_of_point text = position_or_len (λ byte. byte == point) text
+
+-- what stands before the first point, which is all where there is none
+abbrev pub before_point : List ℕ → List ℕ
+before_point text = take (place_of_point text) text
+
+-- what stands behind the first point, which is nothing where there is none
+abbrev pub behind_point : List ℕ → List ℕ
+behind_point text = drop (place_of_point text + 1) text
+
+-- one or two digits are so many whole chains
+pub record IsWholeChains (text : List ℕ) (chains : ℕ) : Type 0 where
+  pub numeral : IsNumeral 10 text
+  pub places : length text ≤ 2
+  pub value : chains ≡ digits_value 10 text
+
+-- the thousandths of a chain that the digits behind a point stand for
+abbrev pub fraction_of : List ℕ → ℕ
+fraction_of decimals = digits_value 10 decimals * 10 ^ (3 - length decimals)
+
+-- one to three digits behind a point are so many thousandths of a chain
+pub record IsDecimals (text : List ℕ) (thousandths : ℕ) : Type 0 where
+  pub numeral : IsNumeral 10 text
+  pub places : length text ≤ 3
+  pub value : thousandths ≡ fraction_of text
+
+-- whole chains, a point and decimals
+pub record IsPointed (text : List ℕ) (v : ℕ) : Type 0 where
+  pub whole : List ℕ
+  pub decimals : List ℕ
+  pub chains : ℕ
+  pub thousandths : ℕ
+  pub before : IsWholeChains whole chains
+  pub behind : IsDecimals decimals thousandths
+  pub text_is : text ≡ whole ++ point ∷ decimals
+  pub value : v ≡ 1000 * chains + thousandths
+
+-- the text is a length of v thousandths: whole chains alone, or with decimals
+abbrev pub IsLengthText : List ℕ → ℕ → Type 0
+IsLengthText text v = ((chains : ℕ) × IsWholeChains text chains × (v ≡ 1000 * chains)) ⊎ IsPointed text v
+
+-- the byte of a digit
+abbrev pub digit_byte : ℕ → ℕ
+digit_byte digit = 48 + digit
+
+-- the third decimal, where it isn't 0
+abbrev pub third_decimal : ℕ → List ℕ
+third_decimal v = if v % 10 == 0 then [] else digit_byte (v % 10) ∷ []
+
+-- the text that is written of a length: whole chains, a point, two decimals or three
+abbrev pub length_text : ℕ → List ℕ
+length_text v = decimal (v / 1000) ++ point ∷ digit_byte (v / 100 % 10) ∷ digit_byte (v / 10 % 10) ∷ third_decimal v

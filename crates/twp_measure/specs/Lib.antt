@@ -1,0 +1,5 @@
+pub mod LengthTexts
+pub mod LengthFaults
+pub mod Areas
+pub mod Acres
+pub mod Laws

@@ -1,0 +1,43 @@
+ghost use Rattle.std.specs.Prelude.{◌≡◌, ◌++◌, OnOk, OnErr};
+ghost use Rattle.twp_measure.specs.Acres.{acres_text};
+
+use itoa::write_digits;
+use std::alloc::AllocError;
+
+/// The most digits of whole acres.
+const MOST_DIGITS: usize = 18;
+
+/// Appends acres with two decimals, as `39.05`, from hundredths of an acre. Where memory runs out the
+/// vector is as it was.
+pub fn write_acres(hundredths: u64, out: &mut Vec<u8>) -> Result<(), AllocError>
+    ensures ok { OnOk result (out.new.items ≡ out.old.items ++ acres_text hundredths) }
+    ensures err { OnErr result (out.new.items ≡ out.old.items) }
+{
+    let mut text = [b'.'; MOST_DIGITS + 3];
+    text[MOST_DIGITS + 1] = b'0' + (hundredths / 10 % 10) as u8;
+    text[MOST_DIGITS + 2] = b'0' + (hundredths % 10) as u8;
+    let start = write_digits(hundredths / 100, &mut text, MOST_DIGITS);
+    out.extend_from_slice(&text[start..])
+}
+
+#[cfg(test)]
+mod tests {
+    use super::*;
+    use std::test::Fail;
+
+    #[test]
+    fn writes_two_decimals(rt: HostRuntime) -> Result<(), Fail> {
+        for (hundredths, text) in [
+            (3_905, "<39.05"),
+            (5, "<0.05"),
+            (0, "<0.00"),
+            (16_000, "<160.00"),
+            (u64::MAX, "<184467440737095516.15"),
+        ] {
+            let mut out = Vec::from_slice(rt.alloc(), b"<")?;
+            write_acres(hundredths, &mut out)?;
+            assert_eq!(rt; out.as_slice(), text.as_bytes());
+        }
+        Ok(())
+    }
+}

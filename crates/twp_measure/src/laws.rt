@@ -1,0 +1,9 @@
+//! What holds of lengths and areas as they are defined: each law is a contract, and its function has
+//! nothing to do.
+ghost use Rattle.twp_measure.specs.Laws.{WrittenIsRead};
+
+/// The text that is written of a length is a text of that length, so `Length::read` gives it back.
+#[tactic(auto, using(crate::proofs::WrittenLengths::written_is_length))]
+pub fn written_is_read()
+    ensures { WrittenIsRead }
+{}

@@ -1,0 +1,240 @@
+ghost use Rattle.std.specs.Prelude.{◌≡◌, ℕ, ◌+◌, ◌*◌, ◌%◌, ◌^◌, ◌<◌, ◌≤◌, ◌++◌, ◌↔◌, length, IsTrue, IfOk, IfErr, OnOk, OnErr};
+ghost use Rattle.std.specs.Char.{is_ascii_digit};
+ghost use Rattle.std.specs.List.{list_all};
+ghost use Rattle.std.specs.Str.Parse.{IsNumeral, digits_value};
+ghost use Rattle.twp_measure.specs.LengthTexts.{fraction_of, place_of_point};
+
+use itoa::write_digits;
+use std::alloc::AllocError;
+use std::marker::Model;
+use thiserror::Error;
+
+/// The length of a survey line in thousandths of a chain, 0 to 99,999 (this project's rule). A chain
+/// is 66 feet or 100 links, and 80 chains are a mile.
+#[derive(Clone, Copy, Debug, PartialEq, Eq, PartialOrd, Ord, Hash)]
+pub struct Length {
+    thousandths: u32,
+}
+
+impl Model for Length {
+    ghost Value = { ℕ };
+
+    ghost view = { λ line. line.thousandths };
+
+    ghost invariant = { λ line. line.thousandths < 100000 };
+
+    ghost inverse = { λ n. record { thousandths = n } };
+}
+
+/// Why a text is no length. Of several faults the first in this order is answered.
+#[derive(Clone, Copy, Debug, PartialEq, Eq, Hash, Error)]
+pub enum LengthFault {
+    /// The text has no byte.
+    #[error("a length is empty")]
+    Empty,
+    /// A byte is neither a digit nor the first point, or a side of the point has no digit.
+    #[error("a length is no decimal number")]
+    BadDigit,
+    /// More than three digits stand behind the point.
+    #[error("a length has more than three decimals")]
+    TooManyPlaces,
+    /// More than two digits stand before the point.
+    #[error("a length has 100 chains or more")]
+    TooLong,
+}
+
+/// What separates whole chains from their decimals.
+const POINT: u8 = b'.';
+
+impl Length {
+    ghost use Rattle.twp_measure.specs.LengthTexts.{IsLengthText, length_text};
+    ghost use Rattle.twp_measure.specs.LengthFaults.{IsFirstLengthFault};
+
+    /// Reads chains as a decimal number, such as `80` or `19.575`: one or two digits, and optionally a
+    /// point with one to three digits (this project's rule for field notes).
+    pub fn read(text: &[u8]) -> Result<Length, LengthFault>
+        ensures taken { (v : ℕ) → IsLengthText text.now v → result ≡ Ok v }
+        ensures value { IfOk result (IsLengthText text.now) }
+        ensures fault { IfErr result (IsFirstLengthFault text.now) }
+    {
+        if text.is_empty() {
+            return Err(LengthFault::Empty);
+        }
+        let at = point_place(text);
+        let whole = &text[..at];
+        if !is_numeral(whole) {
+            return Err(LengthFault::BadDigit);
+        }
+        if at == text.len() {
+            return Length::of_whole(whole);
+        }
+        let decimals = &text[at + 1..];
+        if !is_numeral(decimals) {
+            return Err(LengthFault::BadDigit);
+        }
+        if decimals.len() > 3 {
+            return Err(LengthFault::TooManyPlaces);
+        }
+        let chains = Length::of_whole(whole)?;
+        Ok(Length {
+            thousandths: chains.thousandths + fraction(decimals),
+        })
+    }
+
+    /// The whole chains that these digits spell.
+    fn of_whole(digits: &[u8]) -> Result<Length, LengthFault>
+        requires { IsNumeral 10 digits.now }
+        ensures ok { IfOk result (λ line. (length digits.now ≤ 2) × (line ≡ 1000 * digits_value 10 digits.now)) }
+        ensures err { IfErr result (λ fault. (2 < length digits.now) × (fault ≡ LengthFault.TooLong)) }
+    {
+        if digits.len() > 2 {
+            return Err(LengthFault::TooLong);
+        }
+        Ok(Length {
+            thousandths: 1000 * number(digits),
+        })
+    }
+
+    /// The length in thousandths of a chain.
+    pub fn thousandths(self) -> u32
+        ensures value { result ≡ self }
+        ensures range { result < 100000 }
+    {
+        self.thousandths
+    }
+
+    /// Appends the chains with two decimals, or with three where the third isn't 0, as `80.00` and
+    /// `19.575`. Where memory runs out the vector is as it was.
+    pub fn write(self, out: &mut Vec<u8>) -> Result<(), AllocError>
+        ensures ok { OnOk result (out.new.items ≡ out.old.items ++ length_text self) }
+        ensures err { OnErr result (out.new.items ≡ out.old.items) }
+    {
+        let mut text = [POINT; 6];
+        text[3] = digit(self.thousandths / 100);
+        text[4] = digit(self.thousandths / 10);
+        text[5] = digit(self.thousandths);
+        let start = write_digits(u64::from(self.thousandths / 1000), &mut text, 2);
+        let end = if self.thousandths % 10 == 0 { 5 } else { 6 };
+        out.extend_from_slice(&text[start..end])
+    }
+}
+
+/// Where the first point stands, or the text's length where there is none.
+fn point_place(text: &[u8]) -> usize
+    ensures { result ≡ place_of_point text.now }
+{
+    text.iter().take_while(|byte| **byte != POINT).count()
+}
+
+/// Whether the text is one digit or more, and nothing else.
+#[tactic(auto, using(crate::proofs::Numerals::digits_tested, crate::proofs::Numerals::digits_test))]
+fn is_numeral(text: &[u8]) -> bool
+    ensures { IsTrue result ↔ IsNumeral 10 text.now }
+{
+    !text.is_empty() && has_only_digits(text)
+}
+
+/// Whether no byte is anything but a digit.
+fn has_only_digits(text: &[u8]) -> bool
+    ensures { result ≡ list_all is_ascii_digit text.now }
+{
+    text.iter().all(|byte| byte.is_ascii_digit())
+}
+
+/// The number that up to three digits spell.
+fn number(digits: &[u8]) -> u32
+    requires digits { IsNumeral 10 digits.now }
+    requires few { length digits.now ≤ 3 }
+    ensures value { result ≡ digits_value 10 digits.now }
+    ensures range { result < 10 ^ length digits.now }
+{
+    let mut value = 0;
+    for byte in digits {
+        value = 10 * value + u32::from(*byte - b'0');
+    }
+    value
+}
+
+/// One to three decimals of a chain, in thousandths.
+fn fraction(decimals: &[u8]) -> u32
+    requires digits { IsNumeral 10 decimals.now }
+    requires few { length decimals.now ≤ 3 }
+    ensures value { result ≡ fraction_of decimals.now }
+    ensures range { result < 1000 }
+{
+    let value = number(decimals);
+    match decimals.len() {
+        1 => 100 * value,
+        2 => 10 * value,
+        _ => value,
+    }
+}
+
+/// The last decimal digit of a number.
+fn digit(number: u32) -> u8
+    ensures { result ≡ 48 + number % 10 }
+{
+    b'0' + (number % 10) as u8
+}
+
+#[cfg(test)]
+mod tests {
+    use super::*;
+    use std::test::Fail;
+
+    #[test]
+    fn reads_lengths(rt: HostRuntime) {
+        let read = |text: &[u8]| Length::read(text).map(|length| length.thousandths());
+        assert_eq!(rt; read(b"80"), Ok(80_000));
+        assert_eq!(rt; read(b"7"), Ok(7_000));
+        assert_eq!(rt; read(b"19.575"), Ok(19_575));
+        assert_eq!(rt; read(b"19.5"), Ok(19_500));
+        assert_eq!(rt; read(b"00.05"), Ok(50));
+        assert_eq!(rt; read(b"99.999"), Ok(99_999));
+    }
+
+    #[test]
+    fn refuses_other_texts(rt: HostRuntime) {
+        let fault = |text: &[u8]| Length::read(text).map(|length| length.thousandths());
+        assert_eq!(rt; fault(b""), Err(LengthFault::Empty));
+        assert_eq!(rt; fault(b"8O"), Err(LengthFault::BadDigit));
+        assert_eq!(rt; fault(b"80."), Err(LengthFault::BadDigit));
+        assert_eq!(rt; fault(b".5"), Err(LengthFault::BadDigit));
+        assert_eq!(rt; fault(b"1.2.3"), Err(LengthFault::BadDigit));
+        assert_eq!(rt; fault(b" 80"), Err(LengthFault::BadDigit));
+        assert_eq!(rt; fault(b"40.0000"), Err(LengthFault::TooManyPlaces));
+        assert_eq!(rt; fault(b"100.0000"), Err(LengthFault::TooManyPlaces));
+        assert_eq!(rt; fault(b"100.5"), Err(LengthFault::TooLong));
+        assert_eq!(rt; fault(b"100"), Err(LengthFault::TooLong));
+    }
+
+    #[test]
+    fn writes_two_decimals_or_three(rt: HostRuntime) -> Result<(), Fail> {
+        for (text, line) in [
+            ("80", "N,1,,80.00"),
+            ("19.575", "N,1,,19.575"),
+            ("0.005", "N,1,,0.005"),
+        ] {
+            let mut out = Vec::from_slice(rt.alloc(), b"N,1,,")?;
+            Length::read(text.as_bytes())?.write(&mut out)?;
+            assert_eq!(rt; out.as_slice(), line.as_bytes());
+        }
+        Ok(())
+    }
+
+    #[test]
+    fn tells_faults(rt: HostRuntime) -> Result<(), Fail> {
+        for (fault, text) in [
+            (LengthFault::Empty, "a length is empty"),
+            (LengthFault::BadDigit, "a length is no decimal number"),
+            (
+                LengthFault::TooManyPlaces,
+                "a length has more than three decimals",
+            ),
+            (LengthFault::TooLong, "a length has 100 chains or more"),
+        ] {
+            assert_eq!(rt; fault.to_string(rt.alloc())?.as_str(), text);
+        }
+        Ok(())
+    }
+}
