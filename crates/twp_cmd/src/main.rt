@@ -1,0 +1,7 @@
+//! The program `township`.
+#![tactic(auto)]
+
+mod reading;
+mod writing;
+
+fn main() {}

@@ -1,0 +1,3 @@
+pub mod WindingFacts
+pub mod LineFacts
+pub mod LotFacts

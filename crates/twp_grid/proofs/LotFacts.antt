@@ -1,0 +1,147 @@
+-- What the code computes of lots is what the table has. The finitely many cases are computed.
+use Rattle.std.proofs.Common.{◌≡◌, ◌≢◌, ◌==◌, ℕ, zero, suc, ◌+◌, ◌-◌, ◌≤◌, ◌<◌, ◌&&◌, ◌||◌, ◌⊎◌, Bool, true, false, not, List, [], ◌∷◌, Option, Some, None, refl, ap, sym, ◌∙◌, inl, inr, arith, if◌then◌else◌, find, nat_le, nat_lt}
+use Rattle.std.specs.List.{list_all}
+use Rattle.std.specs.Option.{option_map}
+use Rattle.std.proofs.lemmas.Bool.{cases_lt, eqb-true, ne_eqb}
+use Rattle.std.proofs.lemmas.Bool.Decides.{nat_tests}
+use Rattle.twp_grid.specs.Winding.{IsSection}
+use Rattle.twp_grid.specs.Lots.{Lot, lots, lot_at_position, position_of_lot, number_of_lots, is_western_number}
+
+-- the test holds of every number below n
+unfoldable each : ℕ → (ℕ → Bool) → Bool
+each zero test = true
+each (suc n) test = test n && each n test
+
+both : (x y : Bool) → (x && y) ≡ true → (x ≡ true) × (y ≡ true)
+both true y h = (refl, h)
+both false y h = cc h
+
+each_at : (n : ℕ) (test : ℕ → Bool) (k : ℕ) → each n test ≡ true → k < n → test k ≡ true
+unfolding each
+each_at zero test k all below = absurd (omega arith)
+each_at (suc n) test k all below =
+    let parts = both (test n) (each n test) all in
+    elim (cases_lt k n) [
+      | inl further ↦ each_at n test k parts.1 further
+      | inr here ↦ let same : k ≡ n = omega arith in rw same parts.0
+    ]
+
+-- of three numbers
+each_of_three : (l m n : ℕ) (test : ℕ → ℕ → ℕ → Bool) (i j k : ℕ) → each l (λ x. each m (λ y. each n (λ z. test x y z))) ≡ true → i < l → j < m → k < n → test i j k ≡ true
+each_of_three l m n test i j k all in-l in-m in-n =
+    each_at n (λ z. test i j z) k (each_at m (λ y. each n (λ z. test i y z)) j (each_at l (λ x. each m (λ y. each n (λ z. test x y z))) i all in-l) in-m) in-n
+
+-- tests of equality
+abbrev same_number : Option ℕ → Option ℕ → Bool
+same_number None None = true
+same_number (Some a) (Some b) = a == b
+same_number None (Some b) = false
+same_number (Some a) None = false
+
+same_number_tells : (x y : Option ℕ) → same_number x y ≡ true → x ≡ y
+same_number_tells None None h = refl
+same_number_tells (Some a) (Some b) h = ap (λ n. Some n) (eqb-true a b h)
+same_number_tells None (Some b) h = cc h
+same_number_tells (Some a) None h = cc h
+
+abbrev same_pair : Option (ℕ × ℕ) → Option (ℕ × ℕ) → Bool
+same_pair None None = true
+same_pair (Some a) (Some b) = (a.0 == b.0) && (a.1 == b.1)
+same_pair None (Some b) = false
+same_pair (Some a) None = false
+
+same_pair_tells : (x y : Option (ℕ × ℕ)) → same_pair x y ≡ true → x ≡ y
+same_pair_tells None None h = refl
+same_pair_tells (Some (a, b)) (Some (a', b')) h =
+    let parts = both (a == a') (b == b') h in
+    let e : a ≡ a' = eqb-true a a' parts.0 in
+    let e' : b ≡ b' = eqb-true b b' parts.1 in
+    rw (e, e') refl
+same_pair_tells None (Some b) h = cc h
+same_pair_tells (Some a) None h = cc h
+
+-- the code's answers
+abbrev pub count_by_code : ℕ → ℕ
+count_by_code s = if nat_le s 6 then (if is_western_number s then 7 else 4) else (if is_western_number s then 4 else 0)
+
+abbrev pub lot_by_code : ℕ → ℕ → ℕ → Option ℕ
+lot_by_code s c r =
+    if nat_le s 6 && (r == 3) then Some (c + 1)
+    else if is_western_number s && (c == 3) then Some (count_by_code s - r)
+    else None
+
+abbrev pub place_by_code : ℕ → ℕ → Option (ℕ × ℕ)
+place_by_code s n =
+    if (n == 0) || nat_lt (count_by_code s) n then None
+    else if nat_le s 6 && nat_le n 4 then Some (n - 1, 3)
+    else Some (3, count_by_code s - n)
+
+-- number 0 is no section's
+abbrev no_section : ℕ → Bool
+no_section s = s == 0
+
+count_test : each 37 (λ s. (s == 0) || (number_of_lots s == count_by_code s)) ≡ true
+unfolding each number_of_lots lots
+count_test = refl
+
+lot_test : each 37 (λ s. each 4 (λ c. each 4 (λ r. (s == 0) || same_number (lot_at_position s c r) (lot_by_code s c r)))) ≡ true
+unfolding each lot_at_position lots
+lot_test = refl
+
+place_test : each 37 (λ s. each 8 (λ n. (s == 0) || same_pair (position_of_lot s n) (place_by_code s n))) ≡ true
+unfolding each position_of_lot lots
+place_test = refl
+
+either : (x y : Bool) → (x || y) ≡ true → x ≡ false → y ≡ true
+either false y h untrue = h
+either true y h untrue = cc untrue
+
+a_section : (s : ℕ) → IsSection s → (s == 0) ≡ false
+a_section s range = ne_eqb s 0 (λ e. absurd (omega arith))
+
+pub lot_count_is : (s : ℕ) → IsSection s → number_of_lots s ≡ count_by_code s
+lot_count_is s range = eqb-true _ _ (either (s == 0) _ (each_at 37 _ s count_test (omega arith)) (a_section s range))
+
+pub lot_at_is : (s c r : ℕ) → IsSection s → c < 4 → r < 4 → lot_at_position s c r ≡ lot_by_code s c r
+lot_at_is s c r range in-c in-r =
+    same_number_tells _ _ (either (s == 0) _ (each_of_three 37 4 4 (λ s c r. (s == 0) || same_number (lot_at_position s c r) (lot_by_code s c r)) s c r lot_test (omega arith) in-c in-r) (a_section s range))
+
+place_below : (s n : ℕ) → IsSection s → n < 8 → position_of_lot s n ≡ place_by_code s n
+place_below s n range in-n =
+    same_pair_tells _ _ (either (s == 0) _ (each_at 8 _ n (each_at 37 (λ s. each 8 (λ n. (s == 0) || same_pair (position_of_lot s n) (place_by_code s n))) s place_test (omega arith)) in-n) (a_section s range))
+
+-- no lot of the table lies outside the positions, and none has a number over 7
+abbrev within : Lot → Bool
+within l = nat_le l.column 3 && (nat_le l.row 3 && nat_le l.number 7)
+
+lots_within : list_all within lots ≡ true
+unfolding lots
+lots_within = refl
+
+none_outside : (s c r : ℕ) (ls : List Lot) → list_all within ls ≡ true → (3 < c) ⊎ (3 < r)
+    → find (λ (l : Lot). (l.section == s) && (l.column == c) && (l.row == r)) ls ≡ None
+none_outside s c r [] all out = refl
+none_outside s c r (l ∷ ls) all out =
+    let parts = both (within l) (list_all within ls) all in
+    let fails : ((l.section == s) && (l.column == c) && (l.row == r)) ≡ false = grind (arith, nat_tests) in
+    rw fails (none_outside s c r ls parts.1 out)
+
+none_over : (s n : ℕ) (ls : List Lot) → list_all within ls ≡ true → 7 < n → find (λ (l : Lot). (l.section == s) && (l.number == n)) ls ≡ None
+none_over s n [] all out = refl
+none_over s n (l ∷ ls) all out =
+    let parts = both (within l) (list_all within ls) all in
+    let fails : ((l.section == s) && (l.number == n)) ≡ false = grind (arith, nat_tests) in
+    rw fails (none_over s n ls parts.1 out)
+
+pub lot_outside : (s c r : ℕ) → (3 < c) ⊎ (3 < r) → lot_at_position s c r ≡ None
+unfolding lot_at_position
+lot_outside s c r out = rw (none_outside s c r lots lots_within out) refl
+
+pub lot_place_is : (s n : ℕ) → IsSection s → position_of_lot s n ≡ place_by_code s n
+unfolding position_of_lot
+lot_place_is s n range = elim (cases_lt n 8) [
+  | inl below ↦ place_below s n range below
+  | inr over ↦
+      let none : place_by_code s n ≡ None = grind (arith, nat_tests) in
+      rw (none_over s n lots lots_within (omega arith), none) refl
+]

@@ -1,0 +1,20 @@
+-- What a contract sees of a device: its bytes, where it tells them, and whether it has failed.
+use Rattle.std.specs.Prelude.{◌≡◌, ℕ, List, Option, Some, None, ⊤, Bool}
+use Rattle.twp_grid.specs.declared.device.Device.{Device}
+use Rattle.twp_grid.specs.declared.device.Bytes.{Bytes}
+
+-- these are the bytes, where they are told
+abbrev pub Tells : Option (List ℕ) → List ℕ → Type 0
+Tells None bytes = ⊤
+Tells (Some known) bytes = known ≡ bytes
+
+-- the reader or writer of a device, and whether a call has failed
+abbrev pub inner_of : {T : Type 0} → Device T → T
+inner_of device = device.inner
+
+abbrev pub device_failed : {T : Type 0} → Device T → Bool
+device_failed device = device.failed
+
+-- the bytes that are left
+abbrev pub bytes_left : Bytes → List ℕ
+bytes_left bytes = bytes.left.now

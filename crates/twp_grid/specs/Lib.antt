@@ -1,0 +1,5 @@
+pub mod Winding
+pub mod Lines
+pub mod Lots
+pub mod Townships
+pub mod Devices

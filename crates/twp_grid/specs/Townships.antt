@@ -1,0 +1,15 @@
+-- How a township is named: so many townships north or south of a base line, so many ranges east or
+-- west of a principal meridian.
+use Rattle.std.specs.Prelude.{ℕ, ◌≤◌}
+use Rattle.twp_grid.specs.declared.township.NorthSouth.{NorthSouth}
+use Rattle.twp_grid.specs.declared.township.EastWest.{EastWest}
+
+pub record Designation : Type 0 where
+  pub number : ℕ
+  pub north_south : NorthSouth
+  pub range : ℕ
+  pub east_west : EastWest
+
+-- the numbers of townships and of ranges
+abbrev pub IsTownshipNumber : ℕ → Type 0
+IsTownshipNumber n = (1 ≤ n) × (n ≤ 99)

@@ -1,0 +1,241 @@
+ghost use Rattle.std.specs.Prelude.{◌≡◌, ℕ, ◌+◌, ◌≤◌, ◌<◌, ◌↔◌, nat_lt, if◌then◌else◌, IsTrue, IfSome};
+ghost use Rattle.twp_grid.specs.Winding.{StandsAt};
+
+use crate::section::Section;
+use std::marker::Model;
+
+/// Which way a line is run, as its field notes are written.
+#[derive(Clone, Copy, Debug, PartialEq, Eq, Hash)]
+pub enum Run {
+    North,
+    West,
+}
+
+/// One of a township's 84 section lines, each a mile, by its index: first the north-run lines, seven to
+/// a row from the east, then the west-run lines, six to a tier from the east (this project's rule).
+#[derive(Clone, Copy, Debug, PartialEq, Eq, PartialOrd, Ord, Hash)]
+pub struct Line {
+    index: u8,
+}
+
+impl Model for Line {
+    ghost use Rattle.std.specs.Prelude.{ℕ, ◌<◌};
+
+    ghost Value = { ℕ };
+
+    ghost view = { λ line. line.index };
+
+    ghost invariant = { λ line. line.index < 84 };
+
+    ghost inverse = { λ n. record { index = n } };
+}
+
+impl Line {
+    ghost use Rattle.twp_grid.specs.Lines.{IsLine, IsClosing, IsLineOf, north_run, west_run};
+
+    /// The line between two different sections, in either order, or with None the line between a
+    /// section and the township's outside. None where there is no such line.
+    pub fn find(run: Run, section: Section, other: Option<Section>) -> Option<Line>
+        ensures line { IfSome result (IsLineOf run section other) }
+        ensures found { (index : ℕ) → IsLineOf run section other index → result ≡ Some index }
+    {
+        match other {
+            Some(other) => Line::between(run, section, other),
+            None => Line::on_boundary(run, section),
+        }
+    }
+
+    /// The line between two sections that stand side by side.
+    #[tactic(auto, using(crate::proofs::LineFacts::share_north, crate::proofs::LineFacts::share_west))]
+    fn between(run: Run, section: Section, other: Section) -> Option<Line>
+        ensures line { IfSome result (IsLineOf run section (Some other)) }
+        ensures found { (index : ℕ) → IsLineOf run section (Some other) index → result ≡ Some index }
+    {
+        let (row, column) = section.place();
+        let (other_row, other_column) = other.place();
+        match run {
+            Run::North => {
+                if row == other_row && column.abs_diff(other_column) == 1 {
+                    Some(Line::north_run(row, column.max(other_column)))
+                } else {
+                    None
+                }
+            }
+            Run::West => {
+                if column == other_column && row.abs_diff(other_row) == 1 {
+                    Some(Line::west_run(row.max(other_row), column))
+                } else {
+                    None
+                }
+            }
+        }
+    }
+
+    /// The line beside a section that stands at the township's boundary.
+    fn on_boundary(run: Run, section: Section) -> Option<Line>
+        ensures line { IfSome result (IsLineOf run section None) }
+        ensures found { (index : ℕ) → IsLineOf run section None index → result ≡ Some index }
+    {
+        let (row, column) = section.place();
+        match run {
+            Run::North => match column {
+                0 => Some(Line::north_run(row, 0)),
+                5 => Some(Line::north_run(row, 6)),
+                _ => None,
+            },
+            Run::West => match row {
+                0 => Some(Line::west_run(0, column)),
+                5 => Some(Line::west_run(6, column)),
+                _ => None,
+            },
+        }
+    }
+
+    /// A north-run line, by its row and its place from the east.
+    fn north_run(row: u8, place: u8) -> Line
+        requires row { row < 6 }
+        requires place { place < 7 }
+        ensures { result ≡ north_run row place }
+    {
+        Line {
+            index: 7 * row + place,
+        }
+    }
+
+    /// A west-run line, by its tier from the north and its column.
+    fn west_run(tier: u8, column: u8) -> Line
+        requires tier { tier < 7 }
+        requires column { column < 6 }
+        ensures { result ≡ west_run tier column }
+    {
+        Line {
+            index: 42 + 6 * tier + column,
+        }
+    }
+
+    /// The line of an index from 0 to 83.
+    pub fn at_index(index: u8) -> Option<Line>
+        ensures { result ≡ (if nat_lt index 84 then Some index else None) }
+    {
+        if index < 84 {
+            Some(Line { index })
+        } else {
+            None
+        }
+    }
+
+    /// 0 to 83.
+    pub fn index(self) -> u8
+        ensures value { result ≡ self }
+        ensures range { IsLine result }
+    {
+        self.index
+    }
+
+    /// Whether errors of measurement are thrown into the line's last half mile: the north-run lines of
+    /// the northern row and the west-run lines of the western column (Manual of Surveying Instructions
+    /// 2009, chapter 3).
+    #[tactic(auto, using(crate::proofs::LineFacts::closing_north, crate::proofs::LineFacts::closing_west, crate::proofs::LineFacts::closing_test))]
+    pub fn is_closing(self) -> bool
+        ensures { IsTrue result ↔ IsClosing self }
+    {
+        self.index < 7 || (self.index >= 42 && self.index % 6 == 5)
+    }
+}
+
+ghost use Rattle.twp_grid.specs.Lines.{AreSides};
+
+/// A section's east, west, north and south line.
+pub fn sides(section: Section) -> [Line; 4]
+    ensures { AreSides section result }
+{
+    let (row, column) = section.place();
+    [
+        Line::north_run(row, column),
+        Line::north_run(row, column + 1),
+        Line::west_run(row, column),
+        Line::west_run(row + 1, column),
+    ]
+}
+
+#[cfg(test)]
+mod tests {
+    use super::*;
+    use std::test::Fail;
+
+    fn find(run: Run, section: u8, other: u8) -> Option<u8> {
+        let section = Section::new(section)?;
+        Some(Line::find(run, section, Section::new(other))?.index())
+    }
+
+    #[test]
+    fn finds_lines_in_either_order(rt: HostRuntime) {
+        // 0 stands for the township's outside.
+        for (run, section, other, index) in [
+            (Run::North, 1, 0, 0),
+            (Run::North, 1, 2, 1),
+            (Run::North, 4, 5, 4),
+            (Run::North, 5, 6, 5),
+            (Run::North, 6, 0, 6),
+            (Run::North, 12, 0, 7),
+            (Run::North, 11, 12, 8),
+            (Run::North, 31, 0, 41),
+            (Run::West, 1, 0, 42),
+            (Run::West, 6, 0, 47),
+            (Run::West, 6, 7, 53),
+            (Run::West, 8, 17, 58),
+            (Run::West, 7, 18, 59),
+            (Run::West, 31, 0, 83),
+        ] {
+            assert_eq!(rt; find(run, section, other), Some(index), "{section} {other}");
+            if other > 0 {
+                assert_eq!(rt; find(run, other, section), Some(index), "{other} {section}");
+            }
+        }
+    }
+
+    #[test]
+    fn finds_no_line_elsewhere(rt: HostRuntime) {
+        for (run, section, other) in [
+            (Run::North, 1, 3),
+            (Run::North, 1, 1),
+            (Run::North, 1, 12),
+            (Run::North, 2, 0),
+            (Run::West, 1, 2),
+            (Run::West, 1, 13),
+            (Run::West, 12, 0),
+            (Run::North, 6, 7),
+        ] {
+            assert_eq!(rt; find(run, section, other), None, "{section} {other}");
+        }
+    }
+
+    #[test]
+    fn tells_closing_lines(rt: HostRuntime) -> Result<(), Fail> {
+        for index in 0..84u8 {
+            let line = Line::at_index(index).ok_or("an index")?;
+            assert_eq!(rt; line.index(), index);
+            let closing = [0, 1, 2, 3, 4, 5, 6, 47, 53, 59, 65, 71, 77, 83].contains(&index);
+            assert_eq!(rt; line.is_closing(), closing, "line {index}");
+        }
+        assert_eq!(rt; Line::at_index(84), None);
+        Ok(())
+    }
+
+    #[test]
+    fn has_four_sides(rt: HostRuntime) -> Result<(), Fail> {
+        for (number, indexes) in [
+            (1, [0, 1, 42, 48]),
+            (6, [5, 6, 47, 53]),
+            (7, [12, 13, 53, 59]),
+        ] {
+            let lines = sides(Section::new(number).ok_or("a section")?);
+            let [east, west, north, south] = lines;
+            assert_eq!(rt;
+                [east.index(), west.index(), north.index(), south.index()],
+                indexes
+            );
+        }
+        Ok(())
+    }
+}

@@ -1,0 +1,116 @@
+ghost use Rattle.std.specs.Prelude.{◌≡◌, nat_le};
+ghost use Rattle.twp_grid.specs.Winding.{IsSection};
+ghost use Rattle.twp_grid.specs.Lots.{lot_at_position, position_of_lot, number_of_lots, is_western_number};
+
+use crate::section::Section;
+
+/// The lot that fills a position of a section, if one does. The column is counted from the east and the
+/// row from the south, 0 to 3; outside there is none. Lots stand along the half miles that errors of
+/// measurement are thrown into (Manual of Surveying Instructions 2009, chapter 3).
+#[tactic(auto, using(crate::proofs::LotFacts::lot_at_is, crate::proofs::LotFacts::lot_outside, crate::proofs::LotFacts::lot_count_is))]
+pub fn lot_at(section: Section, column: u8, row: u8) -> Option<u8>
+    ensures { result ≡ lot_at_position section column row }
+{
+    if column > 3 || row > 3 {
+        return None;
+    }
+    if is_northern(section) && row == 3 {
+        return Some(column + 1);
+    }
+    if is_western(section) && column == 3 {
+        return Some(lot_count(section) - row);
+    }
+    None
+}
+
+/// The position that a lot of a section fills: its column from the east and its row from the south.
+/// None where the section has no such lot.
+#[tactic(auto, using(crate::proofs::LotFacts::lot_place_is, crate::proofs::LotFacts::lot_count_is))]
+pub fn lot_place(section: Section, lot: u8) -> Option<(u8, u8)>
+    ensures { result ≡ position_of_lot section lot }
+{
+    let count = lot_count(section);
+    if lot == 0 || lot > count {
+        return None;
+    }
+    if is_northern(section) && lot <= 4 {
+        return Some((lot - 1, 3));
+    }
+    Some((3, count - lot))
+}
+
+/// How many lots a section has: 0, 4 or 7.
+#[tactic(auto, using(crate::proofs::LotFacts::lot_count_is))]
+pub fn lot_count(section: Section) -> u8
+    ensures { result ≡ number_of_lots section }
+{
+    match (is_northern(section), is_western(section)) {
+        (true, true) => 7,
+        (false, false) => 0,
+        _ => 4,
+    }
+}
+
+/// Whether the section is of the northern row.
+fn is_northern(section: Section) -> bool
+    ensures value { result ≡ nat_le section 6 }
+    ensures range { IsSection section }
+{
+    section.number() <= 6
+}
+
+/// Whether the section is of the western column.
+fn is_western(section: Section) -> bool
+    ensures { result ≡ is_western_number section }
+{
+    matches!(section.number(), 6 | 7 | 18 | 19 | 30 | 31)
+}
+
+#[cfg(test)]
+mod tests {
+    use super::*;
+    use std::test::Fail;
+
+    #[test]
+    fn has_47_lots(rt: HostRuntime) -> Result<(), Fail> {
+        let mut total = 0u32;
+        for number in 1..37u8 {
+            let section = Section::new(number).ok_or("a section")?;
+            let mut count = 0u8;
+            for column in 0..6u8 {
+                for row in 0..6u8 {
+                    if let Some(lot) = lot_at(section, column, row) {
+                        assert_eq!(rt; lot_place(section, lot), Some((column, row)));
+                        count = count.saturating_add(1);
+                    }
+                }
+            }
+            assert_eq!(rt; lot_count(section), count, "of section {number}");
+            assert_eq!(rt; lot_place(section, 0), None);
+            assert_eq!(rt; lot_place(section, count.saturating_add(1)), None);
+            total = total.saturating_add(u32::from(count));
+        }
+        assert_eq!(rt; total, 47);
+        Ok(())
+    }
+
+    #[test]
+    fn numbers_lots(rt: HostRuntime) -> Result<(), Fail> {
+        for (number, column, row, lot) in [
+            (5, 0, 3, Some(1)),
+            (5, 3, 3, Some(4)),
+            (5, 3, 2, None),
+            (6, 3, 3, Some(4)),
+            (6, 3, 2, Some(5)),
+            (6, 3, 0, Some(7)),
+            (7, 3, 3, Some(1)),
+            (7, 3, 0, Some(4)),
+            (7, 0, 3, None),
+            (14, 0, 0, None),
+        ] {
+            let section = Section::new(number).ok_or("a section")?;
+            assert_eq!(rt; lot_at(section, column, row), lot, "section {number}");
+        }
+        Ok(())
+    }
+}

@@ -1,0 +1,116 @@
+ghost use Rattle.std.specs.Prelude.{◌≡◌, ℕ, ◌≤◌, ◌<◌, ◌&&◌, nat_le, if◌then◌else◌};
+ghost use Rattle.twp_grid.specs.Winding.{IsSection, StandsAt};
+
+use std::marker::Model;
+
+/// One of a township's 36 sections, by its number. The numbers wind: row 0 has 1 to 6 from the east,
+/// row 1 has 7 to 12 from the west, and so on to 36 in the south-east corner (Manual of Surveying
+/// Instructions 2009, chapter 3).
+#[derive(Clone, Copy, Debug, PartialEq, Eq, PartialOrd, Ord, Hash)]
+pub struct Section {
+    number: u8,
+}
+
+impl Model for Section {
+    ghost Value = { ℕ };
+
+    ghost view = { λ section. section.number };
+
+    ghost invariant = { λ section. IsSection section.number };
+
+    ghost inverse = { λ n. record { number = n } };
+}
+
+impl Section {
+    /// The section of a number from 1 to 36.
+    pub fn new(number: u8) -> Option<Section>
+        ensures { result ≡ (if nat_le 1 number && nat_le number 36 then Some number else None) }
+    {
+        if 1 <= number && number <= 36 {
+            Some(Section { number })
+        } else {
+            None
+        }
+    }
+
+    /// The section at a row counted from the north and a column counted from the east.
+    pub fn at(row: u8, column: u8) -> Section
+        requires row { row < 6 }
+        requires column { column < 6 }
+        ensures { StandsAt result row column }
+    {
+        let offset = if row % 2 == 0 { column } else { 5 - column };
+        Section {
+            number: 6 * row + offset + 1,
+        }
+    }
+
+    /// 1 to 36.
+    pub fn number(self) -> u8
+        ensures value { result ≡ self }
+        ensures range { IsSection result }
+    {
+        self.number
+    }
+
+    /// The row, 0 in the north to 5 in the south.
+    pub fn row(self) -> u8
+        ensures { (column : ℕ) × StandsAt self result column }
+    {
+        self.place().0
+    }
+
+    /// The column, 0 in the east to 5 in the west.
+    pub fn column(self) -> u8
+        ensures { (row : ℕ) × StandsAt self row result }
+    {
+        self.place().1
+    }
+
+    /// The row and the column.
+    #[tactic(auto, using(crate::proofs::WindingFacts::place_even, crate::proofs::WindingFacts::place_odd))]
+    pub(crate) fn place(self) -> (u8, u8)
+        ensures { StandsAt self result.0 result.1 }
+    {
+        let row = (self.number - 1) / 6;
+        let offset = (self.number - 1) % 6;
+        let column = if row % 2 == 0 { offset } else { 5 - offset };
+        (row, column)
+    }
+}
+
+#[cfg(test)]
+mod tests {
+    use super::*;
+
+    #[test]
+    fn numbers_wind(rt: HostRuntime) {
+        let rows = [
+            [1, 2, 3, 4, 5, 6],
+            [12, 11, 10, 9, 8, 7],
+            [13, 14, 15, 16, 17, 18],
+            [24, 23, 22, 21, 20, 19],
+            [25, 26, 27, 28, 29, 30],
+            [36, 35, 34, 33, 32, 31],
+        ];
+        for row in 0..6u8 {
+            for column in 0..6u8 {
+                let section = Section::at(row, column);
+                assert_eq!(rt;
+                    section.number(),
+                    rows[usize::from(row)][usize::from(column)]
+                );
+                assert_eq!(rt; section.row(), row);
+                assert_eq!(rt; section.column(), column);
+            }
+        }
+    }
+
+    #[test]
+    fn has_36_numbers(rt: HostRuntime) {
+        assert_eq!(rt; Section::new(0), None);
+        assert_eq!(rt; Section::new(1).map(|section| section.number()), Some(1));
+        assert_eq!(rt; Section::new(36).map(|section| section.number()), Some(36));
+        assert_eq!(rt; Section::new(37), None);
+    }
+}
