@@ -1,8 +1,10 @@
 -- Lines by the rows and columns of the sections beside them.
-use Rattle.std.proofs.Common.{◌≡◌, ◌≢◌, ℕ, ◌+◌, ◌-◌, ◌*◌, ◌/◌, ◌%◌, ◌≤◌, ◌<◌, ◌⊎◌, inl, inr, refl, Some, None, arith}
+use Rattle.std.proofs.Common.{◌≡◌, ◌≢◌, ℕ, ◌+◌, ◌-◌, ◌*◌, ◌/◌, ◌%◌, ◌≤◌, ◌<◌, ◌⊎◌, inl, inr, refl, Option, Some, None, arith}
 use Rattle.std.proofs.lemmas.Bool.{cases_lt}
 use Rattle.twp_grid.specs.Winding.{StandsAt}
-use Rattle.twp_grid.specs.Lines.{north_run, west_run, IsSide, LiesBeside, IsClosing}
+use Rattle.twp_grid.specs.Lines.{north_run, west_run, IsSide, LiesBeside, IsLineOf, IsClosing}
+use Rattle.twp_grid.specs.declared.line.Run.{Run}
+use Rattle.twp_grid.specs.declared.line.Run.TheVariants as run
 use Rattle.twp_grid.proofs.WindingFacts.{same_place, same_number, section_at}
 
 -- the sides of a section that stands at a row and a column
@@ -82,3 +84,30 @@ closing_west index range west last = inr ((index - 47) / 6, omega arith, omega a
 pub closing_test : (index : ℕ) → IsClosing index → (index < 7) ⊎ ((42 ≤ index) × (index % 6 ≡ 5))
 closing_test index (inl (place, range, is)) = inl (omega arith)
 closing_test index (inr (tier, range, is)) = inr (omega arith, omega arith)
+
+-- there is one line between two sections, and one of each run beside a section of the boundary
+pub one_line : (run : Run) (section : ℕ) (other : Option ℕ) (i j : ℕ) → IsLineOf run section other i → IsLineOf run section other j → i ≡ j
+one_line run.North a (Some b) i j is-i is-j =
+    let first = is-i.1.1 in
+    let second = is-i.1.2 in
+    let share = λ (index : ℕ). share_north a b first.row first.column second.row second.column index first.stands second.stands is-i.1.0 in
+    let at-i = share i is-i.1.1 is-i.1.2 is-i.0 in
+    let at-j = share j is-j.1.1 is-j.1.2 is-j.0 in
+    grind arith
+one_line run.West a (Some b) i j is-i is-j =
+    let first = is-i.1.1 in
+    let second = is-i.1.2 in
+    let share = λ (index : ℕ). share_west a b first.row first.column second.row second.column index first.stands second.stands is-i.1.0 in
+    let at-i = share i is-i.1.1 is-i.1.2 is-i.0 in
+    let at-j = share j is-j.1.1 is-j.1.2 is-j.0 in
+    grind arith
+one_line run.North a None i j is-i is-j =
+    let first = is-i.1.0 in
+    let at-i : OnBoundary first.row first.column i = on_boundary a first.row first.column i first.stands is-i.1 in
+    let at-j : OnBoundary first.row first.column j = on_boundary a first.row first.column j first.stands is-j.1 in
+    grind arith
+one_line run.West a None i j is-i is-j =
+    let first = is-i.1.0 in
+    let at-i : OnBoundary first.row first.column i = on_boundary a first.row first.column i first.stands is-i.1 in
+    let at-j : OnBoundary first.row first.column j = on_boundary a first.row first.column j first.stands is-j.1 in
+    grind arith

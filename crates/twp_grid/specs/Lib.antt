@@ -3,3 +3,4 @@ pub mod Lines
 pub mod Lots
 pub mod Townships
 pub mod Devices
+pub mod Laws

@@ -3,6 +3,7 @@
 #![tactic(auto)]
 
 mod device;
+pub mod laws;
 mod line;
 mod lot;
 mod refusal;

@@ -7,7 +7,7 @@ use Rattle.std.proofs.lemmas.List.{take_all, take_at, drop_at, get_or_append_lef
 use Rattle.std.proofs.lemmas.List.Sums.{position_or_len_is, split_at_first, passes_at_first}
 use Rattle.std.proofs.lemmas.Str.Parse.{digit_at}
 use Rattle.std.proofs.Math.Seq.{get_or-append_seam, drop-append-add}
-use Rattle.twp_measure.specs.LengthTexts.{point, place_of_point, before_point, behind_point, fraction_of, IsWholeChains, IsDecimals, IsPointed, IsLengthText}
+use Rattle.twp_measure.specs.LengthTexts.{point, place_of_point, before_point, behind_point, fraction_of, IsShortNumber, IsDecimals, IsPointed, IsLengthText}
 
 -- a digit is no point
 not_point : (digits : List ℕ) (k : ℕ) → AllDigits 10 digits → k < length digits → (get_or digits k 0 == point) ≡ false
@@ -83,3 +83,10 @@ text_of_parts text v parts = elim parts.rest [
         value = value;
       })
 ]
+
+-- a text is of one length
+pub one_length : (text : List ℕ) (v v' : ℕ) → IsLengthText text v → IsLengthText text v' → v ≡ v'
+one_length text v v' is is' =
+    let parts : HasParts text v = parts_of text v is in
+    let parts' : HasParts text v' = parts_of text v' is' in
+    grind arith

@@ -38,3 +38,10 @@ rounded units over some =
       reached = rw (regrouped q over) (reached_by q (2 * units) d between.0);
       greatest = λ more reached. bound_by q more (2 * units) d between.1 (rw (regrouped more over) at reached);
     }
+
+-- an area has one rounding
+pub one_rounding : (area : Fraction) (h h' : ℕ) → IsRounded area h → IsRounded area h' → h ≡ h'
+one_rounding area h h' is is' =
+    let up : h ≤ h' = is'.greatest h is.reached in
+    let down : h' ≤ h = is.greatest h' is'.reached in
+    omega arith

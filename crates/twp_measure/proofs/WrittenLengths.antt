@@ -5,7 +5,7 @@ use Rattle.std.specs.Str.Parse.{AllDigits, IsNumeral, digits_value}
 use Rattle.std.proofs.lemmas.Bool.{eqb-true, cases_Bool}
 use Rattle.std.proofs.lemmas.Fmt.{decimal_is_IsNumeral, length-decimal-le}
 use Rattle.std.proofs.lemmas.Str.{digit_value_digit}
-use Rattle.twp_measure.specs.LengthTexts.{point, digit_byte, third_decimal, length_text, fraction_of, IsWholeChains, IsDecimals, IsPointed, IsLengthText}
+use Rattle.twp_measure.specs.LengthTexts.{point, digit_byte, third_decimal, length_text, fraction_of, IsShortNumber, IsDecimals, IsPointed, IsLengthText}
 
 digit_value-byte : (digit : ℕ) → digit < 10 → digit_value (digit_byte digit) ≡ digit
 digit_value-byte digit small =
@@ -26,7 +26,7 @@ three_decimals a b c small-a small-b small-c =
     let third : digit_value (digit_byte c) ≡ c = digit_value-byte c small-c in
     record { numeral = (omega arith, (omega arith, (omega arith, (omega arith, tt)))); places = omega arith; value = omega arith }
 
-whole_chains : (chains : ℕ) → chains < 100 → IsWholeChains (decimal chains) chains
+whole_chains : (chains : ℕ) → chains < 100 → IsShortNumber (decimal chains) chains
 whole_chains chains small =
     let numeral = decimal_is_IsNumeral chains (omega arith) in
     record { numeral = numeral.0; places = length-decimal-le 2 chains (omega arith) small (omega arith); value = sym numeral.1 }

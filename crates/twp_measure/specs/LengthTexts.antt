@@ -19,11 +19,11 @@ before_point text = take (place_of_point text) text
 abbrev pub behind_point : List ℕ → List ℕ
 behind_point text = drop (place_of_point text + 1) text
 
--- one or two digits are so many whole chains
-pub record IsWholeChains (text : List ℕ) (chains : ℕ) : Type 0 where
+-- one or two digits spell this number
+pub record IsShortNumber (text : List ℕ) (n : ℕ) : Type 0 where
   pub numeral : IsNumeral 10 text
   pub places : length text ≤ 2
-  pub value : chains ≡ digits_value 10 text
+  pub value : n ≡ digits_value 10 text
 
 -- the thousandths of a chain that the digits behind a point stand for
 abbrev pub fraction_of : List ℕ → ℕ
@@ -41,14 +41,14 @@ pub record IsPointed (text : List ℕ) (v : ℕ) : Type 0 where
   pub decimals : List ℕ
   pub chains : ℕ
   pub thousandths : ℕ
-  pub before : IsWholeChains whole chains
+  pub before : IsShortNumber whole chains
   pub behind : IsDecimals decimals thousandths
   pub text_is : text ≡ whole ++ point ∷ decimals
   pub value : v ≡ 1000 * chains + thousandths
 
 -- the text is a length of v thousandths: whole chains alone, or with decimals
 abbrev pub IsLengthText : List ℕ → ℕ → Type 0
-IsLengthText text v = ((chains : ℕ) × IsWholeChains text chains × (v ≡ 1000 * chains)) ⊎ IsPointed text v
+IsLengthText text v = ((chains : ℕ) × IsShortNumber text chains × (v ≡ 1000 * chains)) ⊎ IsPointed text v
 
 -- the byte of a digit
 abbrev pub digit_byte : ℕ → ℕ

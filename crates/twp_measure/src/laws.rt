@@ -1,9 +1,23 @@
 //! What holds of lengths and areas as they are defined: each law is a contract, and its function has
 //! nothing to do.
-ghost use Rattle.twp_measure.specs.Laws.{WrittenIsRead};
+ghost use Rattle.twp_measure.specs.Laws.{WrittenIsRead, OneLength, OneRounding};
 
 /// The text that is written of a length is a text of that length, so `Length::read` gives it back.
 #[tactic(auto, using(crate::proofs::WrittenLengths::written_is_length))]
 pub fn written_is_read()
     ensures { WrittenIsRead }
-{}
+{
+}
+
+/// A text is of one length.
+pub fn one_length()
+    ensures { OneLength }
+{
+}
+
+/// An area is rounded to one number of hundredths.
+#[tactic(auto, using(crate::proofs::RoundingFacts::one_rounding))]
+pub fn one_rounding()
+    ensures { OneRounding }
+{
+}
