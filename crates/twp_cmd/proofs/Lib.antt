@@ -2,3 +2,4 @@ pub mod DeviceFacts
 pub mod RecordFacts
 pub mod FieldFacts
 pub mod NoteFacts
+pub mod PlatFacts

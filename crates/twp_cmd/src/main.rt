@@ -3,6 +3,8 @@
 
 mod fields;
 mod notes;
+mod piece;
+mod plat;
 mod reading;
 mod returned;
 mod records;
