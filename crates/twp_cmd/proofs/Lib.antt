@@ -3,3 +3,4 @@ pub mod RecordFacts
 pub mod FieldFacts
 pub mod NoteFacts
 pub mod PlatFacts
+pub mod TextFacts

@@ -11,6 +11,7 @@ ghost use Rattle.twp_cmd.specs.declared.returned.Returned.{Returned};
 
 use crate::records::field;
 use crate::returned::Returned;
+use crate::text::is_text;
 use csv::ByteRecord;
 use twp_grid::{EastWest, Line, NorthSouth, Run, Section, Township};
 use twp_measure::Length;
@@ -20,20 +21,13 @@ use twp_measure::Length;
 pub fn is_heading(row: &ByteRecord) -> bool
     ensures { IsTrue result ↔ (fields_of row.now ≡ heading) }
 {
-    if row.len() != 5 || !is_name(field(row, 0), "line") || !is_name(field(row, 1), "between") {
+    if row.len() != 5 || !is_text(field(row, 0), "line") || !is_text(field(row, 1), "between") {
         return false;
     }
-    if !is_name(field(row, 2), "and") || !is_name(field(row, 3), "quarter") {
+    if !is_text(field(row, 2), "and") || !is_text(field(row, 3), "quarter") {
         return false;
     }
-    is_name(field(row, 4), "corner")
-}
-
-/// Whether the text is just this name.
-fn is_name(text: &[u8], name: &str) -> bool
-    ensures { IsTrue result ↔ (text.now ≡ name.now) }
-{
-    text == name.as_bytes()
+    is_text(field(row, 4), "corner")
 }
 
 /// The township that a record designates.
@@ -41,7 +35,7 @@ pub fn township_of(row: &ByteRecord) -> Option<Township>
     ensures township { IfSome result (IsTownshipRecord (fields_of row.now)) }
     ensures found { (township : Designation) → IsTownshipRecord (fields_of row.now) township → result ≡ Some township }
 {
-    if row.len() != 5 || field(row, 0) != "T".as_bytes() {
+    if row.len() != 5 || !is_text(field(row, 0), "T") {
         return None;
     }
     let number = short_number(field(row, 1))?;

@@ -1,6 +1,7 @@
 //! The program `township`.
 #![tactic(auto)]
 
+mod answer;
 mod fields;
 mod notes;
 mod piece;
@@ -8,6 +9,9 @@ mod plat;
 mod reading;
 mod returned;
 mod records;
+mod text;
+mod thin;
+mod verdict;
 mod writing;
 
 fn main() {}

@@ -1,4 +1,4 @@
-ghost use Rattle.std.specs.Prelude.{◌≡◌, nat_le};
+ghost use Rattle.std.specs.Prelude.{◌≡◌, ◌≤◌, ◌<◌, ◌↔◌, nat_le, IsSome, IfSome};
 ghost use Rattle.twp_grid.specs.Winding.{IsSection};
 ghost use Rattle.twp_grid.specs.Lots.{lot_at_position, position_of_lot, number_of_lots, is_western_number};
 
@@ -27,7 +27,9 @@ pub fn lot_at(section: Section, column: u8, row: u8) -> Option<u8>
 /// None where the section has no such lot.
 #[tactic(auto, using(crate::proofs::LotFacts::lot_place_is, crate::proofs::LotFacts::lot_count_is))]
 pub fn lot_place(section: Section, lot: u8) -> Option<(u8, u8)>
-    ensures { result ≡ position_of_lot section lot }
+    ensures place { result ≡ position_of_lot section lot }
+    ensures within { IfSome result (λ place. (place.0 < 4) × (place.1 < 4)) }
+    ensures has { IsSome result ↔ ((1 ≤ lot) × (lot ≤ number_of_lots section)) }
 {
     let count = lot_count(section);
     if lot == 0 || lot > count {
