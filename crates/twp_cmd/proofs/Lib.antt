@@ -4,3 +4,4 @@ pub mod FieldFacts
 pub mod NoteFacts
 pub mod PlatFacts
 pub mod TextFacts
+pub mod AnswerFacts

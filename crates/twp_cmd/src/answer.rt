@@ -1,8 +1,7 @@
 ghost use Rattle.std.specs.Prelude.{◌≡◌, ◌≢◌, ◌⊎◌, ◌↔◌, ◌++◌, ℕ, List, true, false, IfOk, IfErr, IsErrOf, MatchOption};
 ghost use Rattle.twp_grid.specs.Devices.{Tells};
-ghost use Rattle.twp_grid.specs.declared.refusal.Refusal.{Refusal};
 ghost use Rattle.twp_cmd.specs.FieldNotes.{FieldNotes};
-ghost use Rattle.twp_cmd.specs.Answers.{ArePlatted, IsDescribed, IsAnswer, acres_line, refusal_line};
+ghost use Rattle.twp_cmd.specs.Answers.{ArePlatted, IsDescribed, IsAnswer, acres_line, refusal_line, not_yet};
 
 use crate::notes::Notes;
 use crate::plat::Plat;
@@ -11,7 +10,7 @@ use crate::thin::{ThinFault, read_lot};
 use crate::verdict::{RunFault, Verdict};
 use itoa::Buffer;
 use std::alloc::{AllocError, Global};
-use twp_grid::{Refusal, Source, lot_place};
+use twp_grid::{Source, lot_place};
 use twp_measure::write_acres;
 
 /// The most bytes of field notes.
@@ -38,10 +37,10 @@ pub fn answer_of<N: Source, D: Source>(
     requires description { D.Source.has_failed description.old ≡ false }
     ensures read { IsErrOf result RunFault.Read ↔ ((N.Source.has_failed notes.new ≡ true) ⊎ (D.Source.has_failed description.new ≡ true)) }
     ensures no_write { IfErr result (λ fault. fault ≢ RunFault.Write) }
-    ensures answer { IfOk result (λ answer. (n : List ℕ) × (d : List ℕ)
+    ensures answer { (n : List ℕ) × (d : List ℕ)
         × Tells (N.Source.remaining notes.old) n × Tells (D.Source.remaining description.old) d
-        × IsAnswer n d answer.text.items answer.verdict
-        × (((plat : FieldNotes) × ArePlatted n plat) ⊎ (description.new ≡ description.old))) }
+        × IfOk result (λ answer. IsAnswer n d answer.text.items answer.verdict)
+        × (((plat : FieldNotes) × ArePlatted n plat) ⊎ (description.new ≡ description.old)) }
 {
     let Some(plat) = read_plat(alloc, notes)? else {
         return refuse(alloc);
@@ -107,7 +106,7 @@ fn accept(alloc: Global, hundredths: u64) -> Result<Answer, RunFault>
 
 /// The answer that nothing else is taken yet.
 fn refuse(alloc: Global) -> Result<Answer, RunFault>
-    ensures answer { IfOk result (λ answer. (refusal : Refusal) × (answer.text.items ≡ refusal_line refusal) × (answer.verdict ≡ Verdict.Refused refusal)) }
+    ensures answer { IfOk result (λ answer. (answer.text.items ≡ refusal_line not_yet) × (answer.verdict ≡ Verdict.Refused not_yet)) }
     ensures memory { IfErr result (λ fault. fault ≡ RunFault.Memory) }
 {
     let refusal = ThinFault::NotYet.refusal();

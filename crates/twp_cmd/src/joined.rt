@@ -1,0 +1,63 @@
+ghost use Rattle.std.specs.Prelude.{◌≡◌, ◌↔◌, ℕ, List, Some, Err, true, false, ◌⊎◌, ◌==◌, IfOk, IsErrOf, IsOkUnless};
+ghost use Rattle.std.specs.Io.KnownBytes.{Appends, Keeps};
+ghost use Rattle.std.specs.List.{before_first, after_first};
+ghost use Rattle.twp_grid.specs.Devices.{Tells};
+ghost use Rattle.twp_cmd.specs.Answers.{IsAnswer};
+ghost use Rattle.twp_cmd.specs.Runs.{AppendsFront, IsRun, joined_notes, joined_description};
+ghost use Rattle.twp_cmd.specs.declared.verdict.Verdict.{Verdict};
+
+use crate::answer::answer_of;
+use crate::reading::read_up_to;
+use crate::running::write_answer;
+use crate::verdict::{RunFault, Verdict};
+use std::alloc::Global;
+use twp_grid::{Bytes, Sink, Source};
+
+/// The most bytes of joined input: a description, a line feed, and one byte more than notes may have.
+const JOINED_MOST: usize = 131_074;
+
+/// Reads a description and field notes from one source, and writes the answer as `run_acres` does: the
+/// description is what stands before the first line feed, and the notes are what stands behind it. Not
+/// more than the first 131,074 bytes are read.
+pub fn run_joined<R: Source, W: Sink>(
+    alloc: Global,
+    input: &mut R,
+    out: &mut W,
+) -> Result<Verdict, RunFault>
+    requires input { R.has_failed input.old ≡ false }
+    requires out { W.has_failed out.old ≡ false }
+
+    // A fault of a device is answered exactly where that device failed in this call.
+    ensures read { IsErrOf result RunFault.Read ↔ (R.has_failed input.new ≡ true) }
+    ensures write { IsErrOf result RunFault.Write ↔ (W.has_failed out.new ≡ true) }
+
+    // What was written is the answer to what was read, whatever the devices tell of it.
+    ensures ran { (bytes : List ℕ) × Tells (R.remaining input.old) bytes
+        × IsRun (IsAnswer (joined_notes bytes) (joined_description bytes)) (W.contents out.old) (W.contents out.new) result }
+
+    // The same in single facts, for a source that tells its bytes.
+    ensures answers { R.has_failed input.new ≡ false → W.has_failed out.new ≡ false → IsOkUnless result RunFault.Memory }
+    ensures answer { (bytes : List ℕ) → R.remaining input.old ≡ Some bytes
+        → IfOk result (λ verdict. (answer : List ℕ) × IsAnswer (joined_notes bytes) (joined_description bytes) answer verdict
+            × Appends (W.contents out.old) (W.contents out.new) answer) }
+    ensures nothing_written { (result ≡ Err RunFault.Read) ⊎ (result ≡ Err RunFault.Memory) → Keeps (W.contents out.old) (W.contents out.new) }
+    ensures front_written { (bytes : List ℕ) → R.remaining input.old ≡ Some bytes → result ≡ Err RunFault.Write
+        → (answer : List ℕ) × (verdict : Verdict) × IsAnswer (joined_notes bytes) (joined_description bytes) answer verdict
+            × AppendsFront (W.contents out.old) (W.contents out.new) answer }
+{
+    let bytes = read_up_to(alloc, input, JOINED_MOST)?;
+    let (description, notes) = split_at_line_feed(bytes.as_slice());
+    let answer = answer_of(alloc, &mut Bytes::new(notes), &mut Bytes::new(description))?;
+    write_answer(out, &answer)
+}
+
+/// What stands before the first line feed and what stands behind it: all and nothing where there is
+/// none.
+fn split_at_line_feed(bytes: &[u8]) -> (&[u8], &[u8])
+    ensures before { result.0.now ≡ before_first (λ byte. byte == 10) bytes.now }
+    ensures behind { result.1.now ≡ after_first (λ byte. byte == 10) bytes.now }
+{
+    let at = bytes.iter().take_while(|byte| **byte != b'\n').count();
+    let behind = bytes.len().min(at + 1);
+    (&bytes[..at], &bytes[behind..])
+}
