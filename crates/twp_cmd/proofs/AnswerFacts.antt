@@ -1,6 +1,6 @@
 -- Two readings of the same bytes return the same lengths, so they make one plat and one area.
 use Rattle.std.proofs.Common.{◌≡◌, ℕ, ◌+◌, ◌<◌, ◌⊎◌, List, [], ◌∷◌, ◌++◌, length, Option, Some, None, Result, Ok, Err, refl, ap, sym, ◌∙◌, inl, inr, arith}
-use Rattle.std.specs.Prelude.{IfOk, OnOk, IsErr, MatchOption, unwrap_or}
+use Rattle.std.specs.Prelude.{◌≢◌, IfOk, IfErr, OnOk, OnErr, IsErr, MatchOption, unwrap_or}
 use Rattle.std.specs.Io.KnownBytes.{Appends}
 use Rattle.twp_measure.proofs.LengthFacts.{one_length}
 use Rattle.twp_grid.specs.Devices.{Tells}
@@ -10,7 +10,9 @@ use Rattle.twp_cmd.specs.FieldNotes.{FieldNotes, returned_of, line_record, IsLin
 use Rattle.twp_cmd.specs.Closing.{MakesPlat, IsInLimits, IsLastQuarter}
 use Rattle.twp_cmd.specs.Pieces.{AreLastQuarters, IsPiece}
 use Rattle.twp_cmd.specs.Answers.{ArePlatted, IsDescribed, IsLandOf, IsAnswer, acres_line, refusal_line, not_yet}
+use Rattle.twp_cmd.specs.Runs.{AppendsFront, IsRun}
 use Rattle.twp_cmd.specs.declared.verdict.RunFault.{RunFault}
+use Rattle.twp_cmd.specs.declared.verdict.RunFault.TheVariants.{Read, Write, Memory}
 use Rattle.twp_cmd.specs.declared.verdict.Verdict.{Verdict}
 use Rattle.twp_cmd.specs.declared.verdict.Verdict.TheVariants.{Accepted, Refused, TractRefused}
 use Rattle.twp_cmd.specs.declared.piece.LastQuarters.{LastQuarters}
@@ -110,3 +112,18 @@ answered (Err e) old new n d text verdict is written answer = tt
 -- the bytes that are told are the only ones
 pub told_are : (told : Option (List ℕ)) (bytes other : List ℕ) → told ≡ Some bytes → Tells told other → other ≡ bytes
 told_are told bytes other is tells = sym (rw is at tells)
+
+-- nothing was written
+pub kept : (answers : List ℕ → Verdict → Type 0) (old : Option (List ℕ)) (r : Result Verdict RunFault) → IsErr r → IfErr r (λ fault. fault ≢ Write) → IsRun answers old old r
+kept answers old (Ok v) err other = cc err
+kept answers None (Err Read) err other = tt
+kept answers (Some bytes) (Err Read) err other = refl
+kept answers None (Err Memory) err other = tt
+kept answers (Some bytes) (Err Memory) err other = refl
+kept answers old (Err Write) err other = absurd (other refl)
+
+-- an answer was written, or a front of it
+pub written : (answers : List ℕ → Verdict → Type 0) (old new : Option (List ℕ)) (text : List ℕ) (verdict : Verdict) (r : Result Verdict RunFault) → answers text verdict
+  → IfOk r (λ v. v ≡ verdict) → OnOk r (Appends old new text) → OnErr r (AppendsFront old new text) → IfErr r (λ fault. fault ≡ Write) → IsRun answers old new r
+written answers old new text verdict (Ok v) answer is whole front fault = (text, rw is answer, whole)
+written answers old new text verdict (Err e) answer is whole front fault = rw fault (text, verdict, answer, front)

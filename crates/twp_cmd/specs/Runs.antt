@@ -23,10 +23,14 @@ IsRun answers old new (Err Memory) = Keeps old new
 abbrev pub JOINED_MOST : ℕ
 JOINED_MOST = 131074
 
+-- what is read of joined input
+unfoldable pub joined_bytes : List ℕ → List ℕ
+joined_bytes bytes = take JOINED_MOST bytes
+
 -- the description of joined input: what stands before the first line feed
 abbrev pub joined_description : List ℕ → List ℕ
-joined_description bytes = before_first (λ byte. byte == line_feed) (take JOINED_MOST bytes)
+joined_description bytes = before_first (λ byte. byte == line_feed) (joined_bytes bytes)
 
 -- the notes of joined input: what stands behind the first line feed, nothing where there is none
 abbrev pub joined_notes : List ℕ → List ℕ
-joined_notes bytes = after_first (λ byte. byte == line_feed) (take JOINED_MOST bytes)
+joined_notes bytes = after_first (λ byte. byte == line_feed) (joined_bytes bytes)
