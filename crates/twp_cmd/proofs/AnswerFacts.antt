@@ -70,7 +70,7 @@ same_quarters a b section q same are =
       south = rw (same are.south_line ranges.3) at are.south;
     }
 
-same_described : (a b : FieldNotes) (description : List ℕ) (hundredths : ℕ) → ReturnSame a b → IsDescribed a description hundredths → IsDescribed b description hundredths
+pub same_described : (a b : FieldNotes) (description : List ℕ) (hundredths : ℕ) → ReturnSame a b → IsDescribed a description hundredths → IsDescribed b description hundredths
 same_described a b description hundredths same is = record {
   size = is.size;
   section = is.section;

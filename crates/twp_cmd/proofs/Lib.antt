@@ -5,3 +5,4 @@ pub mod NoteFacts
 pub mod PlatFacts
 pub mod TextFacts
 pub mod AnswerFacts
+pub mod OneAnswer
