@@ -39,8 +39,8 @@ same_plat a b same makes line range = rw (same line range) at (makes line range)
 
 -- the plat of notes in order
 pub platted : (bytes : List ℕ) (notes : FieldNotes) (found : Option FieldNotes) → AreNotesInOrder bytes notes
-  → MatchOption found (MakesPlat notes → ⊥) (λ plat. (plat ≡ notes) × MakesPlat notes)
-  → MatchOption found ((other : FieldNotes) → ArePlatted bytes other → ⊥) (ArePlatted bytes)
+    → MatchOption found (MakesPlat notes → ⊥) (λ plat. (plat ≡ notes) × MakesPlat notes)
+    → MatchOption found ((other : FieldNotes) → ArePlatted bytes other → ⊥) (ArePlatted bytes)
 platted bytes notes None are none = λ other is. none (same_plat other notes (same_notes bytes other notes is.notes_are are.0) is.makes_plat)
 platted bytes notes (Some plat) are (same, makes) = rw same (record { notes_are = are.0; ordered = are.1; makes_plat = makes })
 
@@ -86,7 +86,7 @@ same_described a b description hundredths same is = record {
 
 -- a description of no land of the plat is of none at all
 pub no_land : (notes description : List ℕ) (plat : FieldNotes) → ArePlatted notes plat → ((hundredths : ℕ) → IsDescribed plat description hundredths → ⊥)
-  → (hundredths : ℕ) → IsLandOf notes description hundredths → ⊥
+    → (hundredths : ℕ) → IsLandOf notes description hundredths → ⊥
 no_land notes description plat are none hundredths (other, platted-other, described) =
     none hundredths (same_described other plat description hundredths (same_notes notes other plat platted-other.notes_are are.notes_are) described)
 
@@ -105,7 +105,7 @@ if_err (Err e) P h = tt
 
 -- an answer that was written whole
 pub answered : (r : Result Verdict RunFault) (old new : Option (List ℕ)) (n d text : List ℕ) (verdict : Verdict) → IfOk r (λ v. v ≡ verdict) → OnOk r (Appends old new text)
-  → IsAnswer n d text verdict → IfOk r (λ v. (answer : List ℕ) × IsAnswer n d answer v × Appends old new answer)
+    → IsAnswer n d text verdict → IfOk r (λ v. (answer : List ℕ) × IsAnswer n d answer v × Appends old new answer)
 answered (Ok v) old new n d text verdict is written answer = (text, rw is answer, written)
 answered (Err e) old new n d text verdict is written answer = tt
 
@@ -124,6 +124,6 @@ kept answers old (Err Write) err other = absurd (other refl)
 
 -- an answer was written, or a front of it
 pub written : (answers : List ℕ → Verdict → Type 0) (old new : Option (List ℕ)) (text : List ℕ) (verdict : Verdict) (r : Result Verdict RunFault) → answers text verdict
-  → IfOk r (λ v. v ≡ verdict) → OnOk r (Appends old new text) → OnErr r (AppendsFront old new text) → IfErr r (λ fault. fault ≡ Write) → IsRun answers old new r
+    → IfOk r (λ v. v ≡ verdict) → OnOk r (Appends old new text) → OnErr r (AppendsFront old new text) → IfErr r (λ fault. fault ≡ Write) → IsRun answers old new r
 written answers old new text verdict (Ok v) answer is whole front fault = (text, rw is answer, whole)
 written answers old new text verdict (Err e) answer is whole front fault = rw fault (text, verdict, answer, front)

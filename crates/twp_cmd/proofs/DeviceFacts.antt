@@ -11,7 +11,7 @@ take_piece bytes at n = rw (take_all (length bytes - at) (drop at bytes) (simp l
 
 -- one more piece was taken
 pub appends_piece : (old mid new : Option (List ℕ)) (bytes : List ℕ) (at n : ℕ) → Appends old mid (take at bytes)
-  → Appends mid new (take n (take (length bytes - at) (drop at bytes))) → Appends old new (take (at + n) bytes)
+    → Appends mid new (take n (take (length bytes - at) (drop at bytes))) → Appends old new (take (at + n) bytes)
 appends_piece None mid new bytes at n before more = tt
 appends_piece (Some xs) None new bytes at n before more = absurd before
 appends_piece (Some xs) (Some ys) None bytes at n before more = absurd more

@@ -65,16 +65,16 @@ names_one fields line line' is is' =
 
 -- one more line
 pub each_more : (rows : List Fields) (lines : List Returned) (k : ℕ) (returned : Returned) → length lines ≡ k
-  → ((line : ℕ) → line < k → IsLineRecord (record_at rows line) line (slice_index_or lines line nothing_returned))
-  → IsLineRecord (record_at rows k) k returned
-  → (line : ℕ) → line < k + 1 → IsLineRecord (record_at rows line) line (slice_index_or (lines ++ returned ∷ []) line nothing_returned)
+    → ((line : ℕ) → line < k → IsLineRecord (record_at rows line) line (slice_index_or lines line nothing_returned))
+    → IsLineRecord (record_at rows k) k returned
+    → (line : ℕ) → line < k + 1 → IsLineRecord (record_at rows line) line (slice_index_or (lines ++ returned ∷ []) line nothing_returned)
 each_more rows lines k returned long before here line range = elim (cases_lt line k) [
-    | inl below ↦ rw (get_or_append_left lines (returned ∷ []) nothing_returned line (omega arith)) (before line below)
-    | inr over ↦
-        let last : line ≡ length lines = omega arith in
-        let same : k ≡ length lines = sym long in
-        rw (last, get_or-append_seam lines returned [] nothing_returned) (rw same at here)
-  ]
+  | inl below ↦ rw (get_or_append_left lines (returned ∷ []) nothing_returned line (omega arith)) (before line below)
+  | inr over ↦
+      let last : line ≡ length lines = omega arith in
+      let same : k ≡ length lines = sym long in
+      rw (last, get_or-append_seam lines returned [] nothing_returned) (rw same at here)
+]
 
 -- the records behind the first two
 pub record HasParts (bytes : List ℕ) (first second : Fields) (rest : List Fields) : Type 0 where
@@ -95,9 +95,9 @@ pub parts_of : (bytes : List ℕ) (first second : Fields) (rest : List Fields) (
 parts_of bytes first second rest notes parts is =
     let long : length (records_of bytes) ≡ suc (suc (length rest)) = ap length parts.split in
     let each : (line : ℕ) → IsLine line → IsLineRecord (record_at rest line) line (returned_of notes line) = λ line range.
-        let found = is.0.each line range in
-        let here : found.0 ≡ line = is.0.once line found.0 line found.1 range found.2.names (is.1 line range) in
-        rw (line_record_is bytes first second rest line parts) at (rw here at found.2) in
+    let found = is.0.each line range in
+    let here : found.0 ≡ line = is.0.once line found.0 line found.1 range found.2.names (is.1 line range) in
+    rw (line_record_is bytes first second rest line parts) at (rw here at found.2) in
     record {
       heading_is = rw parts.split at is.0.heading_is;
       township_is = rw parts.split at is.0.township_is;
@@ -108,19 +108,21 @@ pub notes_of_parts : (bytes : List ℕ) (first second : Fields) (rest : List Fie
 notes_of_parts bytes first second rest notes small parts are =
     let long : length (records_of bytes) ≡ suc (suc (length rest)) = ap length parts.split in
     let each : (line : ℕ) → IsLine line → IsLineRecord (line_record bytes line) line (returned_of notes line) = λ line range.
-        rw (line_record_is bytes first second rest line parts) (are.lines_are.each line range) in
+    rw (line_record_is bytes first second rest line parts) (are.lines_are.each line range) in
     let named : (line k : ℕ) → k < 84 → NamesLine (line_record bytes k) line → line ≡ k = λ line k range names.
-        names_one (line_record bytes k) line k names (each k range).names in
-    (record {
-      size = small;
-      count = omega (arith, are.lines_are.count);
-      heading_is = rw parts.split are.heading_is;
-      township_is = rw parts.split are.township_is;
-      each = λ line range. (line, range, each line range);
-      once = λ line j k in-j in-k first' second'. sym (named line j in-j first') ∙ named line k in-k second';
-    }, λ line range. (each line range).names)
+    names_one (line_record bytes k) line k names (each k range).names in (
+      record {
+        size = small;
+        count = omega (arith, are.lines_are.count);
+        heading_is = rw parts.split are.heading_is;
+        township_is = rw parts.split are.township_is;
+        each = λ line range. (line, range, each line range);
+        once = λ line j k in-j in-k first' second'. sym (named line j in-j first') ∙ named line k in-k second';
+      },
+      λ line range. (each line range).names,
+    )
 
 -- two records were read
 pub two_read : (bytes : List ℕ) (all behind rest : List Fields) (first second : Fields) → all ≡ records_of bytes → all ≡ first ∷ behind → behind ≡ second ∷ rest
-  → HasParts bytes first second rest
+    → HasParts bytes first second rest
 two_read bytes all behind rest first second is head next = record { split = sym is ∙ head ∙ ap (λ t. first ∷ t) next }

@@ -29,20 +29,20 @@ use Rattle.twp_cmd.proofs.TextFacts.{same_rest}
 after_digits : (digits rest : List ℕ) (stop : ℕ) → AllDigits 10 digits → stop < 48 → position_or_len (λ byte. byte == stop) (digits ++ stop ∷ rest) ≡ length digits
 after_digits digits rest stop all low =
     position_or_len_is (λ byte. byte == stop) (digits ++ stop ∷ rest) (length digits) 0
-      (rw (length-append digits (stop ∷ rest)) (omega arith))
-      (λ k below. rw (get_or_append_left digits (stop ∷ rest) 0 k below)
-        (let range : IsInRange 48 57 (get_or digits k 0) = digit_at digits k all below in ne_eqb (get_or digits k 0) stop (λ same. absurd (omega arith))))
-      (λ _. rw (get_or-append_seam digits stop rest 0) (eq-eqb stop stop refl))
+    (rw (length-append digits (stop ∷ rest)) (omega arith))
+    (λ k below. rw (get_or_append_left digits (stop ∷ rest) 0 k below)
+    (let range : IsInRange 48 57 (get_or digits k 0) = digit_at digits k all below in ne_eqb (get_or digits k 0) stop (λ same. absurd (omega arith))))
+    (λ _. rw (get_or-append_seam digits stop rest 0) (eq-eqb stop stop refl))
 
 -- a number and what stands behind it are known by the text, where that begins with no digit
 one_number : (a b stop : ℕ) (rest rest' : List ℕ) → a < 2 ^ 64 → b < 2 ^ 64 → stop < 48 → decimal a ++ stop ∷ rest ≡ decimal b ++ stop ∷ rest'
-  → (a ≡ b) × (stop ∷ rest ≡ stop ∷ rest')
+    → (a ≡ b) × (stop ∷ rest ≡ stop ∷ rest')
 one_number a b stop rest rest' small-a small-b low e =
     let place-a = after_digits (decimal a) rest stop (decimal_is_IsNumeral a small-a).0.1 low in
     let place-b = after_digits (decimal b) rest' stop (decimal_is_IsNumeral b small-b).0.1 low in
     let long : length (decimal a) ≡ length (decimal b) = sym place-a ∙ ap (position_or_len (λ byte. byte == stop)) e ∙ place-b in
     let front : decimal a ≡ decimal b =
-        sym (take_at (decimal a) (stop ∷ rest) (length (decimal a)) refl) ∙ ap (take (length (decimal a))) e ∙ take_at (decimal b) (stop ∷ rest') (length (decimal a)) (sym long) in
+    sym (take_at (decimal a) (stop ∷ rest) (length (decimal a)) refl) ∙ ap (take (length (decimal a))) e ∙ take_at (decimal b) (stop ∷ rest') (length (decimal a)) (sym long) in
     let same : a ≡ b = decimal_injective a b small-a small-b front in
     (same, same_rest (decimal b) (stop ∷ rest) (stop ∷ rest') (rw front at e))
 
@@ -90,7 +90,7 @@ one_area notes description h h' is is' =
     let column : is.column ≡ is'.column = ap (λ (o : Option (ℕ × ℕ)). (unwrap_or o (0, 0)).0) position in
     let row : is.row ≡ is'.row = ap (λ (o : Option (ℕ × ℕ)). (unwrap_or o (0, 0)).1) position in
     let quarters : is.piece_is.quarters ≡ is'.piece_is.quarters =
-        one_quarters notes is'.section is.piece_is.quarters is'.piece_is.quarters (rw lot.0 at is.piece_is.are) is'.piece_is.are in
+    one_quarters notes is'.section is.piece_is.quarters is'.piece_is.quarters (rw lot.0 at is.piece_is.are) is'.piece_is.are in
     let area : is.area ≡ is'.area = is.piece_is.area_is ∙ rw (quarters, column, row) (sym is'.piece_is.area_is) in
     one_rounding is'.area h h' (rw area at is.rounded) is'.rounded
 
@@ -99,7 +99,7 @@ one_land notes description h h' (plat, platted, described) (plat', platted', des
     one_area plat' description h h' (same_described plat plat' description h (same_notes notes plat plat' platted.notes_are platted'.notes_are) described) described'
 
 pub one_answer : (notes description answer answer' : List ℕ) (verdict verdict' : Verdict) → IsAnswer notes description answer verdict
-  → IsAnswer notes description answer' verdict' → (answer ≡ answer') × (verdict ≡ verdict')
+    → IsAnswer notes description answer' verdict' → (answer ≡ answer') × (verdict ≡ verdict')
 one_answer notes description answer answer' Accepted Accepted (h, land, is) (h', land', is') =
     let same : h ≡ h' = one_land notes description h h' land land' in
     (is ∙ rw same (sym is'), refl)

@@ -4,7 +4,7 @@ use Rattle.std.proofs.lemmas.Bool.Decides.{nat_tests}
 use Rattle.twp_grid.specs.Lines.{AreSides}
 
 pub sides_by_one : (section : ℕ) (sides : List ℕ) (e w n s : ℕ) → AreSides section sides
-  → AreSides section (get_or sides 0 e ∷ get_or sides 1 w ∷ get_or sides 2 n ∷ get_or sides 3 s ∷ [])
+    → AreSides section (get_or sides 0 e ∷ get_or sides 1 w ∷ get_or sides 2 n ∷ get_or sides 3 s ∷ [])
 sides_by_one section sides e w n s are = record { row = are.row; column = are.column; stands = are.stands; sides_are = rw are.sides_are refl }
 
 -- the line of an index has this index

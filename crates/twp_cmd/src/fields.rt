@@ -150,5 +150,9 @@ fn digit(byte: u8) -> Option<u8>
     ensures value { IfSome result (λ digit. (digit ≡ digit_value byte) × (digit < 10)) }
     ensures none { IfNone result (10 ≤ digit_value byte) }
 {
-    if byte.is_ascii_digit() { Some(byte - b'0') } else { None }
+    if byte.is_ascii_digit() {
+        Some(byte - b'0')
+    } else {
+        None
+    }
 }

@@ -42,11 +42,11 @@ pub fn run_joined<R: Source, W: Sink>(
     ensures answers { R.has_failed input.new ≡ false → W.has_failed out.new ≡ false → IsOkUnless result RunFault.Memory }
     ensures answer { (bytes : List ℕ) → R.remaining input.old ≡ Some bytes
         → IfOk result (λ verdict. (answer : List ℕ) × IsAnswer (joined_notes bytes) (joined_description bytes) answer verdict
-            × Appends (W.contents out.old) (W.contents out.new) answer) }
+        × Appends (W.contents out.old) (W.contents out.new) answer) }
     ensures nothing_written { (result ≡ Err RunFault.Read) ⊎ (result ≡ Err RunFault.Memory) → Keeps (W.contents out.old) (W.contents out.new) }
     ensures front_written { (bytes : List ℕ) → R.remaining input.old ≡ Some bytes → result ≡ Err RunFault.Write
         → (answer : List ℕ) × (verdict : Verdict) × IsAnswer (joined_notes bytes) (joined_description bytes) answer verdict
-            × AppendsFront (W.contents out.old) (W.contents out.new) answer }
+        × AppendsFront (W.contents out.old) (W.contents out.new) answer }
 {
     let answer = joined_answer_of(alloc, input)?;
     write_answer(out, &answer)

@@ -5,5 +5,4 @@ ghost use Rattle.twp_cmd.specs.Laws.{OneAnswer};
 /// Two texts, the field notes and the description, have one answer and one verdict.
 pub fn one_answer()
     ensures { OneAnswer }
-{
-}
+{}

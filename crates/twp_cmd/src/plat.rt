@@ -31,10 +31,12 @@ const QUARTER_MILE: u32 = 20_000;
 
 /// The least and the most of a half mile of 40 chains (this project's rule).
 const LEAST_HALF: u32 = 39_750;
+
 const MOST_HALF: u32 = 40_250;
 
 /// The least and the most of a closing quarter, 5 to 25 chains (this project's rule).
 const LEAST_CLOSING: u32 = 5_000;
+
 const MOST_CLOSING: u32 = 25_000;
 
 impl Plat {

@@ -53,7 +53,11 @@ pub fn read_whole<S: Source>(
         × MatchOption read (limit < length bytes) (λ v. (v.items ≡ bytes) × (length bytes ≤ limit))) }
 {
     let bytes = read_up_to(alloc, source, limit + 1)?;
-    Ok(if bytes.len() > limit { None } else { Some(bytes) })
+    Ok(if bytes.len() > limit {
+        None
+    } else {
+        Some(bytes)
+    })
 }
 
 /// Reads the bytes that a source gives, to the end of the input or until there are `most` of them. No

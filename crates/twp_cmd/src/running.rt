@@ -66,3 +66,6 @@ pub fn write_answer<W: Sink>(out: &mut W, answer: &Answer) -> Result<Verdict, Ru
         Err(_) => Err(RunFault::Write),
     }
 }
+
+#[cfg(test)]
+mod tests;

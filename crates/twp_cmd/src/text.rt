@@ -16,5 +16,9 @@ pub fn strip<'a>(bytes: &'a [u8], front: &str) -> Option<&'a [u8]>
         return None;
     }
     let (head, rest) = bytes.split_at(front.len());
-    if is_text(head, front) { Some(rest) } else { None }
+    if is_text(head, front) {
+        Some(rest)
+    } else {
+        None
+    }
 }

@@ -16,7 +16,7 @@ returns-clause-answer g c =
     let answer = c.answer_of.ensures.answer in
     let bytes = c.as_slice.ensures.value ∙ read.2 in
     let notes : answer.0 ≡ joined_notes read.0 =
-        sym answer.2 ∙ c.new.ensures ∙ c.split_at_line_feed.ensures.behind ∙ ap (after_first (λ byte. byte == 10)) bytes in
+    sym answer.2 ∙ c.new.ensures ∙ c.split_at_line_feed.ensures.behind ∙ ap (after_first (λ byte. byte == 10)) bytes in
     let description : answer.1 ≡ joined_description read.0 =
-        sym answer.3 ∙ c.new-2.ensures ∙ c.split_at_line_feed.ensures.before ∙ ap (before_first (λ byte. byte == 10)) bytes in
+    sym answer.3 ∙ c.new-2.ensures ∙ c.split_at_line_feed.ensures.before ∙ ap (before_first (λ byte. byte == 10)) bytes in
     (read.0, read.1, rw (notes, description) at answer.4)

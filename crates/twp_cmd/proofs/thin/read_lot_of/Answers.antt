@@ -7,9 +7,9 @@ use Rattle.twp_cmd.proofs.thin.read_lot_of.Goals as goal
 pub loop-lot-preserved : goal.loop-lot-preserved
 loop-lot-preserved c =
     below_more _ _ c.loop-lot.invariant (λ is.
-      let rest : c.in-Some-strip.rest.now ≡ decimal c.loop-lot.lot ++ codes "." =
-          behind_two c.args.text.now (decimal c.args.section) (codes ", lot ") c.in-Some.rest.now c.in-Some-strip.rest.now _ (rw c.number.ensures.value at c.in-Some.ensures) c.in-Some-strip.ensures is.text_is in
-      absurd (cc (c.is_last_number.ensures.1 rest)))
+    let rest : c.in-Some-strip.rest.now ≡ decimal c.loop-lot.lot ++ codes "." =
+    behind_two c.args.text.now (decimal c.args.section) (codes ", lot ") c.in-Some.rest.now c.in-Some-strip.rest.now _ (rw c.number.ensures.value at c.in-Some.ensures) c.in-Some-strip.ensures is.text_is in
+    absurd (cc (c.is_last_number.ensures.1 rest)))
 
 pub returns-in_default-strip-clause-none : goal.returns-in_default-strip-clause-none
 returns-in_default-strip-clause-none c lot is =

@@ -1,0 +1,21 @@
+# What each command does, and when to use it, is said in CONTRIBUTING.md.
+.PHONY: run township test check bench clean
+
+run: township
+	@cat samples/description.txt samples/b1.csv | ./township
+
+township:
+	@cd crates/twp_cmd && rt run < stdin > /dev/null
+	@cp crates/twp_cmd/out/twp_cmd township
+
+test:
+	rt ci
+
+check:
+	rt all check
+
+bench: township
+	@sh bench/instructions.sh
+
+clean:
+	rm -rf crates/*/out township
