@@ -1,5 +1,5 @@
 -- Two readings of the same bytes return the same lengths, so they make one plat and one area.
-use Rattle.std.proofs.Common.{◌≡◌, ℕ, ◌+◌, ◌<◌, ◌⊎◌, List, [], ◌∷◌, ◌++◌, length, Option, Some, None, Result, Ok, Err, refl, ap, sym, ◌∙◌, inl, inr, arith}
+use Rattle.std.proofs.Common.{◌≡◌, ℕ, ◌+◌, ◌<◌, List, [], ◌∷◌, Option, Some, None, Result, Ok, Err, refl, sym, arith}
 use Rattle.std.specs.Prelude.{◌≢◌, IfOk, IfErr, OnOk, OnErr, IsErr, MatchOption, unwrap_or}
 use Rattle.std.specs.Io.KnownBytes.{Appends}
 use Rattle.twp_measure.proofs.LengthFacts.{one_length}
@@ -7,14 +7,13 @@ use Rattle.twp_grid.specs.Devices.{Tells}
 use Rattle.twp_grid.specs.Lines.{IsLine, AreSides, north_run, west_run}
 use Rattle.twp_cmd.specs.Records.{Fields}
 use Rattle.twp_cmd.specs.FieldNotes.{FieldNotes, returned_of, line_record, IsLineRecord, AreNotes, AreNotesInOrder}
-use Rattle.twp_cmd.specs.Closing.{MakesPlat, IsInLimits, IsLastQuarter}
-use Rattle.twp_cmd.specs.Pieces.{AreLastQuarters, IsPiece}
-use Rattle.twp_cmd.specs.Answers.{ArePlatted, IsDescribed, IsLandOf, IsAnswer, acres_line, refusal_line, not_yet}
+use Rattle.twp_cmd.specs.Closing.{MakesPlat}
+use Rattle.twp_cmd.specs.Pieces.{AreLastQuarters}
+use Rattle.twp_cmd.specs.Answers.{ArePlatted, IsDescribed, IsLandOf, IsAnswer}
 use Rattle.twp_cmd.specs.Runs.{AppendsFront, IsRun}
 use Rattle.twp_cmd.specs.declared.verdict.RunFault.{RunFault}
 use Rattle.twp_cmd.specs.declared.verdict.RunFault.TheVariants.{Read, Write, Memory}
 use Rattle.twp_cmd.specs.declared.verdict.Verdict.{Verdict}
-use Rattle.twp_cmd.specs.declared.verdict.Verdict.TheVariants.{Accepted, Refused, TractRefused}
 use Rattle.twp_cmd.specs.declared.piece.LastQuarters.{LastQuarters}
 use Rattle.twp_cmd.specs.declared.returned.Returned.{Returned}
 use Rattle.twp_cmd.proofs.FieldFacts.{same_returned}

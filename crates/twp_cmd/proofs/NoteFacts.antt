@@ -1,17 +1,15 @@
 -- Field notes whose lines stand in order are the records of all lines, one after another.
-use Rattle.std.proofs.Common.{◌≡◌, ℕ, zero, suc, ◌+◌, ◌-◌, ◌≤◌, ◌<◌, List, [], ◌∷◌, ◌++◌, length, drop, inl, inr, get_or, Option, Some, None, refl, ap, sym, ◌∙◌, arith, add-one, drop-cons, length-drop}
+use Rattle.std.proofs.Common.{◌≡◌, ℕ, suc, ◌+◌, ◌-◌, ◌≤◌, ◌<◌, List, [], ◌∷◌, ◌++◌, length, drop, inl, inr, get_or, Option, Some, None, refl, ap, sym, ◌∙◌, arith, add-one, drop-cons, length-drop}
 use Rattle.std.specs.Prelude.{slice_index_or}
 use Rattle.std.proofs.lemmas.Bool.{cases_lt}
 use Rattle.std.proofs.lemmas.List.{get_or_append_left}
 use Rattle.std.proofs.Math.Seq.{get_or-append_seam}
-use Rattle.twp_measure.specs.LengthTexts.{IsShortNumber}
-use Rattle.twp_grid.specs.Townships.{Designation}
-use Rattle.twp_grid.specs.Lines.{IsLine, IsLineOf}
+use Rattle.twp_grid.specs.Lines.{IsLine}
 use Rattle.twp_grid.specs.declared.line.Run.{Run}
 use Rattle.twp_grid.specs.declared.line.Run.TheVariants as run
 use Rattle.twp_grid.proofs.LineFacts.{one_line}
 use Rattle.twp_cmd.specs.Records.{Fields, field, record_at, records_of}
-use Rattle.twp_cmd.specs.FieldNotes.{FieldNotes, returned_of, nothing_returned, heading, IsTownshipRecord, run_text, IsSectionText, IsNeighbourText, NamesLine, IsLineRecord, NOTES_MOST, line_record, AreNotes, StandByRisingIndex, AreNotesInOrder, AreLineRecords}
+use Rattle.twp_cmd.specs.FieldNotes.{FieldNotes, returned_of, nothing_returned, heading, IsTownshipRecord, run_text, IsSectionText, IsNeighbourText, NamesLine, IsLineRecord, NOTES_MOST, line_record, AreNotesInOrder, AreLineRecords}
 use Rattle.twp_cmd.specs.declared.returned.Returned.{Returned}
 
 -- the next of the records that are left

@@ -1,5 +1,5 @@
 -- Two texts have one answer: each part of it is determined.
-use Rattle.std.proofs.Common.{◌≡◌, ◌==◌, ℕ, ◌+◌, ◌^◌, ◌≤◌, ◌<◌, ◌⊎◌, Bool, true, false, List, [], ◌∷◌, ◌++◌, length, take, get_or, Option, Some, None, decimal, codes, refl, ap, sym, ◌∙◌, inl, inr, arith, length-append}
+use Rattle.std.proofs.Common.{◌≡◌, ◌==◌, ℕ, ◌^◌, ◌<◌, List, [], ◌∷◌, ◌++◌, length, take, get_or, Option, Some, decimal, codes, refl, ap, sym, ◌∙◌, inl, inr, arith, length-append}
 use Rattle.std.specs.Prelude.{unwrap_or}
 use Rattle.std.specs.Int.{IsInRange}
 use Rattle.std.specs.List.{position_or_len}
@@ -11,14 +11,13 @@ use Rattle.std.proofs.lemmas.List.Sums.{position_or_len_is}
 use Rattle.std.proofs.lemmas.Str.Parse.{digit_at}
 use Rattle.std.proofs.Math.Seq.{get_or-append_seam}
 use Rattle.twp_measure.proofs.RoundingFacts.{one_rounding}
-use Rattle.twp_grid.specs.Winding.{IsSection}
-use Rattle.twp_grid.specs.Lines.{IsClosing, AreSides}
+use Rattle.twp_grid.specs.Lines.{AreSides}
 use Rattle.twp_grid.proofs.WindingFacts.{same_place}
 use Rattle.twp_cmd.specs.FieldNotes.{FieldNotes}
 use Rattle.twp_cmd.specs.Closing.{IsLastQuarter}
-use Rattle.twp_cmd.specs.Pieces.{AreLastQuarters, IsPiece, piece_of}
-use Rattle.twp_cmd.specs.LotTexts.{IsLotOf, IsLotText}
-use Rattle.twp_cmd.specs.Answers.{ArePlatted, IsDescribed, IsLandOf, IsAnswer, acres_line, refusal_line}
+use Rattle.twp_cmd.specs.Pieces.{AreLastQuarters}
+use Rattle.twp_cmd.specs.LotTexts.{IsLotText}
+use Rattle.twp_cmd.specs.Answers.{IsDescribed, IsLandOf, IsAnswer}
 use Rattle.twp_cmd.specs.declared.verdict.Verdict.{Verdict}
 use Rattle.twp_cmd.specs.declared.verdict.Verdict.TheVariants.{Accepted, Refused, TractRefused}
 use Rattle.twp_cmd.specs.declared.piece.LastQuarters.{LastQuarters}

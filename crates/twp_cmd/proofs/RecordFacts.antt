@@ -1,15 +1,13 @@
 -- Reading one record leaves a reader between records, before the records that follow.
-use Rattle.std.proofs.Common.{◌≡◌, ℕ, zero, suc, ◌+◌, ◌≤◌, ◌<◌, ◌⊎◌, ◌==◌, ◌||◌, ◌&&◌, Bool, true, false, List, [], ◌∷◌, ◌++◌, length, get_or, Option, Some, None, refl, ap, sym, ◌∙◌, inl, inr, arith, if◌then◌else◌, add-one, Bor}
+use Rattle.std.proofs.Common.{◌≡◌, ℕ, zero, suc, ◌+◌, ◌≤◌, ◌<◌, ◌⊎◌, Bool, true, false, List, [], ◌∷◌, ◌++◌, length, get_or, Option, Some, None, refl, ap, sym, ◌∙◌, inl, inr, arith, if◌then◌else◌, add-one, Bor}
 use Rattle.std.specs.Bool.{MatchBool}
 use Rattle.std.specs.Prelude.{unwrap_or}
-use Rattle.std.proofs.lemmas.Bool.{cases_Bool, false≢true}
-use Rattle.csv.specs.Machine.{Read, next_record, step, is_end, ends_at_end, fields_after, field_after, ends_with, after_end}
-use Rattle.csv.specs.Reading.{records_from, records_next, default_config, source_of, pending_of, strip_bom, NextIs, ReadsNext, ReadRecord, Ready, reader_config, reader_state, reader_trim, is_flexible, took_first}
+use Rattle.std.proofs.lemmas.Bool.{false≢true}
+use Rattle.csv.specs.Machine.{Read, next_record, step, is_end, ends_at_end, fields_after, field_after}
+use Rattle.csv.specs.Reading.{records_from, default_config, source_of, ReadsNext, ReadRecord, reader_state, is_flexible, took_first}
 use Rattle.csv.specs.Records.{field_at}
 use Rattle.csv.specs.declared.parser.State.{State}
 use Rattle.csv.specs.declared.parser.State.TheVariants as st
-use Rattle.csv.specs.declared.reader.Reader.{Reader}
-use Rattle.csv.specs.declared.reader.Trim.TheVariants as trim
 use Rattle.twp_cmd.specs.Records.{Fields, records_left, bytes_left, IsReading}
 use Rattle.twp_cmd.specs.declared.records.Records.{Records}
 

@@ -1,5 +1,5 @@
 -- The answer of two texts, the field notes and the description.
-use Rattle.std.specs.Prelude.{◌≡◌, ℕ, ◌≤◌, List, [], ◌∷◌, ◌++◌, length, Option, Some, codes, decimal}
+use Rattle.std.specs.Prelude.{◌≡◌, ℕ, ◌≤◌, List, [], ◌∷◌, ◌++◌, length, Some, codes, decimal}
 use Rattle.twp_measure.specs.Areas.{Fraction, IsRounded}
 use Rattle.twp_measure.specs.Acres.{acres_text}
 use Rattle.twp_grid.specs.Lots.{position_of_lot}

@@ -1,8 +1,8 @@
 -- What a run does to its writer.
-use Rattle.std.specs.Prelude.{ℕ, ◌+◌, ◌≤◌, ◌==◌, List, length, take, Option, Result, Ok, Err}
+use Rattle.std.specs.Prelude.{ℕ, ◌≤◌, ◌==◌, List, length, take, Option, Result, Ok, Err}
 use Rattle.std.specs.Io.KnownBytes.{Appends, Keeps}
 use Rattle.std.specs.List.{before_first, after_first}
-use Rattle.twp_cmd.specs.Answers.{IsAnswer, line_feed}
+use Rattle.twp_cmd.specs.Answers.{line_feed}
 use Rattle.twp_cmd.specs.declared.verdict.Verdict.{Verdict}
 use Rattle.twp_cmd.specs.declared.verdict.RunFault.{RunFault}
 use Rattle.twp_cmd.specs.declared.verdict.RunFault.TheVariants.{Read, Write, Memory}

@@ -1,5 +1,5 @@
 -- Lines by the rows and columns of the sections beside them.
-use Rattle.std.proofs.Common.{◌≡◌, ◌≢◌, ℕ, ◌+◌, ◌-◌, ◌*◌, ◌/◌, ◌%◌, ◌≤◌, ◌<◌, ◌⊎◌, inl, inr, refl, Option, Some, None, arith}
+use Rattle.std.proofs.Common.{◌≡◌, ◌≢◌, ℕ, ◌+◌, ◌-◌, ◌/◌, ◌%◌, ◌≤◌, ◌<◌, ◌⊎◌, inl, inr, Option, Some, None, arith}
 use Rattle.std.proofs.lemmas.Bool.{cases_lt}
 use Rattle.twp_grid.specs.Winding.{StandsAt}
 use Rattle.twp_grid.specs.Lines.{north_run, west_run, IsSide, LiesBeside, IsLineOf, IsClosing}

@@ -2,7 +2,7 @@
 use Rattle.std.proofs.Common.{◌≡◌, ℕ, zero, suc, ◌+◌, ◌-◌, ◌*◌, ◌/◌, ◌%◌, ◌≤◌, ◌<◌, inl, inr, arith}
 use Rattle.std.proofs.Math.Nat.{div-add-mod, mod-lt, mul-le-mul_right}
 use Rattle.std.proofs.lemmas.Bool.{cases_lt}
-use Rattle.twp_measure.specs.Areas.{Fraction, Reaches, IsRounded}
+use Rattle.twp_measure.specs.Areas.{Fraction, IsRounded}
 
 -- u is the doubled units, and d what makes a hundredth over the denominator
 reached_by : (q u d : ℕ) → 2 * d * q ≤ u + d → (2 * q - 1) * d ≤ u

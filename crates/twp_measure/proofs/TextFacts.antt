@@ -1,8 +1,8 @@
 -- Texts that end at a known place of a buffer.
-use Rattle.std.proofs.Common.{◌≡◌, ◌≢◌, ◌==◌, ℕ, ◌+◌, ◌-◌, ◌*◌, ◌/◌, ◌%◌, ◌≤◌, ◌⊎◌, List, [], ◌∷◌, ◌++◌, length, take, drop, decimal, inl, inr, ap, sym, ◌∙◌, arith, if◌then◌else◌, true, false}
+use Rattle.std.proofs.Common.{◌≡◌, ◌≢◌, ◌==◌, ℕ, ◌+◌, ◌-◌, ◌/◌, ◌%◌, ◌≤◌, ◌⊎◌, List, [], ◌∷◌, ◌++◌, length, take, drop, decimal, inl, inr, arith, true, false}
 use Rattle.std.proofs.lemmas.Bool.{eq-eqb, ne_eqb}
 use Rattle.std.proofs.Math.Seq.{take-append-add}
-use Rattle.twp_measure.specs.LengthTexts.{point, digit_byte, length_text, third_decimal}
+use Rattle.twp_measure.specs.LengthTexts.{point, digit_byte, length_text}
 
 -- the part of a buffer that begins with a front which ends at `middle`
 pub front_and_more : (text front back : List ℕ) (start middle end : ℕ) → drop start text ≡ front ++ back → start + length front ≡ middle → middle ≤ end

@@ -1,11 +1,10 @@
 -- The text that is written of a length is a text of that length.
-use Rattle.std.proofs.Common.{◌≡◌, ◌==◌, ℕ, ◌+◌, ◌-◌, ◌*◌, ◌/◌, ◌%◌, ◌^◌, ◌≤◌, ◌<◌, Bool, true, false, List, [], ◌∷◌, ◌++◌, length, decimal, refl, ap, sym, ◌∙◌, inr, arith, if◌then◌else◌}
+use Rattle.std.proofs.Common.{◌≡◌, ◌==◌, ℕ, ◌+◌, ◌*◌, ◌/◌, ◌%◌, ◌<◌, Bool, true, false, [], ◌∷◌, ◌++◌, decimal, refl, sym, inr, arith, if◌then◌else◌}
 use Rattle.std.specs.Char.{digit_value}
-use Rattle.std.specs.Str.Parse.{AllDigits, IsNumeral, digits_value}
-use Rattle.std.proofs.lemmas.Bool.{eqb-true, cases_Bool}
+use Rattle.std.proofs.lemmas.Bool.{eqb-true}
 use Rattle.std.proofs.lemmas.Fmt.{decimal_is_IsNumeral, length-decimal-le}
 use Rattle.std.proofs.lemmas.Str.{digit_value_digit}
-use Rattle.twp_measure.specs.LengthTexts.{point, digit_byte, third_decimal, length_text, fraction_of, IsShortNumber, IsDecimals, IsPointed, IsLengthText}
+use Rattle.twp_measure.specs.LengthTexts.{point, digit_byte, length_text, IsShortNumber, IsDecimals, IsLengthText}
 
 digit_value-byte : (digit : ℕ) → digit < 10 → digit_value (digit_byte digit) ≡ digit
 digit_value-byte digit small =

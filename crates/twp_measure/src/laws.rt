@@ -6,18 +6,15 @@ ghost use Rattle.twp_measure.specs.Laws.{WrittenIsRead, OneLength, OneRounding};
 #[tactic(auto, using(crate::proofs::WrittenLengths::written_is_length))]
 pub fn written_is_read()
     ensures { WrittenIsRead }
-{
-}
+{}
 
 /// A text is of one length.
 pub fn one_length()
     ensures { OneLength }
-{
-}
+{}
 
 /// An area is rounded to one number of hundredths.
 #[tactic(auto, using(crate::proofs::RoundingFacts::one_rounding))]
 pub fn one_rounding()
     ensures { OneRounding }
-{
-}
+{}

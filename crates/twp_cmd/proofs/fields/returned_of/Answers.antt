@@ -1,6 +1,5 @@
 -- A record that returns a line has the texts of both its lengths.
-use Rattle.std.proofs.Common.{◌≡◌, Some, ap}
-use Rattle.twp_measure.specs.LengthTexts.{IsLengthText}
+use Rattle.std.proofs.Common.{Some, ap}
 use Rattle.twp_cmd.proofs.FieldFacts.{same_returned}
 use Rattle.twp_cmd.proofs.fields.returned_of.Goals as goal
 

@@ -1,11 +1,9 @@
 -- The records so far are those of the lines so far; the next one is the next line's, or the records are
 -- not those of all lines.
-use Rattle.std.proofs.Common.{◌≡◌, ℕ, ◌+◌, ◌∷◌, ◌++◌, [], ◌≤◌, ◌<◌, length, drop, sym, ◌∙◌, arith, rules}
-use Rattle.std.specs.Prelude.{slice_index_or}
+use Rattle.std.proofs.Common.{sym, ◌∙◌, arith}
 use Rattle.std.proofs.lemmas.Grind.{common_steps}
-use Rattle.csv.specs.Records.{fields_of}
-use Rattle.twp_cmd.specs.Records.{records_left, record_at, IsReading}
-use Rattle.twp_cmd.specs.FieldNotes.{IsLineRecord, nothing_returned}
+use Rattle.twp_cmd.specs.Records.{records_left, record_at}
+use Rattle.twp_cmd.specs.FieldNotes.{IsLineRecord}
 use Rattle.twp_cmd.proofs.NoteFacts.{next_record_is, no_record_left, each_more}
 use Rattle.twp_cmd.proofs.notes.read_lines.Goals as goal
 

@@ -1,6 +1,5 @@
 -- What stands behind the section's number and `, lot ` is the lot's number and a full stop.
 use Rattle.std.proofs.Common.{◌≡◌, ◌++◌, codes, decimal, sym, ◌∙◌, below_more}
-use Rattle.twp_cmd.specs.LotTexts.{IsLotOf}
 use Rattle.twp_cmd.proofs.TextFacts.{behind_two, same_rest}
 use Rattle.twp_cmd.proofs.thin.read_lot_of.Goals as goal
 

@@ -1,4 +1,4 @@
-use Rattle.std.proofs.Common.{arith, rules}
+use Rattle.std.proofs.Common.{rules}
 use Rattle.twp_cmd.proofs.DeviceFacts.{appends_piece}
 use Rattle.twp_cmd.proofs.writing.write_whole.Goals as goal
 

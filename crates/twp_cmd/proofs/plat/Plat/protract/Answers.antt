@@ -1,5 +1,4 @@
 use Rattle.std.proofs.Common.{◌≡◌, below_more}
-use Rattle.twp_cmd.specs.FieldNotes.{returned_of}
 use Rattle.twp_cmd.specs.Closing.{IsInLimits}
 use Rattle.twp_cmd.proofs.PlatFacts.{line_at}
 use Rattle.twp_cmd.proofs.plat.Plat.protract.Goals as goal
