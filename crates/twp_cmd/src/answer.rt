@@ -1,5 +1,5 @@
 ghost use Rattle.std.specs.Prelude.{◌≡◌, ◌≢◌, ◌⊎◌, ◌↔◌, ◌++◌, ℕ, List, true, false, IfOk, IfErr, IsErrOf, MatchOption};
-ghost use Rattle.twp_grid.specs.Devices.{Tells};
+ghost use Rattle.twp_grid.specs.Devices.{Tells, TakesAtMost};
 ghost use Rattle.twp_cmd.specs.FieldNotes.{FieldNotes};
 ghost use Rattle.twp_cmd.specs.Answers.{ArePlatted, IsDescribed, IsAnswer, acres_line, refusal_line, not_yet};
 
@@ -37,6 +37,8 @@ pub fn answer_of<N: Source, D: Source>(
     requires description { D.Source.has_failed description.old ≡ false }
     ensures read { IsErrOf result RunFault.Read ↔ ((N.Source.has_failed notes.new ≡ true) ⊎ (D.Source.has_failed description.new ≡ true)) }
     ensures no_write { IfErr result (λ fault. fault ≢ RunFault.Write) }
+    ensures notes_most { TakesAtMost (N.Source.remaining notes.old) (N.Source.remaining notes.new) 65537 }
+    ensures description_most { TakesAtMost (D.Source.remaining description.old) (D.Source.remaining description.new) 65537 }
     ensures answer { (n : List ℕ) × (d : List ℕ)
         × Tells (N.Source.remaining notes.old) n × Tells (D.Source.remaining description.old) d
         × IfOk result (λ answer. IsAnswer n d answer.text.items answer.verdict)
@@ -56,6 +58,7 @@ fn read_plat<N: Source>(alloc: Global, notes: &mut N) -> Result<Option<Plat>, Ru
     requires { N.has_failed notes.old ≡ false }
     ensures read { IsErrOf result RunFault.Read ↔ (N.has_failed notes.new ≡ true) }
     ensures no_write { IfErr result (λ fault. fault ≢ RunFault.Write) }
+    ensures most { TakesAtMost (N.remaining notes.old) (N.remaining notes.new) 65537 }
     ensures plat { IfOk result (λ plat. (n : List ℕ) × Tells (N.remaining notes.old) n
         × MatchOption plat ((other : FieldNotes) → ArePlatted n other → ⊥) (ArePlatted n)) }
 {
@@ -77,6 +80,7 @@ fn read_hundredths<D: Source>(
     requires { D.has_failed description.old ≡ false }
     ensures read { IsErrOf result RunFault.Read ↔ (D.has_failed description.new ≡ true) }
     ensures no_write { IfErr result (λ fault. fault ≢ RunFault.Write) }
+    ensures most { TakesAtMost (D.remaining description.old) (D.remaining description.new) 65537 }
     ensures hundredths { IfOk result (λ hundredths. (d : List ℕ) × Tells (D.remaining description.old) d
         × MatchOption hundredths ((other : ℕ) → IsDescribed plat.now d other → ⊥) (IsDescribed plat.now d)) }
 {

@@ -1,7 +1,7 @@
 ghost use Rattle.std.specs.Prelude.{◌≡◌, ◌≢◌, ◌≤◌, ◌↔◌, ℕ, List, length, Some, Err, true, false, ◌⊎◌, ◌==◌, IfOk, IfErr, IsErrOf, IsOkUnless};
 ghost use Rattle.std.specs.Io.KnownBytes.{Appends, Keeps};
 ghost use Rattle.std.specs.List.{before_first, after_first, position_or_len};
-ghost use Rattle.twp_grid.specs.Devices.{Tells};
+ghost use Rattle.twp_grid.specs.Devices.{Tells, TakesAtMost};
 ghost use Rattle.twp_cmd.specs.Answers.{IsAnswer};
 ghost use Rattle.twp_cmd.specs.Runs.{AppendsFront, IsRun, joined_notes, joined_description};
 ghost use Rattle.twp_cmd.specs.declared.verdict.Verdict.{Verdict};
@@ -34,6 +34,9 @@ pub fn run_joined<R: Source, W: Sink>(
     ensures read { IsErrOf result RunFault.Read ↔ (R.has_failed input.new ≡ true) }
     ensures write { IsErrOf result RunFault.Write ↔ (W.has_failed out.new ≡ true) }
 
+    // Reading ends with the last byte that is used, if not before.
+    ensures most { TakesAtMost (R.remaining input.old) (R.remaining input.new) 131074 }
+
     // What was written is the answer to what was read, whatever the devices tell of it.
     ensures ran { (bytes : List ℕ) × Tells (R.remaining input.old) bytes
         × IsRun (IsAnswer (joined_notes bytes) (joined_description bytes)) (W.contents out.old) (W.contents out.new) result }
@@ -57,6 +60,7 @@ fn joined_answer_of<R: Source>(alloc: Global, input: &mut R) -> Result<Answer, R
     requires { R.has_failed input.old ≡ false }
     ensures read { IsErrOf result RunFault.Read ↔ (R.has_failed input.new ≡ true) }
     ensures no_write { IfErr result (λ fault. fault ≢ RunFault.Write) }
+    ensures most { TakesAtMost (R.remaining input.old) (R.remaining input.new) 131074 }
     ensures answer { (bytes : List ℕ) × Tells (R.remaining input.old) bytes
         × IfOk result (λ answer. IsAnswer (joined_notes bytes) (joined_description bytes) answer.text.items answer.verdict) }
 {

@@ -1,5 +1,5 @@
 ghost use Rattle.std.specs.Prelude.{◌≡◌, ℕ, ◌+◌, ◌^◌, ◌≤◌, ◌<◌, ◌↔◌, Bool, true, false, List, length, take, IfOk, IsErrOf, MatchOption};
-ghost use Rattle.twp_grid.specs.Devices.{Tells};
+ghost use Rattle.twp_grid.specs.Devices.{Tells, TakesAtMost};
 
 use std::alloc::{AllocError, Global};
 use thiserror::Error;
@@ -49,6 +49,7 @@ pub fn read_whole<S: Source>(
     requires open { S.has_failed source.old ≡ false }
     requires room { limit + 1 < 2 ^ 32 }
     ensures failed { IsErrOf result ReadFault.Read ↔ (S.has_failed source.new ≡ true) }
+    ensures most { TakesAtMost (S.remaining source.old) (S.remaining source.new) (limit + 1) }
     ensures bytes { IfOk result (λ read. (bytes : List ℕ) × Tells (S.remaining source.old) bytes
         × MatchOption read (limit < length bytes) (λ v. (v.items ≡ bytes) × (length bytes ≤ limit))) }
 {
@@ -70,6 +71,7 @@ pub fn read_up_to<S: Source>(
     requires open { S.has_failed source.old ≡ false }
     requires room { most < 2 ^ 32 }
     ensures failed { IsErrOf result ReadFault.Read ↔ (S.has_failed source.new ≡ true) }
+    ensures most { TakesAtMost (S.remaining source.old) (S.remaining source.new) most }
     ensures bytes { IfOk result (λ read. (bytes : List ℕ) × Tells (S.remaining source.old) bytes × (read.items ≡ take most bytes)) }
 {
     let mut read = Vec::new(alloc);

@@ -1,6 +1,6 @@
 ghost use Rattle.std.specs.Prelude.{◌≡◌, ◌⊎◌, ◌↔◌, ℕ, List, Option, Some, true, false, Result, Err, OnOk, OnErr, IfOk, IfErr, IsErrOf, IsOkUnless, is_err};
 ghost use Rattle.std.specs.Io.KnownBytes.{Appends, Keeps};
-ghost use Rattle.twp_grid.specs.Devices.{Tells};
+ghost use Rattle.twp_grid.specs.Devices.{Tells, TakesAtMost};
 ghost use Rattle.twp_cmd.specs.FieldNotes.{FieldNotes};
 ghost use Rattle.twp_cmd.specs.Answers.{ArePlatted, IsAnswer};
 ghost use Rattle.twp_cmd.specs.Runs.{AppendsFront, IsRun};
@@ -29,6 +29,10 @@ pub fn run_acres<N: Source, D: Source, W: Sink>(
     // A fault of a device is answered exactly where that device failed in this call.
     ensures read { IsErrOf result RunFault.Read ↔ ((N.Source.has_failed notes.new ≡ true) ⊎ (D.Source.has_failed description.new ≡ true)) }
     ensures write { IsErrOf result RunFault.Write ↔ (W.has_failed out.new ≡ true) }
+
+    // Reading ends one byte past the limit, if not before.
+    ensures notes_most { TakesAtMost (N.Source.remaining notes.old) (N.Source.remaining notes.new) 65537 }
+    ensures description_most { TakesAtMost (D.Source.remaining description.old) (D.Source.remaining description.new) 65537 }
 
     // What was written is the answer to what was read, whatever the devices tell of it. After refused
     // notes or a refused plat the description's source is as it was.

@@ -1,5 +1,6 @@
 -- What a contract sees of a device: its bytes, where it tells them, and whether it has failed.
-use Rattle.std.specs.Prelude.{◌≡◌, ℕ, List, Option, Some, None, ⊤, Bool}
+use Rattle.std.specs.Prelude.{◌≡◌, ℕ, ◌≤◌, List, length, Option, Some, None, ⊤, Bool}
+use Rattle.std.specs.Io.KnownBytes.{Consumes}
 use Rattle.twp_grid.specs.declared.device.Device.{Device}
 use Rattle.twp_grid.specs.declared.device.Bytes.{Bytes}
 
@@ -7,6 +8,10 @@ use Rattle.twp_grid.specs.declared.device.Bytes.{Bytes}
 abbrev pub Tells : Option (List ℕ) → List ℕ → Type 0
 Tells None bytes = ⊤
 Tells (Some known) bytes = known ≡ bytes
+
+-- of the bytes that are told, at most so many were taken
+abbrev pub TakesAtMost : Option (List ℕ) → Option (List ℕ) → ℕ → Type 0
+TakesAtMost old new most = (taken : List ℕ) × Consumes old new taken × (length taken ≤ most)
 
 -- the reader or writer of a device, and whether a call has failed
 abbrev pub inner_of : {T : Type 0} → Device T → T
