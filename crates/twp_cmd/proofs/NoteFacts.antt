@@ -87,6 +87,7 @@ line_record_is bytes first second rest k parts =
 pub record AreParts (first second : Fields) (rest : List Fields) (notes : FieldNotes) : Type 0 where
   pub heading_is : first ≡ heading
   pub township_is : IsTownshipRecord second notes.township
+  pub lines : length notes.lines ≡ 84
   pub lines_are : AreLineRecords rest notes.lines
 
 pub parts_of : (bytes : List ℕ) (first second : Fields) (rest : List Fields) (notes : FieldNotes) → HasParts bytes first second rest → AreNotesInOrder bytes notes → AreParts first second rest notes
@@ -99,6 +100,7 @@ parts_of bytes first second rest notes parts is =
     record {
       heading_is = rw parts.split at is.0.heading_is;
       township_is = rw parts.split at is.0.township_is;
+      lines = is.0.lines;
       lines_are = record { count = omega (arith, is.0.count); each = each };
     }
 
@@ -114,6 +116,7 @@ notes_of_parts bytes first second rest notes small parts are =
         count = omega (arith, are.lines_are.count);
         heading_is = rw parts.split are.heading_is;
         township_is = rw parts.split are.township_is;
+        lines = are.lines;
         each = λ line range. (line, range, each line range);
         once = λ line j k in-j in-k first' second'. sym (named line j in-j first') ∙ named line k in-k second';
       },

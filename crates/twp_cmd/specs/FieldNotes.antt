@@ -93,6 +93,7 @@ pub record AreNotes (bytes : List ℕ) (notes : FieldNotes) : Type 0 where
   pub count : length (records_of bytes) ≡ 86
   pub heading_is : record_at (records_of bytes) 0 ≡ heading
   pub township_is : IsTownshipRecord (record_at (records_of bytes) 1) notes.township
+  pub lines : length notes.lines ≡ 84
   pub each : (line : ℕ) → IsLine line → (k : ℕ) × (k < 84) × IsLineRecord (line_record bytes k) line (returned_of notes line)
   pub once : (line j k : ℕ) → j < 84 → k < 84 → NamesLine (line_record bytes j) line → NamesLine (line_record bytes k) line → j ≡ k
 

@@ -150,6 +150,28 @@ fn refuses_what_is_not_taken_yet(rt: HostRuntime) -> Result<(), Fail> {
 }
 
 #[test]
+fn takes_the_lots_of_ten_sections(rt: HostRuntime) -> Result<(), Fail> {
+    let alloc = rt.alloc();
+    let notes = notes_of(alloc, Notes::Uneven)?;
+    for section in 0..38u8 {
+        let text = format!(in alloc; "sec. {section}, lot 4.")?;
+        let (_, verdict) = answer_to(alloc, notes.as_slice(), text.as_str())?;
+        let taken = [1, 2, 3, 4, 5, 7, 18, 19, 30, 31].contains(&section);
+        assert_eq!(rt; verdict == Verdict::Accepted, taken, "section {section}");
+    }
+    for lot in 0..10u8 {
+        let text = format!(in alloc; "sec. 31, lot {lot}.")?;
+        let (_, verdict) = answer_to(alloc, notes.as_slice(), text.as_str())?;
+        assert_eq!(rt;
+            verdict == Verdict::Accepted,
+            1 <= lot && lot <= 4,
+            "lot {lot}"
+        );
+    }
+    Ok(())
+}
+
+#[test]
 fn refuses_other_notes(rt: HostRuntime) -> Result<(), Fail> {
     let alloc = rt.alloc();
     let notes = notes_of(alloc, Notes::Uneven)?;

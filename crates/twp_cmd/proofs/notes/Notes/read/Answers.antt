@@ -9,7 +9,7 @@ returns-in-Some-2 c =
     let lines = rw c.in-Some-2.is at c.in_ok-lines.ensures in
     notes_of_parts c.args.bytes.now _ _ _ _ c.requires
     (two_read _ _ _ _ _ _ c.new-records.ensures.all first.0 second.0)
-    (record { heading_is = c.is_heading.ensures.0 c.if-not-is_heading.false; township_is = c.in-Some.ensures.township; lines_are = lines.1 })
+    (record { heading_is = c.is_heading.ensures.0 c.if-not-is_heading.false; township_is = c.in-Some.ensures.township; lines = lines.0; lines_are = lines.1 })
 
 pub returns : goal.returns
 returns c other is =
