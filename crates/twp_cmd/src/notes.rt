@@ -12,7 +12,7 @@ use std::marker::Model;
 use twp_grid::{Line, Township};
 
 /// How many lines a township has.
-const LINES: u8 = 84;
+pub const LINES: u8 = 84;
 
 /// The field notes of a township.
 #[derive(Drop)]

@@ -2,7 +2,7 @@ ghost use Rattle.std.specs.Prelude.{◌≡◌, ◌≤◌, ◌<◌, ◌↔◌, Is
 ghost use Rattle.twp_cmd.specs.Closing.{IsHalfMile, IsInLimits, MakesPlat, IsLastQuarter};
 ghost use Rattle.twp_cmd.specs.Pieces.{IsPiece};
 
-use crate::notes::Notes;
+use crate::notes::{LINES, Notes};
 use crate::piece::LastQuarters;
 use crate::returned::Returned;
 use std::marker::Model;
@@ -29,14 +29,16 @@ impl Model for Plat {
 /// A quarter mile, in thousandths of a chain.
 const QUARTER_MILE: u32 = 20_000;
 
-/// The least and the most of a half mile of 40 chains (this project's rule).
+/// The least of a half mile of 40 chains (this project's rule).
 const LEAST_HALF: u32 = 39_750;
 
+/// The most of a half mile of 40 chains (this project's rule).
 const MOST_HALF: u32 = 40_250;
 
-/// The least and the most of a closing quarter, 5 to 25 chains (this project's rule).
+/// The least of a closing quarter (this project's rule).
 const LEAST_CLOSING: u32 = 5_000;
 
+/// The most of a closing quarter (this project's rule).
 const MOST_CLOSING: u32 = 25_000;
 
 impl Plat {
@@ -44,7 +46,7 @@ impl Plat {
     pub fn protract(notes: Notes) -> Option<Plat>
         ensures { MatchOption result (MakesPlat notes → ⊥) (λ plat. (plat ≡ notes) × MakesPlat notes) }
     {
-        for index in 0..84 {
+        for index in 0..LINES {
             let line = Line::at_index(index).unwrap();
             if !is_in_limits(line, notes.line(line)) {
                 return None;
