@@ -35,6 +35,7 @@ impl<'a> Records<'a> {
         match self.reader.read_byte_record(row) {
             Ok(found) => Ok(found),
             Err(error) => match error.into_kind() {
+                // Bytes in memory give no fault of a device, but `csv` promises that of no reader.
                 ErrorKind::OutOfMemory | ErrorKind::Io(_) => Err(AllocError),
                 _ => unreachable!(),
             },
