@@ -1,7 +1,7 @@
 use crate::reading::ReadFault;
 use std::alloc::{AllocError, AllocFailed};
 use thiserror::Error;
-use twp_grid::{DeviceFault, Refusal};
+use twp_grid::Refusal;
 
 /// What a run answered, beside the text that it wrote.
 #[derive(Clone, Copy, Debug, PartialEq, Eq, Hash)]
@@ -60,16 +60,5 @@ impl From<ReadFault> for RunFault {
             ReadFault::Read => RunFault::Read,
             ReadFault::Memory => RunFault::Memory,
         }
-    }
-}
-
-impl From<DeviceFault> for RunFault {
-    ghost use Rattle.std.specs.Prelude.{◌≡◌};
-    ghost use Rattle.twp_cmd.specs.declared.verdict.RunFault.TheVariants.{Write};
-
-    ghost from_gives = { λ _ fault. fault ≡ Write };
-
-    fn from(_fault: DeviceFault) -> RunFault {
-        RunFault::Write
     }
 }

@@ -176,11 +176,11 @@ fn refuses_other_notes(rt: HostRuntime) -> Result<(), Fail> {
     let alloc = rt.alloc();
     let notes = notes_of(alloc, Notes::Uneven)?;
     let bytes = notes.as_slice();
-    // Without the last record, without its last byte, with a record more, and not at all.
+    // Without the last record, with a record more, with none, and bytes that are no notes.
     let mut more = notes.clone()?;
     more.extend_from_slice(b"N,1,,40.00,80.00\n")?;
-    let (shorter, last) = bytes.split_at(bytes.len().saturating_sub(17));
-    assert_eq!(rt; last, "W,31,,40.00,80.00\n".as_bytes().split_at(1).1);
+    let (shorter, last) = bytes.split_at(bytes.len().saturating_sub(18));
+    assert_eq!(rt; last, "W,31,,40.00,80.00\n".as_bytes());
     for other in [shorter, more.as_slice(), b"", b"\0\xFF garbage,\"\n"] {
         let (text, _) = answer_to(alloc, other, "sec. 5, lot 1.")?;
         assert_eq!(rt; text.as_slice(), REFUSED.as_bytes());
@@ -198,7 +198,7 @@ fn refuses_other_notes(rt: HostRuntime) -> Result<(), Fail> {
     Ok(())
 }
 
-// Gives some bytes over and over, or once, at most so many a call, and counts what it gave.
+// Gives its bytes, at most so many a call, or spaces without end, and counts what it gave.
 #[derive(Drop)]
 struct Counted<'a> {
     left: &'a [u8],
