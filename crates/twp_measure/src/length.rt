@@ -10,8 +10,8 @@ use std::marker::Model;
 use thiserror::Error;
 
 /// The length of a survey line in thousandths of a chain, 0 to 99,999 (this project's rule). A chain
-/// is 66 feet or 100 links, and 80 chains are a mile.
-#[derive(Clone, Copy, Debug, PartialEq, Eq, PartialOrd, Ord, Hash)]
+/// is 66 feet or 100 links, and 80 chains are a mile. The default is no length at all, 0.
+#[derive(Clone, Copy, Debug, Default, PartialEq, Eq, PartialOrd, Ord, Hash)]
 pub struct Length {
     thousandths: u32,
 }

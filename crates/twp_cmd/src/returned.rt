@@ -1,9 +1,0 @@
-use twp_measure::Length;
-
-/// What field notes return of a line: the distances from its start to its quarter corner and to the
-/// section corner or closing at its end.
-#[derive(Clone, Copy, Debug, PartialEq, Eq, Hash)]
-pub struct Returned {
-    pub quarter: Length,
-    pub corner: Length,
-}

@@ -1,0 +1,44 @@
+-- Bytes that are read and written in pieces.
+use Rattle.std.proofs.Common.{◌≡◌, ℕ, ◌+◌, ◌-◌, ◌≤◌, List, [], ◌++◌, length, take, drop, Option, Some, None, refl, ap, sym, ◌∙◌, arith, append_assoc, length-append}
+use Rattle.std.specs.Prelude.{unwrap_or}
+use Rattle.std.specs.Io.KnownBytes.{Appends, Consumes, IsAtEnd}
+use Rattle.std.proofs.lemmas.List.{append-nil, length-drop, take_all, take_at, length-take}
+use Rattle.std.proofs.Math.Seq.{take-add}
+use Rattle.std.proofs.KnownBytes.{Consumes-trans}
+use Rattle.twp_grid.specs.Devices.{Tells, TakesAtMost}
+
+take_piece : (bytes : List ℕ) (at n : ℕ) → take (at + n) bytes ≡ take at bytes ++ take n (take (length bytes - at) (drop at bytes))
+take_piece bytes at n = rw (take_all (length bytes - at) (drop at bytes) (simp length-drop (omega arith))) (take-add at n bytes)
+
+-- one more piece was taken
+pub appends_piece : (old mid new : Option (List ℕ)) (bytes : List ℕ) (at n : ℕ) → Appends old mid (take at bytes)
+    → Appends mid new (take n (take (length bytes - at) (drop at bytes))) → Appends old new (take (at + n) bytes)
+appends_piece None mid new bytes at n before more = tt
+appends_piece (Some xs) None new bytes at n before more = absurd before
+appends_piece (Some xs) (Some ys) None bytes at n before more = absurd more
+appends_piece (Some xs) (Some ys) (Some zs) bytes at n before more =
+    more ∙ ap (λ t. t ++ take n (take (length bytes - at) (drop at bytes))) before ∙ append_assoc xs (take at bytes) (take n (take (length bytes - at) (drop at bytes))) ∙ ap (λ t. xs ++ t) (sym (take_piece bytes at n))
+
+-- what was read and what is left are the bytes of the source
+pub tells_read : (old new : Option (List ℕ)) (read : List ℕ) → Consumes old new read → Tells old (read ++ unwrap_or new [])
+tells_read None new read h = tt
+tells_read (Some xs) None read h = absurd h
+tells_read (Some xs) (Some ys) read h = h
+
+none_left : (new : Option (List ℕ)) → IsAtEnd new → unwrap_or new [] ≡ []
+none_left None h = refl
+none_left (Some ys) h = h
+
+-- the reading ends with as many bytes as were asked for, or at the end of the input
+pub read_most : (read rest : List ℕ) (most : ℕ) → length read ≡ most → read ≡ take most (read ++ rest)
+read_most read rest most long = sym (take_at read rest most long)
+
+pub read_end : (read : List ℕ) (new : Option (List ℕ)) (most : ℕ) → IsAtEnd new → length read ≤ most → read ≡ take most (read ++ unwrap_or new [])
+read_end read new most end within = rw (none_left new end, append-nil read) (sym (take_all most read within))
+
+-- the pieces that were taken, with the last one, are within what is asked for
+pub most_taken : (old mid new : Option (List ℕ)) (read piece : List ℕ) (count room most : ℕ) → Consumes old mid read → Consumes mid new (take count piece)
+    → count ≤ room → length read + room ≤ most → TakesAtMost old new most
+most_taken old mid new read piece count room most before more within fits =
+    let short : length (take count piece) ≤ count = rw (length-take count piece) (omega arith) in
+    (read ++ take count piece, Consumes-trans old mid new read (take count piece) before more, rw (length-append read (take count piece)) (omega arith))

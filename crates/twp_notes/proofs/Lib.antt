@@ -1,0 +1,4 @@
+pub mod DeviceFacts
+pub mod RecordFacts
+pub mod FieldFacts
+pub mod TableFacts

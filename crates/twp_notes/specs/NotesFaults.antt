@@ -1,0 +1,111 @@
+-- What may be wrong with field notes, each fault as a statement about all their records, and which fault
+-- is answered.
+use Rattle.std.specs.Prelude.{◌≡◌, ◌≢◌, ◌⊎◌, ℕ, ◌≤◌, ◌<◌, List, [], length, Option, Some, None, IfSome, Result, Ok, Err}
+use Rattle.std.specs.Option.{option_map_or}
+use Rattle.twp_measure.specs.LengthTexts.{IsLengthText}
+use Rattle.twp_grid.specs.Lines.{IsLine}
+use Rattle.twp_grid.specs.Townships.{Designation}
+use Rattle.twp_grid.specs.declared.line.Run.{Run}
+use Rattle.twp_grid.specs.declared.refusal.Refusal.{Refusal}
+use Rattle.twp_notes.specs.Finding.{HasNone}
+use Rattle.twp_notes.specs.Records.{Fields, field, records_of, record_numbered}
+use Rattle.twp_notes.specs.FieldNotes.{FieldNotes, NOTES_MOST, FIELDS, heading, run_text, IsTownshipRecord, IsSectionText, IsNeighbourText, NamesLine, IsLineNumber, IsNamed, AreNotes}
+use Rattle.twp_notes.specs.declared.fault.NotesFault.{NotesFault}
+use Rattle.twp_notes.specs.declared.fault.NotesFault.TheVariants as fault
+
+-- the number and the place of each fault: a length in bytes, a record's number or a line's index
+abbrev pub refusal_of : NotesFault → Option Refusal
+refusal_of fault.TooLarge = Some (record { number = 1; at = NOTES_MOST })
+refusal_of fault.Empty = Some (record { number = 2; at = 1 })
+refusal_of fault.Heading = Some (record { number = 3; at = 1 })
+refusal_of (fault.Columns record_number) = Some (record { number = 4; at = record_number })
+refusal_of fault.Township = Some (record { number = 5; at = 2 })
+refusal_of (fault.Run record_number) = Some (record { number = 6; at = record_number })
+refusal_of (fault.Section record_number) = Some (record { number = 7; at = record_number })
+refusal_of (fault.NoLine record_number) = Some (record { number = 8; at = record_number })
+refusal_of (fault.Length record_number) = Some (record { number = 9; at = record_number })
+refusal_of (fault.Repeated record_number) = Some (record { number = 10; at = record_number })
+refusal_of (fault.Missing line) = Some (record { number = 11; at = line })
+refusal_of fault.Read = None
+refusal_of fault.Memory = None
+
+-- a record whose first field is no run's letter
+abbrev pub HasNoRun : Fields → Type 0
+HasNoRun fields = HasNone (λ (run : Run). field fields 0 ≡ run_text run)
+
+-- a record without a section, or whose neighbour is neither a section nor left empty
+abbrev pub HasNoSection : Fields → Type 0
+HasNoSection fields = HasNone (IsSectionText (field fields 1)) ⊎ HasNone (IsNeighbourText (field fields 2))
+
+-- a record that names no line of the township
+abbrev pub NamesNoLine : Fields → Type 0
+NamesNoLine fields = HasNone (NamesLine fields)
+
+-- a record with a distance that is no length
+abbrev pub HasNoLength : Fields → Type 0
+HasNoLength fields = HasNone (IsLengthText (field fields 3)) ⊎ HasNone (IsLengthText (field fields 4))
+
+-- the record's line is that of an earlier record
+pub record IsRepeated (records : List Fields) (number : ℕ) : Type 0 where
+  pub earlier : ℕ
+  pub line : ℕ
+  pub is_earlier : earlier < number
+  pub earlier_is_of_a_line : IsLineNumber records earlier
+  pub earlier_names : NamesLine (record_numbered records earlier) line
+  pub names : NamesLine (record_numbered records number) line
+
+-- the fault is there among the records
+abbrev pub HasRecordFault : List Fields → NotesFault → Type 0
+HasRecordFault records fault.TooLarge = ⊥
+HasRecordFault records fault.Empty = records ≡ []
+HasRecordFault records fault.Heading = record_numbered records 1 ≢ heading
+HasRecordFault records (fault.Columns number) =
+    (2 ≤ number) × (number ≤ length records) × (length (record_numbered records number) ≢ FIELDS)
+HasRecordFault records fault.Township = HasNone (IsTownshipRecord (record_numbered records 2))
+HasRecordFault records (fault.Run number) = IsLineNumber records number × HasNoRun (record_numbered records number)
+HasRecordFault records (fault.Section number) = IsLineNumber records number × HasNoSection (record_numbered records number)
+HasRecordFault records (fault.NoLine number) = IsLineNumber records number × NamesNoLine (record_numbered records number)
+HasRecordFault records (fault.Length number) = IsLineNumber records number × HasNoLength (record_numbered records number)
+HasRecordFault records (fault.Repeated number) = IsLineNumber records number × IsRepeated records number
+HasRecordFault records (fault.Missing line) = IsLine line × ¬ IsNamed records line
+HasRecordFault records fault.Read = ⊥
+HasRecordFault records fault.Memory = ⊥
+
+-- the fault is there: the bytes are too many, or it is among their records
+abbrev pub HasFault : List ℕ → NotesFault → Type 0
+HasFault bytes fault.TooLarge = NOTES_MOST < length bytes
+HasFault bytes other = HasRecordFault (records_of bytes) other
+
+-- The size of the notes is looked at first, then their records one after another, and at last whether a
+-- line is missing.
+abbrev pub stage_of : NotesFault → ℕ
+stage_of fault.TooLarge = 0
+stage_of (fault.Missing line) = 2
+stage_of other = 1
+
+abbrev pub number_of : NotesFault → ℕ
+number_of fault = option_map_or (λ (refusal : Refusal). refusal.number) (refusal_of fault) 0
+
+abbrev pub place_of : NotesFault → ℕ
+place_of fault = option_map_or (λ (refusal : Refusal). refusal.at) (refusal_of fault) 0
+
+-- the fault is at this stage, place and number, or behind it
+abbrev pub IsFrom : ℕ → ℕ → ℕ → NotesFault → Type 0
+IsFrom stage place number fault =
+    (stage < stage_of fault)
+    ⊎ ((stage ≡ stage_of fault) × (place < place_of fault))
+    ⊎ ((stage ≡ stage_of fault) × (place ≡ place_of fault) × (number ≤ number_of fault))
+
+-- no fault among these comes before this one
+abbrev pub ComesFirst : (NotesFault → Type 0) → NotesFault → Type 0
+ComesFirst Has fault = (other : NotesFault) → Has other → IsFrom (stage_of fault) (place_of fault) (number_of fault) other
+
+-- the fault is there, and none that comes before it
+pub record IsFirstFault (bytes : List ℕ) (fault : NotesFault) : Type 0 where
+  pub is : HasFault bytes fault
+  pub first : ComesFirst (HasFault bytes) fault
+
+-- the notes that the bytes are, or their first fault
+abbrev pub AnswersNotes : List ℕ → Result FieldNotes NotesFault → Type 0
+AnswersNotes bytes (Ok notes) = AreNotes bytes notes
+AnswersNotes bytes (Err fault) = IfSome (refusal_of fault) (λ _. IsFirstFault bytes fault)

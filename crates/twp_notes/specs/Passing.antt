@@ -1,0 +1,14 @@
+-- How faults are passed on.
+use Rattle.std.specs.Prelude.{◌≡◌}
+use Rattle.twp_notes.specs.declared.reading.ReadFault.{ReadFault}
+use Rattle.twp_notes.specs.declared.reading.ReadFault.TheVariants as reading
+use Rattle.twp_notes.specs.declared.fault.NotesFault.{NotesFault}
+use Rattle.twp_notes.specs.declared.fault.NotesFault.TheVariants as fault
+
+-- the fault of notes whose reading had this one
+abbrev pub notes_fault_of : ReadFault → NotesFault
+notes_fault_of reading.Read = fault.Read
+notes_fault_of reading.Memory = fault.Memory
+
+abbrev pub IsNotesFaultOf : ReadFault → NotesFault → Type 0
+IsNotesFaultOf reading answered = answered ≡ notes_fault_of reading

@@ -1,0 +1,45 @@
+-- The records of a text of comma-separated fields, as `csv` reads them: no header row is set apart, a
+-- record may have any number of fields, and nothing is trimmed.
+use Rattle.std.specs.Prelude.{◌≡◌, ℕ, ◌+◌, ◌-◌, ◌≤◌, true, false, List, [], length, Some, slice_index_or, unwrap_or}
+use Rattle.std.specs.Borrow.{Bor}
+use Rattle.csv.specs.Machine.{ends_at_end}
+use Rattle.csv.specs.Reading.{records, records_from, strip_bom, default_config, source_of, Ready, reader_config, reader_state, reader_trim, is_flexible}
+use Rattle.csv.specs.declared.reader.Trim.TheVariants as trim
+use Rattle.twp_notes.specs.declared.records.Records.{Records}
+
+-- a record is the list of its fields
+abbrev pub Fields : Type 0
+Fields = List (List ℕ)
+
+-- all the records of the bytes, one after another
+abbrev pub records_of : List ℕ → List Fields
+records_of bytes = records default_config (strip_bom bytes)
+
+-- the field at a place, empty where the record is shorter
+abbrev pub field : Fields → ℕ → List ℕ
+field fields i = slice_index_or fields i []
+
+-- the record at a place, without fields where there are fewer
+abbrev pub record_at : List Fields → ℕ → Fields
+record_at records i = slice_index_or records i []
+
+-- the records are numbered from 1
+abbrev pub record_numbered : List Fields → ℕ → Fields
+record_numbered records number = record_at records (number - 1)
+
+-- the bytes that a reader has left
+abbrev pub unread_bytes : Records → List ℕ
+unread_bytes r = unwrap_or (source_of (λ (s : Bor (List ℕ)). Some s.now) r.reader) []
+
+-- the records that a reader has left
+abbrev pub records_left : Records → List Fields
+records_left r = records_from default_config (length (unread_bytes r) + 1) (reader_state r.reader) (unread_bytes r)
+
+-- the reader stands between two records
+pub record IsReading (r : Records) : Type 0 where
+  pub plain : reader_trim r.reader ≡ trim.None
+  pub ready : Ready r.reader
+  pub config : reader_config r.reader ≡ default_config
+  pub flexible : is_flexible r.reader ≡ true
+  pub known : source_of (λ (s : Bor (List ℕ)). Some s.now) r.reader ≡ Some (unread_bytes r)
+  pub between : ends_at_end (reader_state r.reader) ≡ false

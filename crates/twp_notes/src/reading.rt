@@ -1,0 +1,88 @@
+ghost use Rattle.std.specs.Prelude.{◌≡◌, ℕ, ◌+◌, ◌^◌, ◌≤◌, ◌<◌, ◌↔◌, Bool, true, false, List, length, take, IfOk, IsErrOf, MatchOption};
+ghost use Rattle.twp_grid.specs.Devices.{Tells, TakesAtMost};
+
+use std::alloc::{AllocError, Global};
+use thiserror::Error;
+use twp_grid::{DeviceFault, Source};
+
+/// Why bytes could not be read.
+#[derive(Clone, Copy, Debug, PartialEq, Eq, Hash, Error)]
+pub enum ReadFault {
+    /// The device failed.
+    #[error("cannot read")]
+    Read,
+    /// There was no memory for the bytes.
+    #[error("out of memory")]
+    Memory,
+}
+
+impl From<DeviceFault> for ReadFault {
+    ghost use Rattle.twp_notes.specs.declared.reading.ReadFault.TheVariants.{Read};
+
+    ghost from_gives = { λ _ fault. fault ≡ Read };
+
+    fn from(_fault: DeviceFault) -> ReadFault {
+        ReadFault::Read
+    }
+}
+
+impl From<AllocError> for ReadFault {
+    ghost use Rattle.twp_notes.specs.declared.reading.ReadFault.TheVariants.{Memory};
+
+    ghost from_gives = { λ _ fault. fault ≡ Memory };
+
+    fn from(_fault: AllocError) -> ReadFault {
+        ReadFault::Memory
+    }
+}
+
+/// How many bytes are asked for at a time.
+const PIECE: usize = 1_024;
+
+/// Reads all the bytes that a source gives, to the end of the input. None where there are more than
+/// `limit`: then one byte more was read, and no further one was asked for.
+pub fn read_whole<S: Source>(
+    alloc: Global,
+    source: &mut S,
+    limit: usize,
+) -> Result<Option<Vec<u8>>, ReadFault>
+    requires open { S.has_failed source.old ≡ false }
+    requires room { limit + 1 < 2 ^ 32 }
+    ensures failed { IsErrOf result ReadFault.Read ↔ (S.has_failed source.new ≡ true) }
+    ensures most { TakesAtMost (S.remaining source.old) (S.remaining source.new) (limit + 1) }
+    ensures bytes { IfOk result (λ read. (bytes : List ℕ) × Tells (S.remaining source.old) bytes
+        × MatchOption read (limit < length bytes) (λ v. (v.items ≡ bytes) × (length bytes ≤ limit))) }
+{
+    let bytes = read_up_to(alloc, source, limit + 1)?;
+    Ok(if bytes.len() > limit {
+        None
+    } else {
+        Some(bytes)
+    })
+}
+
+/// Reads the bytes that a source gives, to the end of the input or until there are `most` of them. No
+/// byte past these is asked for.
+pub fn read_up_to<S: Source>(
+    alloc: Global,
+    source: &mut S,
+    most: usize,
+) -> Result<Vec<u8>, ReadFault>
+    requires open { S.has_failed source.old ≡ false }
+    requires room { most < 2 ^ 32 }
+    ensures failed { IsErrOf result ReadFault.Read ↔ (S.has_failed source.new ≡ true) }
+    ensures most { TakesAtMost (S.remaining source.old) (S.remaining source.new) most }
+    ensures bytes { IfOk result (λ read. (bytes : List ℕ) × Tells (S.remaining source.old) bytes × (read.items ≡ take most bytes)) }
+{
+    let mut read = Vec::new(alloc);
+    let mut piece = [0; PIECE];
+    'pieces: while read.len() < most {
+        let room = PIECE.min(most - read.len());
+        let count = source.fill(&mut piece[..room])?;
+        if count == 0 {
+            return Ok(read);
+        }
+        read.extend_from_slice(&piece[..count])?;
+    }
+    Ok(read)
+}

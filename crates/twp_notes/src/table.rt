@@ -1,0 +1,69 @@
+ghost use Rattle.std.specs.Prelude.{◌≡◌, ℕ, ◌<◌, None, Some, IsSome, IfOk, IfErr, slice_set, length};
+ghost use Rattle.std.specs.Bool.{OnTrue, OnFalse};
+ghost use Rattle.twp_notes.specs.Tables.{entry_of, AreEntries, IsLeastMissing};
+
+use crate::returned::Returned;
+use std::marker::Model;
+use twp_grid::Line;
+
+/// How many lines a township has.
+pub const LINES: usize = 84;
+
+/// What the records so far return, by the indexes of their lines.
+#[derive(Clone, Copy)]
+pub struct LineTable {
+    entries: [Option<Returned>; LINES],
+}
+
+impl Model for LineTable {
+    ghost use Rattle.std.specs.Prelude.{List, Option, ◌≡◌, length};
+    ghost use Rattle.twp_notes.specs.declared.returned.Returned.{Returned};
+
+    ghost Value = { List (Option Returned) };
+
+    ghost view = { λ table. table.entries };
+
+    ghost invariant = { λ table. length table.entries ≡ 84 };
+
+    ghost inverse = { λ entries. record { entries = entries } };
+}
+
+impl LineTable {
+    /// Nothing is returned yet.
+    pub fn new() -> LineTable
+        ensures { (line : ℕ) → entry_of result line ≡ None }
+    {
+        LineTable {
+            entries: [None; LINES],
+        }
+    }
+
+    /// Takes down what was returned of a line, and answers whether it is the first time.
+    pub fn take_down(&mut self, line: Line, returned: Returned) -> bool
+        ensures first { OnTrue result (entry_of self.old line ≡ None) }
+        ensures taken { OnTrue result (self.new ≡ slice_set self.old line (Some returned)) }
+        ensures again { OnFalse result (IsSome (entry_of self.old line)) }
+    {
+        let index = usize::from(line.index());
+        if self.entries[index].is_some() {
+            return false;
+        }
+        self.entries[index] = Some(returned);
+        true
+    }
+
+    /// What was returned of all lines, or the least index of which nothing was.
+    pub fn complete(&self) -> Result<[Returned; LINES], u8>
+        ensures lines { IfOk result (AreEntries self.now) }
+        ensures missing { IfErr result (IsLeastMissing self.now) }
+    {
+        let mut lines = [Returned::default(); LINES];
+        for index in 0..84u8 {
+            match self.entries[usize::from(index)] {
+                Some(returned) => lines[usize::from(index)] = returned,
+                None => return Err(index),
+            }
+        }
+        Ok(lines)
+    }
+}
