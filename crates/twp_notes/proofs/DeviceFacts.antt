@@ -42,3 +42,8 @@ pub most_taken : (old mid new : Option (List ℕ)) (read piece : List ℕ) (coun
 most_taken old mid new read piece count room most before more within fits =
     let short : length (take count piece) ≤ count = rw (length-take count piece) (omega arith) in
     (read ++ take count piece, Consumes-trans old mid new read (take count piece) before more, rw (length-append read (take count piece)) (omega arith))
+
+-- a source has bytes, told or not
+pub tells_some : (known : Option (List ℕ)) → Tells known (unwrap_or known [])
+tells_some None = tt
+tells_some (Some xs) = refl

@@ -1,8 +1,10 @@
 -- Short lists by their elements.
-use Rattle.std.proofs.Common.{◌≡◌, ℕ, ◌+◌, ◌*◌, ◌<◌, List, [], ◌∷◌, length, get_or, refl, arith}
+use Rattle.std.proofs.Common.{◌≡◌, ℕ, ◌+◌, ◌*◌, ◌<◌, List, [], ◌∷◌, length, get_or, inl, inr, refl, arith}
 use Rattle.std.specs.Char.{digit_value}
 use Rattle.std.specs.Str.Parse.{AllDigits, digits_value}
 use Rattle.twp_notes.specs.Records.{Fields, field}
+use Rattle.twp_notes.specs.FieldNotes.{Returns}
+use Rattle.twp_notes.specs.NotesFaults.{HasNoLength}
 use Rattle.twp_notes.specs.declared.returned.Returned.{Returned}
 
 -- a text of one byte
@@ -42,3 +44,8 @@ five_fields (a ∷ b ∷ c ∷ d ∷ e ∷ f ∷ rest) h = absurd (omega arith)
 -- both distances make what is returned
 pub same_returned : (a b : Returned) → a.quarter ≡ b.quarter → a.corner ≡ b.corner → a ≡ b
 same_returned a b quarter corner = rw (quarter, corner) refl
+
+-- a record that returns distances has no fault in them
+pub has_lengths : (fields : Fields) (returned : Returned) → Returns fields returned → HasNoLength fields → ⊥
+has_lengths fields returned is (inl none) = none returned.quarter is.quarter
+has_lengths fields returned is (inr none) = none returned.corner is.corner

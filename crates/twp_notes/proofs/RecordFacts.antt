@@ -4,16 +4,20 @@ use Rattle.std.specs.Bool.{MatchBool}
 use Rattle.std.specs.Prelude.{unwrap_or}
 use Rattle.std.proofs.lemmas.Bool.{false≢true}
 use Rattle.csv.specs.Machine.{Read, next_record, step, is_end, ends_at_end, fields_after, field_after}
-use Rattle.csv.specs.Reading.{records_from, default_config, source_of, ReadsNext, ReadRecord, reader_state, is_flexible, took_first}
+use Rattle.csv.specs.Reading.{records_from, strip_bom, is_bom, default_config, source_of, ReadsNext, ReadRecord, reader_state, is_flexible, took_first}
 use Rattle.csv.specs.Records.{field_at}
 use Rattle.csv.specs.declared.parser.State.{State}
 use Rattle.csv.specs.declared.parser.State.TheVariants as st
-use Rattle.twp_notes.specs.Records.{Fields, records_left, unread_bytes, IsReading}
+use Rattle.twp_notes.specs.Records.{Fields, records_of, records_left, unread_bytes, IsReading}
 use Rattle.twp_notes.specs.declared.records.Records.{Records}
 
 either_way : {A : Type 0} (b : Bool) (x y z : A) → (if b then x else y) ≡ z → ((b ≡ true) × (x ≡ z)) ⊎ ((b ≡ false) × (y ≡ z))
 either_way true x y z h = inl (refl, h)
 either_way false x y z h = inr (refl, h)
+
+either_is : (b : Bool) → (b ≡ true) ⊎ (b ≡ false)
+either_is true = inl refl
+either_is false = inr refl
 
 option_cases : {A : Type 0} (o : Option A) → (o ≡ None) ⊎ ((x : A) × (o ≡ Some x))
 option_cases None = inl refl
@@ -142,3 +146,28 @@ unfolding field_at
 field_at_is [] i below = absurd (omega arith)
 field_at_is (f ∷ fs) zero below = refl
 field_at_is (f ∷ fs) (suc i) below = field_at_is fs i (omega arith)
+
+-- each record has a byte of its own, but for one
+few_from : (n : ℕ) (s : State) (bytes : List ℕ) → length (records_from default_config n s bytes) ≤ n
+unfolding records_from
+few_from zero s bytes = omega arith
+few_from (suc n) s bytes = elim (option_cases (next_record default_config s [] [] bytes)) [
+  | inl none ↦ rw none (omega arith)
+  | inr (q, e) ↦ rw e (omega (arith, few_from n q.1 q.2))
+]
+
+short_bytes : (bytes : List ℕ) → length (strip_bom bytes) ≤ length bytes
+unfolding strip_bom
+short_bytes [] = omega arith
+short_bytes (a ∷ []) = omega arith
+short_bytes (a ∷ b ∷ []) = omega arith
+short_bytes (a ∷ b ∷ c ∷ rest) = elim (either_is (is_bom a b c)) [
+  | inl mark ↦ rw mark (omega arith)
+  | inr none ↦ rw none (omega arith)
+]
+
+pub few_records : (bytes : List ℕ) → length (records_of bytes) ≤ length bytes + 1
+few_records bytes =
+    let few = few_from (length (strip_bom bytes) + 1) st.StartRecord (strip_bom bytes) in
+    let short = short_bytes bytes in
+    omega arith

@@ -1,6 +1,6 @@
 -- The field notes of a township: a heading, the township's designation, and a record for each of its
 -- section lines. The layout is this project's.
-use Rattle.std.specs.Prelude.{◌≡◌, ℕ, ◌≤◌, ◌<◌, List, [], ◌∷◌, length, drop, Option, Some, None, codes, slice_index_or}
+use Rattle.std.specs.Prelude.{◌≡◌, ℕ, ◌≤◌, List, [], ◌∷◌, length, Option, Some, None, codes, slice_index_or}
 use Rattle.twp_measure.specs.LengthTexts.{IsShortNumber, IsLengthText}
 use Rattle.twp_grid.specs.Winding.{IsSection}
 use Rattle.twp_grid.specs.Lines.{IsLine, IsLineOf}

@@ -2,6 +2,6 @@ pub mod Finding
 pub mod Records
 pub mod FieldNotes
 pub mod NotesFaults
+pub mod Tables
 pub mod LineFaults
 pub mod Passing
-pub mod Tables

@@ -4,7 +4,6 @@ use Rattle.std.specs.Prelude.{◌≡◌, ◌≢◌, ◌⊎◌, ℕ, ◌≤◌, �
 use Rattle.std.specs.Option.{option_map_or}
 use Rattle.twp_measure.specs.LengthTexts.{IsLengthText}
 use Rattle.twp_grid.specs.Lines.{IsLine}
-use Rattle.twp_grid.specs.Townships.{Designation}
 use Rattle.twp_grid.specs.declared.line.Run.{Run}
 use Rattle.twp_grid.specs.declared.refusal.Refusal.{Refusal}
 use Rattle.twp_notes.specs.Finding.{HasNone}
@@ -45,6 +44,10 @@ NamesNoLine fields = HasNone (NamesLine fields)
 abbrev pub HasNoLength : Fields → Type 0
 HasNoLength fields = HasNone (IsLengthText (field fields 3)) ⊎ HasNone (IsLengthText (field fields 4))
 
+-- the numbered record is a line's, and has this fault
+abbrev pub HasOnLine : List ℕ → ℕ → (Fields → Type 0) → Type 0
+HasOnLine bytes number IsBad = IsLineNumber (records_of bytes) number × IsBad (record_numbered (records_of bytes) number)
+
 -- the record's line is that of an earlier record
 pub record IsRepeated (records : List Fields) (number : ℕ) : Type 0 where
   pub earlier : ℕ
@@ -54,27 +57,22 @@ pub record IsRepeated (records : List Fields) (number : ℕ) : Type 0 where
   pub earlier_names : NamesLine (record_numbered records earlier) line
   pub names : NamesLine (record_numbered records number) line
 
--- the fault is there among the records
-abbrev pub HasRecordFault : List Fields → NotesFault → Type 0
-HasRecordFault records fault.TooLarge = ⊥
-HasRecordFault records fault.Empty = records ≡ []
-HasRecordFault records fault.Heading = record_numbered records 1 ≢ heading
-HasRecordFault records (fault.Columns number) =
-    (2 ≤ number) × (number ≤ length records) × (length (record_numbered records number) ≢ FIELDS)
-HasRecordFault records fault.Township = HasNone (IsTownshipRecord (record_numbered records 2))
-HasRecordFault records (fault.Run number) = IsLineNumber records number × HasNoRun (record_numbered records number)
-HasRecordFault records (fault.Section number) = IsLineNumber records number × HasNoSection (record_numbered records number)
-HasRecordFault records (fault.NoLine number) = IsLineNumber records number × NamesNoLine (record_numbered records number)
-HasRecordFault records (fault.Length number) = IsLineNumber records number × HasNoLength (record_numbered records number)
-HasRecordFault records (fault.Repeated number) = IsLineNumber records number × IsRepeated records number
-HasRecordFault records (fault.Missing line) = IsLine line × ¬ IsNamed records line
-HasRecordFault records fault.Read = ⊥
-HasRecordFault records fault.Memory = ⊥
-
--- the fault is there: the bytes are too many, or it is among their records
+-- the fault is there
 abbrev pub HasFault : List ℕ → NotesFault → Type 0
 HasFault bytes fault.TooLarge = NOTES_MOST < length bytes
-HasFault bytes other = HasRecordFault (records_of bytes) other
+HasFault bytes fault.Empty = records_of bytes ≡ []
+HasFault bytes fault.Heading = record_numbered (records_of bytes) 1 ≢ heading
+HasFault bytes (fault.Columns number) =
+    (2 ≤ number) × (number ≤ length (records_of bytes)) × (length (record_numbered (records_of bytes) number) ≢ FIELDS)
+HasFault bytes fault.Township = HasNone (IsTownshipRecord (record_numbered (records_of bytes) 2))
+HasFault bytes (fault.Run number) = HasOnLine bytes number HasNoRun
+HasFault bytes (fault.Section number) = HasOnLine bytes number HasNoSection
+HasFault bytes (fault.NoLine number) = HasOnLine bytes number NamesNoLine
+HasFault bytes (fault.Length number) = HasOnLine bytes number HasNoLength
+HasFault bytes (fault.Repeated number) = IsLineNumber (records_of bytes) number × IsRepeated (records_of bytes) number
+HasFault bytes (fault.Missing line) = IsLine line × ¬ IsNamed (records_of bytes) line
+HasFault bytes fault.Read = ⊥
+HasFault bytes fault.Memory = ⊥
 
 -- The size of the notes is looked at first, then their records one after another, and at last whether a
 -- line is missing.

@@ -1,7 +1,8 @@
 -- What was returned of lines so far, by their indexes.
-use Rattle.std.specs.Prelude.{◌≡◌, ℕ, ◌<◌, List, length, Option, Some, None, IsSome, slice_index_or}
+use Rattle.std.specs.Prelude.{slice_set, ◌≡◌, ℕ, ◌<◌, List, length, Option, Some, None, IsSome, slice_index_or}
 use Rattle.twp_grid.specs.Lines.{IsLine}
-use Rattle.twp_notes.specs.FieldNotes.{nothing_returned}
+use Rattle.twp_notes.specs.Records.{Fields, record_at}
+use Rattle.twp_notes.specs.FieldNotes.{nothing_returned, NamesLine, IsLineRecord}
 use Rattle.twp_notes.specs.declared.returned.Returned.{Returned}
 
 -- what was returned of a line, if it was
@@ -18,3 +19,33 @@ pub record IsLeastMissing (table : List (Option Returned)) (line : ℕ) : Type 0
   pub is_line : IsLine line
   pub missing : entry_of table line ≡ None
   pub before : (other : ℕ) → other < line → IsSome (entry_of table other)
+
+-- a record of a line was taken down
+pub record TakesDown (fields : Fields) (old new : List (Option Returned)) : Type 0 where
+  pub line : ℕ
+  pub returned : Returned
+  pub is : IsLineRecord fields line returned
+  pub first : entry_of old line ≡ None
+  pub new_is : new ≡ slice_set old line (Some returned)
+  pub is_line : IsLine line
+
+-- the record is a line's, and the table has what it returns
+pub record IsTaken (fields : Fields) (table : List (Option Returned)) : Type 0 where
+  pub line : ℕ
+  pub returned : Returned
+  pub is : IsLineRecord fields line returned
+  pub taken : entry_of table line ≡ Some returned
+
+-- one of so many records names the line
+pub record IsNamedBy (records : List Fields) (count line : ℕ) : Type 0 where
+  pub place : ℕ
+  pub within : place < count
+  pub names : NamesLine (record_at records place) line
+
+-- the table has just what the first so many of these records return, each of another line
+pub record AreTaken (records : List Fields) (count : ℕ) (table : List (Option Returned)) : Type 0 where
+  pub each : (place : ℕ) → place < count → IsTaken (record_at records place) table
+  pub once : (place other line : ℕ) → place < count → other < count
+      → NamesLine (record_at records place) line → NamesLine (record_at records other) line → place ≡ other
+  pub named : (line : ℕ) → IsSome (entry_of table line) → IsNamedBy records count line
+  pub size : length table ≡ 84

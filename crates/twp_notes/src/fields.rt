@@ -1,4 +1,4 @@
-ghost use Rattle.std.specs.Prelude.{◌≡◌, ℕ, ◌<◌, ◌≤◌, ◌↔◌, length, IsTrue, IfOk, IfErr, IfSome, IfNone};
+ghost use Rattle.std.specs.Prelude.{◌≡◌, ℕ, ◌<◌, ◌≤◌, ◌↔◌, length, IsTrue, IfOk, IfErr, IfSome, IfNone, MatchOption};
 ghost use Rattle.std.specs.Char.{digit_value};
 ghost use Rattle.csv.specs.Records.{fields_of};
 ghost use Rattle.twp_measure.specs.LengthTexts.{IsShortNumber, IsLengthText};
@@ -6,7 +6,8 @@ ghost use Rattle.twp_grid.specs.declared.line.Run.{Run};
 ghost use Rattle.twp_grid.specs.declared.township.NorthSouth.{NorthSouth};
 ghost use Rattle.twp_grid.specs.declared.township.EastWest.{EastWest};
 ghost use Rattle.twp_notes.specs.Finding.{Finds};
-ghost use Rattle.twp_notes.specs.FieldNotes.{FIELDS, heading, IsTownshipRecord, north_south_text, east_west_text, run_text, IsSectionText, IsNeighbourText, NamesLine, Returns};
+ghost use Rattle.twp_notes.specs.FieldNotes.{heading, IsTownshipRecord, north_south_text, east_west_text, run_text, IsSectionText, IsNeighbourText, NamesLine, Returns};
+ghost use Rattle.twp_notes.specs.NotesFaults.{HasNoLength};
 ghost use Rattle.twp_notes.specs.LineFaults.{IsUnnamed};
 
 use crate::fault::NotesFault;
@@ -16,12 +17,15 @@ use csv::ByteRecord;
 use twp_grid::{EastWest, Line, NorthSouth, Run, Section, Township};
 use twp_measure::Length;
 
+/// How many fields each record has.
+pub const FIELDS: usize = 5;
+
 /// Whether the record is the heading of field notes.
 #[tactic(auto, using(crate::proofs::FieldFacts::five_fields))]
 pub fn is_heading(row: &ByteRecord) -> bool
     ensures { IsTrue result ↔ (fields_of row.now ≡ heading) }
 {
-    if row.len() != 5 || !is_text(field(row, 0), "line") || !is_text(field(row, 1), "between") {
+    if row.len() != FIELDS || !is_text(field(row, 0), "line") || !is_text(field(row, 1), "between") {
         return false;
     }
     if !is_text(field(row, 2), "and") || !is_text(field(row, 3), "quarter") {
@@ -32,7 +36,7 @@ pub fn is_heading(row: &ByteRecord) -> bool
 
 /// The township that a record designates.
 pub fn township_of(row: &ByteRecord) -> Option<Township>
-    requires { length (fields_of row.now) ≡ FIELDS }
+    requires { length (fields_of row.now) ≡ 5 }
     ensures { Finds result (IsTownshipRecord (fields_of row.now)) }
 {
     if !is_text(field(row, 0), "T") {
@@ -47,7 +51,7 @@ pub fn township_of(row: &ByteRecord) -> Option<Township>
 
 /// The line that the record of this number names.
 pub fn line_of(row: &ByteRecord, number: u32) -> Result<Line, NotesFault>
-    requires { length (fields_of row.now) ≡ FIELDS }
+    requires { length (fields_of row.now) ≡ 5 }
     ensures line { IfOk result (NamesLine (fields_of row.now)) }
     ensures fault { IfErr result (IsUnnamed (fields_of row.now) number) }
 {
@@ -68,8 +72,8 @@ pub fn line_of(row: &ByteRecord, number: u32) -> Result<Line, NotesFault>
 
 /// The distances that a record returns.
 pub fn returned_of(row: &ByteRecord) -> Option<Returned>
-    requires { length (fields_of row.now) ≡ FIELDS }
-    ensures { Finds result (Returns (fields_of row.now)) }
+    requires { length (fields_of row.now) ≡ 5 }
+    ensures { MatchOption result (HasNoLength (fields_of row.now)) (Returns (fields_of row.now)) }
 {
     let Some(quarter) = length_of(field(row, 3)) else {
         return None;

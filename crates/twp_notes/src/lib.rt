@@ -6,6 +6,7 @@ mod fault;
 mod fields;
 pub mod laws;
 mod notes;
+mod parsing;
 mod reading;
 mod records;
 mod returned;

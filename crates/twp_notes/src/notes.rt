@@ -1,13 +1,19 @@
-ghost use Rattle.std.specs.Prelude.{◌≡◌, ◌≢◌, ◌+◌, ◌↔◌, ℕ, List, true, false, IfErr, IsErrOf};
+ghost use Rattle.std.specs.Prelude.{◌≡◌, ◌+◌, ◌↔◌, ℕ, List, Some, true, false, IsErrOf};
 ghost use Rattle.twp_grid.specs.Devices.{Tells, TakesAtMost};
-ghost use Rattle.twp_notes.specs.Records.{records_of, records_left, IsReading};
 ghost use Rattle.twp_notes.specs.FieldNotes.{FieldNotes, NOTES_MOST, returned_of};
 ghost use Rattle.twp_notes.specs.NotesFaults.{AnswersNotes};
 
+use crate::fault::NotesFault;
+use crate::parsing::parse;
+use crate::reading::read_whole;
 use crate::returned::Returned;
 use crate::table::LINES;
+use std::alloc::Global;
 use std::marker::Model;
-use twp_grid::{Line, Township};
+use twp_grid::{Line, Source, Township};
+
+/// The most bytes of field notes.
+const MOST_BYTES: usize = 65_536;
 
 /// The field notes of a township: what was returned of each of its 84 lines.
 #[derive(Clone, Debug, Drop, PartialEq, Eq)]
@@ -30,6 +36,23 @@ impl Model for Notes {
 }
 
 impl Notes {
+    /// Reads the notes that a source gives, to its end or to one byte past what notes may have, before
+    /// any refusal is answered. The first fault is answered: too many bytes before all; then that of the
+    /// first record that has one, the least number of that record; and last the least line that is
+    /// missing. `Read` is answered exactly where the source failed in this call.
+    pub fn read<R: Source>(alloc: Global, source: &mut R) -> Result<Notes, NotesFault>
+        requires { R.has_failed source.old ≡ false }
+        ensures failed { IsErrOf result NotesFault.Read ↔ (R.has_failed source.new ≡ true) }
+        ensures most { TakesAtMost (R.remaining source.old) (R.remaining source.new) (NOTES_MOST + 1) }
+        ensures answer { (bytes : List ℕ) × Tells (R.remaining source.old) bytes × AnswersNotes bytes result }
+        ensures told { (bytes : List ℕ) → R.remaining source.old ≡ Some bytes → AnswersNotes bytes result }
+    {
+        match read_whole(alloc, source, MOST_BYTES)? {
+            Some(bytes) => parse(alloc, bytes.as_slice()),
+            None => Err(NotesFault::TooLarge),
+        }
+    }
+
     /// Notes of a township, with what was returned of each line, by their indexes.
     pub fn new(township: Township, lines: [Returned; LINES]) -> Notes
         ensures { result ≡ record { township = township; lines = lines } }

@@ -1,0 +1,83 @@
+ghost use Rattle.std.specs.Prelude.{◌≡◌, ◌≢◌, ◌+◌, ◌^◌, ◌≤◌, ◌<◌, ℕ, length, IfOk, IfErr, OnOk};
+ghost use Rattle.csv.specs.Records.{fields_of};
+ghost use Rattle.twp_notes.specs.Records.{records_left, IsReading};
+ghost use Rattle.twp_notes.specs.FieldNotes.{NOTES_MOST};
+ghost use Rattle.twp_notes.specs.NotesFaults.{AnswersNotes};
+ghost use Rattle.twp_notes.specs.LineFaults.{IsNotTaken, IsRefusedAfter};
+ghost use Rattle.twp_notes.specs.Tables.{TakesDown, AreTaken};
+
+use crate::fault::NotesFault;
+use crate::fields::{FIELDS, is_heading, line_of, returned_of, township_of};
+use crate::notes::Notes;
+use crate::records::Records;
+use crate::table::LineTable;
+use csv::ByteRecord;
+use std::alloc::Global;
+
+/// The number of the record behind the heading and the township's, the first one of a line.
+const FIRST_LINE: u32 = 3;
+
+/// The notes that the bytes are, of which there are no more than there may be.
+pub fn parse(alloc: Global, bytes: &[u8]) -> Result<Notes, NotesFault>
+    requires { length bytes.now ≤ NOTES_MOST }
+    ensures answer { AnswersNotes bytes.now result }
+    ensures no_read { IfErr result (λ fault. fault ≢ NotesFault.Read) }
+{
+    let mut records = Records::new(alloc, bytes);
+    let mut row = ByteRecord::new(alloc);
+    if !records.read(&mut row)? {
+        return Err(NotesFault::Empty);
+    }
+    if !is_heading(&row) {
+        return Err(NotesFault::Heading);
+    }
+    if !records.read(&mut row)? {
+        return Err(NotesFault::Township);
+    }
+    if row.len() != FIELDS {
+        return Err(NotesFault::Columns(2));
+    }
+    let Some(township) = township_of(&row) else {
+        return Err(NotesFault::Township);
+    };
+    let table = take_lines(&mut records, &mut row)?;
+    match table.complete() {
+        Ok(lines) => Ok(Notes::new(township, lines)),
+        Err(line) => Err(NotesFault::Missing(line)),
+    }
+}
+
+/// Takes down the records that are left, each of a line.
+fn take_lines(records: &mut Records<'_>, row: &mut ByteRecord) -> Result<LineTable, NotesFault>
+    requires reading { IsReading records.old }
+    requires few { length (records_left records.old) < 2 ^ 17 }
+    ensures taken { IfOk result (AreTaken (records_left records.old) (length (records_left records.old))) }
+    ensures fault { IfErr result (IsRefusedAfter (records_left records.old)) }
+{
+    let mut table = LineTable::new();
+    let mut taken = 0;
+    'records: while records.read(row)? {
+        take_line(&mut table, row, taken + FIRST_LINE)?;
+        taken += 1;
+    }
+    Ok(table)
+}
+
+/// Takes down the record of this number.
+fn take_line(table: &mut LineTable, row: &ByteRecord, number: u32) -> Result<(), NotesFault>
+    ensures taken { OnOk result (TakesDown (fields_of row.now) table.old table.new) }
+    ensures fault { IfErr result (IsNotTaken (fields_of row.now) table.old number) }
+{
+    if row.len() != FIELDS {
+        return Err(NotesFault::Columns(number));
+    }
+    let line = line_of(row, number)?;
+    let Some(returned) = returned_of(row) else {
+        return Err(NotesFault::Length(number));
+    };
+    if table.take_down(line, returned) {
+        Ok(())
+    } else {
+        Err(NotesFault::Repeated(number))
+    }
+}
