@@ -12,7 +12,7 @@ use Rattle.std.proofs.lemmas.Str.Parse.{digit_at}
 use Rattle.std.proofs.Math.Seq.{get_or-append_seam}
 use Rattle.twp_measure.proofs.RoundingFacts.{one_rounding}
 use Rattle.twp_grid.specs.Lines.{AreSides}
-use Rattle.twp_grid.proofs.WindingFacts.{same_place}
+use Rattle.twp_grid.proofs.WindingFacts.{same_standing}
 use Rattle.twp_cmd.specs.FieldNotes.{FieldNotes}
 use Rattle.twp_cmd.specs.Closing.{IsLastQuarter}
 use Rattle.twp_cmd.specs.Pieces.{AreLastQuarters}
@@ -58,7 +58,7 @@ one_lot text section lot section' lot' is is' =
 -- a section has one list of sides
 one_sides : (section : ℕ) (sides sides' : List ℕ) → AreSides section sides → AreSides section sides' → sides ≡ sides'
 one_sides section sides sides' are are' =
-    let same = same_place section are.row are.column are'.row are'.column are.stands are'.stands in
+    let same = same_standing section are.row are.column are'.row are'.column are.stands are'.stands in
     are.sides_are ∙ rw (same.0, same.1) (sym are'.sides_are)
 
 -- a line has one last quarter

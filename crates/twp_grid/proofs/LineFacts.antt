@@ -5,7 +5,7 @@ use Rattle.twp_grid.specs.Winding.{StandsAt}
 use Rattle.twp_grid.specs.Lines.{north_run, west_run, IsSide, LiesBeside, IsLineOf, IsClosing}
 use Rattle.twp_grid.specs.declared.line.Run.{Run}
 use Rattle.twp_grid.specs.declared.line.Run.TheVariants as run
-use Rattle.twp_grid.proofs.WindingFacts.{same_place, same_number, section_at}
+use Rattle.twp_grid.proofs.WindingFacts.{same_standing, same_number, section_at}
 
 -- the sides of a section that stands at a row and a column
 abbrev pub HasSide : ℕ → ℕ → ℕ → Type 0
@@ -13,7 +13,7 @@ HasSide row column index = (index ≡ north_run row column) ⊎ (index ≡ north
 
 pub side_at : (k row column index : ℕ) → StandsAt k row column → IsSide k index → HasSide row column index
 side_at k row column index stands is =
-    let same = same_place k row column is.row is.column stands is.stands in
+    let same = same_standing k row column is.row is.column stands is.stands in
     rw (same.0, same.1) is.side
 
 -- two sections that share a north-run line stand side by side in a row
@@ -34,12 +34,12 @@ share_west a b row column row' column' index at-a at-b different is-a is-b west 
     (grind arith, grind arith)
 
 -- a section whose side is no other section's has no neighbour with that side
-only_place : (k row column row' column' index : ℕ) → StandsAt k row column → ((other : ℕ) → IsSide other index → other ≡ k)
+only_standing : (k row column row' column' index : ℕ) → StandsAt k row column → ((other : ℕ) → IsSide other index → other ≡ k)
     → row' < 6 → column' < 6 → HasSide row' column' index → (row' ≡ row) × (column' ≡ column)
-only_place k row column row' column' index stands only row_range column_range side =
+only_standing k row column row' column' index stands only row_range column_range side =
     let there = section_at row' column' row_range column_range in
     let same : there.0 ≡ k = only there.0 (record { row = row'; column = column'; stands = there.1; side = side }) in
-    same_place there.0 row' column' row column there.1 (rw same stands)
+    same_standing there.0 row' column' row column there.1 (rw same stands)
 
 -- where a line of the boundary stands
 abbrev pub OnBoundary : ℕ → ℕ → ℕ → Type 0
@@ -48,26 +48,26 @@ OnBoundary row column index = ((column ≡ 0) × (index ≡ north_run row 0)) �
 
 pub on_boundary : (k row column index : ℕ) → StandsAt k row column → LiesBeside k None index → OnBoundary row column index
 on_boundary k row column index stands beside =
-    let place = λ (row' column' : ℕ). only_place k row column row' column' index stands beside.1 in
+    let stands_there = λ (row' column' : ℕ). only_standing k row column row' column' index stands beside.1 in
     let range-r : row < 6 = stands.row_range in
     let range-c : column < 6 = stands.column_range in
     elim (side_at k row column index stands beside.0) [
       | inl east ↦ elim (cases_lt 0 column) [
-        | inl inside ↦ absurd (omega (arith, (place row (column - 1) range-r (omega arith) (inr (inl (omega arith)))).1))
+        | inl inside ↦ absurd (omega (arith, (stands_there row (column - 1) range-r (omega arith) (inr (inl (omega arith)))).1))
         | inr first ↦ inl (omega arith, omega arith)
       ]
       | inr others ↦ elim others [
         | inl west ↦ elim (cases_lt column 5) [
-          | inl inside ↦ absurd (omega (arith, (place row (column + 1) range-r (omega arith) (inl west)).1))
+          | inl inside ↦ absurd (omega (arith, (stands_there row (column + 1) range-r (omega arith) (inl west)).1))
           | inr last ↦ inr (inl (omega arith, omega arith))
         ]
         | inr tiers ↦ elim tiers [
           | inl north ↦ elim (cases_lt 0 row) [
-            | inl inside ↦ absurd (omega (arith, (place (row - 1) column (omega arith) range-c (inr (inr (inr (omega arith))))).0))
+            | inl inside ↦ absurd (omega (arith, (stands_there (row - 1) column (omega arith) range-c (inr (inr (inr (omega arith))))).0))
             | inr first ↦ inr (inr (inl (omega arith, omega arith)))
           ]
           | inr south ↦ elim (cases_lt row 5) [
-            | inl inside ↦ absurd (omega (arith, (place (row + 1) column (omega arith) range-c (inr (inr (inl south)))).0))
+            | inl inside ↦ absurd (omega (arith, (stands_there (row + 1) column (omega arith) range-c (inr (inr (inl south)))).0))
             | inr last ↦ inr (inr (inr (omega arith, omega arith)))
           ]
         ]
@@ -82,7 +82,7 @@ pub closing_west : (index : ℕ) → index < 84 → 42 ≤ index → index % 6 �
 closing_west index range west last = inr ((index - 47) / 6, omega arith, omega arith)
 
 pub closing_test : (index : ℕ) → IsClosing index → (index < 7) ⊎ ((42 ≤ index) × (index % 6 ≡ 5))
-closing_test index (inl (place, range, is)) = inl (omega arith)
+closing_test index (inl (meridian, range, is)) = inl (omega arith)
 closing_test index (inr (tier, range, is)) = inr (omega arith, omega arith)
 
 -- there is one line between two sections, and one of each run beside a section of the boundary

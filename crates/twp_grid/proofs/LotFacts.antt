@@ -69,8 +69,8 @@ lot_by_code s c r =
     else if is_western_number s && (c == 3) then Some (count_by_code s - r)
     else None
 
-abbrev pub place_by_code : ℕ → ℕ → Option (ℕ × ℕ)
-place_by_code s n =
+abbrev pub position_by_code : ℕ → ℕ → Option (ℕ × ℕ)
+position_by_code s n =
     if (n == 0) || nat_lt (count_by_code s) n then None
     else if nat_le s 6 && nat_le n 4 then Some (n - 1, 3)
     else Some (3, count_by_code s - n)
@@ -87,9 +87,9 @@ lot_test : each 37 (λ s. each 4 (λ c. each 4 (λ r. (s == 0) || same_number (l
 unfolding each lot_at_position lots
 lot_test = refl
 
-place_test : each 37 (λ s. each 8 (λ n. (s == 0) || same_pair (position_of_lot s n) (place_by_code s n))) ≡ true
+position_test : each 37 (λ s. each 8 (λ n. (s == 0) || same_pair (position_of_lot s n) (position_by_code s n))) ≡ true
 unfolding each position_of_lot lots
-place_test = refl
+position_test = refl
 
 either : (x y : Bool) → (x || y) ≡ true → x ≡ false → y ≡ true
 either false y h untrue = h
@@ -105,9 +105,9 @@ pub lot_at_is : (s c r : ℕ) → IsSection s → c < 4 → r < 4 → lot_at_pos
 lot_at_is s c r range in-c in-r =
     same_number_tells _ _ (either (s == 0) _ (each_of_three 37 4 4 (λ s c r. (s == 0) || same_number (lot_at_position s c r) (lot_by_code s c r)) s c r lot_test (omega arith) in-c in-r) (a_section s range))
 
-place_below : (s n : ℕ) → IsSection s → n < 8 → position_of_lot s n ≡ place_by_code s n
-place_below s n range in-n =
-    same_pair_tells _ _ (either (s == 0) _ (each_at 8 _ n (each_at 37 (λ s. each 8 (λ n. (s == 0) || same_pair (position_of_lot s n) (place_by_code s n))) s place_test (omega arith)) in-n) (a_section s range))
+position_below : (s n : ℕ) → IsSection s → n < 8 → position_of_lot s n ≡ position_by_code s n
+position_below s n range in-n =
+    same_pair_tells _ _ (either (s == 0) _ (each_at 8 _ n (each_at 37 (λ s. each 8 (λ n. (s == 0) || same_pair (position_of_lot s n) (position_by_code s n))) s position_test (omega arith)) in-n) (a_section s range))
 
 -- no lot of the table lies outside the positions, and none has a number over 7
 abbrev within : Lot → Bool
@@ -136,11 +136,11 @@ pub lot_outside : (s c r : ℕ) → (3 < c) ⊎ (3 < r) → lot_at_position s c 
 unfolding lot_at_position
 lot_outside s c r out = rw (none_outside s c r lots lots_within out) refl
 
-pub lot_place_is : (s n : ℕ) → IsSection s → position_of_lot s n ≡ place_by_code s n
+pub position_of_lot_is : (s n : ℕ) → IsSection s → position_of_lot s n ≡ position_by_code s n
 unfolding position_of_lot
-lot_place_is s n range = elim (cases_lt n 8) [
-  | inl below ↦ place_below s n range below
+position_of_lot_is s n range = elim (cases_lt n 8) [
+  | inl below ↦ position_below s n range below
   | inr over ↦
-      let none : place_by_code s n ≡ None = grind (arith, nat_tests) in
+      let none : position_by_code s n ≡ None = grind (arith, nat_tests) in
       rw (none_over s n lots lots_within (omega arith), none) refl
 ]

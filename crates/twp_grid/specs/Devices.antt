@@ -2,7 +2,7 @@
 use Rattle.std.specs.Prelude.{◌≡◌, ℕ, ◌≤◌, List, length, Option, Some, None, ⊤, Bool}
 use Rattle.std.specs.Io.KnownBytes.{Consumes}
 use Rattle.twp_grid.specs.declared.device.Device.{Device}
-use Rattle.twp_grid.specs.declared.device.Bytes.{Bytes}
+use Rattle.twp_grid.specs.declared.bytes.Bytes.{Bytes}
 
 -- these are the bytes, where they are told
 abbrev pub Tells : Option (List ℕ) → List ℕ → Type 0
@@ -20,6 +20,6 @@ inner_of device = device.inner
 abbrev pub device_failed : {T : Type 0} → Device T → Bool
 device_failed device = device.failed
 
--- the bytes that are left
-abbrev pub bytes_left : Bytes → List ℕ
-bytes_left bytes = bytes.left.now
+-- the bytes that weren't read yet
+abbrev pub unread_bytes : Bytes → List ℕ
+unread_bytes bytes = bytes.unread.now

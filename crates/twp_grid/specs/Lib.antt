@@ -1,3 +1,4 @@
+pub mod Finding
 pub mod Winding
 pub mod Lines
 pub mod Lots

@@ -1,39 +1,54 @@
--- The lines that are run in a township: 42 are run north, 42 are run west. Each has an index.
+-- The section lines of a township. Half of them are run north, half are run west, and each has an index
+-- (this project's).
 use Rattle.std.specs.Prelude.{◌≡◌, ◌≢◌, ℕ, ◌+◌, ◌*◌, ◌≤◌, ◌<◌, ◌⊎◌, List, [], ◌∷◌, Option, Some, None}
-use Rattle.twp_grid.specs.Winding.{StandsAt}
+use Rattle.twp_grid.specs.Winding.{SECTIONS_ACROSS, WESTERN_COLUMN, StandsAt}
 use Rattle.twp_grid.specs.declared.line.Run.{Run}
 use Rattle.twp_grid.specs.declared.line.Run.TheVariants.{North, West}
 
--- A north-run line: those of a row of sections are counted from the east, 0 to 6.
-abbrev pub north_run : ℕ → ℕ → ℕ
-north_run row place = 7 * row + place
+-- the lines that bound and part the sections of a row or of a column
+abbrev pub LINES_ACROSS : ℕ
+LINES_ACROSS = SECTIONS_ACROSS + 1
 
--- A west-run line: its tier is counted from the north, 0 to 6, and its column from the east.
+-- the lines that are run north, and as many are run west
+abbrev pub NORTH_RUN_COUNT : ℕ
+NORTH_RUN_COUNT = LINES_ACROSS * SECTIONS_ACROSS
+
+-- the lines of a township
+abbrev pub LINE_COUNT : ℕ
+LINE_COUNT = 2 * NORTH_RUN_COUNT
+
+-- A north-run line: in a row of sections, on one of seven meridians that are counted from the east.
+abbrev pub north_run : ℕ → ℕ → ℕ
+north_run row meridian = LINES_ACROSS * row + meridian
+
+-- A west-run line: on one of seven tiers that are counted from the north, in a column of sections.
 abbrev pub west_run : ℕ → ℕ → ℕ
-west_run tier column = 42 + 6 * tier + column
+west_run tier column = NORTH_RUN_COUNT + SECTIONS_ACROSS * tier + column
 
 -- the indexes of lines
 abbrev pub IsLine : ℕ → Type 0
-IsLine index = index < 84
+IsLine index = index < LINE_COUNT
 
 -- the line is run this way
-abbrev pub IsRun : Run → ℕ → Type 0
-IsRun North index = index < 42
-IsRun West index = 42 ≤ index
+abbrev pub RunsAs : Run → ℕ → Type 0
+RunsAs North index = index < NORTH_RUN_COUNT
+RunsAs West index = NORTH_RUN_COUNT ≤ index
 
 -- these are a section's east, west, north and south line
 pub record AreSides (section : ℕ) (sides : List ℕ) : Type 0 where
   pub row : ℕ
   pub column : ℕ
   pub stands : StandsAt section row column
-  pub sides_are : sides ≡ north_run row column ∷ north_run row (column + 1) ∷ west_run row column ∷ west_run (row + 1) column ∷ []
+  pub sides_are : sides ≡ north_run row column ∷ north_run row (column + 1)
+      ∷ west_run row column ∷ west_run (row + 1) column ∷ []
 
 -- the line is a side of the section
 pub record IsSide (section index : ℕ) : Type 0 where
   pub row : ℕ
   pub column : ℕ
   pub stands : StandsAt section row column
-  pub side : (index ≡ north_run row column) ⊎ (index ≡ north_run row (column + 1)) ⊎ (index ≡ west_run row column) ⊎ (index ≡ west_run (row + 1) column)
+  pub side : (index ≡ north_run row column) ⊎ (index ≡ north_run row (column + 1))
+      ⊎ (index ≡ west_run row column) ⊎ (index ≡ west_run (row + 1) column)
 
 -- the line lies between two different sections, or on the township's boundary beside one
 abbrev pub LiesBeside : ℕ → Option ℕ → ℕ → Type 0
@@ -42,8 +57,9 @@ LiesBeside section None index = IsSide section index × ((other : ℕ) → IsSid
 
 -- a run's line between two sections, or beside one
 abbrev pub IsLineOf : Run → ℕ → Option ℕ → ℕ → Type 0
-IsLineOf run section other index = IsRun run index × LiesBeside section other index
+IsLineOf run section other index = RunsAs run index × LiesBeside section other index
 
 -- The closing lines: the north-run ones of the northern row, and the west-run ones of the western column.
 abbrev pub IsClosing : ℕ → Type 0
-IsClosing index = ((place : ℕ) × (place < 7) × (index ≡ north_run 0 place)) ⊎ ((tier : ℕ) × (tier < 7) × (index ≡ west_run tier 5))
+IsClosing index = ((meridian : ℕ) × (meridian < LINES_ACROSS) × (index ≡ north_run 0 meridian))
+    ⊎ ((tier : ℕ) × (tier < LINES_ACROSS) × (index ≡ west_run tier WESTERN_COLUMN))

@@ -1,7 +1,14 @@
 -- The lots of a township's closing sections, and the positions that they fill (Manual of Surveying
 -- Instructions 2009, chapter 3). A position is a quarter-quarter of a section: its column is counted
 -- from the east and its row from the south, 0 to 3.
-use Rattle.std.specs.Prelude.{ℕ, ◌==◌, ◌&&◌, ◌||◌, Bool, List, [], ◌∷◌, Option, option_map, find, count_by}
+use Rattle.std.specs.Prelude.{ℕ, ◌<◌, ◌==◌, ◌&&◌, ◌||◌, Bool, List, [], ◌∷◌, Option, option_map, find, count_by}
+
+-- the positions along a side of a section
+abbrev pub POSITIONS_ACROSS : ℕ
+POSITIONS_ACROSS = 4
+
+abbrev pub IsPosition : ℕ → ℕ → Type 0
+IsPosition column row = (column < POSITIONS_ACROSS) × (row < POSITIONS_ACROSS)
 
 -- a lot of a section and the position that it fills
 pub record Lot : Type 0 where

@@ -10,6 +10,10 @@ pub record Designation : Type 0 where
   pub range : ℕ
   pub east_west : EastWest
 
+-- the greatest number of a township or a range (this project's limit)
+abbrev pub TOWNSHIP_NUMBER_MOST : ℕ
+TOWNSHIP_NUMBER_MOST = 99
+
 -- the numbers of townships and of ranges
 abbrev pub IsTownshipNumber : ℕ → Type 0
-IsTownshipNumber n = (1 ≤ n) × (n ≤ 99)
+IsTownshipNumber number = (1 ≤ number) × (number ≤ TOWNSHIP_NUMBER_MOST)

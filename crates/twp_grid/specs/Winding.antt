@@ -1,13 +1,26 @@
 -- Where a township's sections stand (Manual of Surveying Instructions 2009, chapter 3).
-use Rattle.std.specs.Prelude.{◌≡◌, ℕ, ◌+◌, ◌*◌, ◌%◌, ◌≤◌, ◌<◌, ◌⊎◌}
+use Rattle.std.specs.Prelude.{◌≡◌, ℕ, ◌+◌, ◌-◌, ◌*◌, ◌%◌, ◌≤◌, ◌<◌, ◌⊎◌}
+
+-- the sections along a side of a township
+abbrev pub SECTIONS_ACROSS : ℕ
+SECTIONS_ACROSS = 6
+
+-- the sections of a township
+abbrev pub SECTION_COUNT : ℕ
+SECTION_COUNT = SECTIONS_ACROSS * SECTIONS_ACROSS
+
+-- the column of the sections along the township's west boundary
+abbrev pub WESTERN_COLUMN : ℕ
+WESTERN_COLUMN = SECTIONS_ACROSS - 1
 
 -- the numbers of sections
 abbrev pub IsSection : ℕ → Type 0
-IsSection number = (1 ≤ number) × (number ≤ 36)
+IsSection number = (1 ≤ number) × (number ≤ SECTION_COUNT)
 
 -- The number's section stands at this row from the north and this column from the east: an even row is
 -- numbered from the east, an odd one from the west.
 pub record StandsAt (number row column : ℕ) : Type 0 where
-  pub row_range : row < 6
-  pub column_range : column < 6
-  pub winds : ((row % 2 ≡ 0) × (number ≡ 6 * row + column + 1)) ⊎ ((row % 2 ≡ 1) × (number + column ≡ 6 * row + 6))
+  pub row_range : row < SECTIONS_ACROSS
+  pub column_range : column < SECTIONS_ACROSS
+  pub winds : ((row % 2 ≡ 0) × (number ≡ SECTIONS_ACROSS * row + column + 1))
+      ⊎ ((row % 2 ≡ 1) × (number + column ≡ SECTIONS_ACROSS * row + SECTIONS_ACROSS))

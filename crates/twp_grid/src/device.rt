@@ -85,6 +85,13 @@ impl<T> Device<T> {
         &self.inner
     }
 
+    /// Whether a call has failed.
+    fn has_failed(&self) -> bool
+        ensures { result ≡ device_failed self.now }
+    {
+        self.failed
+    }
+
     /// Marks that a call failed.
     fn fail(&mut self) -> DeviceFault
         ensures failed { device_failed self.new ≡ true }
@@ -110,7 +117,7 @@ impl<T: Read> Source for Device<T> {
     }
 
     fn failed(&self) -> bool {
-        self.failed
+        self.has_failed()
     }
 }
 
@@ -136,45 +143,7 @@ impl<T: Write> Sink for Device<T> {
     }
 
     fn failed(&self) -> bool {
-        self.failed
-    }
-}
-
-/// Bytes in memory, to read. They never fail.
-#[derive(Clone, Copy, Debug)]
-pub struct Bytes<'a> {
-    left: &'a [u8],
-}
-
-impl<'a> Bytes<'a> {
-    ghost use Rattle.twp_grid.specs.Devices.{bytes_left};
-
-    /// A source that gives these bytes.
-    pub fn new(bytes: &'a [u8]) -> Bytes<'a>
-        ensures { bytes_left result ≡ bytes.now }
-    {
-        Bytes { left: bytes }
-    }
-}
-
-impl Source for Bytes<'_> {
-    ghost use Rattle.std.specs.Prelude.{Some, false};
-    ghost use Rattle.twp_grid.specs.Devices.{bytes_left};
-
-    ghost remaining = { λ bytes. Some (bytes_left bytes) };
-
-    ghost has_failed = { λ _. false };
-
-    fn fill(&mut self, buffer: &mut [u8]) -> Result<usize, DeviceFault> {
-        let count = buffer.len().min(self.left.len());
-        let (front, rest) = self.left.split_at(count);
-        buffer[..count].copy_from_slice(front);
-        self.left = rest;
-        Ok(count)
-    }
-
-    fn failed(&self) -> bool {
-        false
+        self.has_failed()
     }
 }
 

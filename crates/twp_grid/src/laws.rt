@@ -1,13 +1,13 @@
 //! What holds of the grid as it is defined: each law is a contract, and its function has nothing to do.
-ghost use Rattle.twp_grid.specs.Laws.{OnePlace, OneSection, OneLine};
+ghost use Rattle.twp_grid.specs.Laws.{OneStanding, OneSection, OneLine};
 
-/// A section stands at one place.
-#[tactic(auto, using(crate::proofs::WindingFacts::same_place))]
-pub fn one_place()
-    ensures { OnePlace }
+/// A section stands at one row and column.
+#[tactic(auto, using(crate::proofs::WindingFacts::same_standing))]
+pub fn one_standing()
+    ensures { OneStanding }
 {}
 
-/// One section stands at a place.
+/// One section stands at a row and column.
 #[tactic(auto, using(crate::proofs::WindingFacts::same_number))]
 pub fn one_section()
     ensures { OneSection }

@@ -2,6 +2,7 @@
 //! sections, its designation; and the devices that bytes are read from and written to.
 #![tactic(auto)]
 
+mod bytes;
 mod device;
 pub mod laws;
 mod line;
@@ -10,7 +11,8 @@ mod refusal;
 mod section;
 mod township;
 
-pub use device::{Bytes, Device, DeviceFault, Sink, Source};
+pub use bytes::Bytes;
+pub use device::{Device, DeviceFault, Sink, Source};
 pub use line::{Line, Run, sides};
 pub use lot::{lot_at, lot_count, lot_place};
 pub use refusal::Refusal;

@@ -1,7 +1,9 @@
-ghost use Rattle.std.specs.Prelude.{◌≡◌, ℕ, ◌+◌, ◌≤◌, ◌<◌, ◌↔◌, nat_lt, if◌then◌else◌, IsTrue, IfSome};
-ghost use Rattle.twp_grid.specs.Winding.{StandsAt};
+ghost use Rattle.std.specs.Prelude.{◌≡◌, ◌<◌, ◌↔◌, IsTrue};
+ghost use Rattle.std.specs.Option.{SomeIff};
+ghost use Rattle.twp_grid.specs.Finding.{Finds};
+ghost use Rattle.twp_grid.specs.Winding.{SECTIONS_ACROSS};
 
-use crate::section::Section;
+use crate::section::{Section, Standing};
 use std::marker::Model;
 
 /// Which way a line is run, as its field notes are written.
@@ -19,25 +21,26 @@ pub struct Line {
 }
 
 impl Model for Line {
-    ghost use Rattle.std.specs.Prelude.{ℕ, ◌<◌};
+    ghost use Rattle.std.specs.Prelude.{ℕ};
 
     ghost Value = { ℕ };
 
+    ghost use Rattle.twp_grid.specs.Lines.{IsLine};
+
     ghost view = { λ line. line.index };
 
-    ghost invariant = { λ line. line.index < 84 };
+    ghost invariant = { λ line. IsLine line.index };
 
     ghost inverse = { λ n. record { index = n } };
 }
 
 impl Line {
-    ghost use Rattle.twp_grid.specs.Lines.{IsLine, IsClosing, IsLineOf, north_run, west_run};
+    ghost use Rattle.twp_grid.specs.Lines.{LINES_ACROSS, IsLine, IsClosing, IsLineOf, north_run, west_run};
 
     /// The line between two different sections, in either order, or with None the line between a
     /// section and the township's outside. None where there is no such line.
     pub fn find(run: Run, section: Section, other: Option<Section>) -> Option<Line>
-        ensures line { IfSome result (IsLineOf run section other) }
-        ensures found { (index : ℕ) → IsLineOf run section other index → result ≡ Some index }
+        ensures { Finds result (IsLineOf run section other) }
     {
         match other {
             Some(other) => Line::between(run, section, other),
@@ -48,22 +51,21 @@ impl Line {
     /// The line between two sections that stand side by side.
     #[tactic(auto, using(crate::proofs::LineFacts::share_north, crate::proofs::LineFacts::share_west))]
     fn between(run: Run, section: Section, other: Section) -> Option<Line>
-        ensures line { IfSome result (IsLineOf run section (Some other)) }
-        ensures found { (index : ℕ) → IsLineOf run section (Some other) index → result ≡ Some index }
+        ensures { Finds result (IsLineOf run section (Some other)) }
     {
-        let (row, column) = section.place();
-        let (other_row, other_column) = other.place();
+        let here = section.standing();
+        let there = other.standing();
         match run {
             Run::North => {
-                if row == other_row && column.abs_diff(other_column) == 1 {
-                    Some(Line::north_run(row, column.max(other_column)))
+                if here.row == there.row && here.column.abs_diff(there.column) == 1 {
+                    Some(Line::north_run(here.row, here.column.max(there.column)))
                 } else {
                     None
                 }
             }
             Run::West => {
-                if column == other_column && row.abs_diff(other_row) == 1 {
-                    Some(Line::west_run(row.max(other_row), column))
+                if here.column == there.column && here.row.abs_diff(there.row) == 1 {
+                    Some(Line::west_run(here.row.max(there.row), here.column))
                 } else {
                     None
                 }
@@ -73,10 +75,9 @@ impl Line {
 
     /// The line beside a section that stands at the township's boundary.
     fn on_boundary(run: Run, section: Section) -> Option<Line>
-        ensures line { IfSome result (IsLineOf run section None) }
-        ensures found { (index : ℕ) → IsLineOf run section None index → result ≡ Some index }
+        ensures { Finds result (IsLineOf run section None) }
     {
-        let (row, column) = section.place();
+        let Standing { row, column } = section.standing();
         match run {
             Run::North => match column {
                 0 => Some(Line::north_run(row, 0)),
@@ -91,21 +92,21 @@ impl Line {
         }
     }
 
-    /// A north-run line, by its row and its place from the east.
-    fn north_run(row: u8, place: u8) -> Line
-        requires row { row < 6 }
-        requires place { place < 7 }
-        ensures { result ≡ north_run row place }
+    /// A north-run line, by its row and its meridian, counted from the east.
+    fn north_run(row: u8, meridian: u8) -> Line
+        requires row { row < SECTIONS_ACROSS }
+        requires meridian { meridian < LINES_ACROSS }
+        ensures { result ≡ north_run row meridian }
     {
         Line {
-            index: 7 * row + place,
+            index: 7 * row + meridian,
         }
     }
 
-    /// A west-run line, by its tier from the north and its column.
+    /// A west-run line, by its tier, counted from the north, and its column.
     fn west_run(tier: u8, column: u8) -> Line
-        requires tier { tier < 7 }
-        requires column { column < 6 }
+        requires tier { tier < LINES_ACROSS }
+        requires column { column < SECTIONS_ACROSS }
         ensures { result ≡ west_run tier column }
     {
         Line {
@@ -115,7 +116,7 @@ impl Line {
 
     /// The line of an index from 0 to 83.
     pub fn at_index(index: u8) -> Option<Line>
-        ensures { result ≡ (if nat_lt index 84 then Some index else None) }
+        ensures { SomeIff result (IsLine index) index }
     {
         if index < 84 {
             Some(Line { index })
@@ -139,7 +140,8 @@ impl Line {
     pub fn is_closing(self) -> bool
         ensures { IsTrue result ↔ IsClosing self }
     {
-        self.index < 7 || (self.index >= 42 && self.index % 6 == 5)
+        let Line { index } = self;
+        index < 7 || (index >= 42 && index % 6 == 5)
     }
 }
 
@@ -149,7 +151,7 @@ ghost use Rattle.twp_grid.specs.Lines.{AreSides};
 pub fn sides(section: Section) -> [Line; 4]
     ensures { AreSides section result }
 {
-    let (row, column) = section.place();
+    let Standing { row, column } = section.standing();
     [
         Line::north_run(row, column),
         Line::north_run(row, column + 1),

@@ -1,6 +1,6 @@
-ghost use Rattle.std.specs.Prelude.{◌≡◌, ◌≤◌, ◌<◌, ◌↔◌, nat_le, IsSome, IfSome};
+ghost use Rattle.std.specs.Prelude.{◌≡◌, ◌≤◌, ◌↔◌, nat_le, IsSome, IfSome};
 ghost use Rattle.twp_grid.specs.Winding.{IsSection};
-ghost use Rattle.twp_grid.specs.Lots.{lot_at_position, position_of_lot, number_of_lots, is_western_number};
+ghost use Rattle.twp_grid.specs.Lots.{IsPosition, lot_at_position, position_of_lot, number_of_lots, is_western_number};
 
 use crate::section::Section;
 
@@ -9,7 +9,8 @@ use crate::section::Section;
 /// measurement are thrown into (Manual of Surveying Instructions 2009, chapter 3).
 #[tactic(auto, using(crate::proofs::LotFacts::lot_at_is, crate::proofs::LotFacts::lot_outside, crate::proofs::LotFacts::lot_count_is))]
 pub fn lot_at(section: Section, column: u8, row: u8) -> Option<u8>
-    ensures { result ≡ lot_at_position section column row }
+    ensures lot { result ≡ lot_at_position section column row }
+    ensures section { IsSection section }
 {
     if column > 3 || row > 3 {
         return None;
@@ -25,11 +26,12 @@ pub fn lot_at(section: Section, column: u8, row: u8) -> Option<u8>
 
 /// The position that a lot of a section fills: its column from the east and its row from the south.
 /// None where the section has no such lot.
-#[tactic(auto, using(crate::proofs::LotFacts::lot_place_is, crate::proofs::LotFacts::lot_count_is))]
+#[tactic(auto, using(crate::proofs::LotFacts::position_of_lot_is, crate::proofs::LotFacts::lot_count_is))]
 pub fn lot_place(section: Section, lot: u8) -> Option<(u8, u8)>
-    ensures place { result ≡ position_of_lot section lot }
-    ensures within { IfSome result (λ place. (place.0 < 4) × (place.1 < 4)) }
+    ensures position { result ≡ position_of_lot section lot }
+    ensures within { IfSome result (λ (column, row). IsPosition column row) }
     ensures has { IsSome result ↔ ((1 ≤ lot) × (lot ≤ number_of_lots section)) }
+    ensures section { IsSection section }
 {
     let count = lot_count(section);
     if lot == 0 || lot > count {
@@ -44,7 +46,8 @@ pub fn lot_place(section: Section, lot: u8) -> Option<(u8, u8)>
 /// How many lots a section has: 0, 4 or 7.
 #[tactic(auto, using(crate::proofs::LotFacts::lot_count_is))]
 pub fn lot_count(section: Section) -> u8
-    ensures { result ≡ number_of_lots section }
+    ensures count { result ≡ number_of_lots section }
+    ensures section { IsSection section }
 {
     match (is_northern(section), is_western(section)) {
         (true, true) => 7,

@@ -1,5 +1,6 @@
-ghost use Rattle.std.specs.Prelude.{◌≡◌, ℕ, ◌≤◌, ◌<◌, ◌&&◌, nat_le, if◌then◌else◌};
-ghost use Rattle.twp_grid.specs.Winding.{IsSection, StandsAt};
+ghost use Rattle.std.specs.Prelude.{◌≡◌, ℕ, ◌≤◌, ◌<◌};
+ghost use Rattle.std.specs.Option.{SomeIff};
+ghost use Rattle.twp_grid.specs.Winding.{SECTIONS_ACROSS, IsSection, StandsAt};
 
 use std::marker::Model;
 
@@ -9,6 +10,13 @@ use std::marker::Model;
 #[derive(Clone, Copy, Debug, PartialEq, Eq, PartialOrd, Ord, Hash)]
 pub struct Section {
     number: u8,
+}
+
+/// Where a section stands: its row is counted from the north and its column from the east, 0 to 5.
+#[derive(Clone, Copy)]
+pub(crate) struct Standing {
+    pub(crate) row: u8,
+    pub(crate) column: u8,
 }
 
 impl Model for Section {
@@ -24,7 +32,7 @@ impl Model for Section {
 impl Section {
     /// The section of a number from 1 to 36.
     pub fn new(number: u8) -> Option<Section>
-        ensures { result ≡ (if nat_le 1 number && nat_le number 36 then Some number else None) }
+        ensures { SomeIff result (IsSection number) number }
     {
         if 1 <= number && number <= 36 {
             Some(Section { number })
@@ -33,10 +41,10 @@ impl Section {
         }
     }
 
-    /// The section at a row counted from the north and a column counted from the east.
+    /// The section at a row counted from the north and a column counted from the east, 0 to 5.
     pub fn at(row: u8, column: u8) -> Section
-        requires row { row < 6 }
-        requires column { column < 6 }
+        requires row { row < SECTIONS_ACROSS }
+        requires column { column < SECTIONS_ACROSS }
         ensures { StandsAt result row column }
     {
         let offset = if row % 2 == 0 { column } else { 5 - column };
@@ -57,25 +65,26 @@ impl Section {
     pub fn row(self) -> u8
         ensures { (column : ℕ) × StandsAt self result column }
     {
-        self.place().0
+        self.standing().row
     }
 
     /// The column, 0 in the east to 5 in the west.
     pub fn column(self) -> u8
         ensures { (row : ℕ) × StandsAt self row result }
     {
-        self.place().1
+        self.standing().column
     }
 
     /// The row and the column.
-    #[tactic(auto, using(crate::proofs::WindingFacts::place_even, crate::proofs::WindingFacts::place_odd))]
-    pub(crate) fn place(self) -> (u8, u8)
-        ensures { StandsAt self result.0 result.1 }
+    #[tactic(auto, using(crate::proofs::WindingFacts::stands_even, crate::proofs::WindingFacts::stands_odd))]
+    pub(crate) fn standing(self) -> Standing
+        ensures { StandsAt self result.row result.column }
     {
-        let row = (self.number - 1) / 6;
-        let offset = (self.number - 1) % 6;
+        let Section { number } = self;
+        let row = (number - 1) / 6;
+        let offset = (number - 1) % 6;
         let column = if row % 2 == 0 { offset } else { 5 - offset };
-        (row, column)
+        Standing { row, column }
     }
 }
 

@@ -21,10 +21,10 @@ pub enum EastWest {
 /// 99 (this project's limit).
 #[derive(Clone, Copy, Debug, PartialEq, Eq, Hash)]
 pub struct Township {
-    number: u8,
-    north_south: NorthSouth,
-    range: u8,
-    east_west: EastWest,
+    tier_number: u8,
+    tier_side: NorthSouth,
+    range_number: u8,
+    range_side: EastWest,
 }
 
 impl Model for Township {
@@ -32,11 +32,21 @@ impl Model for Township {
 
     ghost Value = { Designation };
 
-    ghost view = { λ t. record { number = t.number; north_south = t.north_south; range = t.range; east_west = t.east_west } };
+    ghost view = { λ t. record {
+      number = t.tier_number;
+      north_south = t.tier_side;
+      range = t.range_number;
+      east_west = t.range_side;
+    } };
 
-    ghost invariant = { λ t. IsTownshipNumber t.number × IsTownshipNumber t.range };
+    ghost invariant = { λ t. IsTownshipNumber t.tier_number × IsTownshipNumber t.range_number };
 
-    ghost inverse = { λ d. record { number = d.number; north_south = d.north_south; range = d.range; east_west = d.east_west } };
+    ghost inverse = { λ d. record {
+      tier_number = d.number;
+      tier_side = d.north_south;
+      range_number = d.range;
+      range_side = d.east_west;
+    } };
 }
 
 impl Township {
@@ -56,10 +66,10 @@ impl Township {
             return None;
         }
         Some(Township {
-            number,
-            north_south,
-            range,
-            east_west,
+            tier_number: number,
+            tier_side: north_south,
+            range_number: range,
+            range_side: east_west,
         })
     }
 
@@ -68,14 +78,14 @@ impl Township {
         ensures value { result ≡ self.number }
         ensures range { IsTownshipNumber result }
     {
-        self.number
+        self.tier_number
     }
 
     /// Whether the township lies north or south of the base line.
     pub fn north_south(self) -> NorthSouth
         ensures { result ≡ self.north_south }
     {
-        self.north_south
+        self.tier_side
     }
 
     /// The range's number, 1 to 99.
@@ -83,14 +93,14 @@ impl Township {
         ensures value { result ≡ self.range }
         ensures range { IsTownshipNumber result }
     {
-        self.range
+        self.range_number
     }
 
     /// Whether the range lies east or west of the principal meridian.
     pub fn east_west(self) -> EastWest
         ensures { result ≡ self.east_west }
     {
-        self.east_west
+        self.range_side
     }
 }
 

@@ -1,0 +1,58 @@
+ghost use Rattle.std.specs.Prelude.{◌≡◌};
+
+use crate::device::{DeviceFault, Source};
+
+/// Bytes in memory, to read. They never fail.
+#[derive(Clone, Copy, Debug)]
+pub struct Bytes<'a> {
+    unread: &'a [u8],
+}
+
+impl<'a> Bytes<'a> {
+    ghost use Rattle.twp_grid.specs.Devices.{unread_bytes};
+
+    /// A source that gives these bytes.
+    pub fn new(bytes: &'a [u8]) -> Bytes<'a>
+        ensures { unread_bytes result ≡ bytes.now }
+    {
+        Bytes { unread: bytes }
+    }
+}
+
+impl Source for Bytes<'_> {
+    ghost use Rattle.std.specs.Prelude.{Some, false};
+    ghost use Rattle.twp_grid.specs.Devices.{unread_bytes};
+
+    ghost remaining = { λ bytes. Some (unread_bytes bytes) };
+
+    ghost has_failed = { λ _. false };
+
+    fn fill(&mut self, buffer: &mut [u8]) -> Result<usize, DeviceFault> {
+        let count = buffer.len().min(self.unread.len());
+        let (front, rest) = self.unread.split_at(count);
+        buffer[..count].copy_from_slice(front);
+        self.unread = rest;
+        Ok(count)
+    }
+
+    fn failed(&self) -> bool {
+        false
+    }
+}
+
+#[cfg(test)]
+mod tests {
+    use super::*;
+
+    #[test]
+    fn gives_bytes_in_memory(rt: HostRuntime) {
+        let mut bytes = Bytes::new(b"lot 1");
+        let mut buffer = [0; 3];
+        assert_eq!(rt; bytes.fill(&mut buffer), Ok(3));
+        assert_eq!(rt; &buffer, b"lot");
+        assert_eq!(rt; bytes.fill(&mut buffer), Ok(2));
+        assert_eq!(rt; &buffer, b" 1t");
+        assert_eq!(rt; bytes.fill(&mut buffer), Ok(0));
+        assert!(rt; !bytes.failed());
+    }
+}
