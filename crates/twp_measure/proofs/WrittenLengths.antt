@@ -4,7 +4,7 @@ use Rattle.std.specs.Char.{digit_value}
 use Rattle.std.proofs.lemmas.Bool.{eqb-true}
 use Rattle.std.proofs.lemmas.Fmt.{decimal_is_IsNumeral, length-decimal-le}
 use Rattle.std.proofs.lemmas.Str.{digit_value_digit}
-use Rattle.twp_measure.specs.LengthTexts.{point, digit_byte, length_text, IsShortNumber, IsDecimals, IsLengthText}
+use Rattle.twp_measure.specs.LengthTexts.{IsLength, point, digit_byte, length_text, IsShortNumber, IsDecimals, IsLengthText}
 
 digit_value-byte : (digit : ℕ) → digit < 10 → digit_value (digit_byte digit) ≡ digit
 digit_value-byte digit small =
@@ -30,7 +30,7 @@ whole_chains chains small =
     let numeral = decimal_is_IsNumeral chains (omega arith) in
     record { numeral = numeral.0; places = length-decimal-le 2 chains (omega arith) small (omega arith); value = sym numeral.1 }
 
-written_by : (v : ℕ) (third : Bool) → v < 100000 → (v % 10 == 0) ≡ third
+written_by : (v : ℕ) (third : Bool) → IsLength v → (v % 10 == 0) ≡ third
     → IsLengthText (decimal (v / 1000) ++ point ∷ digit_byte (v / 100 % 10) ∷ digit_byte (v / 10 % 10) ∷ (if third then [] else digit_byte (v % 10) ∷ [])) v
 written_by v true bound none =
     let zero_third : v % 10 ≡ 0 = eqb-true _ _ none in
@@ -56,5 +56,5 @@ written_by v false bound some =
       value = omega arith;
     })
 
-pub written_is_length : (v : ℕ) → v < 100000 → IsLengthText (length_text v) v
+pub written_is_length : (v : ℕ) → IsLength v → IsLengthText (length_text v) v
 written_is_length v bound = written_by v (v % 10 == 0) bound refl

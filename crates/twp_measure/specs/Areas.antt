@@ -1,22 +1,30 @@
--- Areas as fractions, and the hundredths of an acre that are printed of one.
-use Rattle.std.specs.Prelude.{ℕ, ◌-◌, ◌*◌, ◌^◌, ◌≤◌, ◌<◌}
-use Rattle.twp_measure.specs.declared.area.TheConstants.{AREA_MAX, UNITS_OF_A_HUNDREDTH}
+-- Areas as exact fractions, and the hundredths of an acre that are printed of one.
+use Rattle.std.specs.Prelude.{ℕ, ◌+◌, ◌*◌, ◌/◌, ◌^◌, ◌≤◌, ◌<◌}
 
 -- so many square thousandths of a chain over a denominator
 pub record Fraction : Type 0 where
   pub units : ℕ
   pub over : ℕ
 
+-- the most units of an area (this project's limit)
+abbrev pub MOST_UNITS : ℕ
+MOST_UNITS = 10 ^ 24
+
+-- a hundredth of an acre in square thousandths of a chain: an acre is 10 square chains
+abbrev pub HUNDREDTH_OF_AN_ACRE : ℕ
+HUNDREDTH_OF_AN_ACRE = 10 * (1000 * 1000) / 100
+
 -- the bounds within which a fraction is an area
 pub record IsArea (units over : ℕ) : Type 0 where
-  pub units_bound : units ≤ AREA_MAX
+  pub units_bound : units ≤ MOST_UNITS
   pub over_range : (0 < over) × (over < 2 ^ 64)
 
--- h hundredths of an acre less a half of one are not more than the area
-abbrev pub Reaches : Fraction → ℕ → Type 0
-Reaches area h = (2 * h - 1) * area.over * UNITS_OF_A_HUNDREDTH ≤ 2 * area.units
+-- a hundredth of an acre in the units of an area
+abbrev pub hundredth_of : Fraction → ℕ
+hundredth_of area = HUNDREDTH_OF_AN_ACRE * area.over
 
--- the area in hundredths of an acre, rounded half up: the greatest number that it reaches
+-- The area is h hundredths of an acre, rounded half up: it is at least half a hundredth below them, and
+-- less than half a hundredth above. All is doubled, so that halves are whole.
 pub record IsRounded (area : Fraction) (h : ℕ) : Type 0 where
-  pub reached : Reaches area h
-  pub greatest : (more : ℕ) → Reaches area more → more ≤ h
+  pub least : 2 * h * hundredth_of area ≤ 2 * area.units + hundredth_of area
+  pub most : 2 * area.units < 2 * h * hundredth_of area + hundredth_of area

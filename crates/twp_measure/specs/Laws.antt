@@ -1,11 +1,11 @@
 -- Laws over the definitions.
-use Rattle.std.specs.Prelude.{◌≡◌, ℕ, ◌<◌, List}
-use Rattle.twp_measure.specs.LengthTexts.{IsLengthText, length_text}
+use Rattle.std.specs.Prelude.{◌≡◌, ◌↔◌, ℕ, ◌-◌, ◌*◌, ◌≤◌, List}
+use Rattle.twp_measure.specs.LengthTexts.{IsLength, IsLengthText, length_text}
 use Rattle.twp_measure.specs.Areas.{Fraction, IsRounded}
 
 -- each length's text is a text of that length
 abbrev pub WrittenIsRead : Type 0
-WrittenIsRead = (v : ℕ) → v < 100000 → IsLengthText (length_text v) v
+WrittenIsRead = (v : ℕ) → IsLength v → IsLengthText (length_text v) v
 
 -- a text is of one length
 abbrev pub OneLength : Type 0
@@ -14,3 +14,12 @@ OneLength = (text : List ℕ) (v v' : ℕ) → IsLengthText text v → IsLengthT
 -- an area has one rounding
 abbrev pub OneRounding : Type 0
 OneRounding = (area : Fraction) (h h' : ℕ) → IsRounded area h → IsRounded area h' → h ≡ h'
+
+-- h hundredths less half a hundredth are not more than the area; none less a half count as none
+abbrev pub Reaches : Fraction → ℕ → Type 0
+Reaches area h = (2 * h - 1) * area.over * 100000 ≤ 2 * area.units
+
+-- the rounding of an area is the greatest number of hundredths that it reaches
+abbrev pub RoundingIsGreatest : Type 0
+RoundingIsGreatest = (area : Fraction) (h : ℕ)
+    → IsRounded area h ↔ (Reaches area h × ((more : ℕ) → Reaches area more → more ≤ h))

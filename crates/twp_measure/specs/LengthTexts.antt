@@ -1,7 +1,11 @@
 -- Which bytes are a length, and the text that is written of one. Lengths are thousandths of a chain.
-use Rattle.std.specs.Prelude.{◌≡◌, ◌==◌, ℕ, ◌+◌, ◌-◌, ◌*◌, ◌/◌, ◌%◌, ◌^◌, ◌≤◌, ◌⊎◌, List, [], ◌∷◌, ◌++◌, length, take, drop, decimal, if◌then◌else◌}
+use Rattle.std.specs.Prelude.{◌≡◌, ◌==◌, ℕ, ◌+◌, ◌-◌, ◌*◌, ◌/◌, ◌%◌, ◌^◌, ◌≤◌, ◌<◌, ◌⊎◌, List, [], ◌∷◌, ◌++◌, length, take, drop, decimal, if◌then◌else◌}
 use Rattle.std.specs.List.{position_or_len}
 use Rattle.std.specs.Str.Parse.{IsNumeral, digits_value}
+
+-- the lengths: under 100 chains (this project's limit)
+abbrev pub IsLength : ℕ → Type 0
+IsLength v = v < 100000
 
 -- the byte of a decimal point
 abbrev pub point : ℕ

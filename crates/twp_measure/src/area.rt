@@ -1,6 +1,5 @@
-ghost use Rattle.std.specs.Prelude.{◌≡◌, ℕ, ◌≤◌, ◌<◌};
-ghost use Rattle.std.specs.Option.{SomeIff};
-ghost use Rattle.twp_measure.specs.Areas.{Fraction, IsArea, IsRounded};
+ghost use Rattle.std.specs.Prelude.{◌≡◌, ◌+◌, ◌≤◌, ◌<◌, SomeIff};
+ghost use Rattle.twp_measure.specs.Areas.{Fraction, IsArea, MOST_UNITS, IsRounded};
 
 use std::marker::Model;
 
@@ -28,8 +27,8 @@ impl Model for Area {
     ghost inverse = { λ fraction. record { units = fraction.units; over = fraction.over } };
 }
 
-/// The units that make a hundredth of an acre.
-const UNITS_OF_A_HUNDREDTH: u128 = 100_000;
+/// A hundredth of an acre, in square thousandths of a chain.
+const HUNDREDTH_OF_AN_ACRE: u128 = 100_000;
 
 impl Area {
     /// `units` over `over`, or None where `over` is 0 or `units` is more than `AREA_MAX`.
@@ -42,10 +41,18 @@ impl Area {
         Some(Area { units, over })
     }
 
+    /// No area at all, over a denominator.
+    pub fn zero(over: u64) -> Area
+        requires { 0 < over }
+        ensures { result ≡ record { units = 0; over = over } }
+    {
+        Area { units: 0, over }
+    }
+
     /// The square thousandths of a chain, times `over`.
     pub fn units(&self) -> u128
         ensures value { result ≡ self.now.units }
-        ensures range { result ≤ AREA_MAX }
+        ensures range { result ≤ MOST_UNITS }
     {
         self.units
     }
@@ -58,12 +65,27 @@ impl Area {
         self.over
     }
 
+    /// The sum of two areas over one denominator.
+    pub fn plus(&self, other: &Area) -> Area
+        requires same_over { self.now.over ≡ other.now.over }
+        requires room { self.now.units + other.now.units ≤ MOST_UNITS }
+        ensures units { result.units ≡ self.now.units + other.now.units }
+        ensures over { result.over ≡ self.now.over }
+    {
+        let Area { units, over } = *self;
+        Area {
+            units: units + other.units,
+            over,
+        }
+    }
+
     /// The area in hundredths of an acre, rounded half up.
     pub fn hundredths(&self) -> u64
         ensures { IsRounded self.now result }
     {
-        let hundredth = UNITS_OF_A_HUNDREDTH * u128::from(self.over);
-        ((2 * self.units + hundredth) / (2 * hundredth)) as u64
+        let Area { units, over } = *self;
+        let hundredth = HUNDREDTH_OF_AN_ACRE * u128::from(over);
+        ((2 * units + hundredth) / (2 * hundredth)) as u64
     }
 }
 
@@ -83,15 +105,34 @@ mod tests {
     }
 
     #[test]
+    fn adds_areas_over_one_denominator(rt: HostRuntime) -> Result<(), Fail> {
+        // 1/3 and 5/3 of a unit are 6/3.
+        let third = Area::new(1, 3).ok_or("in bounds")?;
+        let more = Area::new(5, 3).ok_or("in bounds")?;
+        assert_eq!(rt;
+            (third.plus(&more).units(), third.plus(&more).over()),
+            (6, 3)
+        );
+        assert_eq!(rt; Area::zero(3).plus(&more).units(), 5);
+        Ok(())
+    }
+
+    #[test]
     fn rounds_half_up(rt: HostRuntime) -> Result<(), Fail> {
         for (units, over, hundredths) in [
+            // 390,250,000 / 100,000 = 3,902.5: a tie goes up.
             (390_250_000, 1, 3_903),
+            // One unit less, 3,902.49999.
             (390_249_999, 1, 3_902),
+            // Half a unit less: 780,499,999 / 200,000 = 3,902.499995.
             (780_499_999, 2, 3_902),
+            // 0.49999, 0.5 and 1.5 hundredths: an even one is not preferred.
             (49_999, 1, 0),
             (50_000, 1, 1),
             (150_000, 1, 2),
+            // Nothing, whatever it is divided by.
             (0, u64::MAX, 0),
+            // 10 to the 24th over 10 to the 5th.
             (AREA_MAX, 1, 10_000_000_000_000_000_000),
         ] {
             let area = Area::new(units, over).ok_or("in bounds")?;

@@ -1,6 +1,6 @@
 //! What holds of lengths and areas as they are defined: each law is a contract, and its function has
 //! nothing to do.
-ghost use Rattle.twp_measure.specs.Laws.{WrittenIsRead, OneLength, OneRounding};
+ghost use Rattle.twp_measure.specs.Laws.{WrittenIsRead, OneLength, OneRounding, RoundingIsGreatest};
 
 /// The text that is written of a length is a text of that length, so `Length::read` gives it back.
 #[tactic(auto, using(crate::proofs::WrittenLengths::written_is_length))]
@@ -17,4 +17,11 @@ pub fn one_length()
 #[tactic(auto, using(crate::proofs::RoundingFacts::one_rounding))]
 pub fn one_rounding()
     ensures { OneRounding }
+{}
+
+/// The rounding of an area in hundredths of an acre is the greatest `h` for which
+/// `(2h - 1) * over * 100,000` is at most twice the units.
+#[tactic(auto, using(crate::proofs::RoundingFacts::rounding_is_greatest))]
+pub fn rounding_is_greatest()
+    ensures { RoundingIsGreatest }
 {}

@@ -17,11 +17,14 @@ pub struct Length {
 }
 
 impl Model for Length {
+    ghost use Rattle.std.specs.Prelude.{ℕ};
+    ghost use Rattle.twp_measure.specs.LengthTexts.{IsLength};
+
     ghost Value = { ℕ };
 
     ghost view = { λ line. line.thousandths };
 
-    ghost invariant = { λ line. line.thousandths < 100000 };
+    ghost invariant = { λ line. IsLength line.thousandths };
 
     ghost inverse = { λ n. record { thousandths = n } };
 }
@@ -47,7 +50,7 @@ pub enum LengthFault {
 const POINT: u8 = b'.';
 
 impl Length {
-    ghost use Rattle.twp_measure.specs.LengthTexts.{IsLengthText, length_text};
+    ghost use Rattle.twp_measure.specs.LengthTexts.{IsLength, IsLengthText, length_text};
     ghost use Rattle.twp_measure.specs.LengthFaults.{IsFirstLengthFault};
 
     /// Reads chains as a decimal number, such as `80` or `19.575`: one or two digits, and optionally a
@@ -98,7 +101,7 @@ impl Length {
     /// The length in thousandths of a chain.
     pub fn thousandths(self) -> u32
         ensures value { result ≡ self }
-        ensures range { result < 100000 }
+        ensures range { IsLength result }
     {
         self.thousandths
     }
@@ -109,12 +112,13 @@ impl Length {
         ensures ok { OnOk result (out.new.items ≡ out.old.items ++ length_text self) }
         ensures err { OnErr result (out.new.items ≡ out.old.items) }
     {
+        let Length { thousandths } = self;
         let mut text = [POINT; 6];
-        text[3] = digit(self.thousandths / 100);
-        text[4] = digit(self.thousandths / 10);
-        text[5] = digit(self.thousandths);
-        let start = write_digits(u64::from(self.thousandths / 1000), &mut text, 2);
-        let end = if self.thousandths % 10 == 0 { 5 } else { 6 };
+        text[3] = digit(thousandths / 100);
+        text[4] = digit(thousandths / 10);
+        text[5] = digit(thousandths);
+        let start = write_digits(u64::from(thousandths / 1000), &mut text, 2);
+        let end = if thousandths % 10 == 0 { 5 } else { 6 };
         out.extend_from_slice(&text[start..end])
     }
 }
