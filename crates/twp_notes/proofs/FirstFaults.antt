@@ -3,7 +3,7 @@ use Rattle.std.proofs.Common.{◌≡◌, ◌≢◌, ◌⊎◌, ℕ, ◌+◌, ◌
 use Rattle.std.proofs.lemmas.Bool.{cases_lt, cases_eq}
 use Rattle.std.specs.Prelude.{slice_index_or}
 use Rattle.std.proofs.lemmas.List.{get_or_past}
-use Rattle.twp_grid.specs.Lines.{IsLine}
+use Rattle.twp_grid.specs.Lines.{LINE_COUNT, IsLine}
 use Rattle.twp_grid.specs.Townships.{Designation}
 use Rattle.twp_notes.specs.Records.{Fields, records_of, record_at, record_numbered}
 use Rattle.twp_notes.specs.FieldNotes.{NOTES_MOST, FIELDS, heading, IsTownshipRecord, IsLineNumber, IsNamed, NamesLine, AreNotes, nothing_returned}
@@ -302,7 +302,7 @@ missing_is_first bytes rows table line behind taken least =
     }
 
 -- only lines have entries
-entry_is_line : (table : List (Option Returned)) (line : ℕ) (returned : Returned) → length table ≡ 84 → entry_of table line ≡ Some returned → IsLine line
+entry_is_line : (table : List (Option Returned)) (line : ℕ) (returned : Returned) → length table ≡ LINE_COUNT → entry_of table line ≡ Some returned → IsLine line
 entry_is_line table line returned size some = elim (cases_lt line 84) [
   | inl below ↦ below
   | inr over ↦ absurd (cc (sym some ∙ get_or_past table line None (omega arith)))

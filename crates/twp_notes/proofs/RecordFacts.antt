@@ -8,7 +8,7 @@ use Rattle.csv.specs.Reading.{records_from, strip_bom, is_bom, default_config, s
 use Rattle.csv.specs.Records.{field_at}
 use Rattle.csv.specs.declared.parser.State.{State}
 use Rattle.csv.specs.declared.parser.State.TheVariants as st
-use Rattle.twp_notes.specs.Records.{Fields, records_of, records_left, unread_bytes, IsReading}
+use Rattle.twp_notes.specs.Records.{Fields, records_of, records_left, bytes_ahead, IsReading}
 use Rattle.twp_notes.specs.declared.records.Records.{Records}
 
 either_way : {A : Type 0} (b : Bool) (x y z : A) → (if b then x else y) ≡ z → ((b ≡ true) × (x ≡ z)) ⊎ ((b ≡ false) × (y ≡ z))
@@ -122,10 +122,10 @@ pub reads_first : (a b : Records) (found : Bool) (row : Fields) → IsReading a 
     → took_first b.reader ≡ true → is_flexible b.reader ≡ is_flexible a.reader
     → MatchBool found ((records_left a ≡ row ∷ records_left b) × IsReading b) (records_left a ≡ [])
 reads_first a b true row reading reads first flexible =
-    let next = next_given (reader_state a.reader) (reader_state b.reader) (unread_bytes a) _ true row (rw (reading.config, reading.known) at reads.0) in
-    let after = records_after (reader_state a.reader) (unread_bytes a) (row, reader_state b.reader, next.0) reading.between next.2 in
+    let next = next_given (reader_state a.reader) (reader_state b.reader) (bytes_ahead a) _ true row (rw (reading.config, reading.known) at reads.0) in
+    let after = records_after (reader_state a.reader) (bytes_ahead a) (row, reader_state b.reader, next.0) reading.between next.2 in
     let source : source_of known b.reader ≡ Some next.0 = rw reads.1 next.1 in
-    let left : unread_bytes b ≡ next.0 = ap (λ o. unwrap_or o []) source in (
+    let left : bytes_ahead b ≡ next.0 = ap (λ o. unwrap_or o []) source in (
       rw left after.0,
       record {
         plain = reads.3 ∙ reading.plain;
@@ -137,8 +137,8 @@ reads_first a b true row reading reads first flexible =
       },
     )
 reads_first a b false row reading reads first flexible =
-    let next = next_given (reader_state a.reader) (reader_state b.reader) (unread_bytes a) _ false row (rw (reading.config, reading.known) at reads.0) in
-    no_records (reader_state a.reader) (unread_bytes a) next.2
+    let next = next_given (reader_state a.reader) (reader_state b.reader) (bytes_ahead a) _ false row (rw (reading.config, reading.known) at reads.0) in
+    no_records (reader_state a.reader) (bytes_ahead a) next.2
 
 -- the field at a place
 pub field_at_is : (fields : Fields) (i : ℕ) → i < length fields → field_at fields i ≡ Some (get_or fields i [])

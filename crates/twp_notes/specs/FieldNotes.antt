@@ -3,7 +3,7 @@
 use Rattle.std.specs.Prelude.{◌≡◌, ℕ, ◌≤◌, List, [], ◌∷◌, length, Option, Some, None, codes, slice_index_or}
 use Rattle.twp_measure.specs.LengthTexts.{IsShortNumber, IsLengthText}
 use Rattle.twp_grid.specs.Winding.{IsSection}
-use Rattle.twp_grid.specs.Lines.{IsLine, IsLineOf}
+use Rattle.twp_grid.specs.Lines.{LINE_COUNT, IsLine, IsLineOf}
 use Rattle.twp_grid.specs.Townships.{Designation, IsTownshipNumber}
 use Rattle.twp_grid.specs.declared.line.Run.{Run}
 use Rattle.twp_grid.specs.declared.line.Run.TheVariants as run
@@ -108,7 +108,7 @@ pub record AreNoteRecords (records : List Fields) (notes : FieldNotes) : Type 0 
   pub once : (number other line : ℕ) → IsLineNumber records number → IsLineNumber records other
       → NamesLine (record_numbered records number) line → NamesLine (record_numbered records other) line → number ≡ other
   pub all : (line : ℕ) → IsLine line → IsNamed records line
-  pub lines : length notes.lines ≡ 84
+  pub lines : length notes.lines ≡ LINE_COUNT
 
 -- the bytes are these notes
 pub record AreNotes (bytes : List ℕ) (notes : FieldNotes) : Type 0 where

@@ -1,4 +1,3 @@
-pub mod Finding
 pub mod Records
 pub mod FieldNotes
 pub mod NotesFaults

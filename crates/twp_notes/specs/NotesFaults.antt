@@ -6,7 +6,6 @@ use Rattle.twp_measure.specs.LengthTexts.{IsLengthText}
 use Rattle.twp_grid.specs.Lines.{IsLine}
 use Rattle.twp_grid.specs.declared.line.Run.{Run}
 use Rattle.twp_grid.specs.declared.refusal.Refusal.{Refusal}
-use Rattle.twp_notes.specs.Finding.{HasNone}
 use Rattle.twp_notes.specs.Records.{Fields, field, records_of, record_numbered}
 use Rattle.twp_notes.specs.FieldNotes.{FieldNotes, NOTES_MOST, FIELDS, heading, run_text, IsTownshipRecord, IsSectionText, IsNeighbourText, NamesLine, IsLineNumber, IsNamed, AreNotes}
 use Rattle.twp_notes.specs.declared.fault.NotesFault.{NotesFault}
@@ -27,6 +26,10 @@ refusal_of (fault.Repeated record_number) = Some (record { number = 10; at = rec
 refusal_of (fault.Missing line) = Some (record { number = 11; at = line })
 refusal_of fault.Read = None
 refusal_of fault.Memory = None
+
+-- there is no such value
+abbrev pub HasNone : {A : Type 0} → (A → Type 0) → Type 0
+HasNone {A} Is = (value : A) → Is value → ⊥
 
 -- a record whose first field is no run's letter
 abbrev pub HasNoRun : Fields → Type 0

@@ -28,12 +28,12 @@ abbrev pub record_numbered : List Fields → ℕ → Fields
 record_numbered records number = record_at records (number - 1)
 
 -- the bytes that a reader has left
-abbrev pub unread_bytes : Records → List ℕ
-unread_bytes r = unwrap_or (source_of (λ (s : Bor (List ℕ)). Some s.now) r.reader) []
+abbrev pub bytes_ahead : Records → List ℕ
+bytes_ahead r = unwrap_or (source_of (λ (s : Bor (List ℕ)). Some s.now) r.reader) []
 
 -- the records that a reader has left
 abbrev pub records_left : Records → List Fields
-records_left r = records_from default_config (length (unread_bytes r) + 1) (reader_state r.reader) (unread_bytes r)
+records_left r = records_from default_config (length (bytes_ahead r) + 1) (reader_state r.reader) (bytes_ahead r)
 
 -- the reader stands between two records
 pub record IsReading (r : Records) : Type 0 where
@@ -41,5 +41,5 @@ pub record IsReading (r : Records) : Type 0 where
   pub ready : Ready r.reader
   pub config : reader_config r.reader ≡ default_config
   pub flexible : is_flexible r.reader ≡ true
-  pub known : source_of (λ (s : Bor (List ℕ)). Some s.now) r.reader ≡ Some (unread_bytes r)
+  pub known : source_of (λ (s : Bor (List ℕ)). Some s.now) r.reader ≡ Some (bytes_ahead r)
   pub between : ends_at_end (reader_state r.reader) ≡ false

@@ -1,6 +1,6 @@
 -- What was returned of lines so far, by their indexes.
 use Rattle.std.specs.Prelude.{slice_set, ◌≡◌, ℕ, ◌<◌, List, length, Option, Some, None, IsSome, slice_index_or}
-use Rattle.twp_grid.specs.Lines.{IsLine}
+use Rattle.twp_grid.specs.Lines.{LINE_COUNT, IsLine}
 use Rattle.twp_notes.specs.Records.{Fields, record_at}
 use Rattle.twp_notes.specs.FieldNotes.{nothing_returned, NamesLine, IsLineRecord}
 use Rattle.twp_notes.specs.declared.returned.Returned.{Returned}
@@ -11,7 +11,7 @@ entry_of table line = slice_index_or table line None
 
 -- all lines were returned, with these
 pub record AreEntries (table : List (Option Returned)) (lines : List Returned) : Type 0 where
-  pub count : length lines ≡ 84
+  pub count : length lines ≡ LINE_COUNT
   pub each : (line : ℕ) → IsLine line → entry_of table line ≡ Some (slice_index_or lines line nothing_returned)
 
 -- nothing was returned of this line, and of each before it something was
@@ -48,4 +48,4 @@ pub record AreTaken (records : List Fields) (count : ℕ) (table : List (Option 
   pub once : (place other line : ℕ) → place < count → other < count
       → NamesLine (record_at records place) line → NamesLine (record_at records other) line → place ≡ other
   pub named : (line : ℕ) → IsSome (entry_of table line) → IsNamedBy records count line
-  pub size : length table ≡ 84
+  pub size : length table ≡ LINE_COUNT

@@ -5,7 +5,7 @@ ghost use Rattle.twp_measure.specs.LengthTexts.{IsShortNumber, IsLengthText};
 ghost use Rattle.twp_grid.specs.declared.line.Run.{Run};
 ghost use Rattle.twp_grid.specs.declared.township.NorthSouth.{NorthSouth};
 ghost use Rattle.twp_grid.specs.declared.township.EastWest.{EastWest};
-ghost use Rattle.twp_notes.specs.Finding.{Finds};
+ghost use Rattle.twp_grid.specs.Finding.{Finds};
 ghost use Rattle.twp_notes.specs.FieldNotes.{heading, IsTownshipRecord, north_south_text, east_west_text, run_text, IsSectionText, IsNeighbourText, NamesLine, Returns};
 ghost use Rattle.twp_notes.specs.NotesFaults.{HasNoLength};
 ghost use Rattle.twp_notes.specs.LineFaults.{IsUnnamed};

@@ -24,13 +24,14 @@ pub struct Notes {
 
 impl Model for Notes {
     ghost use Rattle.std.specs.Prelude.{◌≡◌, length};
+    ghost use Rattle.twp_grid.specs.Lines.{LINE_COUNT};
     ghost use Rattle.twp_notes.specs.FieldNotes.{FieldNotes};
 
     ghost Value = { FieldNotes };
 
     ghost view = { λ notes. record { township = notes.township; lines = notes.lines } };
 
-    ghost invariant = { λ notes. length notes.lines ≡ 84 };
+    ghost invariant = { λ notes. length notes.lines ≡ LINE_COUNT };
 
     ghost inverse = { λ notes. record { township = notes.township; lines = notes.lines } };
 }

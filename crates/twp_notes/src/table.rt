@@ -17,13 +17,14 @@ pub struct LineTable {
 
 impl Model for LineTable {
     ghost use Rattle.std.specs.Prelude.{List, Option, ◌≡◌, length};
+    ghost use Rattle.twp_grid.specs.Lines.{LINE_COUNT};
     ghost use Rattle.twp_notes.specs.declared.returned.Returned.{Returned};
 
     ghost Value = { List (Option Returned) };
 
     ghost view = { λ table. table.entries };
 
-    ghost invariant = { λ table. length table.entries ≡ 84 };
+    ghost invariant = { λ table. length table.entries ≡ LINE_COUNT };
 
     ghost inverse = { λ entries. record { entries = entries } };
 }

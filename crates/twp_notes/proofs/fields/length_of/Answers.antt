@@ -1,5 +1,8 @@
--- A text that is refused is no length, since each length is read.
+-- Each text of a length is read as that length, so a text that is refused is of none.
 use Rattle.twp_notes.proofs.fields.length_of.Goals as goal
+
+pub returns-in-Ok : goal.returns-in-Ok
+returns-in-Ok c = (c.in-Ok.ensures.value, λ value is. cc (c.in-Ok.ensures.taken value is))
 
 pub returns-in-Err : goal.returns-in-Err
 returns-in-Err c value is = absurd (cc (c.in-Err.ensures.taken value is))

@@ -1,5 +1,6 @@
 use Rattle.std.proofs.Common.{◌≡◌, ℕ, ◌<◌, length, Some}
 use Rattle.std.specs.Prelude.{slice_index_or}
+use Rattle.twp_grid.specs.Lines.{LINE_COUNT}
 use Rattle.twp_notes.specs.FieldNotes.{nothing_returned}
 use Rattle.twp_notes.specs.Tables.{entry_of}
 use Rattle.twp_notes.proofs.table.LineTable.complete.Given as goal
@@ -7,6 +8,6 @@ use Rattle.twp_notes.proofs.table.LineTable.complete.Given as goal
 -- the lines so far were returned, with these
 abbrev pub invariant-loop-index : goal.invariant-loop-index
 invariant-loop-index l = record {
-  count : length l.lines ≡ 84;
+  count : length l.lines ≡ LINE_COUNT;
   each : (line : ℕ) → line < l.index → entry_of l.self line ≡ Some (slice_index_or l.lines line nothing_returned);
 }
