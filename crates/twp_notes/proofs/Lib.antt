@@ -5,3 +5,4 @@ pub mod TableFacts
 pub mod NameFacts
 pub mod Taking
 pub mod FirstFaults
+pub mod OneAnswer

@@ -4,3 +4,4 @@ pub mod NotesFaults
 pub mod Tables
 pub mod LineFaults
 pub mod Passing
+pub mod Laws

@@ -1,2 +1,8 @@
 //! What holds of field notes as they are defined: each law is a contract, and its function has nothing
 //! to do.
+ghost use Rattle.twp_notes.specs.Laws.{OneAnswer};
+
+/// Bytes are one list of notes, or have one first fault.
+pub fn one_answer()
+    ensures { OneAnswer }
+{}

@@ -1,0 +1,15 @@
+-- Laws over the definitions.
+use Rattle.std.specs.Prelude.{◌≡◌, ℕ, List, ⊤, IsSome, Result, Ok, Err}
+use Rattle.twp_notes.specs.FieldNotes.{FieldNotes}
+use Rattle.twp_notes.specs.NotesFaults.{AnswersNotes, refusal_of}
+use Rattle.twp_notes.specs.declared.fault.NotesFault.{NotesFault}
+
+-- notes, or a numbered refusal: not a reading that failed
+abbrev pub IsAnswered : Result FieldNotes NotesFault → Type 0
+IsAnswered (Ok notes) = ⊤
+IsAnswered (Err fault) = IsSome (refusal_of fault)
+
+-- bytes are one list of notes, or have one first fault
+abbrev pub OneAnswer : Type 0
+OneAnswer = (bytes : List ℕ) (answer answer' : Result FieldNotes NotesFault)
+    → AnswersNotes bytes answer → AnswersNotes bytes answer' → IsAnswered answer → IsAnswered answer' → answer ≡ answer'
