@@ -1,12 +1,14 @@
 # What each command does, and when to use it, is said in CONTRIBUTING.md.
-.PHONY: run township test check bench clean
+.PHONY: run township try test check bench clean
 
 run: township
 	@cat samples/description.txt samples/b1.csv | ./township
 
 township:
-	@cd crates/twp_cmd && rt run < stdin > /dev/null
-	@cp crates/twp_cmd/out/twp_cmd township
+	@sh scripts/build.sh
+
+try:
+	@cat samples/description.txt samples/b1.csv > crates/twp_cmd/stdin && cd crates/twp_cmd && rt try
 
 test:
 	rt ci

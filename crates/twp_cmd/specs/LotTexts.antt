@@ -1,4 +1,4 @@
--- The descriptions that are taken so far: one lot of a section that has four.
+-- The descriptions that are taken so far: one lot of a section.
 use Rattle.std.specs.Prelude.{◌≡◌, ℕ, ◌≤◌, List, ◌++◌, codes, decimal}
 use Rattle.twp_grid.specs.Winding.{IsSection}
 use Rattle.twp_grid.specs.Lots.{number_of_lots}
@@ -7,11 +7,14 @@ use Rattle.twp_grid.specs.Lots.{number_of_lots}
 pub record IsLotOf (text : List ℕ) (section lot : ℕ) : Type 0 where
   pub text_is : text ≡ decimal section ++ (codes ", lot " ++ (decimal lot ++ codes "."))
   pub section_is : IsSection section
-  pub four_lots : number_of_lots section ≡ 4
-  pub lot_is : (1 ≤ lot) × (lot ≤ 4)
+  pub lot_is : (1 ≤ lot) × (lot ≤ number_of_lots section)
 
 -- as `sec. 5, lot 1.`
 pub record IsLotText (text : List ℕ) (section lot : ℕ) : Type 0 where
   pub rest : List ℕ
   pub text_is : text ≡ codes "sec. " ++ rest
   pub rest_is : IsLotOf rest section lot
+
+-- the text is of no lot
+abbrev pub IsOfNoLot : List ℕ → Type 0
+IsOfNoLot text = (section lot : ℕ) → IsLotText text section lot → ⊥

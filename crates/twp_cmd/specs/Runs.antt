@@ -1,36 +1,58 @@
--- What a run does to its writer.
-use Rattle.std.specs.Prelude.{ℕ, ◌≤◌, ◌==◌, List, length, take, Option, Result, Ok, Err}
+-- What a run reads, and what it does to its writer.
+use Rattle.std.specs.Prelude.{◌≡◌, ◌⊎◌, ℕ, ◌≤◌, Bool, true, List, length, take, Option, Result, Ok, Err}
 use Rattle.std.specs.Io.KnownBytes.{Appends, Keeps}
-use Rattle.std.specs.List.{before_first, after_first}
-use Rattle.twp_cmd.specs.Answers.{line_feed}
+use Rattle.twp_grid.specs.Devices.{Tells}
 use Rattle.twp_cmd.specs.declared.verdict.Verdict.{Verdict}
 use Rattle.twp_cmd.specs.declared.verdict.RunFault.{RunFault}
 use Rattle.twp_cmd.specs.declared.verdict.RunFault.TheVariants.{Read, Write, Memory}
 
+-- an answer and its verdict
+abbrev pub AnswerRelation : Type 1
+AnswerRelation = List ℕ → Verdict → Type 0
+
 -- known bytes grow by some front of these
-abbrev pub AppendsFront : Option (List ℕ) → Option (List ℕ) → List ℕ → Type 0
-AppendsFront old new bytes = (k : ℕ) × (k ≤ length bytes) × Appends old new (take k bytes)
+pub record AppendsFront (old new : Option (List ℕ)) (bytes : List ℕ) : Type 0 where
+  pub count : ℕ
+  pub within : count ≤ length bytes
+  pub appended : Appends old new (take count bytes)
 
--- What the run of an answer relation leaves in the writer: the whole answer at a verdict, which is the
--- answer's; a front of an answer where the writer failed; and nothing else where a reader or memory did.
-abbrev pub IsRun : (List ℕ → Verdict → Type 0) → Option (List ℕ) → Option (List ℕ) → Result Verdict RunFault → Type 0
-IsRun answers old new (Ok verdict) = (answer : List ℕ) × answers answer verdict × Appends old new answer
-IsRun answers old new (Err Write) = (answer : List ℕ) × (verdict : Verdict) × answers answer verdict × AppendsFront old new answer
-IsRun answers old new (Err Read) = Keeps old new
-IsRun answers old new (Err Memory) = Keeps old new
+-- the answer of the verdict was written whole
+pub record Writes (Answers : AnswerRelation) (old new : Option (List ℕ)) (verdict : Verdict) : Type 0 where
+  pub answer : List ℕ
+  pub answers : Answers answer verdict
+  pub appended : Appends old new answer
 
--- the most bytes of joined input: a description, a line feed, and one byte more than notes may have
-abbrev pub JOINED_MOST : ℕ
-JOINED_MOST = 131074
+-- an answer was begun, and a front of it written
+pub record WritesFront (Answers : AnswerRelation) (old new : Option (List ℕ)) : Type 0 where
+  pub answer : List ℕ
+  pub verdict : Verdict
+  pub answers : Answers answer verdict
+  pub front : AppendsFront old new answer
 
--- what is read of joined input
-unfoldable pub joined_bytes : List ℕ → List ℕ
-joined_bytes bytes = take JOINED_MOST bytes
+-- What a run leaves in its writer: the whole answer at a verdict, which is the answer's; a front of an
+-- answer where the writer failed; and nothing else where a reader or memory did.
+abbrev pub IsRun : AnswerRelation → Option (List ℕ) → Option (List ℕ) → Result Verdict RunFault → Type 0
+IsRun Answers old new (Ok verdict) = Writes Answers old new verdict
+IsRun Answers old new (Err Write) = WritesFront Answers old new
+IsRun Answers old new (Err Read) = Keeps old new
+IsRun Answers old new (Err Memory) = Keeps old new
 
--- the description of joined input: what stands before the first line feed
-abbrev pub joined_description : List ℕ → List ℕ
-joined_description bytes = before_first (λ byte. byte == line_feed) (joined_bytes bytes)
+-- Of what a source had to give, these are the bytes: the told ones, where it tells them.
+pub record Reads (told : Option (List ℕ)) (Holds : List ℕ → Type 0) : Type 0 where
+  pub bytes : List ℕ
+  pub tells : Tells told bytes
+  pub holds : Holds bytes
 
--- the notes of joined input: what stands behind the first line feed, nothing where there is none
-abbrev pub joined_notes : List ℕ → List ℕ
-joined_notes bytes = after_first (λ byte. byte == line_feed) (joined_bytes bytes)
+-- The same of two sources, of which the second was read only where the first one's bytes go on to it.
+pub record ReadsTwo (first second : Option (List ℕ)) (GoesOn : List ℕ → Type 0) (unread : Type 0)
+    (Holds : List ℕ → List ℕ → Type 0) : Type 0 where
+  pub first_bytes : List ℕ
+  pub second_bytes : List ℕ
+  pub first_tells : Tells first first_bytes
+  pub second_tells : Tells second second_bytes
+  pub holds : Holds first_bytes second_bytes
+  pub order : GoesOn first_bytes ⊎ unread
+
+-- one of two devices has failed
+abbrev pub AnyFailed : Bool → Bool → Type 0
+AnyFailed first second = (first ≡ true) ⊎ (second ≡ true)

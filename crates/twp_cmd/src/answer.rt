@@ -1,23 +1,23 @@
-ghost use Rattle.std.specs.Prelude.{◌≡◌, ◌≢◌, ◌⊎◌, ◌↔◌, ◌++◌, ℕ, List, true, false, IfOk, IfErr, IsErrOf, MatchOption};
-ghost use Rattle.twp_grid.specs.Devices.{Tells, TakesAtMost};
-ghost use Rattle.twp_cmd.specs.FieldNotes.{FieldNotes};
-ghost use Rattle.twp_cmd.specs.Answers.{ArePlatted, IsDescribed, IsAnswer, acres_line, refusal_line, not_yet};
+ghost use Rattle.std.specs.Prelude.{◌≡◌, ◌≢◌, ◌+◌, ◌↔◌, true, false, IfOk, IfErr, IsErrOf};
+ghost use Rattle.twp_grid.specs.Devices.{TakesAtMost};
+ghost use Rattle.twp_notes.specs.FieldNotes.{NOTES_MOST};
+ghost use Rattle.twp_cmd.specs.Answers.{MakePlat, IsAnswer, DESCRIPTION_MOST, acres_line, refusal_line};
+ghost use Rattle.twp_cmd.specs.Runs.{AnyFailed, Reads, ReadsTwo};
+ghost use Rattle.twp_cmd.specs.Stops.{Settles, IsPlatted, IsMeasured};
+ghost use Rattle.twp_cmd.specs.declared.stop.Stop.TheVariants.{Failed};
 
-use crate::notes::Notes;
-use crate::plat::Plat;
-use crate::reading::{ReadFault, read_whole};
+use crate::stop::Stop;
 use crate::thin::{ThinFault, read_lot};
 use crate::verdict::{RunFault, Verdict};
 use itoa::Buffer;
-use std::alloc::{AllocError, Global};
-use twp_grid::{Source, lot_place};
+use std::alloc::Global;
+use twp_grid::{Refusal, Source, lot_place};
 use twp_measure::write_acres;
-
-/// The most bytes of field notes.
-const NOTES_MOST: usize = 65_536;
+use twp_notes::{Notes, read_whole};
+use twp_plat::Plat;
 
 /// The most bytes of a description.
-const DESCRIPTION_MOST: usize = 65_536;
+const MOST_BYTES: usize = 65_536;
 
 /// What a run answers.
 #[derive(Drop)]
@@ -33,65 +33,75 @@ pub fn answer_of<N: Source, D: Source>(
     notes: &mut N,
     description: &mut D,
 ) -> Result<Answer, RunFault>
-    requires notes { N.Source.has_failed notes.old ≡ false }
-    requires description { D.Source.has_failed description.old ≡ false }
-    ensures read { IsErrOf result RunFault.Read ↔ ((N.Source.has_failed notes.new ≡ true) ⊎ (D.Source.has_failed description.new ≡ true)) }
+    requires notes { N.has_failed notes.old ≡ false }
+    requires description { D.has_failed description.old ≡ false }
+    ensures read { IsErrOf result RunFault.Read ↔ AnyFailed (N.has_failed notes.new) (D.has_failed description.new) }
     ensures no_write { IfErr result (λ fault. fault ≢ RunFault.Write) }
-    ensures notes_most { TakesAtMost (N.Source.remaining notes.old) (N.Source.remaining notes.new) 65537 }
-    ensures description_most { TakesAtMost (D.Source.remaining description.old) (D.Source.remaining description.new) 65537 }
-    ensures answer { (n : List ℕ) × (d : List ℕ)
-        × Tells (N.Source.remaining notes.old) n × Tells (D.Source.remaining description.old) d
-        × IfOk result (λ answer. IsAnswer n d answer.text.items answer.verdict)
-        × (((plat : FieldNotes) × ArePlatted n plat) ⊎ (description.new ≡ description.old)) }
+    ensures notes_most { TakesAtMost (N.remaining notes.old) (N.remaining notes.new) (NOTES_MOST + 1) }
+    ensures description_most { TakesAtMost (D.remaining description.old) (D.remaining description.new) (DESCRIPTION_MOST + 1) }
+    ensures answer { ReadsTwo (N.remaining notes.old) (D.remaining description.old)
+        MakePlat (description.new ≡ description.old)
+        (λ n d. IfOk result (λ answer. IsAnswer n d answer.text.items answer.verdict)) }
 {
-    let Some(plat) = read_plat(alloc, notes)? else {
-        return refuse(alloc);
-    };
-    match read_hundredths(alloc, &plat, description)? {
-        Some(hundredths) => accept(alloc, hundredths),
-        None => refuse(alloc),
+    match hundredths_of(alloc, notes, description) {
+        Ok(hundredths) => accept(alloc, hundredths),
+        Err(Stop::Refused(refusal)) => refuse(alloc, refusal),
+        Err(Stop::Failed(fault)) => Err(fault),
     }
 }
 
-/// The plat of the notes that a source gives. None where they are no notes, or make no plat.
-fn read_plat<N: Source>(alloc: Global, notes: &mut N) -> Result<Option<Plat>, RunFault>
-    requires { N.has_failed notes.old ≡ false }
-    ensures read { IsErrOf result RunFault.Read ↔ (N.has_failed notes.new ≡ true) }
-    ensures no_write { IfErr result (λ fault. fault ≢ RunFault.Write) }
-    ensures most { TakesAtMost (N.remaining notes.old) (N.remaining notes.new) 65537 }
-    ensures plat { IfOk result (λ plat. (n : List ℕ) × Tells (N.remaining notes.old) n
-        × MatchOption plat ((other : FieldNotes) → ArePlatted n other → ⊥) (ArePlatted n)) }
+/// The hundredths of an acre of the land that the description is of.
+fn hundredths_of<N: Source, D: Source>(
+    alloc: Global,
+    notes: &mut N,
+    description: &mut D,
+) -> Result<u64, Stop>
+    requires notes { N.has_failed notes.old ≡ false }
+    requires description { D.has_failed description.old ≡ false }
+    ensures read { IsErrOf result (Failed RunFault.Read) ↔ AnyFailed (N.has_failed notes.new) (D.has_failed description.new) }
+    ensures no_write { IfErr result (λ stop. stop ≢ Failed RunFault.Write) }
+    ensures notes_most { TakesAtMost (N.remaining notes.old) (N.remaining notes.new) (NOTES_MOST + 1) }
+    ensures description_most { TakesAtMost (D.remaining description.old) (D.remaining description.new) (DESCRIPTION_MOST + 1) }
+    ensures settles { ReadsTwo (N.remaining notes.old) (D.remaining description.old)
+        MakePlat (description.new ≡ description.old)
+        (λ n d. Settles n d result) }
 {
-    let Some(bytes) = read_whole(alloc, notes, NOTES_MOST)? else {
-        return Ok(None);
-    };
-    let Some(notes) = Notes::read(alloc, bytes.as_slice())? else {
-        return Ok(None);
-    };
-    Ok(Plat::protract(notes))
+    let plat = read_plat(alloc, notes)?;
+    read_hundredths(alloc, &plat, description)
 }
 
-/// The hundredths of an acre of the lot that a description is of. None where it is of no lot.
+/// The plat of the notes that a source gives.
+fn read_plat<N: Source>(alloc: Global, notes: &mut N) -> Result<Plat, Stop>
+    requires { N.has_failed notes.old ≡ false }
+    ensures read { IsErrOf result (Failed RunFault.Read) ↔ (N.has_failed notes.new ≡ true) }
+    ensures no_write { IfErr result (λ stop. stop ≢ Failed RunFault.Write) }
+    ensures most { TakesAtMost (N.remaining notes.old) (N.remaining notes.new) (NOTES_MOST + 1) }
+    ensures plat { Reads (N.remaining notes.old) (λ n. IsPlatted n result) }
+{
+    let notes = Notes::read(alloc, notes)?;
+    Ok(Plat::protract(&notes)?)
+}
+
+/// The hundredths of an acre of the lot on a plat that a description is of.
 fn read_hundredths<D: Source>(
     alloc: Global,
     plat: &Plat,
     description: &mut D,
-) -> Result<Option<u64>, RunFault>
+) -> Result<u64, Stop>
     requires { D.has_failed description.old ≡ false }
-    ensures read { IsErrOf result RunFault.Read ↔ (D.has_failed description.new ≡ true) }
-    ensures no_write { IfErr result (λ fault. fault ≢ RunFault.Write) }
-    ensures most { TakesAtMost (D.remaining description.old) (D.remaining description.new) 65537 }
-    ensures hundredths { IfOk result (λ hundredths. (d : List ℕ) × Tells (D.remaining description.old) d
-        × MatchOption hundredths ((other : ℕ) → IsDescribed plat.now d other → ⊥) (IsDescribed plat.now d)) }
+    ensures read { IsErrOf result (Failed RunFault.Read) ↔ (D.has_failed description.new ≡ true) }
+    ensures no_write { IfErr result (λ stop. stop ≢ Failed RunFault.Write) }
+    ensures most { TakesAtMost (D.remaining description.old) (D.remaining description.new) (DESCRIPTION_MOST + 1) }
+    ensures hundredths { Reads (D.remaining description.old) (λ d. IsMeasured plat.now d result) }
 {
-    let Some(text) = read_whole(alloc, description, DESCRIPTION_MOST)? else {
-        return Ok(None);
+    let Some(text) = read_whole(alloc, description, MOST_BYTES)? else {
+        return Err(Stop::Refused(ThinFault::NotYet.refusal()));
     };
     let Some((section, lot)) = read_lot(text.as_slice()) else {
-        return Ok(None);
+        return Err(Stop::Refused(ThinFault::NotYet.refusal()));
     };
     let (column, row) = lot_place(section, lot).unwrap();
-    Ok(Some(plat.piece_area(section, column, row).hundredths()))
+    Ok(plat.piece_area(section, column, row).hundredths())
 }
 
 /// The answer of so many hundredths of an acre.
@@ -108,12 +118,11 @@ fn accept(alloc: Global, hundredths: u64) -> Result<Answer, RunFault>
     })
 }
 
-/// The answer that nothing else is taken yet.
-fn refuse(alloc: Global) -> Result<Answer, RunFault>
-    ensures answer { IfOk result (λ answer. (answer.text.items ≡ refusal_line not_yet) × (answer.verdict ≡ Verdict.Refused not_yet)) }
+/// The answer of a refusal.
+fn refuse(alloc: Global, refusal: Refusal) -> Result<Answer, RunFault>
+    ensures answer { IfOk result (λ answer. (answer.text.items ≡ refusal_line refusal) × (answer.verdict ≡ Verdict.Refused refusal)) }
     ensures memory { IfErr result (λ fault. fault ≡ RunFault.Memory) }
 {
-    let refusal = ThinFault::NotYet.refusal();
     let mut buffer = Buffer::new();
     let mut text = Vec::from_slice(alloc, b"refused ")?;
     text.extend_from_slice(buffer.format(refusal.number).as_bytes())?;

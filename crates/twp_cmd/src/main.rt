@@ -10,16 +10,10 @@ use std::process::ExitCode;
 use twp_grid::Device;
 
 mod answer;
-mod fields;
 mod joined;
 pub mod laws;
-mod notes;
-mod piece;
-mod plat;
-mod reading;
-mod records;
-mod returned;
 mod running;
+mod stop;
 mod text;
 mod thin;
 mod verdict;

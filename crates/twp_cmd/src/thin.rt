@@ -1,6 +1,6 @@
-ghost use Rattle.std.specs.Prelude.{◌≡◌, ℕ, ◌≤◌, ◌++◌, List, ◌↔◌, IsTrue, IfSome, IfNone, MatchOption, codes, decimal};
+ghost use Rattle.std.specs.Prelude.{◌≡◌, ℕ, ◌≤◌, ◌++◌, List, ◌↔◌, IsTrue, MatchOption, codes, decimal};
 ghost use Rattle.twp_grid.specs.declared.refusal.Refusal.{Refusal};
-ghost use Rattle.twp_cmd.specs.LotTexts.{IsLotText, IsLotOf};
+ghost use Rattle.twp_cmd.specs.LotTexts.{IsLotText, IsLotOf, IsOfNoLot};
 ghost use Rattle.twp_cmd.specs.Answers.{not_yet};
 
 use crate::text::{is_text, strip};
@@ -27,10 +27,9 @@ impl ThinFault {
 }
 
 /// The section and the lot that a description is of. None where it is no description of a lot as
-/// `sec. 5, lot 1.`, of a section with four lots.
+/// `sec. 5, lot 1.`, of a section that has this lot.
 pub fn read_lot(text: &[u8]) -> Option<(Section, u8)>
-    ensures lot { IfSome result (λ found. IsLotText text.now found.0 found.1) }
-    ensures none { IfNone result ((section lot : ℕ) → IsLotText text.now section lot → ⊥) }
+    ensures { MatchOption result (IsOfNoLot text.now) (λ found. IsLotText text.now found.0 found.1) }
 {
     let rest = strip(text, "sec. ")?;
     for number in 1..37 {
@@ -42,21 +41,18 @@ pub fn read_lot(text: &[u8]) -> Option<(Section, u8)>
     None
 }
 
-/// The lot of the section, where the text is its number and one of its four lots.
+/// The lot of the section, where the text is its number and that of one of its lots.
 fn read_lot_of(text: &[u8], section: Section) -> Option<u8>
-    ensures lot { IfSome result (IsLotOf text.now section) }
-    ensures none { IfNone result ((lot : ℕ) → IsLotOf text.now section lot → ⊥) }
+    ensures { MatchOption result ((lot : ℕ) → IsLotOf text.now section lot → ⊥) (IsLotOf text.now section) }
 {
-    if lot_count(section) != 4 {
-        return None;
-    }
     let Some(rest) = strip_number(text, section.number()) else {
         return None;
     };
     let Some(rest) = strip(rest, ", lot ") else {
         return None;
     };
-    for lot in 1..5 {
+    for lots_before in 0..lot_count(section) {
+        let lot = lots_before + 1;
         if is_last_number(rest, lot) {
             return Some(lot);
         }

@@ -1,7 +1,7 @@
-use crate::reading::ReadFault;
 use std::alloc::{AllocError, AllocFailed};
 use thiserror::Error;
 use twp_grid::Refusal;
+use twp_notes::ReadFault;
 
 /// What a run answered, beside the text that it wrote.
 #[derive(Clone, Copy, Debug, PartialEq, Eq, Hash)]
@@ -51,7 +51,7 @@ impl<T: Drop> From<AllocFailed<T>> for RunFault {
 }
 
 impl From<ReadFault> for RunFault {
-    ghost use Rattle.twp_cmd.specs.Faults.{IsRunFaultOf};
+    ghost use Rattle.twp_cmd.specs.Passing.{IsRunFaultOf};
 
     ghost from_gives = { IsRunFaultOf };
 

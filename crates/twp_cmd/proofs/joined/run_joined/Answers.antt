@@ -1,22 +1,31 @@
--- The bytes that the source tells are those that the answer is of.
-use Rattle.twp_cmd.specs.Runs.{joined_notes, joined_description}
-use Rattle.twp_cmd.proofs.AnswerFacts.{told_are, answered, written}
+-- The two parts of the joined bytes are the notes and the description.
+use Rattle.std.proofs.Common.{◌≡◌, ◌==◌, ℕ, List, [], Some, ap, ◌∙◌}
+use Rattle.std.specs.Prelude.{unwrap_or}
+use Rattle.std.specs.List.{before_first, after_first}
+use Rattle.std.proofs.lemmas.Result.{err_from_is_err_and}
+use Rattle.twp_cmd.specs.Joined.{joined_bytes, joined_notes, joined_description}
+use Rattle.twp_cmd.proofs.RunFacts.{some_bytes, told_one, keeps_nothing}
 use Rattle.twp_cmd.proofs.joined.run_joined.Goals as goal
 
-pub returns-clause-answer : goal.returns-clause-answer
-returns-clause-answer g c bytes told =
-    let answer = c.in_ok-answer.ensures.answer in
-    let same = told_are _ bytes answer.0 told answer.1 in
-    answered c.write_answer.result _ _ (joined_notes bytes) (joined_description bytes) _ _ c.write_answer.ensures.verdict c.write_answer.ensures.whole (rw same at answer.2)
-
-pub returns-clause-front_written : goal.returns-clause-front_written
-returns-clause-front_written g c bytes told failed =
-    let answer = c.in_ok-answer.ensures.answer in
-    let same = told_are _ bytes answer.0 told answer.1 in
-    (c.in_ok-answer.answer.text.items, c.in_ok-answer.answer.verdict, rw same at answer.2, rw failed at c.write_answer.ensures.front)
+pub returns-in_err-bytes-clause-ran : goal.returns-in_err-bytes-clause-ran
+returns-in_err-bytes-clause-ran g c =
+    let told = g.R.Source.remaining c.args.input.now in
+    let gone = err_from_is_err_and c.from_residual.result c.from_residual.ensures.1 in
+    record { bytes = unwrap_or told []; tells = some_bytes told; holds = rw (gone.1, gone.2) (keeps_nothing _ _ c.in_err-bytes.field-0.0) }
 
 pub returns-clause-ran : goal.returns-clause-ran
+unfolding joined_bytes
 returns-clause-ran g c =
-    let answer = c.in_ok-answer.ensures.answer in
-    let wrote = c.write_answer.ensures in
-    (answer.0, answer.1, written _ _ _ _ _ c.write_answer.result answer.2 wrote.verdict wrote.whole wrote.front wrote.write)
+    let read = c.in_ok-bytes.ensures.bytes in
+    let bytes = c.as_slice.ensures.value ∙ read.2 in
+    let notes = c.new.ensures ∙ c.split_at_line_feed.ensures.behind ∙ ap (after_first (λ byte. byte == 10)) bytes in
+    let description = c.new-2.ensures ∙ c.split_at_line_feed.ensures.before ∙ ap (before_first (λ byte. byte == 10)) bytes in
+    record {
+      bytes = read.0;
+      tells = read.1;
+      holds = c.run_acres.ensures.told (joined_notes read.0) (joined_description read.0)
+      (ap (λ (b : List ℕ). Some b) notes) (ap (λ (b : List ℕ). Some b) description);
+    }
+
+pub returns-clause-told : goal.returns-clause-told
+returns-clause-told g c bytes is = told_one _ bytes _ (returns-clause-ran g c) is

@@ -1,0 +1,21 @@
+-- A description and field notes in one text: the description stands before the first line feed.
+use Rattle.std.specs.Prelude.{ℕ, ◌+◌, ◌==◌, List, take}
+use Rattle.std.specs.List.{before_first, after_first}
+use Rattle.twp_notes.specs.FieldNotes.{NOTES_MOST}
+use Rattle.twp_cmd.specs.Answers.{DESCRIPTION_MOST, line_feed}
+
+-- the most bytes that are read: a description, a line feed, and one byte more than notes may have
+abbrev pub JOINED_MOST : ℕ
+JOINED_MOST = DESCRIPTION_MOST + 1 + (NOTES_MOST + 1)
+
+-- what is read of joined input
+unfoldable pub joined_bytes : List ℕ → List ℕ
+joined_bytes bytes = take JOINED_MOST bytes
+
+-- the description of joined input: what stands before the first line feed
+abbrev pub joined_description : List ℕ → List ℕ
+joined_description bytes = before_first (λ byte. byte == line_feed) (joined_bytes bytes)
+
+-- the notes of joined input: what stands behind the first line feed, nothing where there is none
+abbrev pub joined_notes : List ℕ → List ℕ
+joined_notes bytes = after_first (λ byte. byte == line_feed) (joined_bytes bytes)
