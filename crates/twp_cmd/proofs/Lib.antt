@@ -1,3 +1,5 @@
 pub mod DeviceFacts
 pub mod TextFacts
 pub mod RunFacts
+pub mod PositionFacts
+pub mod OneAnswer

@@ -1,14 +1,13 @@
 -- The first fault, and the lines before it.
-use Rattle.std.proofs.Common.{◌≡◌, ◌≢◌, ◌⊎◌, ℕ, ◌+◌, ◌-◌, ◌*◌, ◌≤◌, ◌<◌, List, length, get_or, Result, Ok, Err, ℤ, pos, ◌-ℤ◌, ◌≤ℤ◌, ◌<ℤ◌, refl, ap, sym, ◌∙◌, inl, inr, arith, below_more, set}
-use Rattle.std.specs.Prelude.{slice_index_or, slice_set}
+use Rattle.std.proofs.Common.{◌≡◌, ℕ, ◌+◌, ◌<◌, List, length, get_or, Ok, ℤ, pos, ◌≤ℤ◌, ◌<ℤ◌, inl, inr, arith, below_more, set}
 use Rattle.std.proofs.lemmas.Bool.{cases_lt}
 use Rattle.std.proofs.lemmas.Int.{ints}
 use Rattle.std.proofs.lemmas.List.{get_or-set_same, get_or-set_other}
-use Rattle.twp_grid.specs.Lines.{IsLine, IsClosing}
+use Rattle.twp_grid.specs.Lines.{IsLine}
 use Rattle.twp_notes.specs.FieldNotes.{FieldNotes, returned_of}
 use Rattle.twp_notes.specs.declared.returned.Returned.{Returned}
-use Rattle.twp_plat.specs.Closing.{IsRegular, Closes, IsInLimits, IsClosingQuarter, first_half, second_half, last_quarter, CLOSING_LEAST, CLOSING_MOST}
-use Rattle.twp_plat.specs.PlatFaults.{place_of, half_of, IsIrregular, HasLineFault, HasFault, IsFrom, IsFirstFault}
+use Rattle.twp_plat.specs.Closing.{IsRegular, IsInLimits, first_half, second_half, last_quarter, CLOSING_LEAST, CLOSING_MOST}
+use Rattle.twp_plat.specs.PlatFaults.{place_of, IsIrregular, HasLineFault, IsFirstFault}
 use Rattle.twp_plat.specs.LineFaults.{IsFirstLineFault, AnswersLine}
 use Rattle.twp_plat.specs.declared.fault.HalfMile.TheVariants as half
 use Rattle.twp_plat.specs.declared.fault.PlatFault.{PlatFault}
@@ -41,12 +40,12 @@ first_here notes index fault is_line before here = record {
   first = λ other has. rw here.place (elim (cases_lt index (place_of other)) [
     | inl behind ↦ inl behind
     | inr not_behind ↦ elim (cases_lt (place_of other) index) [
-        | inl ahead ↦ absurd (no_line_fault (place_of other) (returned_of notes (place_of other)) other (before (place_of other) ahead) has.1)
-        | inr not_ahead ↦
-            let same : place_of other ≡ index = omega arith in
-            let on_line : HasLineFault index (returned_of notes index) other = rw same at has.1 in
-            inr (omega arith, here.first other on_line)
-      ]
+      | inl ahead ↦ absurd (no_line_fault (place_of other) (returned_of notes (place_of other)) other (before (place_of other) ahead) has.1)
+      | inr not_ahead ↦
+          let same : place_of other ≡ index = omega arith in
+          let on_line : HasLineFault index (returned_of notes index) other = rw same at has.1 in
+          inr (omega arith, here.first other on_line)
+    ]
   ]);
 }
 

@@ -5,3 +5,5 @@ pub mod WholeFacts
 pub mod SideFacts
 pub mod PieceFacts
 pub mod FaultFacts
+pub mod OneAnswer
+pub mod PlatPieces

@@ -1,14 +1,14 @@
 -- Quotients that are one number.
-use Rattle.std.proofs.Common.{◌≡◌, ℕ, zero, suc, ◌+◌, ◌*◌, ◌/◌, ◌<◌, ℤ, pos, negsuc, ◌*ℤ◌, refl, ap, sym, ◌∙◌, arith}
+use Rattle.std.proofs.Common.{◌≡◌, ℕ, ◌*◌, ◌/◌, ◌<◌, ℤ, pos, ◌*ℤ◌, ap, sym, ◌∙◌, arith}
 use Rattle.std.proofs.Math.Nat.{mul-div_cancel}
 use Rattle.std.proofs.lemmas.Int.{ints}
 use Rattle.twp_plat.specs.Ratios.{Ratio, ratio, whole, IsSame}
 
 -- what multiplied by one number is one number
-cancelled : (m n d : ℕ) → 0 < d → m * d ≡ n * d → m ≡ n
+pub cancelled : (m n d : ℕ) → 0 < d → m * d ≡ n * d → m ≡ n
 cancelled m n d some same = sym (mul-div_cancel m some) ∙ ap (λ k. k / d) same ∙ mul-div_cancel n some
 
-numbers_same : (m n : ℕ) → pos m ≡ pos n → m ≡ n
+pub numbers_same : (m n : ℕ) → pos m ≡ pos n → m ≡ n
 numbers_same m n same = cc
 
 once : (z : ℤ) → z *ℤ pos 1 ≡ z

@@ -1,9 +1,9 @@
 -- Lengths that run straight, in whole numbers: what runs from a to b is a mean of both, each weighted by
 -- how far the other end is.
-use Rattle.std.proofs.Common.{◌≡◌, ℕ, zero, suc, ◌+◌, ◌-◌, ◌*◌, ◌≤◌, ◌<◌, ℤ, pos, ◌+ℤ◌, ◌-ℤ◌, ◌*ℤ◌, refl, ap, sym, ◌∙◌, arith}
+use Rattle.std.proofs.Common.{◌≡◌, ℕ, ◌+◌, ◌*◌, pos, ◌+ℤ◌, ◌-ℤ◌, ◌*ℤ◌, refl, ap, sym, ◌∙◌, arith}
 use borrow.Author.Differences.{up, down}
 use Rattle.std.proofs.lemmas.Int.{ints}
-use Rattle.twp_plat.specs.Ratios.{Ratio, ratio, mean, times, IsSame}
+use Rattle.twp_plat.specs.Ratios.{Ratio, mean}
 use Rattle.twp_plat.specs.Pieces.{straight}
 
 -- a difference, x times

@@ -1,10 +1,10 @@
 -- Where a section has regular lines its pieces are whole units.
-use Rattle.std.proofs.Common.{◌≡◌, ◌==◌, ℕ, ◌+◌, ◌-◌, ◌*◌, ◌≤◌, ◌<◌, ℤ, pos, ◌+ℤ◌, ◌-ℤ◌, ◌*ℤ◌, refl, ap, sym, ◌∙◌, inl, inr, arith, if◌then◌else◌}
+use Rattle.std.proofs.Common.{◌≡◌, ◌==◌, ℕ, ◌+◌, ◌-◌, ◌*◌, ◌≤◌, ◌<◌, pos, ◌+ℤ◌, ◌-ℤ◌, ◌*ℤ◌, refl, ap, sym, ◌∙◌, inl, inr, arith, if◌then◌else◌}
 use Rattle.twp_plat.specs.Plats.{ClosingQuarters}
 use Rattle.twp_plat.specs.Ratios.{ratio, whole, IsSame}
-use Rattle.twp_plat.specs.Pieces.{quarter_mile, reach, line_length, HaveRegularLines, piece}
-use Rattle.twp_plat.specs.Formula.{west_length, north_length, both_ends, both_widths, both_heights, formula}
-use Rattle.twp_plat.proofs.FormulaFacts.{under_four, both_are, piece_is_formula, PieceTerms, piece_terms}
+use Rattle.twp_plat.specs.Pieces.{quarter_mile, HaveRegularLines, piece}
+use Rattle.twp_plat.specs.Formula.{both_ends}
+use Rattle.twp_plat.proofs.FormulaFacts.{under_four, both_are, piece_is_formula, piece_terms}
 use Rattle.twp_plat.proofs.RatioFacts.{whole_of_parts}
 
 -- Along a regular line the two distances of a quarter mile's ends add up to eight times so much.
@@ -32,10 +32,11 @@ along_regular a b other number below below' =
     let parts : k + x ≡ 80000 = omega (arith, e.within) in
     let left : k + k ≡ 8 * (20000 - e.count) = omega (arith, e.within) in
     let first : ℕ = quarter_mile a number in
-    let last : ℕ = quarter_mile b number in
-    (first * (20000 - e.count) + last * e.count,
-    both_are a b k x k x 80000 (both_ends 80000 other) number below parts parts (omega (arith, e.ends))
-    ∙ ap pos (rw left (eight_times first last (20000 - e.count) e.count)))
+    let last : ℕ = quarter_mile b number in (
+      first * (20000 - e.count) + last * e.count,
+      both_are a b k x k x 80000 (both_ends 80000 other) number below parts parts (omega (arith, e.ends))
+          ∙ ap pos (rw left (eight_times first last (20000 - e.count) e.count)),
+    )
 
 -- what runs between two regular lines is a quarter mile everywhere
 between_regular : (along ends number : ℕ) → number < 4
@@ -55,27 +56,27 @@ regular_north : (e w n s column row : ℕ) → column < 4 → row < 4 → n ≡ 
     → (units : ℕ) × IsSame (piece (record { east = e; west = w; north = n; south = s }) column row) (whole units)
 regular_north e w n s column row in_column in_row n_is s_is =
     rw (n_is, s_is) (
-      let q : ClosingQuarters = record { east = e; west = w; north = 20000; south = 20000 } in
-      let terms = piece_terms q column row in_column in_row in
-      let same = piece_is_formula q column row in_column in_row in
-      let heights = along_regular e w column row in_row in_column in
-      let widths = between_regular (60000 + w) (both_ends (60000 + w) row) column in_column in
-      let in_parts : IsSame (piece q column row) (ratio (pos (40000 * (60000 + w) * (8 * heights.0))) (4 * (60000 + w) * 80000)) =
-      rw (widths, heights.1) at same in
-      (heights.0, whole_of_parts (piece q column row) heights.0 (4 * (60000 + w) * 80000) terms.top (omega arith) terms.numerator (rw (sym (units_of_widths heights.0 (60000 + w))) in_parts)))
+    let q : ClosingQuarters = record { east = e; west = w; north = 20000; south = 20000 } in
+    let terms = piece_terms q column row in_column in_row in
+    let same = piece_is_formula q column row in_column in_row in
+    let heights = along_regular e w column row in_row in_column in
+    let widths = between_regular (60000 + w) (both_ends (60000 + w) row) column in_column in
+    let in_parts : IsSame (piece q column row) (ratio (pos (40000 * (60000 + w) * (8 * heights.0))) (4 * (60000 + w) * 80000)) =
+    rw (widths, heights.1) at same in
+    (heights.0, whole_of_parts (piece q column row) heights.0 (4 * (60000 + w) * 80000) terms.top (omega arith) terms.numerator (rw (sym (units_of_widths heights.0 (60000 + w))) in_parts)))
 
 regular_west : (e w n s column row : ℕ) → column < 4 → row < 4 → e ≡ 20000 → w ≡ 20000
     → (units : ℕ) × IsSame (piece (record { east = e; west = w; north = n; south = s }) column row) (whole units)
 regular_west e w n s column row in_column in_row e_is w_is =
     rw (e_is, w_is) (
-      let q : ClosingQuarters = record { east = 20000; west = 20000; north = n; south = s } in
-      let terms = piece_terms q column row in_column in_row in
-      let same = piece_is_formula q column row in_column in_row in
-      let widths = along_regular s n row column in_column in_row in
-      let heights = between_regular (60000 + n) (both_ends (60000 + n) column) row in_row in
-      let in_parts : IsSame (piece q column row) (ratio (pos (8 * widths.0 * (40000 * (60000 + n)))) (4 * 80000 * (60000 + n))) =
-      rw (widths.1, heights) at same in
-      (widths.0, whole_of_parts (piece q column row) widths.0 (4 * 80000 * (60000 + n)) terms.top (omega arith) terms.numerator (rw (sym (units_of_heights widths.0 (60000 + n))) in_parts)))
+    let q : ClosingQuarters = record { east = 20000; west = 20000; north = n; south = s } in
+    let terms = piece_terms q column row in_column in_row in
+    let same = piece_is_formula q column row in_column in_row in
+    let widths = along_regular s n row column in_column in_row in
+    let heights = between_regular (60000 + n) (both_ends (60000 + n) column) row in_row in
+    let in_parts : IsSame (piece q column row) (ratio (pos (8 * widths.0 * (40000 * (60000 + n)))) (4 * 80000 * (60000 + n))) =
+    rw (widths.1, heights) at same in
+    (widths.0, whole_of_parts (piece q column row) widths.0 (4 * 80000 * (60000 + n)) terms.top (omega arith) terms.numerator (rw (sym (units_of_heights widths.0 (60000 + n))) in_parts)))
 
 pub whole_piece : (q : ClosingQuarters) (column row : ℕ) → column < 4 → row < 4 → HaveRegularLines q
     → (units : ℕ) × IsSame (piece q column row) (whole units)

@@ -1,11 +1,11 @@
 -- Laws over the definitions.
-use Rattle.std.specs.Prelude.{◌≡◌, ◌≢◌, ℕ, ◌*◌, ◌≤◌, ◌<◌, pos, Result}
-use Rattle.twp_grid.specs.Lines.{IsLine}
+use Rattle.std.specs.Prelude.{◌≡◌, ◌≢◌, ℕ, ◌*◌, ◌<◌, pos, Result}
+use Rattle.twp_measure.specs.Areas.{Fraction}
 use Rattle.twp_notes.specs.FieldNotes.{FieldNotes}
 use Rattle.twp_plat.specs.Plats.{TownshipPlat, IsPlat, IsPlatOf, ClosingQuarters, AreClosingQuarters}
 use Rattle.twp_plat.specs.PlatFaults.{AnswersPlat}
 use Rattle.twp_plat.specs.Ratios.{ratio, whole, IsSame}
-use Rattle.twp_plat.specs.Pieces.{line_length, piece, over_of}
+use Rattle.twp_plat.specs.Pieces.{line_length, piece, IsPieceArea, over_of}
 use Rattle.twp_plat.specs.Formula.{formula}
 use Rattle.twp_plat.specs.declared.fault.PlatFault.{PlatFault}
 
@@ -22,6 +22,12 @@ OneQuarters = (plat : TownshipPlat) (section : ℕ) (q q' : ClosingQuarters)
 -- the plat of notes is one
 abbrev pub NotesGivePlats : Type 0
 NotesGivePlats = (notes : FieldNotes) (plat : TownshipPlat) → IsPlatOf notes plat → IsPlat plat
+
+-- a position has one area over a denominator
+abbrev pub OneArea : Type 0
+OneArea = (plat : TownshipPlat) (section column row : ℕ) (area area' : Fraction) → column < 4 → row < 4
+    → IsPieceArea plat section column row area → IsPieceArea plat section column row area'
+    → area.over ≡ area'.over → area ≡ area'
 
 -- interpolation between the lines is the formula
 abbrev pub PieceIsFormula : Type 0

@@ -6,7 +6,6 @@ use Rattle.twp_notes.specs.FieldNotes.{FieldNotes, returned_of}
 use Rattle.twp_notes.specs.declared.returned.Returned.{Returned}
 use Rattle.twp_plat.specs.Closing.{HALF_MILE, TOLERANCE, CLOSING_LEAST, CLOSING_MOST, first_half, second_half, last_quarter}
 use Rattle.twp_plat.specs.Plats.{TownshipPlat, IsPlatOf}
-use Rattle.twp_plat.specs.declared.fault.HalfMile.{HalfMile}
 use Rattle.twp_plat.specs.declared.fault.HalfMile.TheVariants as half
 use Rattle.twp_plat.specs.declared.fault.PlatFault.{PlatFault}
 use Rattle.twp_plat.specs.declared.fault.PlatFault.TheVariants as fault

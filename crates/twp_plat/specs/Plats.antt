@@ -1,5 +1,5 @@
 -- The plat that field notes make: the township, and the closing quarters of its lines.
-use Rattle.std.specs.Prelude.{◌≡◌, ℕ, ◌+◌, ◌≤◌, List, [], ◌∷◌, length, slice_index_or}
+use Rattle.std.specs.Prelude.{◌≡◌, ℕ, ◌≤◌, List, [], ◌∷◌, length, slice_index_or}
 use Rattle.twp_grid.specs.Lines.{IsLine, IsClosing, AreSides}
 use Rattle.twp_grid.specs.Townships.{Designation}
 use Rattle.twp_notes.specs.FieldNotes.{FieldNotes, returned_of}

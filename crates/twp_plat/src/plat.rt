@@ -121,3 +121,6 @@ impl Plat {
         self.closing_quarters[usize::from(line.index())]
     }
 }
+
+#[cfg(test)]
+mod tests;

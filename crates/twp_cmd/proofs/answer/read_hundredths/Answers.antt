@@ -1,5 +1,5 @@
 -- A text that is too long, or of no lot, is of no land.
-use Rattle.std.proofs.Common.{[], refl}
+use Rattle.std.proofs.Common.{[]}
 use Rattle.std.specs.Prelude.{unwrap_or}
 use Rattle.std.proofs.lemmas.Result.{err_from_is_err_and}
 use Rattle.twp_cmd.proofs.RunFacts.{some_bytes}

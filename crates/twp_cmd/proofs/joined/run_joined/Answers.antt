@@ -1,5 +1,5 @@
 -- The two parts of the joined bytes are the notes and the description.
-use Rattle.std.proofs.Common.{◌≡◌, ◌==◌, ℕ, List, [], Some, ap, ◌∙◌}
+use Rattle.std.proofs.Common.{◌==◌, ℕ, List, [], Some, ap, ◌∙◌}
 use Rattle.std.specs.Prelude.{unwrap_or}
 use Rattle.std.specs.List.{before_first, after_first}
 use Rattle.std.proofs.lemmas.Result.{err_from_is_err_and}

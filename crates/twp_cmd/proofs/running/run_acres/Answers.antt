@@ -1,5 +1,5 @@
 -- The bytes that the sources tell are those that the answer is of.
-use Rattle.twp_cmd.specs.Answers.{IsAnswer, MakePlat}
+use Rattle.twp_cmd.specs.Answers.{IsAnswer}
 use Rattle.twp_cmd.proofs.RunFacts.{told_two, written}
 use Rattle.twp_cmd.proofs.running.run_acres.Goals as goal
 

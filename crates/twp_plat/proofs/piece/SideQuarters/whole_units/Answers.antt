@@ -1,4 +1,3 @@
-use Rattle.std.proofs.Common.{◌*◌, ◌+◌, refl}
 use Rattle.twp_plat.proofs.PieceFacts.{whole_quotient}
 use Rattle.twp_plat.proofs.piece.SideQuarters.whole_units.Goals as goal
 

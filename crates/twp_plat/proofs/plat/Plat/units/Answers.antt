@@ -1,7 +1,6 @@
-use Rattle.std.proofs.Common.{◌≡◌, ◌≢◌, ◌*◌, ◌≤◌, ℕ, ◌+◌, pos, refl, sym, ◌∙◌, arith}
-use Rattle.std.proofs.Math.Nat.{mul-le-mul_right}
+use Rattle.std.proofs.Common.{◌≡◌, ◌≢◌, sym, ◌∙◌}
 use Rattle.twp_plat.specs.Plats.{AreClosingQuarters}
-use Rattle.twp_plat.specs.Pieces.{line_length, over_of}
+use Rattle.twp_plat.specs.Pieces.{over_of}
 use Rattle.twp_plat.proofs.SideFacts.{over_is, regular_outside_six}
 use Rattle.twp_plat.proofs.RatioFacts.{whole_in_parts}
 use Rattle.twp_plat.proofs.plat.Plat.units.Goals as goal
