@@ -298,7 +298,7 @@ missing_is_first bytes rows table line behind taken least =
     record {
       is = (least.is_line, unnamed_of bytes rows table line behind taken least.missing);
       first = λ other has. missing_first bytes rows table line behind taken least other has
-      (none_before bytes rows (length rows) 4 table behind taken good (omega arith) other has);
+          (none_before bytes rows (length rows) 4 table behind taken good (omega arith) other has);
     }
 
 -- only lines have entries

@@ -59,13 +59,13 @@ pub one_notes : (bytes : List ℕ) (a b : FieldNotes) → AreNotes bytes a → A
 one_notes bytes a b are-a are-b =
     let township : a.township ≡ b.township = one_township _ _ _ are-a.records_are.township_is are-b.records_are.township_is in
     let lines : a.lines ≡ b.lines = ext_get_or nothing_returned a.lines b.lines (are-a.records_are.lines ∙ sym are-b.records_are.lines) (λ line below.
-        let long : length a.lines ≡ 84 = are-a.records_are.lines in
-        let (number, is, names) = are-a.records_are.all line (omega arith) in
-        let (line-a, is-a) = are-a.records_are.each number is in
-        let (line-b, is-b) = are-b.records_are.each number is in
-        one_return (record_numbered (records_of bytes) number) line (returned_of a line) (returned_of b line)
-        (has_of bytes a line number are-a is line-a is-a (names_one _ _ _ is-a.names names))
-        (has_of bytes b line number are-b is line-b is-b (names_one _ _ _ is-b.names names))) in
+    let long : length a.lines ≡ 84 = are-a.records_are.lines in
+    let (number, is, names) = are-a.records_are.all line (omega arith) in
+    let (line-a, is-a) = are-a.records_are.each number is in
+    let (line-b, is-b) = are-b.records_are.each number is in
+    one_return (record_numbered (records_of bytes) number) line (returned_of a line) (returned_of b line)
+    (has_of bytes a line number are-a is line-a is-a (names_one _ _ _ is-a.names names))
+    (has_of bytes b line number are-b is line-b is-b (names_one _ _ _ is-b.names names))) in
     rw (township, lines) refl
 
 -- notes have no fault

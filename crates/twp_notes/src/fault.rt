@@ -102,3 +102,6 @@ impl From<AllocError> for NotesFault {
         NotesFault::Memory
     }
 }
+
+#[cfg(test)]
+mod tests;

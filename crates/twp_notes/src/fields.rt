@@ -25,7 +25,10 @@ pub const FIELDS: usize = 5;
 pub fn is_heading(row: &ByteRecord) -> bool
     ensures { IsTrue result ↔ (fields_of row.now ≡ heading) }
 {
-    if row.len() != FIELDS || !is_text(field(row, 0), "line") || !is_text(field(row, 1), "between") {
+    if row.len() != FIELDS
+        || !is_text(field(row, 0), "line")
+        || !is_text(field(row, 1), "between")
+    {
         return false;
     }
     if !is_text(field(row, 2), "and") || !is_text(field(row, 3), "quarter") {

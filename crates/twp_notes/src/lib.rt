@@ -10,6 +10,8 @@ mod parsing;
 mod reading;
 mod records;
 mod returned;
+#[cfg(test)]
+mod sample;
 mod table;
 
 pub use fault::NotesFault;

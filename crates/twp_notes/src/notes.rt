@@ -75,3 +75,6 @@ impl Notes {
         self.township
     }
 }
+
+#[cfg(test)]
+mod tests;

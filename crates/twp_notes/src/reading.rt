@@ -86,3 +86,6 @@ pub fn read_up_to<S: Source>(
     }
     Ok(read)
 }
+
+#[cfg(test)]
+mod tests;
