@@ -1,3 +1,4 @@
 pub mod WindingFacts
 pub mod LineFacts
 pub mod LotFacts
+pub mod SpanFacts

@@ -2,6 +2,10 @@ pub mod Finding
 pub mod Winding
 pub mod Lines
 pub mod Lots
+pub mod Places
+pub mod Spans
+pub mod Blocks
+pub mod Cuts
 pub mod Townships
 pub mod Devices
 pub mod Laws

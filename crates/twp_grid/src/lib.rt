@@ -1,7 +1,8 @@
 //! The township's grid: its sections, the lines that are run between them, the lots of its closing
-//! sections, its designation; and the devices that bytes are read from and written to.
+//! sections, the blocks of places in a section, its designation; and the devices that bytes are read from and written to.
 #![tactic(auto)]
 
+mod block;
 mod bytes;
 mod device;
 pub mod laws;
@@ -9,8 +10,10 @@ mod line;
 mod lot;
 mod refusal;
 mod section;
+mod span;
 mod township;
 
+pub use block::{Block, Corner, Side};
 pub use bytes::Bytes;
 pub use device::{Device, DeviceFault, Sink, Source};
 pub use line::{Line, Run, sides};
