@@ -2,3 +2,5 @@ pub mod WindingFacts
 pub mod LineFacts
 pub mod LotFacts
 pub mod SpanFacts
+pub mod CutFacts
+pub mod TotalFacts

@@ -1,7 +1,10 @@
 -- Laws over the definitions.
-use Rattle.std.specs.Prelude.{◌≡◌, ℕ, Option}
+use Rattle.std.specs.Prelude.{◌≡◌, ℕ, ◌-◌, ◌^◌, ◌&&◌, List, length, Option}
 use Rattle.twp_grid.specs.Winding.{StandsAt}
 use Rattle.twp_grid.specs.Lines.{IsLineOf}
+use Rattle.twp_grid.specs.Places.{IsPlace, binary, begins}
+use Rattle.twp_grid.specs.Spans.{in_rectangle}
+use Rattle.twp_grid.specs.Cuts.{Cut, rows_asked, columns_asked, AreWithin, reached}
 use Rattle.twp_grid.specs.declared.line.Run.{Run}
 
 -- a section stands at one row and column
@@ -18,3 +21,15 @@ OneSection = (number number' row column : ℕ)
 abbrev pub OneLine : Type 0
 OneLine = (run : Run) (section : ℕ) (other : Option ℕ) (line line' : ℕ)
     → IsLineOf run section other line → IsLineOf run section other line' → line ≡ line'
+
+-- what cuts reach holds exactly the places whose first digits are as the cuts ask
+abbrev pub HoldsWhatIsAsked : Type 0
+HoldsWhatIsAsked = (g : ℕ) (cuts : List Cut) → AreWithin g cuts → (column row : ℕ) → IsPlace g column row
+    → in_rectangle (reached g cuts) column row
+    ≡ (begins (columns_asked cuts) (binary g column) && begins (rows_asked cuts) (binary g row))
+
+-- each digit that cuts ask for halves a side
+abbrev pub HalvesAsAsked : Type 0
+HalvesAsAsked = (g : ℕ) (cuts : List Cut) → AreWithin g cuts
+    → ((reached g cuts).columns.len ≡ 2 ^ (g - length (columns_asked cuts)))
+    × ((reached g cuts).rows.len ≡ 2 ^ (g - length (rows_asked cuts)))

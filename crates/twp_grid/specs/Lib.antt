@@ -6,6 +6,7 @@ pub mod Places
 pub mod Spans
 pub mod Blocks
 pub mod Cuts
+pub mod Totals
 pub mod Townships
 pub mod Devices
 pub mod Laws
