@@ -1,5 +1,6 @@
 //! The township's grid: its sections, the lines that are run between them, the lots of its closing
-//! sections, the blocks of places in a section, its designation; and the devices that bytes are read from and written to.
+//! sections, blocks of places in a section, its designation; and the devices that bytes are read from and
+//! written to.
 #![tactic(auto)]
 
 mod block;
@@ -20,4 +21,5 @@ pub use line::{Line, Run, sides};
 pub use lot::{lot_at, lot_count, lot_place};
 pub use refusal::Refusal;
 pub use section::Section;
+pub use span::PLACES_ACROSS;
 pub use township::{EastWest, NorthSouth, Township};

@@ -5,14 +5,11 @@ ghost use Rattle.twp_grid.specs.Places.{PLACE_DIGITS};
 
 use std::marker::Model;
 
-/// How often a section's side is halved into places.
-const DIGITS: u8 = 4;
-
-/// The places along a side of a section.
-const PLACES_ACROSS: u8 = 1 << DIGITS;
+/// The places along a side of a section: each side is halved four times (this project's limit).
+pub const PLACES_ACROSS: usize = 1 << 4;
 
 /// The places along a side of a position.
-const PLACES_TO_POSITION: u8 = PLACES_ACROSS / 4;
+const PLACES_TO_POSITION: u8 = PLACES_ACROSS as u8 / 4;
 
 /// Columns or rows of places in succession, of those that halving a section's side gives.
 #[derive(Clone, Copy, Debug, PartialEq, Eq, Hash)]
@@ -45,7 +42,7 @@ impl Span {
     {
         Span {
             start: 0,
-            len: PLACES_ACROSS,
+            len: PLACES_ACROSS as u8,
         }
     }
 
