@@ -149,3 +149,6 @@ impl Block {
         self.rows.len()
     }
 }
+
+#[cfg(test)]
+mod tests;

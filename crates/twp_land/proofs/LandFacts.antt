@@ -7,19 +7,13 @@ use Rattle.std.specs.Option.{option_map_or}
 use Rattle.std.proofs.lemmas.Bool.{cases_eq, eqb-true, ne_eqb}
 use Rattle.std.proofs.lemmas.Bool.Decides.{nat_tests}
 use Rattle.std.proofs.lemmas.Option.{slice_get_read}
-use Rattle.twp_grid.specs.Winding.{IsSection}
+use Rattle.twp_grid.specs.Winding.{SECTION_COUNT, IsSection}
 use Rattle.twp_grid.specs.Spans.{Rectangle, in_rectangle}
 use Rattle.twp_land.specs.Lands.{no_places, union, block_places}
 use Rattle.twp_land.specs.Storage.{is_section, held_by_section, exchanged, with_block, nothing_held}
 
 number_is : (section : ℕ) → IsSection section → is_section section ≡ true
 number_is section range = grind (arith, nat_tests)
-
--- the part of a section is what is kept at its number
-pub held_at : {P : Type 0} (held : P → ℕ → ℕ → Bool) (plots : List P) (section : ℕ) (plot : P) → IsSection section
-    → length plots ≡ 36 → plot ≡ get_or plots (section - 1) plot → held_by_section held plots section ≡ held plot
-held_at held plots section plot range all is =
-    fun_ext (λ column. fun_ext (λ row. rw (number_is section range, slice_get_read plots 36 (section - 1) plot (sym all) (omega (arith, range.0)) is) refl))
 
 slice_get-set_same : {P : Type 0} (plots : List P) (i : ℕ) (plot : P) → i < length plots → slice_get (set plots i plot) i ≡ Some plot
 slice_get-set_same [] i plot inside = absurd (omega arith)
@@ -35,7 +29,7 @@ slice_get-set_other (p ∷ plots) (suc i) (suc j) plot other = slice_get-set_oth
 
 -- an exchange in the list is an exchange in the set
 pub held_after : {P : Type 0} (held : P → ℕ → ℕ → Bool) (plots : List P) (section : ℕ) (plot : P) → IsSection section
-    → length plots ≡ 36 → held_by_section held (set plots (section - 1) plot) ≡ exchanged (held_by_section held plots) section (held plot)
+    → length plots ≡ SECTION_COUNT → held_by_section held (set plots (section - 1) plot) ≡ exchanged (held_by_section held plots) section (held plot)
 held_after held plots section plot range all =
     fun_ext (λ other. fun_ext (λ column. fun_ext (λ row. elim (cases_eq section other) [
       | inl same ↦

@@ -5,7 +5,7 @@ use Rattle.std.proofs.Math.ListN.{set}
 use Rattle.std.proofs.lemmas.List.{get_or-set_same, get_or-set_other}
 use Rattle.std.proofs.lemmas.Bool.{cases_lt, cases_eq}
 use Rattle.std.proofs.lemmas.Bool.Decides.{nat_tests}
-use Rattle.twp_grid.specs.Places.{PLACE_DIGITS, is_place}
+use Rattle.twp_grid.specs.Places.{PLACE_DIGITS, places_across, is_place}
 use Rattle.twp_grid.specs.Spans.{Span, in_span, IsEven, Rectangle, in_rectangle}
 use Rattle.twp_grid.specs.Totals.{total, one_where}
 use Rattle.twp_grid.proofs.TotalFacts.{total-zero, total-next, total-ext}
@@ -30,7 +30,7 @@ pub count_in_rows-next : (rows : List (List Bool)) (first height column width : 
 count_in_rows-next rows first height column width = total-next height _
 
 -- of a place of the section the set has the row's test
-held_inside : (rows : List (List Bool)) (column row : ℕ) → column < 16 → row < 16 → held_by_row rows column row ≡ get_or (get_or rows row []) column false
+held_inside : (rows : List (List Bool)) (column row : ℕ) → column < places_across PLACE_DIGITS → row < places_across PLACE_DIGITS → held_by_row rows column row ≡ get_or (get_or rows row []) column false
 held_inside rows column row in-column in-row =
     let place : is_place PLACE_DIGITS column row ≡ true = grind (arith, nat_tests) in
     rw place refl
@@ -55,8 +55,8 @@ pub meets_found : (rows : List (List Bool)) (block : Rectangle) (up : ℕ) → I
 meets_found rows block up even-rows even-columns below found =
     let along = found.0 in
     let lt : along < block.columns.len = found.1 in
-    let in-rows : block.rows.start + block.rows.len ≤ 16 = even-rows.within in
-    let in-columns : block.columns.start + block.columns.len ≤ 16 = even-columns.within in
+    let in-rows : block.rows.start + block.rows.len ≤ places_across PLACE_DIGITS = even-rows.within in
+    let in-columns : block.columns.start + block.columns.len ≤ places_across PLACE_DIGITS = even-columns.within in
     record {
       column = block.columns.start + along;
       row = block.rows.start + up;
@@ -70,8 +70,8 @@ meets_nowhere rows block even-rows even-columns none meets =
     let parts = both (in_span block.columns meets.column) (in_span block.rows meets.row) meets.inside in
     let along = offset block.columns meets.column parts.0 in
     let up = offset block.rows meets.row parts.1 in
-    let in-rows : block.rows.start + block.rows.len ≤ 16 = even-rows.within in
-    let in-columns : block.columns.start + block.columns.len ≤ 16 = even-columns.within in
+    let in-rows : block.rows.start + block.rows.len ≤ places_across PLACE_DIGITS = even-rows.within in
+    let in-columns : block.columns.start + block.columns.len ≤ places_across PLACE_DIGITS = even-columns.within in
     let column-is : meets.column ≡ block.columns.start + along.0 = along.2 in
     let row-is : meets.row ≡ block.rows.start + up.0 = up.2 in
     let along-lt : along.0 < block.columns.len = along.1 in
@@ -86,8 +86,8 @@ full_of_rows rows block even-rows even-columns each column row inside =
     let parts = both (in_span block.columns column) (in_span block.rows row) inside in
     let along = offset block.columns column parts.0 in
     let up = offset block.rows row parts.1 in
-    let in-rows : block.rows.start + block.rows.len ≤ 16 = even-rows.within in
-    let in-columns : block.columns.start + block.columns.len ≤ 16 = even-columns.within in
+    let in-rows : block.rows.start + block.rows.len ≤ places_across PLACE_DIGITS = even-rows.within in
+    let in-columns : block.columns.start + block.columns.len ≤ places_across PLACE_DIGITS = even-columns.within in
     let column-is : column ≡ block.columns.start + along.0 = along.2 in
     let row-is : row ≡ block.rows.start + up.0 = up.2 in
     let along-lt : along.0 < block.columns.len = along.1 in
@@ -100,16 +100,16 @@ full_of_rows rows block even-rows even-columns each column row inside =
 pub row_of_full : (rows : List (List Bool)) (block : Rectangle) (up : ℕ) → IsEven PLACE_DIGITS block.rows → IsEven PLACE_DIGITS block.columns
     → up < block.rows.len → HoldsAll (held_by_row rows) block → EachHeld (get_or rows (block.rows.start + up) []) block.columns.start block.columns.len
 row_of_full rows block up even-rows even-columns below full along lt =
-    let in-rows : block.rows.start + block.rows.len ≤ 16 = even-rows.within in
-    let in-columns : block.columns.start + block.columns.len ≤ 16 = even-columns.within in
+    let in-rows : block.rows.start + block.rows.len ≤ places_across PLACE_DIGITS = even-rows.within in
+    let in-columns : block.columns.start + block.columns.len ≤ places_across PLACE_DIGITS = even-columns.within in
     sym (held_inside rows (block.columns.start + along) (block.rows.start + up) (omega arith) (omega arith))
     ∙ full (block.columns.start + along) (block.rows.start + up) (rw (at_offset block.columns along lt, at_offset block.rows up below) refl)
 
 pub count_of_rows : (rows : List (List Bool)) (block : Rectangle) → IsEven PLACE_DIGITS block.rows → IsEven PLACE_DIGITS block.columns
     → count_in_rows rows block.rows.start block.rows.len block.columns.start block.columns.len ≡ count_held (held_by_row rows) block
 count_of_rows rows block even-rows even-columns =
-    let in-rows : block.rows.start + block.rows.len ≤ 16 = even-rows.within in
-    let in-columns : block.columns.start + block.columns.len ≤ 16 = even-columns.within in
+    let in-rows : block.rows.start + block.rows.len ≤ places_across PLACE_DIGITS = even-rows.within in
+    let in-columns : block.columns.start + block.columns.len ≤ places_across PLACE_DIGITS = even-columns.within in
     total-ext block.rows.len _ _ (λ up below.
     total-ext block.columns.len _ _ (λ along lt.
     ap (λ b. one_where b) (sym (held_inside rows (block.columns.start + along) (block.rows.start + up) (omega arith) (omega arith)))))
@@ -118,8 +118,8 @@ count_of_rows rows block even-rows even-columns =
 outside_block : (block : Rectangle) (column row : ℕ) → IsEven PLACE_DIGITS block.rows → IsEven PLACE_DIGITS block.columns
     → is_place PLACE_DIGITS column row ≡ false → in_rectangle block column row ≡ false
 outside_block block column row even-rows even-columns outside =
-    let in-rows : block.rows.start + block.rows.len ≤ 16 = even-rows.within in
-    let in-columns : block.columns.start + block.columns.len ≤ 16 = even-columns.within in
+    let in-rows : block.rows.start + block.rows.len ≤ places_across PLACE_DIGITS = even-rows.within in
+    let in-columns : block.columns.start + block.columns.len ≤ places_across PLACE_DIGITS = even-columns.within in
     grind (arith, nat_tests)
 
 or_and_true : (a b : Bool) → (a || b) ≡ (a || (b && true))
@@ -146,16 +146,16 @@ held_after_filling rows block filled even-rows even-columns are =
   where
     inside : (column row : ℕ) → is_place PLACE_DIGITS column row ≡ true → held_by_row filled column row ≡ with_block (held_by_row rows) block column row
     inside column row place =
-        let parts = both (nat_lt column 16) (nat_lt row 16) place in
-        let in-column : column < 16 = grind (arith, nat_tests) in
-        let in-row : row < 16 = grind (arith, nat_tests) in
+        let parts = both (nat_lt column (places_across PLACE_DIGITS)) (nat_lt row (places_across PLACE_DIGITS)) place in
+        let in-column : column < places_across PLACE_DIGITS = grind (arith, nat_tests) in
+        let in-row : row < places_across PLACE_DIGITS = grind (arith, nat_tests) in
         elim (cases_bool (in_span block.rows row)) [
           | inl there ↦ rw (place, are.inside row in-row there column in-column, there) (or_and_true _ _)
           | inr elsewhere ↦ rw (place, are.outside row in-row elsewhere, elsewhere) (or_and_false _ _)
         ]
 
 -- one place more is filled
-pub filled_next : (row filled : List Bool) (start along : ℕ) → length filled ≡ 16 → start + along < 16
+pub filled_next : (row filled : List Bool) (start along : ℕ) → length filled ≡ places_across PLACE_DIGITS → start + along < places_across PLACE_DIGITS
     → IsFilled row (record { start = start; len = along }) filled → IsFilled row (record { start = start; len = along + 1 }) (set filled (start + along) true)
 filled_next row filled start along all inside is column below = elim (cases_eq column (start + along)) [
   | inl here ↦

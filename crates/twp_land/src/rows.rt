@@ -72,3 +72,6 @@ impl Plot for Rows {
         }
     }
 }
+
+#[cfg(test)]
+mod tests;
