@@ -4,3 +4,4 @@ pub mod LotFacts
 pub mod SpanFacts
 pub mod CutFacts
 pub mod TotalFacts
+pub mod TilingFacts

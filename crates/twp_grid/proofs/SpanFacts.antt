@@ -1,9 +1,8 @@
 -- Halves of even spans.
-use Rattle.std.proofs.Common.{◌≡◌, ℕ, zero, suc, ◌+◌, ◌*◌, ◌/◌, ◌%◌, ◌^◌, ◌<◌, ◌≤◌, ap, refl, inl, inr, arith}
+use Rattle.std.proofs.Common.{◌≡◌, ℕ, zero, suc, ◌+◌, ◌*◌, ◌/◌, ◌%◌, ◌^◌, ◌<◌, ◌≤◌, ap, inl, inr, arith}
 use Rattle.std.proofs.Math.Nat.{pow-succ'}
 use Rattle.std.proofs.lemmas.Nat.{div-add-mod', mod-mul-add, mul-le}
 use Rattle.std.proofs.lemmas.Bool.{cases_lt}
-use Rattle.twp_grid.specs.Places.{places_across}
 use Rattle.twp_grid.specs.Spans.{Span, lower_half, upper_half, IsEven}
 
 -- an odd divisor of a power of two is 1

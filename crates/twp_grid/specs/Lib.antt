@@ -7,6 +7,7 @@ pub mod Spans
 pub mod Blocks
 pub mod Cuts
 pub mod Totals
+pub mod Tiling
 pub mod Townships
 pub mod Devices
 pub mod Laws

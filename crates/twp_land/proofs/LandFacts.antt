@@ -1,14 +1,13 @@
 -- Sets of places as they are kept by section.
-use Rattle.std.proofs.Common.{◌≡◌, ◌≢◌, ◌==◌, ℕ, zero, suc, ◌+◌, ◌-◌, ◌<◌, ◌≤◌, ◌&&◌, ◌||◌, Bool, true, false, List, [], ◌∷◌, length, get_or, Option, Some, None, nat_le, ap, refl, sym, ◌∙◌, inl, inr, arith, if◌then◌else◌, replicate}
+use Rattle.std.proofs.Common.{◌≡◌, ◌≢◌, ◌==◌, ℕ, zero, suc, ◌-◌, ◌<◌, ◌&&◌, ◌||◌, Bool, true, false, List, [], ◌∷◌, length, Some, ap, refl, inl, inr, arith, replicate}
 use Rattle.std.proofs.Math.Path.{fun_ext}
 use Rattle.std.proofs.Math.ListN.{set}
 use Rattle.std.specs.List.{slice_get}
 use Rattle.std.specs.Option.{option_map_or}
-use Rattle.std.proofs.lemmas.Bool.{cases_eq, eqb-true, ne_eqb}
+use Rattle.std.proofs.lemmas.Bool.{cases_eq, ne_eqb}
 use Rattle.std.proofs.lemmas.Bool.Decides.{nat_tests}
-use Rattle.std.proofs.lemmas.Option.{slice_get_read}
 use Rattle.twp_grid.specs.Winding.{SECTION_COUNT, IsSection}
-use Rattle.twp_grid.specs.Spans.{Rectangle, in_rectangle}
+use Rattle.twp_grid.specs.Spans.{Rectangle}
 use Rattle.twp_land.specs.Lands.{no_places, union, block_places}
 use Rattle.twp_land.specs.Storage.{is_section, held_by_section, exchanged, with_block, nothing_held}
 

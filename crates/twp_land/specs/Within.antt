@@ -1,14 +1,11 @@
 -- What is kept lies in the township: the proofs of the law of `Land` and `Plot`.
-use Rattle.std.proofs.Common.{◌≡◌, ◌≢◌, ◌==◌, ℕ, zero, suc, ◌+◌, ◌-◌, ◌<◌, ◌≤◌, ◌&&◌, ◌||◌, Bool, true, false, List, [], ◌∷◌, length, get_or, Option, Some, None, nat_le, nat_lt, ap, refl, sym, ◌∙◌, inl, inr, arith}
-use Rattle.std.proofs.Math.Path.{fun_ext}
+use Rattle.std.proofs.Common.{◌≡◌, ℕ, ◌-◌, ◌&&◌, Bool, true, false, List, Option, Some, None, nat_le, nat_lt, refl, arith}
 use Rattle.std.specs.List.{slice_get}
 use Rattle.std.specs.Option.{option_map_or}
 use Rattle.std.proofs.lemmas.Bool.Decides.{nat_tests}
 use Rattle.twp_grid.specs.Winding.{SECTION_COUNT, IsSection}
 use Rattle.twp_grid.specs.Places.{PLACE_DIGITS, places_across, IsPlace}
-use Rattle.twp_grid.specs.Spans.{Rectangle, in_rectangle}
-use Rattle.twp_land.specs.Lands.{union, block_places}
-use Rattle.twp_land.specs.Storage.{is_section, held_by_section, exchanged, with_block, held_by_row}
+use Rattle.twp_land.specs.Storage.{is_section, held_by_section, held_by_row}
 
 both : (x y : Bool) → (x && y) ≡ true → (x ≡ true) × (y ≡ true)
 both true y h = (refl, h)

@@ -1,5 +1,5 @@
 -- The sum of what the rows hold.
-use Rattle.std.proofs.Common.{◌≡◌, sym, ap, ◌∙◌, arith}
+use Rattle.std.proofs.Common.{◌≡◌, sym, ◌∙◌, arith}
 use Rattle.twp_land.proofs.RowFacts.{count_in_rows-zero, count_in_rows-next, count_of_rows}
 use Rattle.twp_land.proofs.rows.RowsPlot.count.Goals as goal
 
