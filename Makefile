@@ -17,7 +17,9 @@ check:
 	rt all check
 
 bench: township
+	@cd crates/twp_bench && rt run -- count 10 > /dev/null
 	@sh bench/instructions.sh
+	@sh bench/lands.sh
 
 clean:
 	rm -rf crates/*/out township

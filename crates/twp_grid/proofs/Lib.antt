@@ -1,3 +1,7 @@
 pub mod WindingFacts
 pub mod LineFacts
 pub mod LotFacts
+pub mod SpanFacts
+pub mod CutFacts
+pub mod TotalFacts
+pub mod TilingFacts

@@ -7,7 +7,7 @@ use Rattle.twp_grid.specs.Winding.{IsSection}
 use Rattle.twp_grid.specs.Lots.{Lot, lots, lot_at_position, position_of_lot, number_of_lots, is_western_number}
 
 -- the test holds of every number below n
-unfoldable each : ℕ → (ℕ → Bool) → Bool
+unfoldable pub each : ℕ → (ℕ → Bool) → Bool
 each zero test = true
 each (suc n) test = test n && each n test
 
@@ -26,7 +26,7 @@ each_at (suc n) test k all below =
     ]
 
 -- of three numbers
-each_of_three : (l m n : ℕ) (test : ℕ → ℕ → ℕ → Bool) (i j k : ℕ) → each l (λ x. each m (λ y. each n (λ z. test x y z))) ≡ true → i < l → j < m → k < n → test i j k ≡ true
+pub each_of_three : (l m n : ℕ) (test : ℕ → ℕ → ℕ → Bool) (i j k : ℕ) → each l (λ x. each m (λ y. each n (λ z. test x y z))) ≡ true → i < l → j < m → k < n → test i j k ≡ true
 each_of_three l m n test i j k all in-l in-m in-n =
     each_at n (λ z. test i j z) k (each_at m (λ y. each n (λ z. test i y z)) j (each_at l (λ x. each m (λ y. each n (λ z. test x y z))) i all in-l) in-m) in-n
 
@@ -91,11 +91,11 @@ position_test : each 37 (λ s. each 8 (λ n. (s == 0) || same_pair (position_of_
 unfolding each position_of_lot lots
 position_test = refl
 
-either : (x y : Bool) → (x || y) ≡ true → x ≡ false → y ≡ true
+pub either : (x y : Bool) → (x || y) ≡ true → x ≡ false → y ≡ true
 either false y h untrue = h
 either true y h untrue = cc untrue
 
-a_section : (s : ℕ) → IsSection s → (s == 0) ≡ false
+pub a_section : (s : ℕ) → IsSection s → (s == 0) ≡ false
 a_section s range = ne_eqb s 0 (λ e. absurd (omega arith))
 
 pub lot_count_is : (s : ℕ) → IsSection s → number_of_lots s ≡ count_by_code s

@@ -2,6 +2,12 @@ pub mod Finding
 pub mod Winding
 pub mod Lines
 pub mod Lots
+pub mod Places
+pub mod Spans
+pub mod Blocks
+pub mod Cuts
+pub mod Totals
+pub mod Tiling
 pub mod Townships
 pub mod Devices
 pub mod Laws

@@ -1,7 +1,9 @@
 //! The township's grid: its sections, the lines that are run between them, the lots of its closing
-//! sections, its designation; and the devices that bytes are read from and written to.
+//! sections, blocks of places in a section, its designation; and the devices that bytes are read from and
+//! written to.
 #![tactic(auto)]
 
+mod block;
 mod bytes;
 mod device;
 pub mod laws;
@@ -9,12 +11,15 @@ mod line;
 mod lot;
 mod refusal;
 mod section;
+mod span;
 mod township;
 
+pub use block::{Block, Corner, Side};
 pub use bytes::Bytes;
 pub use device::{Device, DeviceFault, Sink, Source};
 pub use line::{Line, Run, sides};
 pub use lot::{lot_at, lot_count, lot_place};
 pub use refusal::Refusal;
 pub use section::Section;
+pub use span::PLACES_ACROSS;
 pub use township::{EastWest, NorthSouth, Township};

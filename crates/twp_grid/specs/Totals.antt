@@ -1,0 +1,17 @@
+-- Sums over numbers from 0 on, and over the places of a block.
+use Rattle.std.specs.Prelude.{ℕ, zero, suc, ◌+◌, Bool, if◌then◌else◌}
+use Rattle.twp_grid.specs.Spans.{Rectangle}
+
+-- the sum of what a function gives for each number below n
+unfoldable pub total : ℕ → (ℕ → ℕ) → ℕ
+total zero f = 0
+total (suc n) f = total n f + f n
+
+-- the sum of what a function gives for the column and row of each place of a block
+abbrev pub total_over : Rectangle → (ℕ → ℕ → ℕ) → ℕ
+total_over block f =
+    total block.rows.len (λ up. total block.columns.len (λ along. f (block.columns.start + along) (block.rows.start + up)))
+
+-- 1 where a test holds, and else 0
+abbrev pub one_where : Bool → ℕ
+one_where test = if test then 1 else 0

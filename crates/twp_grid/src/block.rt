@@ -1,0 +1,154 @@
+ghost use Rattle.std.specs.Prelude.{◌≡◌, ◌≤◌, ◌↔◌, option_map, IsSome};
+ghost use Rattle.std.specs.Option.{SomeIff};
+ghost use Rattle.twp_grid.specs.Places.{PLACE_DIGITS};
+ghost use Rattle.twp_grid.specs.Winding.{IsSection};
+ghost use Rattle.twp_grid.specs.Lots.{IsPosition, position_of_lot, number_of_lots};
+
+use crate::lot::lot_place;
+use crate::section::Section;
+use crate::span::Span;
+use std::marker::Model;
+
+/// A side of a section or of a part of it.
+#[derive(Clone, Copy, Debug, PartialEq, Eq, Hash)]
+pub enum Side {
+    N,
+    S,
+    E,
+    W,
+}
+
+/// A corner of a section or of a part of it.
+#[derive(Clone, Copy, Debug, PartialEq, Eq, Hash)]
+pub enum Corner {
+    NE,
+    NW,
+    SW,
+    SE,
+}
+
+/// A rectangle of a section's places: a position, or what halving reaches from the whole section. A
+/// place's column is counted from the east and its row from the south, 0 to 15 (this project's limit).
+#[derive(Clone, Copy, Debug, PartialEq, Eq, Hash)]
+pub struct Block {
+    columns: Span,
+    rows: Span,
+}
+
+impl Model for Block {
+    ghost use Rattle.twp_grid.specs.Spans.{Rectangle};
+
+    ghost Value = { Rectangle };
+
+    ghost view = { λ block. record { columns = block.columns; rows = block.rows } };
+
+    ghost inverse = { λ block. record { columns = block.columns; rows = block.rows } };
+}
+
+impl Block {
+    ghost use Rattle.twp_grid.specs.Spans.{IsEven, whole_block, position_block};
+    ghost use Rattle.twp_grid.specs.Blocks.{half_of, CanHalve, quarter_of, CanQuarter};
+
+    /// All places of a section.
+    pub fn whole() -> Block
+        ensures { result ≡ whole_block PLACE_DIGITS }
+    {
+        Block {
+            columns: Span::whole(),
+            rows: Span::whole(),
+        }
+    }
+
+    /// The position at a column from the east and a row from the south, 0 to 3. None outside.
+    pub fn position(column: u8, row: u8) -> Option<Block>
+        ensures { SomeIff result (IsPosition column row) (position_block PLACE_DIGITS column row) }
+    {
+        Some(Block {
+            columns: Span::position(column)?,
+            rows: Span::position(row)?,
+        })
+    }
+
+    /// The position that a lot of a section fills. None where the section has no such lot.
+    pub fn of_lot(section: Section, lot: u8) -> Option<Block>
+        ensures block { result ≡ option_map (λ (column, row). position_block PLACE_DIGITS column row)
+            (position_of_lot section lot) }
+        ensures has { IsSome result ↔ ((1 ≤ lot) × (lot ≤ number_of_lots section)) }
+        ensures section { IsSection section }
+    {
+        let (column, row) = lot_place(section, lot)?;
+        Block::position(column, row)
+    }
+
+    /// The half towards a side. None where the side to be halved is one place.
+    pub fn half(self, side: Side) -> Option<Block>
+        ensures { SomeIff result (CanHalve self side) (half_of self side) }
+    {
+        let Block { columns, rows } = self;
+        Some(match side {
+            Side::N => Block {
+                columns,
+                rows: rows.upper()?,
+            },
+            Side::S => Block {
+                columns,
+                rows: rows.lower()?,
+            },
+            Side::E => Block {
+                columns: columns.lower()?,
+                rows,
+            },
+            Side::W => Block {
+                columns: columns.upper()?,
+                rows,
+            },
+        })
+    }
+
+    /// The quarter at a corner. None where a side is one place.
+    pub fn quarter(self, corner: Corner) -> Option<Block>
+        ensures { SomeIff result (CanQuarter self) (quarter_of self corner) }
+    {
+        match corner {
+            Corner::NE => self.half(Side::N)?.half(Side::E),
+            Corner::NW => self.half(Side::N)?.half(Side::W),
+            Corner::SW => self.half(Side::S)?.half(Side::W),
+            Corner::SE => self.half(Side::S)?.half(Side::E),
+        }
+    }
+
+    /// The easternmost column, 0 to 15.
+    pub fn column(self) -> u8
+        ensures value { result ≡ self.columns.start }
+        ensures even { IsEven PLACE_DIGITS self.columns }
+    {
+        self.columns.start()
+    }
+
+    /// The southernmost row, 0 to 15.
+    pub fn row(self) -> u8
+        ensures value { result ≡ self.rows.start }
+        ensures even { IsEven PLACE_DIGITS self.rows }
+    {
+        self.rows.start()
+    }
+
+    /// How many columns, 1 to 16.
+    pub fn width(self) -> u8
+        ensures value { result ≡ self.columns.len }
+        ensures even { IsEven PLACE_DIGITS self.columns }
+    {
+        self.columns.len()
+    }
+
+    /// How many rows, 1 to 16.
+    pub fn height(self) -> u8
+        ensures value { result ≡ self.rows.len }
+        ensures even { IsEven PLACE_DIGITS self.rows }
+    {
+        self.rows.len()
+    }
+}
+
+#[cfg(test)]
+mod tests;

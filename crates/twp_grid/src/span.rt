@@ -1,0 +1,104 @@
+ghost use Rattle.std.specs.Prelude.{◌≡◌, ◌<◌};
+ghost use Rattle.std.specs.Option.{SomeIff};
+ghost use Rattle.twp_grid.specs.Lots.{POSITIONS_ACROSS};
+ghost use Rattle.twp_grid.specs.Places.{PLACE_DIGITS};
+
+use std::marker::Model;
+
+/// The places along a side of a section: each side is halved four times (this project's limit).
+pub const PLACES_ACROSS: usize = 1 << 4;
+
+/// The places along a side of a position.
+const PLACES_TO_POSITION: u8 = PLACES_ACROSS as u8 / 4;
+
+/// Columns or rows of places in succession, of those that halving a section's side gives.
+#[derive(Clone, Copy, Debug, PartialEq, Eq, Hash)]
+pub(crate) struct Span {
+    start: u8,
+    len: u8,
+}
+
+impl Model for Span {
+    ghost use Rattle.twp_grid.specs.Spans.{Span as Columns};
+
+    ghost Value = { Columns };
+
+    ghost use Rattle.twp_grid.specs.Places.{PLACE_DIGITS};
+    ghost use Rattle.twp_grid.specs.Spans.{IsEven};
+
+    ghost view = { λ span. record { start = span.start; len = span.len } };
+
+    ghost invariant = { λ span. IsEven PLACE_DIGITS (record { start = span.start; len = span.len }) };
+
+    ghost inverse = { λ span. record { start = span.start; len = span.len } };
+}
+
+impl Span {
+    ghost use Rattle.twp_grid.specs.Spans.{IsEven, whole_span, position_span, lower_half, upper_half};
+
+    /// All columns or rows of a section.
+    pub(crate) fn whole() -> Span
+        ensures { result ≡ whole_span PLACE_DIGITS }
+    {
+        Span {
+            start: 0,
+            len: PLACES_ACROSS as u8,
+        }
+    }
+
+    /// The columns or rows of a position, 0 to 3. None outside.
+    pub(crate) fn position(position: u8) -> Option<Span>
+        ensures { SomeIff result (position < POSITIONS_ACROSS) (position_span PLACE_DIGITS position) }
+    {
+        if position >= 4 {
+            return None;
+        }
+        Some(Span {
+            start: position * PLACES_TO_POSITION,
+            len: PLACES_TO_POSITION,
+        })
+    }
+
+    /// The half of the lesser numbers, in the east or the south. None of a single place.
+    pub(crate) fn lower(self) -> Option<Span>
+        ensures { SomeIff result (1 < self.len) (lower_half self) }
+    {
+        if self.len == 1 {
+            return None;
+        }
+        Some(Span {
+            start: self.start,
+            len: self.len / 2,
+        })
+    }
+
+    /// The half of the greater numbers, in the west or the north. None of a single place.
+    pub(crate) fn upper(self) -> Option<Span>
+        ensures { SomeIff result (1 < self.len) (upper_half self) }
+    {
+        if self.len == 1 {
+            return None;
+        }
+        let len = self.len / 2;
+        Some(Span {
+            start: self.start + len,
+            len,
+        })
+    }
+
+    /// The first column or row, 0 to 15.
+    pub(crate) fn start(self) -> u8
+        ensures value { result ≡ self.start }
+        ensures even { IsEven PLACE_DIGITS self }
+    {
+        self.start
+    }
+
+    /// How many, 1 to 16.
+    pub(crate) fn len(self) -> u8
+        ensures value { result ≡ self.len }
+        ensures even { IsEven PLACE_DIGITS self }
+    {
+        self.len
+    }
+}

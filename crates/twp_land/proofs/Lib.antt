@@ -1,0 +1,2 @@
+pub mod LandFacts
+pub mod RowFacts

@@ -1,0 +1,60 @@
+-- How the sets are kept: a township's as one set for each section, by number; a section's as rows of
+-- tests, from the south, each by columns from the east.
+use Rattle.std.specs.Prelude.{◌≡◌, ℕ, ◌+◌, ◌<◌, ◌-◌, ◌==◌, ◌&&◌, ◌||◌, Bool, true, false, if◌then◌else◌, List, [], length, nat_le, slice_index_or}
+use Rattle.std.specs.List.{slice_get}
+use Rattle.std.specs.Option.{option_map_or}
+use Rattle.twp_grid.specs.Winding.{SECTION_COUNT}
+use Rattle.twp_grid.specs.Places.{PLACE_DIGITS, places_across, is_place}
+use Rattle.twp_grid.specs.Spans.{Span, in_span, Rectangle, in_rectangle}
+use Rattle.twp_grid.specs.Totals.{total, one_where}
+
+-- the set of one section without any place
+abbrev pub nothing_held : ℕ → ℕ → Bool
+nothing_held column row = false
+
+-- the places of a set and of a block
+abbrev pub with_block : (ℕ → ℕ → Bool) → Rectangle → ℕ → ℕ → Bool
+with_block held block column row = held column row || in_rectangle block column row
+
+-- a section's number, as a test
+abbrev pub is_section : ℕ → Bool
+is_section number = nat_le 1 number && nat_le number SECTION_COUNT
+
+-- the set of which each section's part is kept at its number
+abbrev pub held_by_section : {P : Type 0} → (P → ℕ → ℕ → Bool) → List P → ℕ → ℕ → ℕ → Bool
+held_by_section held plots section column row =
+    is_section section && option_map_or (λ plot. held plot column row) (slice_get plots (section - 1)) false
+
+-- the set with one section's part exchanged
+abbrev pub exchanged : (ℕ → ℕ → ℕ → Bool) → ℕ → (ℕ → ℕ → Bool) → ℕ → ℕ → ℕ → Bool
+exchanged places section held other column row =
+    if section == other then held column row else places other column row
+
+-- the set that is kept as rows
+abbrev pub held_by_row : List (List Bool) → ℕ → ℕ → Bool
+held_by_row rows column row =
+    is_place PLACE_DIGITS column row && slice_index_or (slice_index_or rows row []) column false
+
+-- of a row's tests from a start, some holds; each holds
+abbrev pub SomeHeld : List Bool → ℕ → ℕ → Type 0
+SomeHeld row start len = (along : ℕ) × (along < len) × (slice_index_or row (start + along) false ≡ true)
+
+abbrev pub EachHeld : List Bool → ℕ → ℕ → Type 0
+EachHeld row start len = (along : ℕ) → along < len → slice_index_or row (start + along) false ≡ true
+
+-- how many hold
+abbrev pub count_in_row : List Bool → ℕ → ℕ → ℕ
+count_in_row row start len = total len (λ along. one_where (slice_index_or row (start + along) false))
+
+-- the row's tests, and true in the span
+abbrev pub IsFilled : List Bool → Span → List Bool → Type 0
+IsFilled row span filled = (column : ℕ) → column < places_across PLACE_DIGITS
+    → slice_index_or filled column false ≡ (slice_index_or row column false || in_span span column)
+
+-- the rows' tests, and true in the block
+pub record AreFilled (rows : List (List Bool)) (block : Rectangle) (filled : List (List Bool)) : Type 0 where
+  pub count : length filled ≡ places_across PLACE_DIGITS
+  pub inside : (row : ℕ) → row < places_across PLACE_DIGITS → in_span block.rows row ≡ true
+      → IsFilled (slice_index_or rows row []) block.columns (slice_index_or filled row [])
+  pub outside : (row : ℕ) → row < places_across PLACE_DIGITS → in_span block.rows row ≡ false
+      → slice_index_or filled row [] ≡ slice_index_or rows row []

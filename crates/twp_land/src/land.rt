@@ -1,0 +1,43 @@
+ghost use Rattle.std.specs.Prelude.{◌≡◌, ◌<◌, ◌↔◌, ℕ, Bool, true, IsTrue};
+ghost use Rattle.twp_grid.specs.Winding.{IsSection};
+ghost use Rattle.twp_grid.specs.Places.{PLACE_DIGITS, places_across, IsPlace};
+ghost use Rattle.twp_land.specs.Lands.{no_places, union, block_places, Meets, HoldsAll, count_held};
+
+use twp_grid::{Block, Section};
+
+/// A set of places of a township. A place's column is counted from the east and its row from the south of
+/// its section, 0 to 15 (this project's limit).
+pub trait Land: Drop {
+    /// Whether the set holds the place of a section, a column and a row.
+    ghost places: { Self → ℕ → ℕ → ℕ → Bool };
+
+    /// The set without any place.
+    fn empty() -> Self
+        ensures { places result ≡ no_places };
+
+    /// Whether a place is held.
+    fn holds(&self, section: Section, column: u8, row: u8) -> bool
+        requires column { column < places_across PLACE_DIGITS }
+        requires row { row < places_across PLACE_DIGITS }
+        ensures { result ≡ places self.now section column row };
+
+    /// Whether some place of a section's block is held.
+    fn meets(&self, section: Section, block: Block) -> bool
+        ensures { IsTrue result ↔ Meets (places self.now section) block };
+
+    /// Whether each place of a section's block is held.
+    fn full(&self, section: Section, block: Block) -> bool
+        ensures { IsTrue result ↔ HoldsAll (places self.now section) block };
+
+    /// How many places of a section's block are held.
+    fn count(&self, section: Section, block: Block) -> u32
+        ensures { result ≡ count_held (places self.now section) block };
+
+    /// Adds the places of a section's block.
+    fn add(&mut self, section: Section, block: Block)
+        ensures { places self.new ≡ union (places self.old) (block_places section block) };
+
+    /// What is held is a place of a township.
+    ghost within: { (land : Self) (section column row : ℕ) → places land section column row ≡ true
+        → IsSection section × IsPlace PLACE_DIGITS column row };
+}

@@ -1,0 +1,15 @@
+//! Lands: sets of places of a township. The trait `Land` says what such a set does; `Grid` is one that
+//! keeps a test for each place.
+#![tactic(auto)]
+
+mod land;
+mod plot;
+mod row;
+mod rows;
+mod sections;
+mod window;
+
+pub use land::Land;
+pub use plot::Plot;
+pub use rows::{Grid, Rows};
+pub use sections::Sections;

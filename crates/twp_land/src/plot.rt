@@ -1,0 +1,42 @@
+ghost use Rattle.std.specs.Prelude.{◌≡◌, ◌<◌, ◌↔◌, ℕ, Bool, true, IsTrue};
+ghost use Rattle.twp_grid.specs.Places.{PLACE_DIGITS, places_across, IsPlace};
+ghost use Rattle.twp_land.specs.Lands.{Meets, HoldsAll, count_held};
+ghost use Rattle.twp_land.specs.Storage.{nothing_held, with_block};
+
+use twp_grid::Block;
+
+/// A set of places of one section, of which `Sections` makes a township's.
+pub trait Plot: Copy + Drop {
+    /// Whether the set holds the place of a column and a row.
+    ghost held: { Self → ℕ → ℕ → Bool };
+
+    /// The set without any place.
+    fn empty() -> Self
+        ensures { held result ≡ nothing_held };
+
+    /// Whether a place is held.
+    fn holds(&self, column: u8, row: u8) -> bool
+        requires column { column < places_across PLACE_DIGITS }
+        requires row { row < places_across PLACE_DIGITS }
+        ensures { result ≡ held self.now column row };
+
+    /// Whether some place of a block is held.
+    fn meets(&self, block: Block) -> bool
+        ensures { IsTrue result ↔ Meets (held self.now) block };
+
+    /// Whether each place of a block is held.
+    fn full(&self, block: Block) -> bool
+        ensures { IsTrue result ↔ HoldsAll (held self.now) block };
+
+    /// How many places of a block are held.
+    fn count(&self, block: Block) -> u32
+        ensures { result ≡ count_held (held self.now) block };
+
+    /// Adds the places of a block.
+    fn add(&mut self, block: Block)
+        ensures { held self.new ≡ with_block (held self.old) block };
+
+    /// What is held is a place.
+    ghost within: { (plot : Self) (column row : ℕ) → held plot column row ≡ true
+        → IsPlace PLACE_DIGITS column row };
+}

@@ -1,0 +1,61 @@
+ghost use Rattle.std.specs.Prelude.{◌≡◌, ◌+◌, ◌≤◌, ◌↔◌, IsTrue};
+ghost use Rattle.twp_grid.specs.Places.{PLACE_DIGITS, places_across};
+ghost use Rattle.twp_land.specs.Storage.{SomeHeld, EachHeld, count_in_row, IsFilled};
+
+use twp_grid::PLACES_ACROSS;
+
+/// A row of a section's places: whether each is held, from the east.
+pub(crate) type Row = [bool; PLACES_ACROSS];
+
+/// Whether some of so many places from a start is held.
+pub(crate) fn some_held(row: &Row, start: usize, len: usize) -> bool
+    requires { start + len ≤ places_across PLACE_DIGITS }
+    ensures { IsTrue result ↔ SomeHeld row.now start len }
+{
+    for along in 0..len {
+        if row[start + along] {
+            return true;
+        }
+    }
+    false
+}
+
+/// Whether each of so many places from a start is held.
+pub(crate) fn each_held(row: &Row, start: usize, len: usize) -> bool
+    requires { start + len ≤ places_across PLACE_DIGITS }
+    ensures { IsTrue result ↔ EachHeld row.now start len }
+{
+    for along in 0..len {
+        if !row[start + along] {
+            return false;
+        }
+    }
+    true
+}
+
+/// How many of so many places from a start are held.
+pub(crate) fn count_held(row: &Row, start: usize, len: usize) -> u32
+    requires { start + len ≤ places_across PLACE_DIGITS }
+    ensures count { result ≡ count_in_row row.now start len }
+    ensures most { result ≤ len }
+{
+    let mut count = 0;
+    for along in 0..len {
+        if row[start + along] {
+            count += 1;
+        }
+    }
+    count
+}
+
+/// The row with so many places from a start held.
+pub(crate) fn filled(row: &Row, start: usize, len: usize) -> Row
+    requires { start + len ≤ places_across PLACE_DIGITS }
+    ensures { IsFilled row.now (record { start = start; len = len }) result }
+{
+    let mut filled = *row;
+    for along in 0..len {
+        filled[start + along] = true;
+    }
+    filled
+}

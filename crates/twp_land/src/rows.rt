@@ -1,0 +1,77 @@
+ghost use Rattle.twp_land.specs.Storage.{held_by_row};
+
+use crate::plot::Plot;
+use crate::row::{Row, count_held, each_held, filled, some_held};
+use crate::sections::Sections;
+use crate::window::Window;
+use twp_grid::{Block, PLACES_ACROSS};
+
+/// A land that keeps a test for each place, in rows.
+pub type Grid = Sections<Rows>;
+
+/// A section's places as rows of tests, from the south.
+#[derive(Clone, Copy, Debug)]
+pub struct Rows {
+    rows: [Row; PLACES_ACROSS],
+}
+
+impl Plot for Rows {
+    ghost held = { λ plot. held_by_row plot.rows };
+
+    ghost use Rattle.twp_land.specs.Within.{row_within};
+
+    ghost within = { λ plot column row held. row_within plot.rows column row held };
+
+    fn empty() -> Self {
+        Rows {
+            rows: [[false; PLACES_ACROSS]; PLACES_ACROSS],
+        }
+    }
+
+    fn holds(&self, column: u8, row: u8) -> bool {
+        self.rows[usize::from(row)][usize::from(column)]
+    }
+
+    fn meets(&self, block: Block) -> bool {
+        let window = Window::of(block);
+        for up in 0..window.height {
+            if some_held(&self.rows[window.row + up], window.column, window.width) {
+                return true;
+            }
+        }
+        false
+    }
+
+    fn full(&self, block: Block) -> bool {
+        let window = Window::of(block);
+        for up in 0..window.height {
+            if !each_held(&self.rows[window.row + up], window.column, window.width) {
+                return false;
+            }
+        }
+        true
+    }
+
+    fn count(&self, block: Block) -> u32 {
+        let window = Window::of(block);
+        let mut count = 0;
+        for up in 0..window.height {
+            count += count_held(&self.rows[window.row + up], window.column, window.width);
+        }
+        count
+    }
+
+    fn add(&mut self, block: Block) {
+        let window = Window::of(block);
+        for up in 0..window.height {
+            self.rows[window.row + up] = filled(
+                &self.rows[window.row + up],
+                window.column,
+                window.width,
+            );
+        }
+    }
+}
+
+#[cfg(test)]
+mod tests;
