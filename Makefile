@@ -8,7 +8,7 @@ township:
 	@sh scripts/build.sh
 
 try:
-	@cat samples/description.txt samples/b1.csv > crates/twp_cmd/stdin && cd crates/twp_cmd && rt try
+	@cd crates/twp_cmd && rt try < stdin
 
 test:
 	rt ci
