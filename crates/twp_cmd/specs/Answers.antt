@@ -89,11 +89,14 @@ acres_line hundredths = acres_text hundredths ++ codes " acres" ++ line_feed ∷
 
 -- as `refused 67 at 19`
 abbrev pub refusal_line : Refusal → List ℕ
-refusal_line refusal = codes "refused " ++ decimal refusal.number ++ codes " at " ++ decimal refusal.at ++ line_feed ∷ []
+refusal_line refusal =
+    codes "refused " ++ decimal refusal.number ++ codes " at " ++ decimal refusal.at ++ line_feed ∷ []
 
 -- The acres of the land, where the notes make a plat and the description is of land on it. Else the
 -- refusal.
 abbrev pub IsAnswer : List ℕ → List ℕ → List ℕ → Verdict → Type 0
-IsAnswer notes description answer Accepted = (hundredths : ℕ) × IsLandOf notes description hundredths × (answer ≡ acres_line hundredths)
-IsAnswer notes description answer (Refused refusal) = IsRefusal notes description refusal × (answer ≡ refusal_line refusal)
+IsAnswer notes description answer Accepted =
+    (hundredths : ℕ) × IsLandOf notes description hundredths × (answer ≡ acres_line hundredths)
+IsAnswer notes description answer (Refused refusal) =
+    IsRefusal notes description refusal × (answer ≡ refusal_line refusal)
 IsAnswer notes description answer (TractRefused at inner) = ⊥

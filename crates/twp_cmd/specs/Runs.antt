@@ -17,7 +17,8 @@ pub record AppendsFront (old new : Option (List ℕ)) (bytes : List ℕ) : Type 
   pub appended : Appends old new (take count bytes)
 
 -- the answer of the verdict was written whole
-pub record Writes (Answers : AnswerRelation) (old new : Option (List ℕ)) (verdict : Verdict) : Type 0 where
+pub record Writes (Answers : AnswerRelation) (old new : Option (List ℕ)) (verdict : Verdict)
+    : Type 0 where
   pub answer : List ℕ
   pub answers : Answers answer verdict
   pub appended : Appends old new answer
@@ -31,7 +32,8 @@ pub record WritesFront (Answers : AnswerRelation) (old new : Option (List ℕ)) 
 
 -- What a run leaves in its writer: the whole answer at a verdict, which is the answer's; a front of an
 -- answer where the writer failed; and nothing else where a reader or memory did.
-abbrev pub IsRun : AnswerRelation → Option (List ℕ) → Option (List ℕ) → Result Verdict RunFault → Type 0
+abbrev pub IsRun : AnswerRelation → Option (List ℕ) → Option (List ℕ)
+    → Result Verdict RunFault → Type 0
 IsRun Answers old new (Ok verdict) = Writes Answers old new verdict
 IsRun Answers old new (Err Write) = WritesFront Answers old new
 IsRun Answers old new (Err Read) = Keeps old new

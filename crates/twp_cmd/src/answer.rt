@@ -35,7 +35,8 @@ pub fn answer_of<N: Source, D: Source>(
 ) -> Result<Answer, RunFault>
     requires notes { N.has_failed notes.old ≡ false }
     requires description { D.has_failed description.old ≡ false }
-    ensures read { IsErrOf result RunFault.Read ↔ AnyFailed (N.has_failed notes.new) (D.has_failed description.new) }
+    ensures read { IsErrOf result RunFault.Read
+        ↔ AnyFailed (N.has_failed notes.new) (D.has_failed description.new) }
     ensures no_write { IfErr result (λ fault. fault ≢ RunFault.Write) }
     ensures notes_most { TakesAtMost (N.remaining notes.old) (N.remaining notes.new) (NOTES_MOST + 1) }
     ensures description_most { TakesAtMost (D.remaining description.old) (D.remaining description.new) (DESCRIPTION_MOST + 1) }
@@ -58,7 +59,8 @@ fn hundredths_of<N: Source, D: Source>(
 ) -> Result<u64, Stop>
     requires notes { N.has_failed notes.old ≡ false }
     requires description { D.has_failed description.old ≡ false }
-    ensures read { IsErrOf result (Failed RunFault.Read) ↔ AnyFailed (N.has_failed notes.new) (D.has_failed description.new) }
+    ensures read { IsErrOf result (Failed RunFault.Read)
+        ↔ AnyFailed (N.has_failed notes.new) (D.has_failed description.new) }
     ensures no_write { IfErr result (λ stop. stop ≢ Failed RunFault.Write) }
     ensures notes_most { TakesAtMost (N.remaining notes.old) (N.remaining notes.new) (NOTES_MOST + 1) }
     ensures description_most { TakesAtMost (D.remaining description.old) (D.remaining description.new) (DESCRIPTION_MOST + 1) }
@@ -83,11 +85,7 @@ fn read_plat<N: Source>(alloc: Global, notes: &mut N) -> Result<Plat, Stop>
 }
 
 /// The hundredths of an acre of the lot on a plat that a description is of.
-fn read_hundredths<D: Source>(
-    alloc: Global,
-    plat: &Plat,
-    description: &mut D,
-) -> Result<u64, Stop>
+fn read_hundredths<D: Source>(alloc: Global, plat: &Plat, description: &mut D) -> Result<u64, Stop>
     requires { D.has_failed description.old ≡ false }
     ensures read { IsErrOf result (Failed RunFault.Read) ↔ (D.has_failed description.new ≡ true) }
     ensures no_write { IfErr result (λ stop. stop ≢ Failed RunFault.Write) }
@@ -106,7 +104,8 @@ fn read_hundredths<D: Source>(
 
 /// The answer of so many hundredths of an acre.
 fn accept(alloc: Global, hundredths: u64) -> Result<Answer, RunFault>
-    ensures answer { IfOk result (λ answer. (answer.text.items ≡ acres_line hundredths) × (answer.verdict ≡ Verdict.Accepted)) }
+    ensures answer { IfOk result (λ answer.
+        (answer.text.items ≡ acres_line hundredths) × (answer.verdict ≡ Verdict.Accepted)) }
     ensures memory { IfErr result (λ fault. fault ≡ RunFault.Memory) }
 {
     let mut text = Vec::new(alloc);
@@ -120,7 +119,8 @@ fn accept(alloc: Global, hundredths: u64) -> Result<Answer, RunFault>
 
 /// The answer of a refusal.
 fn refuse(alloc: Global, refusal: Refusal) -> Result<Answer, RunFault>
-    ensures answer { IfOk result (λ answer. (answer.text.items ≡ refusal_line refusal) × (answer.verdict ≡ Verdict.Refused refusal)) }
+    ensures answer { IfOk result (λ answer.
+        (answer.text.items ≡ refusal_line refusal) × (answer.verdict ≡ Verdict.Refused refusal)) }
     ensures memory { IfErr result (λ fault. fault ≡ RunFault.Memory) }
 {
     let mut buffer = Buffer::new();

@@ -37,12 +37,15 @@ pub fn run_joined<R: Source, W: Sink>(
 
     // What was written is the answer to what was read, whatever the devices tell of it.
     ensures ran { Reads (R.remaining input.old) (λ bytes.
-        IsRun (IsAnswer (joined_notes bytes) (joined_description bytes)) (W.contents out.old) (W.contents out.new) result) }
+        IsRun (IsAnswer (joined_notes bytes) (joined_description bytes))
+        (W.contents out.old) (W.contents out.new) result) }
 
     // The same for a source that tells its bytes, in single facts.
-    ensures answers { R.has_failed input.new ≡ false → W.has_failed out.new ≡ false → IsOkUnless result RunFault.Memory }
+    ensures answers { R.has_failed input.new ≡ false → W.has_failed out.new ≡ false
+        → IsOkUnless result RunFault.Memory }
     ensures told { (bytes : List ℕ) → R.remaining input.old ≡ Some bytes
-        → IsRun (IsAnswer (joined_notes bytes) (joined_description bytes)) (W.contents out.old) (W.contents out.new) result }
+        → IsRun (IsAnswer (joined_notes bytes) (joined_description bytes))
+        (W.contents out.old) (W.contents out.new) result }
 {
     let bytes = read_up_to(alloc, input, MOST_BYTES)?;
     let (description, notes) = split_at_line_feed(bytes.as_slice());

@@ -26,13 +26,13 @@ pub fn run_acres<N: Source, D: Source, W: Sink>(
     requires out { W.has_failed out.old ≡ false }
 
     // A fault of a device is answered exactly where that device failed in this call.
-    ensures read { IsErrOf result RunFault.Read ↔ AnyFailed (N.has_failed notes.new) (D.has_failed description.new) }
+    ensures read { IsErrOf result RunFault.Read
+        ↔ AnyFailed (N.has_failed notes.new) (D.has_failed description.new) }
     ensures write { IsErrOf result RunFault.Write ↔ (W.has_failed out.new ≡ true) }
 
     // Reading ends one byte past the limit, if not before.
     ensures notes_most { TakesAtMost (N.remaining notes.old) (N.remaining notes.new) (NOTES_MOST + 1) }
-    ensures description_most { TakesAtMost (D.remaining description.old) (D.remaining description.new)
-        (DESCRIPTION_MOST + 1) }
+    ensures description_most { TakesAtMost (D.remaining description.old) (D.remaining description.new) (DESCRIPTION_MOST + 1) }
 
     // What was written is the answer to what was read, whatever the devices tell of it. The description
     // is read only where the notes make a plat.
@@ -43,7 +43,8 @@ pub fn run_acres<N: Source, D: Source, W: Sink>(
     // The same for sources that tell their bytes, in single facts.
     ensures answers { N.has_failed notes.new ≡ false → D.has_failed description.new ≡ false
         → W.has_failed out.new ≡ false → IsOkUnless result RunFault.Memory }
-    ensures told { (n d : List ℕ) → N.remaining notes.old ≡ Some n → D.remaining description.old ≡ Some d
+    ensures told { (n d : List ℕ)
+        → N.remaining notes.old ≡ Some n → D.remaining description.old ≡ Some d
         → IsRun (IsAnswer n d) (W.contents out.old) (W.contents out.new) result }
     ensures unread { (n : List ℕ) → N.remaining notes.old ≡ Some n → (MakePlat n → ⊥)
         → description.new ≡ description.old }

@@ -10,7 +10,8 @@ pub fn is_text(bytes: &[u8], text: &str) -> bool
 /// What stands behind a front, where the bytes begin with it.
 #[tactic(auto, using(crate::proofs::TextFacts::front_of))]
 pub fn strip<'a>(bytes: &'a [u8], front: &str) -> Option<&'a [u8]>
-    ensures { MatchOption result ((rest : List ℕ) → bytes.now ≡ front.now ++ rest → ⊥) (λ rest. bytes.now ≡ front.now ++ rest.now) }
+    ensures { MatchOption result ((rest : List ℕ) → bytes.now ≡ front.now ++ rest → ⊥)
+        (λ rest. bytes.now ≡ front.now ++ rest.now) }
 {
     if bytes.len() < front.len() {
         return None;

@@ -29,7 +29,8 @@ impl ThinFault {
 /// The section and the lot that a description is of. None where it is no description of a lot as
 /// `sec. 5, lot 1.`, of a section that has this lot.
 pub fn read_lot(text: &[u8]) -> Option<(Section, u8)>
-    ensures { MatchOption result (IsOfNoLot text.now) (λ found. IsLotText text.now found.0 found.1) }
+    ensures { MatchOption result (IsOfNoLot text.now)
+        (λ found. IsLotText text.now found.0 found.1) }
 {
     let rest = strip(text, "sec. ")?;
     for number in 1..37 {
@@ -43,7 +44,8 @@ pub fn read_lot(text: &[u8]) -> Option<(Section, u8)>
 
 /// The lot of the section, where the text is its number and that of one of its lots.
 fn read_lot_of(text: &[u8], section: Section) -> Option<u8>
-    ensures { MatchOption result ((lot : ℕ) → IsLotOf text.now section lot → ⊥) (IsLotOf text.now section) }
+    ensures { MatchOption result ((lot : ℕ) → IsLotOf text.now section lot → ⊥)
+        (IsLotOf text.now section) }
 {
     let Some(rest) = strip_number(text, section.number()) else {
         return None;
@@ -72,7 +74,8 @@ fn is_last_number(text: &[u8], number: u8) -> bool
 
 /// What stands behind a number.
 fn strip_number(text: &[u8], number: u8) -> Option<&[u8]>
-    ensures { MatchOption result ((rest : List ℕ) → text.now ≡ decimal number ++ rest → ⊥) (λ rest. text.now ≡ decimal number ++ rest.now) }
+    ensures { MatchOption result ((rest : List ℕ) → text.now ≡ decimal number ++ rest → ⊥)
+        (λ rest. text.now ≡ decimal number ++ rest.now) }
 {
     let mut buffer = Buffer::new();
     strip(text, buffer.format(number))
