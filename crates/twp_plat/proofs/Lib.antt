@@ -1,0 +1,9 @@
+pub mod StraightFacts
+pub mod FormulaFacts
+pub mod RatioFacts
+pub mod WholeFacts
+pub mod SideFacts
+pub mod PieceFacts
+pub mod FaultFacts
+pub mod OneAnswer
+pub mod PlatPieces

@@ -1,0 +1,5 @@
+use Rattle.twp_plat.proofs.PlatPieces as pieces
+use Rattle.twp_plat.proofs.laws.piece_is_over.Goals as goal
+
+pub returns : goal.returns
+returns c = pieces.piece_is_over

@@ -1,0 +1,52 @@
+-- Laws over the definitions.
+use Rattle.std.specs.Prelude.{◌≡◌, ◌≢◌, ℕ, ◌<◌, pos, Result}
+use Rattle.twp_measure.specs.Areas.{Fraction}
+use Rattle.twp_notes.specs.FieldNotes.{FieldNotes}
+use Rattle.twp_plat.specs.Plats.{TownshipPlat, IsPlat, IsPlatOf, ClosingQuarters, AreClosingQuarters}
+use Rattle.twp_plat.specs.PlatFaults.{AnswersPlat}
+use Rattle.twp_plat.specs.Ratios.{ratio, whole, IsSame}
+use Rattle.twp_plat.specs.Pieces.{piece, divisor_of, IsPieceArea, over_of}
+use Rattle.twp_plat.specs.Formula.{formula}
+use Rattle.twp_plat.specs.declared.fault.PlatFault.{PlatFault}
+
+-- notes have one answer
+abbrev pub OneAnswer : Type 0
+OneAnswer = (notes : FieldNotes) (answer answer' : Result TownshipPlat PlatFault)
+    → AnswersPlat notes answer → AnswersPlat notes answer' → answer ≡ answer'
+
+-- a section has one east, west, north and south closing quarter
+abbrev pub OneQuarters : Type 0
+OneQuarters = (plat : TownshipPlat) (section : ℕ) (q q' : ClosingQuarters)
+    → AreClosingQuarters plat section q → AreClosingQuarters plat section q' → q ≡ q'
+
+-- the plat of notes is one
+abbrev pub NotesGivePlats : Type 0
+NotesGivePlats = (notes : FieldNotes) (plat : TownshipPlat) → IsPlatOf notes plat → IsPlat plat
+
+-- a position has one area over a denominator
+abbrev pub OneArea : Type 0
+OneArea = (plat : TownshipPlat) (section column row : ℕ) (area area' : Fraction)
+    → column < 4 → row < 4 → IsPieceArea plat section column row area → IsPieceArea plat section column row area'
+    → area.over ≡ area'.over → area ≡ area'
+
+-- interpolation between the lines is the formula
+abbrev pub PieceIsFormula : Type 0
+PieceIsFormula = (q : ClosingQuarters) (column row : ℕ) → column < 4 → row < 4
+    → IsSame (piece q column row) (formula q column row)
+
+-- outside section 6 a piece is a whole number of units
+abbrev pub PieceIsWhole : Type 0
+PieceIsWhole = (plat : TownshipPlat) (section column row : ℕ) (q : ClosingQuarters)
+    → IsPlat plat → AreClosingQuarters plat section q → section ≢ 6 → column < 4 → row < 4
+    → (units : ℕ) × IsSame (piece q column row) (whole units)
+
+-- each piece is a whole number of parts of the plat's denominator: the division leaves no rest
+abbrev pub PieceIsOver : Type 0
+PieceIsOver = (plat : TownshipPlat) (section column row : ℕ) (q : ClosingQuarters)
+    → IsPlat plat → AreClosingQuarters plat section q → column < 4 → row < 4
+    → (units : ℕ) × IsSame (piece q column row) (ratio (pos units) (over_of plat))
+
+-- the denominator is that of section 6
+abbrev pub OverIsOfSectionSix : Type 0
+OverIsOfSectionSix = (plat : TownshipPlat) (q : ClosingQuarters) → AreClosingQuarters plat 6 q
+    → over_of plat ≡ divisor_of q

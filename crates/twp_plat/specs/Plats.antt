@@ -1,0 +1,65 @@
+-- The plat that field notes make: the township, and the closing quarters of its lines.
+use Rattle.std.specs.Prelude.{◌≡◌, ℕ, ◌≤◌, ◌⊎◌, List, [], ◌∷◌, length, slice_index_or}
+use Rattle.twp_grid.specs.Lines.{IsLine, IsClosing, AreSides}
+use Rattle.twp_grid.specs.Townships.{Designation}
+use Rattle.twp_notes.specs.FieldNotes.{FieldNotes, returned_of}
+use Rattle.twp_plat.specs.Closing.{QUARTER_MILE, CLOSING_LEAST, CLOSING_MOST, MakesPlat, IsClosingQuarter}
+
+-- a township, and its lines' closing quarters by the lines' indexes
+pub record TownshipPlat : Type 0 where
+  pub township : Designation
+  pub closing_quarters : List ℕ
+
+-- the closing quarter of a line
+abbrev pub closing_quarter_of : TownshipPlat → ℕ → ℕ
+closing_quarter_of plat line = slice_index_or plat.closing_quarters line 0
+
+-- the plat of the notes
+pub record IsPlatOf (notes : FieldNotes) (plat : TownshipPlat) : Type 0 where
+  pub makes : MakesPlat notes
+  pub township_is : plat.township ≡ notes.township
+  pub closing : (line : ℕ) → IsLine line
+      → IsClosingQuarter line (returned_of notes line) (closing_quarter_of plat line)
+  pub lines : length plat.closing_quarters ≡ 84
+
+-- a closing quarter of a line on some plat
+pub record IsQuarterOnPlat (line quarter : ℕ) : Type 0 where
+  pub least : CLOSING_LEAST ≤ quarter
+  pub most : quarter ≤ CLOSING_MOST
+  pub regular : ¬ IsClosing line → quarter ≡ QUARTER_MILE
+
+-- what holds of every plat, whatever its notes
+pub record IsPlat (plat : TownshipPlat) : Type 0 where
+  pub lines : length plat.closing_quarters ≡ 84
+  pub within : (line : ℕ) → IsLine line → IsQuarterOnPlat line (closing_quarter_of plat line)
+
+-- the closing quarters of a section's east, west, north and south lines
+pub record ClosingQuarters : Type 0 where
+  pub east : ℕ
+  pub west : ℕ
+  pub north : ℕ
+  pub south : ℕ
+
+-- these are the closing quarters of the section's lines
+pub record AreClosingQuarters (plat : TownshipPlat) (section : ℕ) (quarters : ClosingQuarters) : Type 0 where
+  pub east_line : ℕ
+  pub west_line : ℕ
+  pub north_line : ℕ
+  pub south_line : ℕ
+  pub sides : AreSides section (east_line ∷ west_line ∷ north_line ∷ south_line ∷ [])
+  pub east : quarters.east ≡ closing_quarter_of plat east_line
+  pub west : quarters.west ≡ closing_quarter_of plat west_line
+  pub north : quarters.north ≡ closing_quarter_of plat north_line
+  pub south : quarters.south ≡ closing_quarter_of plat south_line
+
+-- the closing quarters of a section's lines are within the limits of a plat
+pub record AreInLimits (q : ClosingQuarters) : Type 0 where
+  pub east : (CLOSING_LEAST ≤ q.east) × (q.east ≤ CLOSING_MOST)
+  pub west : (CLOSING_LEAST ≤ q.west) × (q.west ≤ CLOSING_MOST)
+  pub north : (CLOSING_LEAST ≤ q.north) × (q.north ≤ CLOSING_MOST)
+  pub south : (CLOSING_LEAST ≤ q.south) × (q.south ≤ CLOSING_MOST)
+
+-- a section's north and south lines are regular, or its east and west lines are
+abbrev pub HaveRegularLines : ClosingQuarters → Type 0
+HaveRegularLines q =
+    ((q.north ≡ QUARTER_MILE) × (q.south ≡ QUARTER_MILE)) ⊎ ((q.east ≡ QUARTER_MILE) × (q.west ≡ QUARTER_MILE))

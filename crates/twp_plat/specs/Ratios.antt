@@ -1,0 +1,28 @@
+-- Exact quotients of whole numbers, which need not be in lowest terms.
+use Rattle.std.specs.Prelude.{◌≡◌, ℕ, ◌*◌, ℤ, pos, ◌+ℤ◌, ◌*ℤ◌}
+
+pub record Ratio : Type 0 where
+  pub numerator : ℤ
+  pub denominator : ℕ
+
+abbrev pub ratio : ℤ → ℕ → Ratio
+ratio numerator denominator = record { numerator = numerator; denominator = denominator }
+
+abbrev pub whole : ℕ → Ratio
+whole n = ratio (pos n) 1
+
+abbrev pub plus : Ratio → Ratio → Ratio
+plus a b =
+    ratio (a.numerator *ℤ pos b.denominator +ℤ b.numerator *ℤ pos a.denominator)
+    (a.denominator * b.denominator)
+
+abbrev pub times : Ratio → Ratio → Ratio
+times a b = ratio (a.numerator *ℤ b.numerator) (a.denominator * b.denominator)
+
+-- half the sum of two
+abbrev pub mean : Ratio → Ratio → Ratio
+mean a b = times (ratio (pos 1) 2) (plus a b)
+
+-- both quotients are one number
+abbrev pub IsSame : Ratio → Ratio → Type 0
+IsSame a b = a.numerator *ℤ pos b.denominator ≡ b.numerator *ℤ pos a.denominator

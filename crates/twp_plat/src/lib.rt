@@ -1,0 +1,12 @@
+//! The plat of a township: which returned lengths make one, the closing quarters of its lines, and the
+//! areas of its sections' positions as exact fractions.
+#![tactic(auto)]
+
+mod closing;
+mod fault;
+pub mod laws;
+mod piece;
+mod plat;
+
+pub use fault::{HalfMile, PlatFault};
+pub use plat::Plat;

@@ -1,0 +1,126 @@
+ghost use Rattle.std.specs.Prelude.{◌≡◌, ◌*◌, ◌≤◌, ◌<◌, pos};
+ghost use Rattle.twp_plat.specs.Closing.{CLOSING_MOST};
+ghost use Rattle.twp_plat.specs.Plats.{IsPlat, AreClosingQuarters, closing_quarter_of, IsQuarterOnPlat};
+ghost use Rattle.twp_plat.specs.PlatFaults.{AnswersPlat};
+ghost use Rattle.twp_plat.specs.Pieces.{IsPieceArea, over_of, OVER_MOST};
+
+use crate::closing::closing_quarter;
+use crate::fault::PlatFault;
+use crate::piece::SideQuarters;
+use std::marker::Model;
+use twp_grid::{Line, Section, Township, sides};
+use twp_measure::Area;
+use twp_notes::Notes;
+
+/// How many lines a township has.
+const LINES: usize = 84;
+
+/// The section in the township's north-western corner, the one whose north and west lines both close.
+const CORNER_SECTION: u8 = 6;
+
+/// The plat of a township, as its field notes make it: what its sections' positions are computed from.
+#[derive(Clone, Debug, Drop, PartialEq, Eq)]
+pub struct Plat {
+    township: Township,
+    closing_quarters: [u32; LINES],
+}
+
+impl Model for Plat {
+    ghost use Rattle.twp_plat.specs.Plats.{TownshipPlat, IsPlat};
+
+    ghost Value = { TownshipPlat };
+
+    ghost view = { λ plat. record { township = plat.township; closing_quarters = plat.closing_quarters } };
+
+    ghost invariant = { λ plat. IsPlat (record { township = plat.township; closing_quarters = plat.closing_quarters }) };
+
+    ghost inverse = { λ plat. record { township = plat.township; closing_quarters = plat.closing_quarters } };
+}
+
+impl Plat {
+    /// The plat of the notes, or the first of their lines' faults. Each half mile is 40 chains within a
+    /// quarter of a chain, but a closing line's second half leaves 5 to 25 chains to its last quarter mile
+    /// (this project's rule; for the closing lines Manual of Surveying Instructions 2009, chapter 3).
+    pub fn protract(notes: &Notes) -> Result<Plat, PlatFault>
+        ensures { AnswersPlat notes.now result }
+    {
+        let mut closing_quarters = [0; LINES];
+        for index in 0..84u8 {
+            let line = Line::at_index(index).unwrap();
+            closing_quarters[usize::from(index)] = closing_quarter(line, notes.line(line))?;
+        }
+        Ok(Plat {
+            township: notes.township(),
+            closing_quarters,
+        })
+    }
+
+    /// The area of a section's position, by its column from the east and its row from the south: its mean
+    /// width times its mean height, interpolated between the section's lines (this project's rule).
+    pub fn piece_area(&self, section: Section, column: u8, row: u8) -> Area
+        requires column { column < 4 }
+        requires row { row < 4 }
+        ensures piece { IsPieceArea self.now section column row result }
+        ensures over { result.over ≡ over_of self.now }
+        ensures most { result.units ≤ CLOSING_MOST * CLOSING_MOST * result.over }
+    {
+        Area::new(self.units(section, column, row), self.over()).unwrap()
+    }
+
+    /// The denominator of each area on the plat: four times the lengths of section 6's north line and west
+    /// line, one times the other.
+    pub fn over(&self) -> u64
+        ensures value { result ≡ over_of self.now }
+        ensures range { (0 < result) × (result ≤ OVER_MOST) }
+        ensures plat { IsPlat self.now }
+    {
+        self.quarters(Section::at(0, 5)).divisor()
+    }
+
+    /// The township that the plat is of.
+    pub fn township(&self) -> Township
+        ensures { result ≡ self.now.township }
+    {
+        self.township
+    }
+
+    /// A position's area in parts of the plat's denominator: outside section 6 it is whole units.
+    fn units(&self, section: Section, column: u8, row: u8) -> u128
+        requires column { column < 4 }
+        requires row { row < 4 }
+        ensures piece { IsPieceArea self.now section column row (record { units = result; over = over_of self.now }) }
+        ensures most { result ≤ CLOSING_MOST * CLOSING_MOST * over_of self.now }
+    {
+        let quarters = self.quarters(section);
+        if section.number() == CORNER_SECTION {
+            return u128::from(quarters.parts(column, row));
+        }
+        u128::from(quarters.whole_units(column, row)) * u128::from(self.over())
+    }
+
+    /// The closing quarters of a section's lines.
+    fn quarters(&self, section: Section) -> SideQuarters
+        ensures quarters { AreClosingQuarters self.now section result }
+        ensures plat { IsPlat self.now }
+    {
+        let [east, west, north, south] = sides(section);
+        SideQuarters {
+            east: self.closing_quarter(east),
+            west: self.closing_quarter(west),
+            north: self.closing_quarter(north),
+            south: self.closing_quarter(south),
+        }
+    }
+
+    /// The closing quarter of a line.
+    fn closing_quarter(&self, line: Line) -> u32
+        ensures value { result ≡ closing_quarter_of self.now line }
+        ensures within { IsQuarterOnPlat line result }
+        ensures plat { IsPlat self.now }
+    {
+        self.closing_quarters[usize::from(line.index())]
+    }
+}
+
+#[cfg(test)]
+mod tests;
