@@ -1,9 +1,9 @@
 -- Pieces as they are computed: in parts of a unit, or in whole units.
 use Rattle.std.proofs.Common.{◌≡◌, ℕ, ◌+◌, ◌-◌, ◌*◌, ◌/◌, ◌≤◌, ◌<◌, pos, ◌+ℤ◌, ◌-ℤ◌, ◌*ℤ◌, sym, arith}
 use Rattle.std.proofs.Math.Nat.{mul-le-mul, mul-div_cancel}
-use Rattle.twp_plat.specs.Plats.{ClosingQuarters}
+use Rattle.twp_plat.specs.Plats.{ClosingQuarters, HaveRegularLines}
 use Rattle.twp_plat.specs.Ratios.{ratio, whole, IsSame}
-use Rattle.twp_plat.specs.Pieces.{line_length, HaveRegularLines, piece}
+use Rattle.twp_plat.specs.Pieces.{line_length, piece}
 use Rattle.twp_plat.specs.Formula.{both_widths, both_heights}
 use Rattle.twp_plat.proofs.StraightFacts.{weighted}
 use Rattle.twp_plat.proofs.FormulaFacts.{piece_is_formula, piece_terms}

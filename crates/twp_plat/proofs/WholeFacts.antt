@@ -1,8 +1,8 @@
 -- Where a section has regular lines its pieces are whole units.
 use Rattle.std.proofs.Common.{◌≡◌, ◌==◌, ℕ, ◌+◌, ◌-◌, ◌*◌, ◌≤◌, ◌<◌, pos, ◌+ℤ◌, ◌-ℤ◌, ◌*ℤ◌, refl, ap, sym, ◌∙◌, inl, inr, arith, if◌then◌else◌}
-use Rattle.twp_plat.specs.Plats.{ClosingQuarters}
+use Rattle.twp_plat.specs.Plats.{ClosingQuarters, HaveRegularLines}
 use Rattle.twp_plat.specs.Ratios.{ratio, whole, IsSame}
-use Rattle.twp_plat.specs.Pieces.{quarter_mile, HaveRegularLines, piece}
+use Rattle.twp_plat.specs.Pieces.{quarter_mile, piece}
 use Rattle.twp_plat.specs.Formula.{both_ends}
 use Rattle.twp_plat.proofs.FormulaFacts.{under_four, both_are, piece_is_formula, piece_terms}
 use Rattle.twp_plat.proofs.RatioFacts.{whole_of_parts}

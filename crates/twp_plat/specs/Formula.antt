@@ -1,30 +1,34 @@
 -- A piece in whole numbers: one quotient for all positions.
 use Rattle.std.specs.Prelude.{◌==◌, ℕ, ◌+◌, ◌*◌, ℤ, pos, ◌+ℤ◌, ◌-ℤ◌, ◌*ℤ◌, if◌then◌else◌}
+use Rattle.twp_plat.specs.Closing.{QUARTER_MILE}
 use Rattle.twp_plat.specs.Plats.{ClosingQuarters}
 use Rattle.twp_plat.specs.Ratios.{Ratio, ratio}
+use Rattle.twp_plat.specs.Pieces.{line_length}
 
 -- the lengths of a section's west line and of its north line
 abbrev pub west_length : ClosingQuarters → ℕ
-west_length q = 60000 + q.west
+west_length q = line_length q.west
 
 abbrev pub north_length : ClosingQuarters → ℕ
-north_length q = 60000 + q.north
+north_length q = line_length q.north
 
 -- the sum of the distances of a quarter mile's two ends from the start of a line of this length
 abbrev pub both_ends : ℕ → ℕ → ℕ
-both_ends length number = if number == 3 then 60000 + length else 20000 * (2 * number + 1)
+both_ends length number = if number == 3 then 3 * QUARTER_MILE + length else QUARTER_MILE * (2 * number + 1)
 
 -- the sum of a position's two widths, times the length of the west line
 abbrev pub both_widths : ClosingQuarters → ℕ → ℕ → ℤ
 both_widths q column row =
-    if column == 3 then pos (2 * q.south * west_length q) +ℤ (pos q.north -ℤ pos q.south) *ℤ pos (both_ends (west_length q) row)
-    else pos (40000 * west_length q)
+    if column == 3
+    then pos (2 * q.south * west_length q) +ℤ (pos q.north -ℤ pos q.south) *ℤ pos (both_ends (west_length q) row)
+    else pos (2 * QUARTER_MILE * west_length q)
 
 -- the sum of its two heights, times the length of the north line
 abbrev pub both_heights : ClosingQuarters → ℕ → ℕ → ℤ
 both_heights q column row =
-    if row == 3 then pos (2 * q.east * north_length q) +ℤ (pos q.west -ℤ pos q.east) *ℤ pos (both_ends (north_length q) column)
-    else pos (40000 * north_length q)
+    if row == 3
+    then pos (2 * q.east * north_length q) +ℤ (pos q.west -ℤ pos q.east) *ℤ pos (both_ends (north_length q) column)
+    else pos (2 * QUARTER_MILE * north_length q)
 
 -- both sums, over four times both lengths
 abbrev pub formula : ClosingQuarters → ℕ → ℕ → Ratio

@@ -1,11 +1,11 @@
 -- Laws over the definitions.
-use Rattle.std.specs.Prelude.{◌≡◌, ◌≢◌, ℕ, ◌*◌, ◌<◌, pos, Result}
+use Rattle.std.specs.Prelude.{◌≡◌, ◌≢◌, ℕ, ◌<◌, pos, Result}
 use Rattle.twp_measure.specs.Areas.{Fraction}
 use Rattle.twp_notes.specs.FieldNotes.{FieldNotes}
 use Rattle.twp_plat.specs.Plats.{TownshipPlat, IsPlat, IsPlatOf, ClosingQuarters, AreClosingQuarters}
 use Rattle.twp_plat.specs.PlatFaults.{AnswersPlat}
 use Rattle.twp_plat.specs.Ratios.{ratio, whole, IsSame}
-use Rattle.twp_plat.specs.Pieces.{line_length, piece, IsPieceArea, over_of}
+use Rattle.twp_plat.specs.Pieces.{piece, divisor_of, IsPieceArea, over_of}
 use Rattle.twp_plat.specs.Formula.{formula}
 use Rattle.twp_plat.specs.declared.fault.PlatFault.{PlatFault}
 
@@ -25,8 +25,8 @@ NotesGivePlats = (notes : FieldNotes) (plat : TownshipPlat) → IsPlatOf notes p
 
 -- a position has one area over a denominator
 abbrev pub OneArea : Type 0
-OneArea = (plat : TownshipPlat) (section column row : ℕ) (area area' : Fraction) → column < 4 → row < 4
-    → IsPieceArea plat section column row area → IsPieceArea plat section column row area'
+OneArea = (plat : TownshipPlat) (section column row : ℕ) (area area' : Fraction)
+    → column < 4 → row < 4 → IsPieceArea plat section column row area → IsPieceArea plat section column row area'
     → area.over ≡ area'.over → area ≡ area'
 
 -- interpolation between the lines is the formula
@@ -49,4 +49,4 @@ PieceIsOver = (plat : TownshipPlat) (section column row : ℕ) (q : ClosingQuart
 -- the denominator is that of section 6
 abbrev pub OverIsOfSectionSix : Type 0
 OverIsOfSectionSix = (plat : TownshipPlat) (q : ClosingQuarters) → AreClosingQuarters plat 6 q
-    → over_of plat ≡ 4 * line_length q.north * line_length q.west
+    → over_of plat ≡ divisor_of q

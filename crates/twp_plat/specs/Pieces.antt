@@ -1,25 +1,13 @@
 -- The area of a position of a section, its piece: interpolated between the section's lines. This rule is
 -- the project's own, that of section 6 included. A position's column is counted from the east and its
 -- row from the south, 0 to 3. Lengths are thousandths of a chain.
-use Rattle.std.specs.Prelude.{◌≡◌, ℕ, ◌+◌, ◌*◌, ◌≤◌, ◌⊎◌, List, [], ◌∷◌, take, slice_index_or, pos, ◌-ℤ◌, ◌*ℤ◌}
+use Rattle.std.specs.Prelude.{ℕ, ◌+◌, ◌*◌, List, [], ◌∷◌, take, slice_index_or, pos, ◌-ℤ◌, ◌*ℤ◌}
 use Rattle.std.specs.List.{sum}
 use Rattle.twp_measure.specs.Areas.{Fraction}
 use Rattle.twp_grid.specs.Lines.{north_run, west_run}
-use Rattle.twp_plat.specs.Closing.{QUARTER_MILE, CLOSING_LEAST, CLOSING_MOST}
+use Rattle.twp_plat.specs.Closing.{QUARTER_MILE, CLOSING_MOST}
 use Rattle.twp_plat.specs.Plats.{TownshipPlat, closing_quarter_of, ClosingQuarters, AreClosingQuarters}
 use Rattle.twp_plat.specs.Ratios.{Ratio, ratio, whole, plus, times, mean, IsSame}
-
--- the closing quarters of a section's lines are within the limits of a plat
-pub record AreInLimits (q : ClosingQuarters) : Type 0 where
-  pub east : (CLOSING_LEAST ≤ q.east) × (q.east ≤ CLOSING_MOST)
-  pub west : (CLOSING_LEAST ≤ q.west) × (q.west ≤ CLOSING_MOST)
-  pub north : (CLOSING_LEAST ≤ q.north) × (q.north ≤ CLOSING_MOST)
-  pub south : (CLOSING_LEAST ≤ q.south) × (q.south ≤ CLOSING_MOST)
-
--- a section's north and south lines are regular, or its east and west lines are
-abbrev pub HaveRegularLines : ClosingQuarters → Type 0
-HaveRegularLines q =
-    ((q.north ≡ QUARTER_MILE) × (q.south ≡ QUARTER_MILE)) ⊎ ((q.east ≡ QUARTER_MILE) × (q.west ≡ QUARTER_MILE))
 
 -- a line's four quarter miles from its start: three of 20 chains, and its closing quarter
 abbrev pub quarter_miles : ℕ → List ℕ
@@ -40,7 +28,8 @@ line_length closing = sum (quarter_miles closing)
 -- A length that runs straight along a line, from one value at its start to another at its end: what it is
 -- at a distance from the start.
 abbrev pub straight : (start end along distance : ℕ) → Ratio
-straight start end along distance = plus (whole start) (ratio ((pos end -ℤ pos start) *ℤ pos distance) along)
+straight start end along distance =
+    plus (whole start) (ratio ((pos end -ℤ pos start) *ℤ pos distance) along)
 
 -- A column's width at a distance north of the section's south line: it runs straight along the west line,
 -- from the column's quarter mile of the south line to that of the north line.
@@ -56,11 +45,13 @@ height_at q row distance =
 
 -- a position's mean width: of its south edge and its north edge, which lie on the west line
 abbrev pub mean_width : ClosingQuarters → ℕ → ℕ → Ratio
-mean_width q column row = mean (width_at q column (reach q.west row)) (width_at q column (reach q.west (row + 1)))
+mean_width q column row =
+    mean (width_at q column (reach q.west row)) (width_at q column (reach q.west (row + 1)))
 
 -- a position's mean height: of its east edge and its west edge, which lie on the north line
 abbrev pub mean_height : ClosingQuarters → ℕ → ℕ → Ratio
-mean_height q column row = mean (height_at q row (reach q.north column)) (height_at q row (reach q.north (column + 1)))
+mean_height q column row =
+    mean (height_at q row (reach q.north column)) (height_at q row (reach q.north (column + 1)))
 
 -- a position's piece: its mean width times its mean height
 unfoldable pub piece : ClosingQuarters → ℕ → ℕ → Ratio
@@ -72,11 +63,16 @@ pub record IsPieceArea (plat : TownshipPlat) (section column row : ℕ) (area : 
   pub are : AreClosingQuarters plat section quarters
   pub area_is : IsSame (ratio (pos area.units) area.over) (piece quarters column row)
 
--- The denominator of all areas on a plat: four times the length of section 6's north line times that of
--- its west line. Section 6 stands in the north-western corner.
+-- what the pieces of a section are divided by: four times the lengths of its north and west lines
+abbrev pub divisor_of : ClosingQuarters → ℕ
+divisor_of q = 4 * line_length q.north * line_length q.west
+
+-- The denominator of all areas on a plat is that of section 6, whose north line is the westernmost of the
+-- first tier, and whose west line is the westernmost of the first row.
 unfoldable pub over_of : TownshipPlat → ℕ
 over_of plat =
-    4 * line_length (closing_quarter_of plat (west_run 0 5)) * line_length (closing_quarter_of plat (north_run 0 6))
+    4 * line_length (closing_quarter_of plat (west_run 0 5))
+    * line_length (closing_quarter_of plat (north_run 0 6))
 
 -- the most that it can be
 abbrev pub OVER_MOST : ℕ

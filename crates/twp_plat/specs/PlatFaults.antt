@@ -12,13 +12,13 @@ use Rattle.twp_plat.specs.declared.fault.PlatFault.TheVariants as fault
 
 -- the index of the line that the fault is on
 abbrev pub place_of : PlatFault → ℕ
-place_of (fault.Irregular line half) = line
+place_of (fault.Irregular line which) = line
 place_of (fault.ClosingShort line) = line
 place_of (fault.ClosingLong line) = line
 
 -- the number and the place of each fault
 abbrev pub refusal_of : PlatFault → Option Refusal
-refusal_of (fault.Irregular line half) = Some (record { number = 21; at = line })
+refusal_of (fault.Irregular line which) = Some (record { number = 21; at = line })
 refusal_of (fault.ClosingShort line) = Some (record { number = 22; at = line })
 refusal_of (fault.ClosingLong line) = Some (record { number = 23; at = line })
 
@@ -35,7 +35,8 @@ HasLineFault line returned (fault.ClosingLong at) = IsClosing line × (pos CLOSI
 
 -- the fault is there, at its line
 abbrev pub HasFault : FieldNotes → PlatFault → Type 0
-HasFault notes fault = IsLine (place_of fault) × HasLineFault (place_of fault) (returned_of notes (place_of fault)) fault
+HasFault notes fault =
+    IsLine (place_of fault) × HasLineFault (place_of fault) (returned_of notes (place_of fault)) fault
 
 -- Lines are looked at by rising index, and of each the first half before the second.
 abbrev pub half_of : PlatFault → ℕ

@@ -1,5 +1,5 @@
 -- The plat that field notes make: the township, and the closing quarters of its lines.
-use Rattle.std.specs.Prelude.{◌≡◌, ℕ, ◌≤◌, List, [], ◌∷◌, length, slice_index_or}
+use Rattle.std.specs.Prelude.{◌≡◌, ℕ, ◌≤◌, ◌⊎◌, List, [], ◌∷◌, length, slice_index_or}
 use Rattle.twp_grid.specs.Lines.{IsLine, IsClosing, AreSides}
 use Rattle.twp_grid.specs.Townships.{Designation}
 use Rattle.twp_notes.specs.FieldNotes.{FieldNotes, returned_of}
@@ -18,7 +18,8 @@ closing_quarter_of plat line = slice_index_or plat.closing_quarters line 0
 pub record IsPlatOf (notes : FieldNotes) (plat : TownshipPlat) : Type 0 where
   pub makes : MakesPlat notes
   pub township_is : plat.township ≡ notes.township
-  pub closing : (line : ℕ) → IsLine line → IsClosingQuarter line (returned_of notes line) (closing_quarter_of plat line)
+  pub closing : (line : ℕ) → IsLine line
+      → IsClosingQuarter line (returned_of notes line) (closing_quarter_of plat line)
   pub lines : length plat.closing_quarters ≡ 84
 
 -- a closing quarter of a line on some plat
@@ -50,3 +51,15 @@ pub record AreClosingQuarters (plat : TownshipPlat) (section : ℕ) (quarters : 
   pub west : quarters.west ≡ closing_quarter_of plat west_line
   pub north : quarters.north ≡ closing_quarter_of plat north_line
   pub south : quarters.south ≡ closing_quarter_of plat south_line
+
+-- the closing quarters of a section's lines are within the limits of a plat
+pub record AreInLimits (q : ClosingQuarters) : Type 0 where
+  pub east : (CLOSING_LEAST ≤ q.east) × (q.east ≤ CLOSING_MOST)
+  pub west : (CLOSING_LEAST ≤ q.west) × (q.west ≤ CLOSING_MOST)
+  pub north : (CLOSING_LEAST ≤ q.north) × (q.north ≤ CLOSING_MOST)
+  pub south : (CLOSING_LEAST ≤ q.south) × (q.south ≤ CLOSING_MOST)
+
+-- a section's north and south lines are regular, or its east and west lines are
+abbrev pub HaveRegularLines : ClosingQuarters → Type 0
+HaveRegularLines q =
+    ((q.north ≡ QUARTER_MILE) × (q.south ≡ QUARTER_MILE)) ⊎ ((q.east ≡ QUARTER_MILE) × (q.west ≡ QUARTER_MILE))

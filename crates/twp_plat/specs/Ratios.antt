@@ -12,7 +12,9 @@ abbrev pub whole : ℕ → Ratio
 whole n = ratio (pos n) 1
 
 abbrev pub plus : Ratio → Ratio → Ratio
-plus a b = ratio (a.numerator *ℤ pos b.denominator +ℤ b.numerator *ℤ pos a.denominator) (a.denominator * b.denominator)
+plus a b =
+    ratio (a.numerator *ℤ pos b.denominator +ℤ b.numerator *ℤ pos a.denominator)
+    (a.denominator * b.denominator)
 
 abbrev pub times : Ratio → Ratio → Ratio
 times a b = ratio (a.numerator *ℤ b.numerator) (a.denominator * b.denominator)

@@ -7,7 +7,7 @@ use twp_grid::Line;
 use twp_notes::Returned;
 
 /// A quarter mile, in thousandths of a chain.
-const QUARTER_MILE: u32 = 20_000;
+pub const QUARTER_MILE: u32 = 20_000;
 
 /// The least and the most of a half mile of 40 chains.
 const HALF_LEAST: u32 = 39_750;

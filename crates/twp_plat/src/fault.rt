@@ -25,13 +25,13 @@ impl fmt::Display for HalfMile {
 #[derive(Clone, Copy, Debug, PartialEq, Eq, Hash, Error)]
 pub enum PlatFault {
     /// 21, at the line: a half mile that isn't a closing one is too short or too long.
-    #[error("the {half} half mile of line {line} isn't from 39.750 to 40.250 chains")]
+    #[error("the {half} half mile of the line of index {line} isn't from 39.750 to 40.250 chains")]
     Irregular { line: u8, half: HalfMile },
     /// 22, at the line: the last quarter mile of a closing line is too short.
-    #[error("the second half mile of closing line {0} leaves less than 5.000 chains to its last quarter mile, which is from 5.000 to 25.000")]
+    #[error("the second half mile of the closing line of index {0} leaves less than 5.000 chains to its last quarter mile, which is from 5.000 to 25.000")]
     ClosingShort(u8),
     /// 23, at the line: the last quarter mile of a closing line is too long.
-    #[error("the second half mile of closing line {0} leaves more than 25.000 chains to its last quarter mile, which is from 5.000 to 25.000")]
+    #[error("the second half mile of the closing line of index {0} leaves more than 25.000 chains to its last quarter mile, which is from 5.000 to 25.000")]
     ClosingLong(u8),
 }
 

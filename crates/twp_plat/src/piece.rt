@@ -1,9 +1,11 @@
 ghost use Rattle.std.specs.Prelude.{◌≡◌, ◌+◌, ◌*◌, ◌≤◌, ◌<◌, pos, ◌+ℤ◌, ◌-ℤ◌, ◌*ℤ◌};
 ghost use Rattle.twp_plat.specs.Closing.{CLOSING_MOST};
 ghost use Rattle.twp_plat.specs.Ratios.{ratio, whole, IsSame};
-ghost use Rattle.twp_plat.specs.Pieces.{HaveRegularLines, piece, line_length};
+ghost use Rattle.twp_plat.specs.Plats.{HaveRegularLines};
+ghost use Rattle.twp_plat.specs.Pieces.{piece, line_length, divisor_of};
 ghost use Rattle.twp_plat.specs.Formula.{west_length, north_length, both_ends, both_widths, both_heights};
 
+use crate::closing::QUARTER_MILE;
 use std::marker::Model;
 
 /// The closing quarters of a section's four lines, in thousandths of a chain.
@@ -16,8 +18,7 @@ pub struct SideQuarters {
 }
 
 impl Model for SideQuarters {
-    ghost use Rattle.twp_plat.specs.Plats.{ClosingQuarters};
-    ghost use Rattle.twp_plat.specs.Pieces.{AreInLimits};
+    ghost use Rattle.twp_plat.specs.Plats.{ClosingQuarters, AreInLimits};
 
     ghost Value = { ClosingQuarters };
 
@@ -28,11 +29,10 @@ impl Model for SideQuarters {
     ghost inverse = { λ q. record { east = q.east; west = q.west; north = q.north; south = q.south } };
 }
 
-/// A quarter mile, in thousandths of a chain.
-const QUARTER_MILE: u64 = 20_000;
+/// A quarter mile, and three of them, where a line's closing quarter begins.
+const QUARTER: u64 = QUARTER_MILE as u64;
 
-/// Three quarter miles, where a line's closing quarter begins.
-const THREE_QUARTERS: u64 = 60_000;
+const THREE_QUARTERS: u64 = 3 * QUARTER;
 
 impl SideQuarters {
     /// The area of a position, in whole units: of a section with regular lines, all pieces are.
@@ -50,15 +50,15 @@ impl SideQuarters {
     pub fn parts(self, column: u8, row: u8) -> u64
         requires column { column < 4 }
         requires row { row < 4 }
-        ensures piece { IsSame (piece self column row) (ratio (pos result) (4 * line_length self.north * line_length self.west)) }
-        ensures most { result ≤ CLOSING_MOST * CLOSING_MOST * (4 * line_length self.north * line_length self.west) }
+        ensures piece { IsSame (piece self column row) (ratio (pos result) (divisor_of self)) }
+        ensures most { result ≤ CLOSING_MOST * CLOSING_MOST * divisor_of self }
     {
         self.both_widths(column, row) * self.both_heights(column, row)
     }
 
     /// How many parts make a unit.
     pub fn divisor(self) -> u64
-        ensures value { result ≡ 4 * line_length self.north * line_length self.west }
+        ensures value { result ≡ divisor_of self }
         ensures range { 0 < result }
     {
         4 * self.north_length() * self.west_length()
@@ -72,7 +72,7 @@ impl SideQuarters {
     {
         let length = self.west_length();
         if column != 3 {
-            return 2 * QUARTER_MILE * length;
+            return 2 * QUARTER * length;
         }
         both_lengths(self.south, self.north, length, both_ends(length, row))
     }
@@ -85,7 +85,7 @@ impl SideQuarters {
     {
         let length = self.north_length();
         if row != 3 {
-            return 2 * QUARTER_MILE * length;
+            return 2 * QUARTER * length;
         }
         both_lengths(self.east, self.west, length, both_ends(length, column))
     }
@@ -93,7 +93,7 @@ impl SideQuarters {
     /// The length of the west line.
     fn west_length(self) -> u64
         ensures value { result ≡ west_length self }
-        ensures range { (60000 ≤ result) × (result ≤ 85000) }
+        ensures range { (line_length 0 ≤ result) × (result ≤ line_length CLOSING_MOST) }
     {
         THREE_QUARTERS + u64::from(self.west)
     }
@@ -101,7 +101,7 @@ impl SideQuarters {
     /// The length of the north line.
     fn north_length(self) -> u64
         ensures value { result ≡ north_length self }
-        ensures range { (60000 ≤ result) × (result ≤ 85000) }
+        ensures range { (line_length 0 ≤ result) × (result ≤ line_length CLOSING_MOST) }
     {
         THREE_QUARTERS + u64::from(self.north)
     }
@@ -109,7 +109,7 @@ impl SideQuarters {
 
 /// The distances of a quarter mile's two ends from the start of its line, added up.
 fn both_ends(length: u64, number: u8) -> u64
-    requires length { (60000 ≤ length) × (length ≤ 85000) }
+    requires length { (line_length 0 ≤ length) × (length ≤ line_length CLOSING_MOST) }
     requires number { number < 4 }
     ensures value { result ≡ both_ends length number }
     ensures most { result ≤ 2 * length }
@@ -117,7 +117,7 @@ fn both_ends(length: u64, number: u8) -> u64
     if number == 3 {
         THREE_QUARTERS + length
     } else {
-        QUARTER_MILE * (2 * u64::from(number) + 1)
+        QUARTER * (2 * u64::from(number) + 1)
     }
 }
 
@@ -126,7 +126,7 @@ fn both_ends(length: u64, number: u8) -> u64
 fn both_lengths(start: u32, end: u32, length: u64, ends: u64) -> u64
     requires start { start ≤ CLOSING_MOST }
     requires end { end ≤ CLOSING_MOST }
-    requires length { length ≤ 85000 }
+    requires length { length ≤ line_length CLOSING_MOST }
     requires ends { ends ≤ 2 * length }
     ensures value { pos result ≡ pos (2 * start * length) +ℤ (pos end -ℤ pos start) *ℤ pos ends }
     ensures most { result ≤ 2 * CLOSING_MOST * length }

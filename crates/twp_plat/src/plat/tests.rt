@@ -119,7 +119,7 @@ fn numbers_and_tells_faults(rt: HostRuntime) -> Result<(), Fail> {
                 half: HalfMile::First,
             },
             21,
-            "the first half mile of line 58 isn't from 39.750 to 40.250 chains",
+            "the first half mile of the line of index 58 isn't from 39.750 to 40.250 chains",
         ),
         (
             PlatFault::Irregular {
@@ -127,17 +127,17 @@ fn numbers_and_tells_faults(rt: HostRuntime) -> Result<(), Fail> {
                 half: HalfMile::Second,
             },
             21,
-            "the second half mile of line 58 isn't from 39.750 to 40.250 chains",
+            "the second half mile of the line of index 58 isn't from 39.750 to 40.250 chains",
         ),
         (
             PlatFault::ClosingShort(58),
             22,
-            "the second half mile of closing line 58 leaves less than 5.000 chains to its last quarter mile, which is from 5.000 to 25.000",
+            "the second half mile of the closing line of index 58 leaves less than 5.000 chains to its last quarter mile, which is from 5.000 to 25.000",
         ),
         (
             PlatFault::ClosingLong(58),
             23,
-            "the second half mile of closing line 58 leaves more than 25.000 chains to its last quarter mile, which is from 5.000 to 25.000",
+            "the second half mile of the closing line of index 58 leaves more than 25.000 chains to its last quarter mile, which is from 5.000 to 25.000",
         ),
     ] {
         assert_eq!(rt; fault.refusal(), Some(Refusal { number, at: 58 }));
