@@ -1,7 +1,7 @@
 -- What the code computes of lots is what the table has. The finitely many cases are computed.
 use Rattle.std.proofs.Common.{◌≡◌, ◌==◌, ℕ, zero, suc, ◌+◌, ◌-◌, ◌<◌, ◌&&◌, ◌||◌, ◌⊎◌, Bool, true, false, List, [], ◌∷◌, Option, Some, None, refl, ap, inl, inr, arith, if◌then◌else◌, find, nat_le, nat_lt}
 use Rattle.std.specs.List.{list_all}
-use Rattle.std.proofs.lemmas.Bool.{cases_lt, eqb-true, ne_eqb}
+use Rattle.std.proofs.lemmas.Bool.{cases_lt, eqb-true, ne_eqb, and_parts}
 use Rattle.std.proofs.lemmas.Bool.Decides.{nat_tests}
 use Rattle.twp_grid.specs.Winding.{IsSection}
 use Rattle.twp_grid.specs.Lots.{Lot, lots, lot_at_position, position_of_lot, number_of_lots, is_western_number}
@@ -11,15 +11,11 @@ unfoldable pub each : ℕ → (ℕ → Bool) → Bool
 each zero test = true
 each (suc n) test = test n && each n test
 
-both : (x y : Bool) → (x && y) ≡ true → (x ≡ true) × (y ≡ true)
-both true y h = (refl, h)
-both false y h = cc h
-
 each_at : (n : ℕ) (test : ℕ → Bool) (k : ℕ) → each n test ≡ true → k < n → test k ≡ true
 unfolding each
 each_at zero test k all below = absurd (omega arith)
 each_at (suc n) test k all below =
-    let parts = both (test n) (each n test) all in
+    let parts = and_parts (test n) (each n test) all in
     elim (cases_lt k n) [
       | inl further ↦ each_at n test k parts.1 further
       | inr here ↦ let same : k ≡ n = omega arith in rw same parts.0
@@ -52,7 +48,7 @@ same_pair (Some a) None = false
 same_pair_tells : (x y : Option (ℕ × ℕ)) → same_pair x y ≡ true → x ≡ y
 same_pair_tells None None h = refl
 same_pair_tells (Some (a, b)) (Some (a', b')) h =
-    let parts = both (a == a') (b == b') h in
+    let parts = and_parts (a == a') (b == b') h in
     let e : a ≡ a' = eqb-true a a' parts.0 in
     let e' : b ≡ b' = eqb-true b b' parts.1 in
     rw (e, e') refl
@@ -121,14 +117,14 @@ none_outside : (s c r : ℕ) (ls : List Lot) → list_all within ls ≡ true →
     → find (λ (l : Lot). (l.section == s) && (l.column == c) && (l.row == r)) ls ≡ None
 none_outside s c r [] all out = refl
 none_outside s c r (l ∷ ls) all out =
-    let parts = both (within l) (list_all within ls) all in
+    let parts = and_parts (within l) (list_all within ls) all in
     let fails : ((l.section == s) && (l.column == c) && (l.row == r)) ≡ false = grind (arith, nat_tests) in
     rw fails (none_outside s c r ls parts.1 out)
 
 none_over : (s n : ℕ) (ls : List Lot) → list_all within ls ≡ true → 7 < n → find (λ (l : Lot). (l.section == s) && (l.number == n)) ls ≡ None
 none_over s n [] all out = refl
 none_over s n (l ∷ ls) all out =
-    let parts = both (within l) (list_all within ls) all in
+    let parts = and_parts (within l) (list_all within ls) all in
     let fails : ((l.section == s) && (l.number == n)) ≡ false = grind (arith, nat_tests) in
     rw fails (none_over s n ls parts.1 out)
 

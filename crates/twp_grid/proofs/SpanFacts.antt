@@ -1,9 +1,9 @@
--- Halves of even spans.
+-- Halves of dyadic spans.
 use Rattle.std.proofs.Common.{◌≡◌, ℕ, zero, suc, ◌+◌, ◌*◌, ◌/◌, ◌%◌, ◌^◌, ◌<◌, ◌≤◌, ap, inl, inr, arith}
 use Rattle.std.proofs.Math.Nat.{pow-succ'}
 use Rattle.std.proofs.lemmas.Nat.{div-add-mod', mod-mul-add, mul-le}
 use Rattle.std.proofs.lemmas.Bool.{cases_lt}
-use Rattle.twp_grid.specs.Spans.{Span, lower_half, upper_half, IsEven}
+use Rattle.twp_grid.specs.Spans.{Span, lower_half, upper_half, IsDyadic}
 
 -- an odd divisor of a power of two is 1
 odd_divisor : (g half times : ℕ) → times * (2 * half + 1) ≡ 2 ^ g → half ≡ 0
@@ -31,8 +31,8 @@ divided n len half some twice divides =
     let product : times * len ≡ times * (2 * half) = ap (λ t. times * t) twice in
     (multiple n (2 * times) half some (omega arith), multiple (n + half) (2 * times + 1) half some (omega arith))
 
--- the length of an even span is twice its half
-even_length : (g : ℕ) (span : Span) → IsEven g span → 1 < span.len → span.len ≡ 2 * (span.len / 2)
+-- the length of a dyadic span is twice its half
+even_length : (g : ℕ) (span : Span) → IsDyadic g span → 1 < span.len → span.len ≡ 2 * (span.len / 2)
 even_length g span even more = elim (cases_lt 0 (span.len % 2)) [
   | inl odd ↦
       let half = span.len / 2 in
@@ -46,8 +46,8 @@ even_length g span even more = elim (cases_lt 0 (span.len % 2)) [
   | inr none_left ↦ omega arith
 ]
 
-pub lower_is_even : (g : ℕ) (span : Span) → IsEven g span → 1 < span.len → IsEven g (lower_half span)
-lower_is_even g span even more =
+pub lower_is_dyadic : (g : ℕ) (span : Span) → IsDyadic g span → 1 < span.len → IsDyadic g (lower_half span)
+lower_is_dyadic g span even more =
     let twice = even_length g span even more in
     let half = span.len / 2 in
     let within : span.start + span.len ≤ 2 ^ g = even.within in
@@ -58,8 +58,8 @@ lower_is_even g span even more =
       aligned = (divided span.start span.len half (omega arith) twice even.aligned).0;
     }
 
-pub upper_is_even : (g : ℕ) (span : Span) → IsEven g span → 1 < span.len → IsEven g (upper_half span)
-upper_is_even g span even more =
+pub upper_is_dyadic : (g : ℕ) (span : Span) → IsDyadic g span → 1 < span.len → IsDyadic g (upper_half span)
+upper_is_dyadic g span even more =
     let twice = even_length g span even more in
     let half = span.len / 2 in
     let within : span.start + span.len ≤ 2 ^ g = even.within in

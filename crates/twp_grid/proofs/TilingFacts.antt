@@ -3,7 +3,7 @@ use Rattle.std.proofs.Common.{◌≡◌, ◌==◌, ℕ, zero, suc, ◌+◌, ◌*
 use Rattle.std.proofs.Math.Path.{fun_ext}
 use Rattle.std.proofs.Math.Nat.{pow-succ'}
 use Rattle.std.proofs.lemmas.Nat.{div-add-mod', mul-le, mod_below, div_below}
-use Rattle.std.proofs.lemmas.Bool.{cases_lt, cases_eq, eqb-true, ne_eqb}
+use Rattle.std.proofs.lemmas.Bool.{cases_lt, cases_eq, eqb-true, ne_eqb, and_parts, eq-eqb}
 use Rattle.std.proofs.lemmas.Bool.Decides.{nat_tests}
 use Rattle.twp_grid.specs.Winding.{IsSection}
 use Rattle.twp_grid.specs.Lots.{POSITIONS_ACROSS, IsPosition, Lot, lots, lot_at_position}
@@ -22,9 +22,6 @@ position_has_places (suc (suc g)) fits =
     let outer = pow-succ' 2 (suc g) in
     let inner = pow-succ' 2 g in
     (omega arith, omega arith)
-
-equal_self : (n : ℕ) → (n == n) ≡ true
-equal_self n = grind (arith, nat_tests)
 
 -- the span of a position holds what its quotient says
 in_position : (g position place : ℕ) → 0 < places_to_position g → in_span (position_span g position) place ≡ (position == position_along g place)
@@ -51,7 +48,7 @@ in_position g position place some =
             let from : position * size ≤ place = omega arith in
             let to : place < position * size + size = omega arith in
             let there : in_span (position_span g position) place ≡ true = grind (arith, nat_tests) in
-            there ∙ sym (ap (λ q. position == q) (sym same) ∙ equal_self position)
+            there ∙ sym (ap (λ q. position == q) (sym same) ∙ eq-eqb position position refl)
       ]
     ]
 
@@ -66,10 +63,6 @@ in_block g c r column row some =
     ap (λ b. b && in_span (position_span g r) row) (in_position g c column some)
     ∙ ap (λ b. (c == position_along g column) && b) (in_position g r row some)
 
-both : (x y : Bool) → (x && y) ≡ true → (x ≡ true) × (y ≡ true)
-both true y h = (refl, h)
-both false y h = cc h
-
 -- each place lies in one position of its section
 pub one_position : (g : ℕ) → POSITIONS_ACROSS ≤ places_across g → (column row : ℕ) → IsPlace g column row
     → IsPosition (position_along g column) (position_along g row)
@@ -79,13 +72,13 @@ one_position g fits column row place =
       (position_range g column fits place.0, position_range g row fits place.1),
       λ c r. (
         λ inside.
-            let parts = both (c == position_along g column) (r == position_along g row) (sym (in_block g c r column row some) ∙ inside) in
+            let parts = and_parts (c == position_along g column) (r == position_along g row) (sym (in_block g c r column row some) ∙ inside) in
             (eqb-true _ _ parts.0, eqb-true _ _ parts.1),
         λ same.
             in_block g c r column row some
-            ∙ ap (λ b. b && (r == position_along g row)) (ap (λ q. q == position_along g column) same.0 ∙ equal_self (position_along g column))
+            ∙ ap (λ b. b && (r == position_along g row)) (ap (λ q. q == position_along g column) same.0 ∙ eq-eqb (position_along g column) (position_along g column) refl)
             ∙ ap (λ q. q == position_along g row) same.1
-            ∙ equal_self (position_along g row),
+            ∙ eq-eqb (position_along g row) (position_along g row) refl,
       ),
     )
 
@@ -102,7 +95,7 @@ position_test : each 37 (λ s. each 4 (λ c. each 4 (λ r. (s == 0) || is_one_or
 unfolding each lots lot_at_position
 position_test = refl
 
--- each position is one lot or regular, never both
+-- each position is one lot or regular, never and_parts
 pub lot_or_regular : (section column row : ℕ) → IsSection section → IsPosition column row
     → ((lots_filling section column row ≡ 1) × (is_regular section column row ≡ false)) ⊎ ((lots_filling section column row ≡ 0) × (is_regular section column row ≡ true))
 lot_or_regular section column row range position =
@@ -117,7 +110,7 @@ total_picked zero at test below = absurd (omega arith)
 total_picked (suc n) at test below = elim (cases_eq n at) [
   | inl here ↦
       let lower : total n (λ k. one_where (test k && (k == at))) ≡ 0 = total-all_zero n _ (λ k lt. none k (ne_eqb k at (λ e. absurd (omega arith)))) in
-      let last : one_where (test n && (n == at)) ≡ one_where (test at) = ap (λ b. one_where (test n && b)) (ap (λ k. n == k) (sym here) ∙ equal_self n) ∙ and_true n ∙ ap (λ k. one_where (test k)) here in
+      let last : one_where (test n && (n == at)) ≡ one_where (test at) = ap (λ b. one_where (test n && b)) (ap (λ k. n == k) (sym here) ∙ eq-eqb n n refl) ∙ and_true n ∙ ap (λ k. one_where (test k)) here in
       omega arith
   | inr other ↦
       let rest = total_picked n at test (omega arith) in

@@ -8,6 +8,7 @@ use Rattle.twp_grid.specs.declared.block.Side.TheVariants as side
 use Rattle.twp_grid.specs.declared.block.Corner.{Corner}
 use Rattle.twp_grid.specs.declared.block.Corner.TheVariants as corner
 
+-- a half towards a side, or the quarter at a corner
 pub data Cut : Type 0 where
   half : Side → Cut
   quarter : Corner → Cut

@@ -26,7 +26,8 @@ OneLine = (run : Run) (section : ℕ) (other : Option ℕ) (line line' : ℕ)
 
 -- what cuts reach holds exactly the places whose first digits are as the cuts ask
 abbrev pub HoldsWhatIsAsked : Type 0
-HoldsWhatIsAsked = (g : ℕ) (cuts : List Cut) → AreWithin g cuts → (column row : ℕ) → IsPlace g column row
+HoldsWhatIsAsked = (g : ℕ) (cuts : List Cut) → AreWithin g cuts
+    → (column row : ℕ) → IsPlace g column row
     → in_rectangle (reached g cuts) column row
     ≡ (begins (columns_asked cuts) (binary g column) && begins (rows_asked cuts) (binary g row))
 

@@ -7,6 +7,7 @@ use Rattle.std.specs.Prelude.{ℕ, ◌<◌, ◌==◌, ◌&&◌, ◌||◌, Bool, 
 abbrev pub POSITIONS_ACROSS : ℕ
 POSITIONS_ACROSS = 4
 
+-- the column and the row of a position
 abbrev pub IsPosition : ℕ → ℕ → Type 0
 IsPosition column row = (column < POSITIONS_ACROSS) × (row < POSITIONS_ACROSS)
 
@@ -17,6 +18,7 @@ pub record Lot : Type 0 where
   pub column : ℕ
   pub row : ℕ
 
+-- a row of the table
 abbrev pub lot : ℕ → ℕ → ℕ → ℕ → Lot
 lot section number column row = record { section = section; number = number; column = column; row = row }
 
@@ -39,12 +41,14 @@ lots =
 -- the lot that fills a position of a section, if one does
 unfoldable pub lot_at_position : ℕ → ℕ → ℕ → Option ℕ
 lot_at_position section column row =
-    option_map (λ (l : Lot). l.number) (find (λ (l : Lot). (l.section == section) && (l.column == column) && (l.row == row)) lots)
+    option_map (λ (l : Lot). l.number)
+    (find (λ (l : Lot). (l.section == section) && (l.column == column) && (l.row == row)) lots)
 
 -- the column and the row of a section's lot, if it has that lot
 unfoldable pub position_of_lot : ℕ → ℕ → Option (ℕ × ℕ)
 position_of_lot section number =
-    option_map (λ (l : Lot). (l.column, l.row)) (find (λ (l : Lot). (l.section == section) && (l.number == number)) lots)
+    option_map (λ (l : Lot). (l.column, l.row))
+    (find (λ (l : Lot). (l.section == section) && (l.number == number)) lots)
 
 -- how many lots a section has
 unfoldable pub number_of_lots : ℕ → ℕ
@@ -52,4 +56,5 @@ number_of_lots section = count_by (λ (l : Lot). l.section == section) lots
 
 -- the sections of the western column
 abbrev pub is_western_number : ℕ → Bool
-is_western_number section = (section == 6) || (section == 7) || (section == 18) || (section == 19) || (section == 30) || (section == 31)
+is_western_number section =
+    (section == 6) || (section == 7) || (section == 18) || (section == 19) || (section == 30) || (section == 31)

@@ -7,29 +7,33 @@ pub record Span : Type 0 where
   pub start : ℕ
   pub len : ℕ
 
+-- so many from a first one
+abbrev pub span_from : ℕ → ℕ → Span
+span_from start len = record { start = start; len = len }
+
 -- the span holds this column or row
 abbrev pub in_span : Span → ℕ → Bool
 in_span span place = nat_le span.start place && nat_lt place (span.start + span.len)
 
 -- the half of the lesser numbers, in the east or the south
 abbrev pub lower_half : Span → Span
-lower_half span = record { start = span.start; len = span.len / 2 }
+lower_half span = span_from span.start (span.len / 2)
 
 -- the half of the greater numbers, in the west or the north
 abbrev pub upper_half : Span → Span
-upper_half span = record { start = span.start + span.len / 2; len = span.len / 2 }
+upper_half span = span_from (span.start + span.len / 2) (span.len / 2)
 
 -- all columns or rows of a section
 abbrev pub whole_span : ℕ → Span
-whole_span g = record { start = 0; len = places_across g }
+whole_span g = span_from 0 (places_across g)
 
 -- the columns or rows of a position
 abbrev pub position_span : ℕ → ℕ → Span
-position_span g position = record { start = position * places_to_position g; len = places_to_position g }
+position_span g position = span_from (position * places_to_position g) (places_to_position g)
 
 -- The span is one of those that halving gives: it lies in the section, its length divides the section's
 -- side, and its start is a multiple of its length.
-pub record IsEven (g : ℕ) (span : Span) : Type 0 where
+pub record IsDyadic (g : ℕ) (span : Span) : Type 0 where
   pub some : 0 < span.len
   pub within : span.start + span.len ≤ places_across g
   pub divides : places_across g % span.len ≡ 0
@@ -40,14 +44,18 @@ pub record Rectangle : Type 0 where
   pub columns : Span
   pub rows : Span
 
+-- these columns and rows
+abbrev pub rectangle : Span → Span → Rectangle
+rectangle columns rows = record { columns = columns; rows = rows }
+
 -- the rectangle holds the place of this column and row
 abbrev pub in_rectangle : Rectangle → ℕ → ℕ → Bool
 in_rectangle block column row = in_span block.columns column && in_span block.rows row
 
 -- all places of a section
 abbrev pub whole_block : ℕ → Rectangle
-whole_block g = record { columns = whole_span g; rows = whole_span g }
+whole_block g = rectangle (whole_span g) (whole_span g)
 
 -- the places of a position
 abbrev pub position_block : ℕ → ℕ → ℕ → Rectangle
-position_block g column row = record { columns = position_span g column; rows = position_span g row }
+position_block g column row = rectangle (position_span g column) (position_span g row)

@@ -16,7 +16,8 @@ is_regular section column row = is_none (lot_at_position section column row)
 -- how many lots of a section hold a place
 abbrev pub lots_holding : ℕ → ℕ → ℕ → ℕ → ℕ
 lots_holding g section column row =
-    count_by (λ (l : Lot). (l.section == section) && in_rectangle (position_block g l.column l.row) column row) lots
+    count_by (λ (l : Lot). (l.section == section)
+    && in_rectangle (position_block g l.column l.row) column row) lots
 
 -- how many regular positions of a section hold a place
 abbrev pub regular_holding : ℕ → ℕ → ℕ → ℕ → ℕ

@@ -10,7 +10,8 @@ total (suc n) f = total n f + f n
 -- the sum of what a function gives for the column and row of each place of a block
 abbrev pub total_over : Rectangle → (ℕ → ℕ → ℕ) → ℕ
 total_over block f =
-    total block.rows.len (λ up. total block.columns.len (λ along. f (block.columns.start + along) (block.rows.start + up)))
+    total block.rows.len (λ up. total block.columns.len (λ along.
+    f (block.columns.start + along) (block.rows.start + up)))
 
 -- 1 where a test holds, and else 0
 abbrev pub one_where : Bool → ℕ

@@ -4,11 +4,17 @@ use Rattle.std.specs.Prelude.{ℕ, ◌≤◌}
 use Rattle.twp_grid.specs.declared.township.NorthSouth.{NorthSouth}
 use Rattle.twp_grid.specs.declared.township.EastWest.{EastWest}
 
+-- a township's designation
 pub record Designation : Type 0 where
   pub number : ℕ
   pub north_south : NorthSouth
   pub range : ℕ
   pub east_west : EastWest
+
+-- the designation of these four parts
+abbrev pub designation : ℕ → NorthSouth → ℕ → EastWest → Designation
+designation number north_south range east_west =
+    record { number = number; north_south = north_south; range = range; east_west = east_west }
 
 -- the greatest number of a township or a range (this project's limit)
 abbrev pub TOWNSHIP_NUMBER_MOST : ℕ

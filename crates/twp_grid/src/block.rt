@@ -36,17 +36,17 @@ pub struct Block {
 }
 
 impl Model for Block {
-    ghost use Rattle.twp_grid.specs.Spans.{Rectangle};
+    ghost use Rattle.twp_grid.specs.Spans.{Rectangle, rectangle};
 
     ghost Value = { Rectangle };
 
-    ghost view = { λ block. record { columns = block.columns; rows = block.rows } };
+    ghost view = { λ block. rectangle block.columns block.rows };
 
     ghost inverse = { λ block. record { columns = block.columns; rows = block.rows } };
 }
 
 impl Block {
-    ghost use Rattle.twp_grid.specs.Spans.{IsEven, whole_block, position_block};
+    ghost use Rattle.twp_grid.specs.Spans.{IsDyadic, whole_block, position_block};
     ghost use Rattle.twp_grid.specs.Blocks.{half_of, CanHalve, quarter_of, CanQuarter};
 
     /// All places of a section.
@@ -71,7 +71,8 @@ impl Block {
 
     /// The position that a lot of a section fills. None where the section has no such lot.
     pub fn of_lot(section: Section, lot: u8) -> Option<Block>
-        ensures block { result ≡ option_map (λ (column, row). position_block PLACE_DIGITS column row)
+        ensures block { result
+            ≡ option_map (λ (column, row). position_block PLACE_DIGITS column row)
             (position_of_lot section lot) }
         ensures has { IsSome result ↔ ((1 ≤ lot) × (lot ≤ number_of_lots section)) }
         ensures section { IsSection section }
@@ -120,7 +121,7 @@ impl Block {
     /// The easternmost column, 0 to 15.
     pub fn column(self) -> u8
         ensures value { result ≡ self.columns.start }
-        ensures even { IsEven PLACE_DIGITS self.columns }
+        ensures dyadic { IsDyadic PLACE_DIGITS self.columns }
     {
         self.columns.start()
     }
@@ -128,7 +129,7 @@ impl Block {
     /// The southernmost row, 0 to 15.
     pub fn row(self) -> u8
         ensures value { result ≡ self.rows.start }
-        ensures even { IsEven PLACE_DIGITS self.rows }
+        ensures dyadic { IsDyadic PLACE_DIGITS self.rows }
     {
         self.rows.start()
     }
@@ -136,7 +137,7 @@ impl Block {
     /// How many columns, 1 to 16.
     pub fn width(self) -> u8
         ensures value { result ≡ self.columns.len }
-        ensures even { IsEven PLACE_DIGITS self.columns }
+        ensures dyadic { IsDyadic PLACE_DIGITS self.columns }
     {
         self.columns.len()
     }
@@ -144,7 +145,7 @@ impl Block {
     /// How many rows, 1 to 16.
     pub fn height(self) -> u8
         ensures value { result ≡ self.rows.len }
-        ensures even { IsEven PLACE_DIGITS self.rows }
+        ensures dyadic { IsDyadic PLACE_DIGITS self.rows }
     {
         self.rows.len()
     }

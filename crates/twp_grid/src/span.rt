@@ -24,17 +24,17 @@ impl Model for Span {
     ghost Value = { Columns };
 
     ghost use Rattle.twp_grid.specs.Places.{PLACE_DIGITS};
-    ghost use Rattle.twp_grid.specs.Spans.{IsEven};
+    ghost use Rattle.twp_grid.specs.Spans.{span_from, IsDyadic};
 
-    ghost view = { λ span. record { start = span.start; len = span.len } };
+    ghost view = { λ span. span_from span.start span.len };
 
-    ghost invariant = { λ span. IsEven PLACE_DIGITS (record { start = span.start; len = span.len }) };
+    ghost invariant = { λ span. IsDyadic PLACE_DIGITS (span_from span.start span.len) };
 
     ghost inverse = { λ span. record { start = span.start; len = span.len } };
 }
 
 impl Span {
-    ghost use Rattle.twp_grid.specs.Spans.{IsEven, whole_span, position_span, lower_half, upper_half};
+    ghost use Rattle.twp_grid.specs.Spans.{IsDyadic, whole_span, position_span, lower_half, upper_half};
 
     /// All columns or rows of a section.
     pub(crate) fn whole() -> Span
@@ -48,7 +48,8 @@ impl Span {
 
     /// The columns or rows of a position, 0 to 3. None outside.
     pub(crate) fn position(position: u8) -> Option<Span>
-        ensures { SomeIff result (position < POSITIONS_ACROSS) (position_span PLACE_DIGITS position) }
+        ensures { SomeIff result (position < POSITIONS_ACROSS)
+            (position_span PLACE_DIGITS position) }
     {
         if position >= 4 {
             return None;
@@ -89,7 +90,7 @@ impl Span {
     /// The first column or row, 0 to 15.
     pub(crate) fn start(self) -> u8
         ensures value { result ≡ self.start }
-        ensures even { IsEven PLACE_DIGITS self }
+        ensures dyadic { IsDyadic PLACE_DIGITS self }
     {
         self.start
     }
@@ -97,7 +98,7 @@ impl Span {
     /// How many, 1 to 16.
     pub(crate) fn len(self) -> u8
         ensures value { result ≡ self.len }
-        ensures even { IsEven PLACE_DIGITS self }
+        ensures dyadic { IsDyadic PLACE_DIGITS self }
     {
         self.len
     }

@@ -28,16 +28,11 @@ pub struct Township {
 }
 
 impl Model for Township {
-    ghost use Rattle.twp_grid.specs.Townships.{Designation, IsTownshipNumber};
+    ghost use Rattle.twp_grid.specs.Townships.{Designation, designation, IsTownshipNumber};
 
     ghost Value = { Designation };
 
-    ghost view = { λ t. record {
-      number = t.tier_number;
-      north_south = t.tier_side;
-      range = t.range_number;
-      east_west = t.range_side;
-    } };
+    ghost view = { λ t. designation t.tier_number t.tier_side t.range_number t.range_side };
 
     ghost invariant = { λ t. IsTownshipNumber t.tier_number × IsTownshipNumber t.range_number };
 
@@ -50,7 +45,7 @@ impl Model for Township {
 }
 
 impl Township {
-    ghost use Rattle.twp_grid.specs.Townships.{Designation, IsTownshipNumber};
+    ghost use Rattle.twp_grid.specs.Townships.{designation, IsTownshipNumber};
 
     /// None where a number is outside 1 to 99.
     pub fn new(
@@ -60,7 +55,7 @@ impl Township {
         east_west: EastWest,
     ) -> Option<Township>
         ensures { SomeIff result (IsTownshipNumber number × IsTownshipNumber range)
-            (record { number = number; north_south = north_south; range = range; east_west = east_west }) }
+            (designation number north_south range east_west) }
     {
         if number < 1 || number > 99 || range < 1 || range > 99 {
             return None;

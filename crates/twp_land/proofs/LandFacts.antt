@@ -4,7 +4,7 @@ use Rattle.std.proofs.Math.Path.{fun_ext}
 use Rattle.std.proofs.Math.ListN.{set}
 use Rattle.std.specs.List.{slice_get}
 use Rattle.std.specs.Option.{option_map_or}
-use Rattle.std.proofs.lemmas.Bool.{cases_eq, ne_eqb}
+use Rattle.std.proofs.lemmas.Bool.{cases_eq, ne_eqb, eq-eqb, and_right}
 use Rattle.std.proofs.lemmas.Bool.Decides.{nat_tests}
 use Rattle.twp_grid.specs.Winding.{SECTION_COUNT, IsSection}
 use Rattle.twp_grid.specs.Spans.{Rectangle}
@@ -32,16 +32,13 @@ pub held_after : {P : Type 0} (held : P → ℕ → ℕ → Bool) (plots : List 
 held_after held plots section plot range all =
     fun_ext (λ other. fun_ext (λ column. fun_ext (λ row. elim (cases_eq section other) [
       | inl same ↦
-          let test : (section == other) ≡ true = rw (← same) (eq_self section) in
+          let test : (section == other) ≡ true = eq-eqb section other same in
           rw (test, ← same, number_is section range, slice_get-set_same plots (section - 1) plot (omega (arith, range.0))) refl
       | inr apart ↦
           let test : (section == other) ≡ false = ne_eqb section other apart in
           rw test (at_other other column row apart)
     ])))
   where
-    eq_self : (n : ℕ) → (n == n) ≡ true
-    eq_self n = grind (arith, nat_tests)
-
     keeps : (other column row : ℕ) (number : Bool) → (number ≡ true → other - 1 ≢ section - 1)
         → (number && option_map_or (λ p. held p column row) (slice_get (set plots (section - 1) plot) (other - 1)) false)
         ≡ (number && option_map_or (λ p. held p column row) (slice_get plots (other - 1)) false)
@@ -59,16 +56,13 @@ pub exchanged_is_union : (places : ℕ → ℕ → ℕ → Bool) (section : ℕ)
 exchanged_is_union places section block =
     fun_ext (λ other. fun_ext (λ column. fun_ext (λ row. elim (cases_eq section other) [
       | inl same ↦
-          let test : (section == other) ≡ true = rw (← same) (eq_self section) in
+          let test : (section == other) ≡ true = eq-eqb section other same in
           rw (test, same) refl
       | inr apart ↦
           let test : (section == other) ≡ false = ne_eqb section other apart in
           rw test (or_false (places other column row))
     ])))
   where
-    eq_self : (n : ℕ) → (n == n) ≡ true
-    eq_self n = grind (arith, nat_tests)
-
     or_false : (b : Bool) → b ≡ (b || false)
     or_false true = refl
     or_false false = refl
@@ -77,12 +71,8 @@ exchanged_is_union places section block =
 pub held_nowhere : {P : Type 0} (held : P → ℕ → ℕ → Bool) (plot : P) (n : ℕ) → held plot ≡ nothing_held
     → held_by_section held (replicate n plot) ≡ no_places
 held_nowhere {P = P} held plot n none =
-    fun_ext (λ section. fun_ext (λ column. fun_ext (λ row. and_false (is_section section) _ (no_part n (section - 1) column row))))
+    fun_ext (λ section. fun_ext (λ column. fun_ext (λ row. and_right (is_section section) _ (no_part n (section - 1) column row))))
   where
-    and_false : (a b : Bool) → b ≡ false → (a && b) ≡ false
-    and_false true b is = is
-    and_false false b is = refl
-
     no_part : (n i column row : ℕ) → option_map_or (λ p. held p column row) (slice_get (replicate n plot) i) false ≡ false
     no_part zero i column row = refl
     no_part (suc n) zero column row = ap (λ h. h column row) none

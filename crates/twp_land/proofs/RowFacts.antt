@@ -3,10 +3,10 @@ use Rattle.std.proofs.Common.{◌≡◌, ℕ, zero, suc, ◌+◌, ◌-◌, ◌<�
 use Rattle.std.proofs.Math.Path.{fun_ext}
 use Rattle.std.proofs.Math.ListN.{set}
 use Rattle.std.proofs.lemmas.List.{get_or-set_same, get_or-set_other}
-use Rattle.std.proofs.lemmas.Bool.{cases_eq}
+use Rattle.std.proofs.lemmas.Bool.{cases_eq, and_parts, cases_Bool, and_right}
 use Rattle.std.proofs.lemmas.Bool.Decides.{nat_tests}
 use Rattle.twp_grid.specs.Places.{PLACE_DIGITS, places_across, is_place}
-use Rattle.twp_grid.specs.Spans.{Span, in_span, IsEven, Rectangle, in_rectangle}
+use Rattle.twp_grid.specs.Spans.{Span, in_span, IsDyadic, Rectangle, in_rectangle}
 use Rattle.twp_grid.specs.Totals.{total, one_where}
 use Rattle.twp_grid.proofs.TotalFacts.{total-zero, total-next, total-ext}
 use Rattle.twp_land.specs.Lands.{Meets, HoldsAll, count_held}
@@ -35,14 +35,10 @@ held_inside rows column row in-column in-row =
     let place : is_place PLACE_DIGITS column row ≡ true = grind (arith, nat_tests) in
     rw place refl
 
-both : (x y : Bool) → (x && y) ≡ true → (x ≡ true) × (y ≡ true)
-both true y h = (refl, h)
-both false y h = cc h
-
 -- the offset of what a span holds
 offset : (span : Span) (n : ℕ) → in_span span n ≡ true → (k : ℕ) × (k < span.len) × (n ≡ span.start + k)
 offset span n inside =
-    let parts = both (nat_le span.start n) (nat_lt n (span.start + span.len)) inside in
+    let parts = and_parts (nat_le span.start n) (nat_lt n (span.start + span.len)) inside in
     let least : span.start ≤ n = grind (arith, nat_tests) in
     let below : n < span.start + span.len = grind (arith, nat_tests) in
     (n - span.start, omega arith, omega arith)
@@ -50,13 +46,13 @@ offset span n inside =
 at_offset : (span : Span) (k : ℕ) → k < span.len → in_span span (span.start + k) ≡ true
 at_offset span k below = grind (arith, nat_tests)
 
-pub meets_found : (rows : List (List Bool)) (block : Rectangle) (up : ℕ) → IsEven PLACE_DIGITS block.rows → IsEven PLACE_DIGITS block.columns
+pub meets_found : (rows : List (List Bool)) (block : Rectangle) (up : ℕ) → IsDyadic PLACE_DIGITS block.rows → IsDyadic PLACE_DIGITS block.columns
     → up < block.rows.len → SomeHeld (get_or rows (block.rows.start + up) []) block.columns.start block.columns.len → Meets (held_by_row rows) block
-meets_found rows block up even-rows even-columns below found =
+meets_found rows block up dyadic-rows dyadic-columns below found =
     let along = found.0 in
     let lt : along < block.columns.len = found.1 in
-    let in-rows : block.rows.start + block.rows.len ≤ places_across PLACE_DIGITS = even-rows.within in
-    let in-columns : block.columns.start + block.columns.len ≤ places_across PLACE_DIGITS = even-columns.within in
+    let in-rows : block.rows.start + block.rows.len ≤ places_across PLACE_DIGITS = dyadic-rows.within in
+    let in-columns : block.columns.start + block.columns.len ≤ places_across PLACE_DIGITS = dyadic-columns.within in
     record {
       column = block.columns.start + along;
       row = block.rows.start + up;
@@ -64,14 +60,14 @@ meets_found rows block up even-rows even-columns below found =
       is_held = held_inside rows (block.columns.start + along) (block.rows.start + up) (omega arith) (omega arith) ∙ found.2;
     }
 
-pub meets_nowhere : (rows : List (List Bool)) (block : Rectangle) → IsEven PLACE_DIGITS block.rows → IsEven PLACE_DIGITS block.columns
+pub meets_nowhere : (rows : List (List Bool)) (block : Rectangle) → IsDyadic PLACE_DIGITS block.rows → IsDyadic PLACE_DIGITS block.columns
     → ((k : ℕ) → k < block.rows.len → SomeHeld (get_or rows (block.rows.start + k) []) block.columns.start block.columns.len → ⊥) → Meets (held_by_row rows) block → ⊥
-meets_nowhere rows block even-rows even-columns none meets =
-    let parts = both (in_span block.columns meets.column) (in_span block.rows meets.row) meets.inside in
+meets_nowhere rows block dyadic-rows dyadic-columns none meets =
+    let parts = and_parts (in_span block.columns meets.column) (in_span block.rows meets.row) meets.inside in
     let along = offset block.columns meets.column parts.0 in
     let up = offset block.rows meets.row parts.1 in
-    let in-rows : block.rows.start + block.rows.len ≤ places_across PLACE_DIGITS = even-rows.within in
-    let in-columns : block.columns.start + block.columns.len ≤ places_across PLACE_DIGITS = even-columns.within in
+    let in-rows : block.rows.start + block.rows.len ≤ places_across PLACE_DIGITS = dyadic-rows.within in
+    let in-columns : block.columns.start + block.columns.len ≤ places_across PLACE_DIGITS = dyadic-columns.within in
     let column-is : meets.column ≡ block.columns.start + along.0 = along.2 in
     let row-is : meets.row ≡ block.rows.start + up.0 = up.2 in
     let along-lt : along.0 < block.columns.len = along.1 in
@@ -80,14 +76,14 @@ meets_nowhere rows block even-rows even-columns none meets =
     ap (λ r. get_or (get_or rows r []) (block.columns.start + along.0) false) (sym row-is) ∙ ap (λ c. get_or (get_or rows meets.row []) c false) (sym column-is) in
     none up.0 up-lt (along.0, along-lt, there ∙ sym (held_inside rows meets.column meets.row (omega arith) (omega arith)) ∙ meets.is_held)
 
-pub full_of_rows : (rows : List (List Bool)) (block : Rectangle) → IsEven PLACE_DIGITS block.rows → IsEven PLACE_DIGITS block.columns
+pub full_of_rows : (rows : List (List Bool)) (block : Rectangle) → IsDyadic PLACE_DIGITS block.rows → IsDyadic PLACE_DIGITS block.columns
     → ((k : ℕ) → k < block.rows.len → EachHeld (get_or rows (block.rows.start + k) []) block.columns.start block.columns.len) → HoldsAll (held_by_row rows) block
-full_of_rows rows block even-rows even-columns each column row inside =
-    let parts = both (in_span block.columns column) (in_span block.rows row) inside in
+full_of_rows rows block dyadic-rows dyadic-columns each column row inside =
+    let parts = and_parts (in_span block.columns column) (in_span block.rows row) inside in
     let along = offset block.columns column parts.0 in
     let up = offset block.rows row parts.1 in
-    let in-rows : block.rows.start + block.rows.len ≤ places_across PLACE_DIGITS = even-rows.within in
-    let in-columns : block.columns.start + block.columns.len ≤ places_across PLACE_DIGITS = even-columns.within in
+    let in-rows : block.rows.start + block.rows.len ≤ places_across PLACE_DIGITS = dyadic-rows.within in
+    let in-columns : block.columns.start + block.columns.len ≤ places_across PLACE_DIGITS = dyadic-columns.within in
     let column-is : column ≡ block.columns.start + along.0 = along.2 in
     let row-is : row ≡ block.rows.start + up.0 = up.2 in
     let along-lt : along.0 < block.columns.len = along.1 in
@@ -97,29 +93,29 @@ full_of_rows rows block even-rows even-columns each column row inside =
     ∙ ap (λ c. get_or (get_or rows (block.rows.start + up.0) []) c false) column-is
     ∙ each up.0 up-lt along.0 along-lt
 
-pub row_of_full : (rows : List (List Bool)) (block : Rectangle) (up : ℕ) → IsEven PLACE_DIGITS block.rows → IsEven PLACE_DIGITS block.columns
+pub row_of_full : (rows : List (List Bool)) (block : Rectangle) (up : ℕ) → IsDyadic PLACE_DIGITS block.rows → IsDyadic PLACE_DIGITS block.columns
     → up < block.rows.len → HoldsAll (held_by_row rows) block → EachHeld (get_or rows (block.rows.start + up) []) block.columns.start block.columns.len
-row_of_full rows block up even-rows even-columns below full along lt =
-    let in-rows : block.rows.start + block.rows.len ≤ places_across PLACE_DIGITS = even-rows.within in
-    let in-columns : block.columns.start + block.columns.len ≤ places_across PLACE_DIGITS = even-columns.within in
+row_of_full rows block up dyadic-rows dyadic-columns below full along lt =
+    let in-rows : block.rows.start + block.rows.len ≤ places_across PLACE_DIGITS = dyadic-rows.within in
+    let in-columns : block.columns.start + block.columns.len ≤ places_across PLACE_DIGITS = dyadic-columns.within in
     sym (held_inside rows (block.columns.start + along) (block.rows.start + up) (omega arith) (omega arith))
     ∙ full (block.columns.start + along) (block.rows.start + up) (rw (at_offset block.columns along lt, at_offset block.rows up below) refl)
 
-pub count_of_rows : (rows : List (List Bool)) (block : Rectangle) → IsEven PLACE_DIGITS block.rows → IsEven PLACE_DIGITS block.columns
+pub count_of_rows : (rows : List (List Bool)) (block : Rectangle) → IsDyadic PLACE_DIGITS block.rows → IsDyadic PLACE_DIGITS block.columns
     → count_in_rows rows block.rows.start block.rows.len block.columns.start block.columns.len ≡ count_held (held_by_row rows) block
-count_of_rows rows block even-rows even-columns =
-    let in-rows : block.rows.start + block.rows.len ≤ places_across PLACE_DIGITS = even-rows.within in
-    let in-columns : block.columns.start + block.columns.len ≤ places_across PLACE_DIGITS = even-columns.within in
+count_of_rows rows block dyadic-rows dyadic-columns =
+    let in-rows : block.rows.start + block.rows.len ≤ places_across PLACE_DIGITS = dyadic-rows.within in
+    let in-columns : block.columns.start + block.columns.len ≤ places_across PLACE_DIGITS = dyadic-columns.within in
     total-ext block.rows.len _ _ (λ up below.
     total-ext block.columns.len _ _ (λ along lt.
     ap (λ b. one_where b) (sym (held_inside rows (block.columns.start + along) (block.rows.start + up) (omega arith) (omega arith)))))
 
 -- a block lies in the section
-outside_block : (block : Rectangle) (column row : ℕ) → IsEven PLACE_DIGITS block.rows → IsEven PLACE_DIGITS block.columns
+outside_block : (block : Rectangle) (column row : ℕ) → IsDyadic PLACE_DIGITS block.rows → IsDyadic PLACE_DIGITS block.columns
     → is_place PLACE_DIGITS column row ≡ false → in_rectangle block column row ≡ false
-outside_block block column row even-rows even-columns outside =
-    let in-rows : block.rows.start + block.rows.len ≤ places_across PLACE_DIGITS = even-rows.within in
-    let in-columns : block.columns.start + block.columns.len ≤ places_across PLACE_DIGITS = even-columns.within in
+outside_block block column row dyadic-rows dyadic-columns outside =
+    let in-rows : block.rows.start + block.rows.len ≤ places_across PLACE_DIGITS = dyadic-rows.within in
+    let in-columns : block.columns.start + block.columns.len ≤ places_across PLACE_DIGITS = dyadic-columns.within in
     grind (arith, nat_tests)
 
 or_and_true : (a b : Bool) → (a || b) ≡ (a || (b && true))
@@ -132,24 +128,20 @@ or_and_false true b = refl
 or_and_false false true = refl
 or_and_false false false = refl
 
-cases_bool : (b : Bool) → (b ≡ true) ⊎ (b ≡ false)
-cases_bool true = inl refl
-cases_bool false = inr refl
-
-pub held_after_filling : (rows : List (List Bool)) (block : Rectangle) (filled : List (List Bool)) → IsEven PLACE_DIGITS block.rows → IsEven PLACE_DIGITS block.columns
+pub held_after_filling : (rows : List (List Bool)) (block : Rectangle) (filled : List (List Bool)) → IsDyadic PLACE_DIGITS block.rows → IsDyadic PLACE_DIGITS block.columns
     → AreFilled rows block filled → held_by_row filled ≡ with_block (held_by_row rows) block
-held_after_filling rows block filled even-rows even-columns are =
-    fun_ext (λ column. fun_ext (λ row. elim (cases_bool (is_place PLACE_DIGITS column row)) [
+held_after_filling rows block filled dyadic-rows dyadic-columns are =
+    fun_ext (λ column. fun_ext (λ row. elim (cases_Bool (is_place PLACE_DIGITS column row)) [
       | inl place ↦ inside column row place
-      | inr outside ↦ rw (outside, outside_block block column row even-rows even-columns outside) refl
+      | inr outside ↦ rw (outside, outside_block block column row dyadic-rows dyadic-columns outside) refl
     ]))
   where
     inside : (column row : ℕ) → is_place PLACE_DIGITS column row ≡ true → held_by_row filled column row ≡ with_block (held_by_row rows) block column row
     inside column row place =
-        let parts = both (nat_lt column (places_across PLACE_DIGITS)) (nat_lt row (places_across PLACE_DIGITS)) place in
+        let parts = and_parts (nat_lt column (places_across PLACE_DIGITS)) (nat_lt row (places_across PLACE_DIGITS)) place in
         let in-column : column < places_across PLACE_DIGITS = grind (arith, nat_tests) in
         let in-row : row < places_across PLACE_DIGITS = grind (arith, nat_tests) in
-        elim (cases_bool (in_span block.rows row)) [
+        elim (cases_Bool (in_span block.rows row)) [
           | inl there ↦ rw (place, are.inside row in-row there column in-column, there) (or_and_true _ _)
           | inr elsewhere ↦ rw (place, are.outside row in-row elsewhere, elsewhere) (or_and_false _ _)
         ]
@@ -185,8 +177,4 @@ held_in_no_row (suc n) m column zero = none m column
 
 -- rows of false hold nothing
 pub held_in_none : (n m : ℕ) → held_by_row (replicate n (replicate m false)) ≡ nothing_held
-held_in_none n m = fun_ext (λ column. fun_ext (λ row. and_false (is_place PLACE_DIGITS column row) _ (held_in_no_row n m column row)))
-  where
-    and_false : (a b : Bool) → b ≡ false → (a && b) ≡ false
-    and_false true b is = is
-    and_false false b is = refl
+held_in_none n m = fun_ext (λ column. fun_ext (λ row. and_right (is_place PLACE_DIGITS column row) _ (held_in_no_row n m column row)))

@@ -25,7 +25,8 @@ pub record Meets (held : ℕ → ℕ → Bool) (block : Rectangle) : Type 0 wher
 
 -- each place of the block is held
 abbrev pub HoldsAll : (ℕ → ℕ → Bool) → Rectangle → Type 0
-HoldsAll held block = (column row : ℕ) → in_rectangle block column row ≡ true → held column row ≡ true
+HoldsAll held block =
+    (column row : ℕ) → in_rectangle block column row ≡ true → held column row ≡ true
 
 -- how many places of the block are held
 abbrev pub count_held : (ℕ → ℕ → Bool) → Rectangle → ℕ

@@ -23,7 +23,8 @@ is_section number = nat_le 1 number && nat_le number SECTION_COUNT
 -- the set of which each section's part is kept at its number
 abbrev pub held_by_section : {P : Type 0} → (P → ℕ → ℕ → Bool) → List P → ℕ → ℕ → ℕ → Bool
 held_by_section held plots section column row =
-    is_section section && option_map_or (λ plot. held plot column row) (slice_get plots (section - 1)) false
+    is_section section
+    && option_map_or (λ plot. held plot column row) (slice_get plots (section - 1)) false
 
 -- the set with one section's part exchanged
 abbrev pub exchanged : (ℕ → ℕ → ℕ → Bool) → ℕ → (ℕ → ℕ → Bool) → ℕ → ℕ → ℕ → Bool
@@ -37,10 +38,12 @@ held_by_row rows column row =
 
 -- of a row's tests from a start, some holds; each holds
 abbrev pub SomeHeld : List Bool → ℕ → ℕ → Type 0
-SomeHeld row start len = (along : ℕ) × (along < len) × (slice_index_or row (start + along) false ≡ true)
+SomeHeld row start len =
+    (along : ℕ) × (along < len) × (slice_index_or row (start + along) false ≡ true)
 
 abbrev pub EachHeld : List Bool → ℕ → ℕ → Type 0
-EachHeld row start len = (along : ℕ) → along < len → slice_index_or row (start + along) false ≡ true
+EachHeld row start len =
+    (along : ℕ) → along < len → slice_index_or row (start + along) false ≡ true
 
 -- how many hold
 abbrev pub count_in_row : List Bool → ℕ → ℕ → ℕ
@@ -52,7 +55,8 @@ IsFilled row span filled = (column : ℕ) → column < places_across PLACE_DIGIT
     → slice_index_or filled column false ≡ (slice_index_or row column false || in_span span column)
 
 -- the rows' tests, and true in the block
-pub record AreFilled (rows : List (List Bool)) (block : Rectangle) (filled : List (List Bool)) : Type 0 where
+pub record AreFilled (rows : List (List Bool)) (block : Rectangle) (filled : List (List Bool))
+    : Type 0 where
   pub count : length filled ≡ places_across PLACE_DIGITS
   pub inside : (row : ℕ) → row < places_across PLACE_DIGITS → in_span block.rows row ≡ true
       → IsFilled (slice_index_or rows row []) block.columns (slice_index_or filled row [])

@@ -3,19 +3,16 @@ use Rattle.std.proofs.Common.{◌≡◌, ℕ, ◌-◌, ◌&&◌, Bool, true, fal
 use Rattle.std.specs.List.{slice_get}
 use Rattle.std.specs.Option.{option_map_or}
 use Rattle.std.proofs.lemmas.Bool.Decides.{nat_tests}
+use Rattle.std.proofs.lemmas.Bool.{and_parts}
 use Rattle.twp_grid.specs.Winding.{SECTION_COUNT, IsSection}
 use Rattle.twp_grid.specs.Places.{PLACE_DIGITS, places_across, IsPlace}
 use Rattle.twp_land.specs.Storage.{is_section, held_by_section, held_by_row}
 
-both : (x y : Bool) → (x && y) ≡ true → (x ≡ true) × (y ≡ true)
-both true y h = (refl, h)
-both false y h = cc h
-
 -- what is kept as rows lies in the section
 pub row_within : (rows : List (List Bool)) (column row : ℕ) → held_by_row rows column row ≡ true → IsPlace PLACE_DIGITS column row
 row_within rows column row held =
-    let place = both (nat_lt column (places_across PLACE_DIGITS) && nat_lt row (places_across PLACE_DIGITS)) _ held in
-    let parts = both (nat_lt column (places_across PLACE_DIGITS)) (nat_lt row (places_across PLACE_DIGITS)) place.0 in
+    let place = and_parts (nat_lt column (places_across PLACE_DIGITS) && nat_lt row (places_across PLACE_DIGITS)) _ held in
+    let parts = and_parts (nat_lt column (places_across PLACE_DIGITS)) (nat_lt row (places_across PLACE_DIGITS)) place.0 in
     (grind (arith, nat_tests), grind (arith, nat_tests))
 
 -- what is kept by section is a section's, and what its part holds
@@ -23,8 +20,8 @@ pub held_within : {P : Type 0} (held : P → ℕ → ℕ → Bool) (plots : List
     → ((plot : P) (column row : ℕ) → held plot column row ≡ true → IsPlace PLACE_DIGITS column row)
     → held_by_section held plots section column row ≡ true → IsSection section × IsPlace PLACE_DIGITS column row
 held_within {P = P} held plots section column row within is =
-    let parts = both (is_section section) _ is in
-    let sides = both (nat_le 1 section) (nat_le section SECTION_COUNT) parts.0 in
+    let parts = and_parts (is_section section) _ is in
+    let sides = and_parts (nat_le 1 section) (nat_le section SECTION_COUNT) parts.0 in
     let number : IsSection section = (grind (arith, nat_tests), grind (arith, nat_tests)) in
     (number, of_plot (slice_get plots (section - 1)) parts.1)
   where

@@ -36,7 +36,8 @@ impl<P: Plot> Land for Sections<P> {
 
     ghost use Rattle.twp_land.specs.Within.{held_within};
 
-    ghost within = { λ land section column row held. held_within P.held land.plots section column row P.within held };
+    ghost within = { λ land section column row held.
+        held_within P.held land.plots section column row P.within held };
 
     fn empty() -> Self {
         Sections {

@@ -1,6 +1,6 @@
 ghost use Rattle.std.specs.Prelude.{◌≡◌};
 ghost use Rattle.twp_grid.specs.Places.{PLACE_DIGITS};
-ghost use Rattle.twp_grid.specs.Spans.{IsEven};
+ghost use Rattle.twp_grid.specs.Spans.{IsDyadic};
 
 use twp_grid::Block;
 
@@ -19,8 +19,8 @@ impl Window {
         ensures height { result.height ≡ block.rows.len }
         ensures column { result.column ≡ block.columns.start }
         ensures width { result.width ≡ block.columns.len }
-        ensures rows { IsEven PLACE_DIGITS block.rows }
-        ensures columns { IsEven PLACE_DIGITS block.columns }
+        ensures rows { IsDyadic PLACE_DIGITS block.rows }
+        ensures columns { IsDyadic PLACE_DIGITS block.columns }
     {
         Window {
             row: usize::from(block.row()),
