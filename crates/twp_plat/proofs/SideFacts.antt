@@ -2,8 +2,9 @@
 use Rattle.std.proofs.Common.{◌≡◌, ◌≢◌, ℕ, ◌+◌, ◌*◌, ◌<◌, List, [], ◌∷◌, get_or, Option, Some, None, if◌then◌else◌, nat_lt, refl, ap, sym, ◌∙◌, inl, inr, arith}
 use Rattle.std.proofs.lemmas.Bool.{cases_lt}
 use Rattle.std.proofs.lemmas.Bool.Decides.{nat_tests}
+use Rattle.std.specs.Option.{SomeIff}
 use Rattle.twp_grid.specs.Winding.{StandsAt}
-use Rattle.twp_grid.proofs.WindingFacts.{same_place}
+use Rattle.twp_grid.proofs.WindingFacts.{same_standing}
 use Rattle.twp_grid.specs.Lines.{IsClosing, AreSides, north_run, west_run}
 use Rattle.twp_plat.specs.Closing.{QUARTER_MILE}
 use Rattle.twp_plat.specs.Plats.{TownshipPlat, IsPlat, closing_quarter_of, ClosingQuarters, AreClosingQuarters, HaveRegularLines, AreInLimits}
@@ -100,7 +101,7 @@ pub one_quarters : (plat : TownshipPlat) (section : ℕ) (q q' : ClosingQuarters
 one_quarters plat section q q' are are' =
     let lines = lines_of section are.east_line are.west_line are.north_line are.south_line are.sides in
     let lines' = lines_of section are'.east_line are'.west_line are'.north_line are'.south_line are'.sides in
-    let same = same_place section lines.row lines.column lines'.row lines'.column lines.stands lines'.stands in
+    let same = same_standing section lines.row lines.column lines'.row lines'.column lines.stands lines'.stands in
     let same_row : lines.row ≡ lines'.row = same.0 in
     let same_column : lines.column ≡ lines'.column = same.1 in
     let east : are.east_line ≡ are'.east_line = omega (arith, lines.east_is, lines'.east_is) in
@@ -121,7 +122,7 @@ unfolding over_of
 over_is plat q are =
     let lines = lines_of 6 are.east_line are.west_line are.north_line are.south_line are.sides in
     let corner : StandsAt 6 0 5 = record { row_range = omega arith; column_range = omega arith; winds = inl (refl, refl) } in
-    let same = same_place 6 lines.row lines.column 0 5 lines.stands corner in
+    let same = same_standing 6 lines.row lines.column 0 5 lines.stands corner in
     let north : are.north_line ≡ 47 = omega (arith, lines.north_is, same.0, same.1) in
     let west : are.west_line ≡ 6 = omega (arith, lines.west_is, same.0, same.1) in
     let by_north : q.north ≡ closing_quarter_of plat 47 = are.north ∙ ap (closing_quarter_of plat) north in
@@ -129,5 +130,5 @@ over_is plat q are =
     rw (by_north, by_west) refl
 
 -- the line of an index has this index
-pub line_at : (index line : ℕ) (found : Option ℕ) → found ≡ (if nat_lt index 84 then Some index else None) → found ≡ Some line → line ≡ index
-line_at index line found is there = grind (arith, nat_tests)
+pub line_at : (index line : ℕ) (found : Option ℕ) → SomeIff found (IsLine index) index → found ≡ Some line → line ≡ index
+line_at index line found is there = (rw there at is).1
