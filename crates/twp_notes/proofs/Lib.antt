@@ -6,3 +6,6 @@ pub mod NameFacts
 pub mod Taking
 pub mod FirstFaults
 pub mod OneAnswer
+pub mod TextFacts
+pub mod WrittenRecords
+pub mod WrittenNotes

@@ -1,7 +1,8 @@
 -- Laws over the definitions.
 use Rattle.std.specs.Prelude.{◌≡◌, ℕ, List, ⊤, IsSome, Result, Ok, Err}
-use Rattle.twp_notes.specs.FieldNotes.{FieldNotes}
+use Rattle.twp_notes.specs.FieldNotes.{FieldNotes, AreNotes}
 use Rattle.twp_notes.specs.NotesFaults.{AnswersNotes, refusal_of}
+use Rattle.twp_notes.specs.NotesTexts.{IsNotesText, AreWithinLimits}
 use Rattle.twp_notes.specs.declared.fault.NotesFault.{NotesFault}
 
 -- notes, or a numbered refusal: not a reading that failed
@@ -13,3 +14,7 @@ IsAnswered (Err fault) = IsSome (refusal_of fault)
 abbrev pub OneAnswer : Type 0
 OneAnswer = (bytes : List ℕ) (answer answer' : Result FieldNotes NotesFault)
     → AnswersNotes bytes answer → AnswersNotes bytes answer' → IsAnswered answer → IsAnswered answer' → answer ≡ answer'
+
+-- the text of notes is those notes, so that it is read as them
+abbrev pub WrittenIsRead : Type 0
+WrittenIsRead = (notes : FieldNotes) (text : List ℕ) → AreWithinLimits notes → IsNotesText notes text → AreNotes text notes

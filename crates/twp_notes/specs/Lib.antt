@@ -4,4 +4,5 @@ pub mod NotesFaults
 pub mod Tables
 pub mod LineFaults
 pub mod Passing
+pub mod NotesTexts
 pub mod Laws

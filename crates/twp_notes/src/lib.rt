@@ -13,6 +13,7 @@ mod returned;
 #[cfg(test)]
 mod sample;
 mod table;
+mod writing;
 
 pub use fault::NotesFault;
 pub use notes::Notes;

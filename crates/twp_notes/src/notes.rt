@@ -1,14 +1,16 @@
-ghost use Rattle.std.specs.Prelude.{◌≡◌, ◌+◌, ◌↔◌, ℕ, List, Some, true, false, IsErrOf};
+ghost use Rattle.std.specs.Prelude.{◌≡◌, ◌+◌, ◌↔◌, ℕ, List, Some, true, false, ◌++◌, OnOk, OnErr, IsErrOf};
 ghost use Rattle.twp_grid.specs.Devices.{Tells, TakesAtMost};
 ghost use Rattle.twp_notes.specs.FieldNotes.{FieldNotes, NOTES_MOST, returned_of};
 ghost use Rattle.twp_notes.specs.NotesFaults.{AnswersNotes};
+ghost use Rattle.twp_notes.specs.NotesTexts.{IsNotesText};
 
 use crate::fault::NotesFault;
 use crate::parsing::parse;
 use crate::reading::read_whole;
 use crate::returned::Returned;
 use crate::table::LINES;
-use std::alloc::Global;
+use crate::writing::write_notes;
+use std::alloc::{AllocError, Global};
 use std::marker::Model;
 use twp_grid::{Line, Source, Township};
 
@@ -59,6 +61,21 @@ impl Notes {
         ensures { result ≡ record { township = township; lines = lines } }
     {
         Notes { township, lines }
+    }
+
+    /// Appends the text of the notes: the heading, the township, and the lines by rising index, each with
+    /// the section on its east or on its north first (this project's order). Where memory runs out the
+    /// vector is as it was.
+    pub fn write(&self, out: &mut Vec<u8>) -> Result<(), AllocError>
+        ensures ok { OnOk result ((text : List ℕ) × IsNotesText self.now text × (out.new.items ≡ out.old.items ++ text)) }
+        ensures err { OnErr result (out.new.items ≡ out.old.items) }
+    {
+        let written = out.len();
+        let outcome = write_notes(self, out);
+        if outcome.is_err() {
+            out.truncate(written);
+        }
+        outcome
     }
 
     /// What was returned of a line.

@@ -1,110 +1,52 @@
 //! Notes for tests, and notes that are damaged.
+use crate::notes::Notes;
 use crate::returned::Returned;
 use crate::table::LINES;
 use std::alloc::Global;
 use std::test::Fail;
-use twp_grid::{EastWest, NorthSouth, Section, Township};
+use twp_grid::{EastWest, NorthSouth, Township};
 use twp_measure::Length;
+
+/// A length of chains.
+fn chains(text: &str) -> Result<Length, Fail> {
+    Ok(Length::read(text.as_bytes())?)
+}
+
+/// A line of a mile with its quarter corner halfway.
+fn mile() -> Result<Returned, Fail> {
+    Ok(Returned {
+        quarter: chains("40")?,
+        corner: chains("80")?,
+    })
+}
 
 /// T. 2 N., R. 3 W.
 pub fn township() -> Result<Township, Fail> {
     Ok(Township::new(2, NorthSouth::N, 3, EastWest::W).ok_or("a township")?)
 }
 
-/// A length of chains.
-pub fn chains(text: &str) -> Result<Length, Fail> {
-    Ok(Length::read(text.as_bytes())?)
+/// Notes of which each line is a mile.
+pub fn even_notes() -> Result<Notes, Fail> {
+    Ok(Notes::new(township()?, [mile()?; LINES]))
 }
 
-/// Each line is a mile with its quarter corner halfway.
-pub fn even_lines() -> Result<[Returned; LINES], Fail> {
-    let mile = Returned {
-        quarter: chains("40")?,
-        corner: chains("80")?,
-    };
-    Ok([mile; LINES])
+/// Notes of which six closing lines are longer or shorter.
+pub fn uneven_notes() -> Result<Notes, Fail> {
+    let mut lines = [mile()?; LINES];
+    lines[4].corner = chains("80.20")?;
+    lines[5].corner = chains("80.40")?;
+    lines[6].corner = chains("80.80")?;
+    lines[47].corner = chains("79.20")?;
+    lines[53].corner = chains("79.60")?;
+    lines[59].corner = chains("79.50")?;
+    Ok(Notes::new(township()?, lines))
 }
 
-/// Six closing lines are longer or shorter than a mile.
-pub fn uneven_lines() -> Result<[Returned; LINES], Fail> {
-    let mut lines = even_lines()?;
-    for (index, corner) in [
-        (4, "80.20"),
-        (5, "80.40"),
-        (6, "80.80"),
-        (47, "79.20"),
-        (53, "79.60"),
-        (59, "79.50"),
-    ] {
-        let index: usize = index;
-        if index < LINES {
-            lines[index].corner = chains(corner)?;
-        }
-    }
-    Ok(lines)
-}
-
-/// The notes of lines: the heading, the township and the lines by their indexes.
-pub fn notes_of(alloc: Global, lines: &[Returned; LINES]) -> Result<Vec<u8>, Fail> {
-    let mut text = Vec::from_slice(alloc, b"line,between,and,quarter,corner\nT,2,N,3,W\n")?;
-    for index in 0..84u8 {
-        push_line(alloc, &mut text, index, lines[usize::from(index)])?;
-    }
+/// The text of notes.
+pub fn text_of(alloc: Global, notes: &Notes) -> Result<Vec<u8>, Fail> {
+    let mut text = Vec::new(alloc);
+    notes.write(&mut text)?;
     Ok(text)
-}
-
-fn push_line(alloc: Global, text: &mut Vec<u8>, index: u8, returned: Returned) -> Result<(), Fail> {
-    text.extend_from_slice(if index < 42 { b"N," } else { b"W," })?;
-    match first_beside(index) {
-        Some(first) => {
-            push_section(alloc, text, Some(first))?;
-            push_section(alloc, text, second_beside(index))?;
-        }
-        None => {
-            push_section(alloc, text, second_beside(index))?;
-            push_section(alloc, text, None)?;
-        }
-    }
-    returned.quarter.write(text)?;
-    text.push(b',')?;
-    returned.corner.write(text)?;
-    text.push(b'\n')?;
-    Ok(())
-}
-
-// A section's number, or nothing for the township's outside, and a comma.
-fn push_section(alloc: Global, text: &mut Vec<u8>, section: Option<Section>) -> Result<(), Fail> {
-    if let Some(section) = section {
-        text.extend_from_slice(section.number().to_string(alloc)?.as_bytes())?;
-    }
-    text.push(b',')?;
-    Ok(())
-}
-
-// The section on the east side of a north-run line, or on the north side of a west-run line.
-fn first_beside(index: u8) -> Option<Section> {
-    if index < 42 {
-        section_at(index / 7, (index % 7).wrapping_sub(1))
-    } else {
-        section_at(((index - 42) / 6).wrapping_sub(1), (index - 42) % 6)
-    }
-}
-
-// The section on the other side.
-fn second_beside(index: u8) -> Option<Section> {
-    if index < 42 {
-        section_at(index / 7, index % 7)
-    } else {
-        section_at((index - 42) / 6, (index - 42) % 6)
-    }
-}
-
-fn section_at(row: u8, column: u8) -> Option<Section> {
-    if row < 6 && column < 6 {
-        Some(Section::at(row, column))
-    } else {
-        None
-    }
 }
 
 /// The records of notes, each with its line feed.

@@ -1,7 +1,7 @@
 use super::*;
 use crate::sample::{
-    edited, even_lines, joined, notes_of, quoted, shuffled, swapped, township, uneven_lines,
-    with_ends,
+    edited, even_notes, joined, quoted, records_of, shuffled, swapped, text_of, township,
+    uneven_notes, with_ends,
 };
 use std::process::Abort;
 use std::test::Fail;
@@ -18,8 +18,8 @@ fn refusal_in(alloc: Global, text: &[u8]) -> Option<Refusal> {
 #[test]
 fn reads_each_line(rt: HostRuntime) -> Result<(), Fail> {
     let alloc = rt.alloc();
-    let lines = uneven_lines()?;
-    let notes = read(alloc, notes_of(alloc, &lines)?.as_slice())?;
+    let written = uneven_notes()?;
+    let notes = read(alloc, text_of(alloc, &written)?.as_slice())?;
     assert_eq!(rt; notes.township(), township()?);
     for (index, quarter, corner) in [
         (0, 40_000, 80_000),
@@ -33,14 +33,50 @@ fn reads_each_line(rt: HostRuntime) -> Result<(), Fail> {
         assert_eq!(rt; returned.quarter.thousandths(), quarter, "line {index}");
         assert_eq!(rt; returned.corner.thousandths(), corner, "line {index}");
     }
-    assert_eq!(rt; notes, Notes::new(township()?, lines));
+    assert_eq!(rt; notes, written);
+    Ok(())
+}
+
+#[test]
+fn writes_each_record(rt: HostRuntime) -> Result<(), Fail> {
+    let alloc = rt.alloc();
+    let mut text = Vec::from_slice(alloc, b"# notes\n")?;
+    uneven_notes()?.write(&mut text)?;
+    let records = records_of(alloc, text.as_slice())?;
+    // Behind the line that stood there, the heading, the township and 84 lines.
+    assert_eq!(rt; records.len(), 87);
+    for (number, record) in [
+        (0, "# notes\n"),
+        (1, "line,between,and,quarter,corner\n"),
+        (2, "T,2,N,3,W\n"),
+        // The record of a line of index k is that of number k + 3: first the row of sections 1 to 6.
+        (3, "N,1,,40.00,80.00\n"),
+        (4, "N,1,2,40.00,80.00\n"),
+        (7, "N,4,5,40.00,80.20\n"),
+        (8, "N,5,6,40.00,80.40\n"),
+        (9, "N,6,,40.00,80.80\n"),
+        // The second row is numbered from the west: 7 lines on, from 12 in the east.
+        (10, "N,12,,40.00,80.00\n"),
+        (11, "N,12,11,40.00,80.00\n"),
+        // The last of 6 rows, 31 in the west.
+        (44, "N,31,,40.00,80.00\n"),
+        (45, "W,1,,40.00,80.00\n"),
+        (50, "W,6,,40.00,79.20\n"),
+        (51, "W,1,12,40.00,80.00\n"),
+        (56, "W,6,7,40.00,79.60\n"),
+        (62, "W,7,18,40.00,79.50\n"),
+        (81, "W,36,,40.00,80.00\n"),
+        (86, "W,31,,40.00,80.00\n"),
+    ] {
+        let written = records.get(number).ok_or("a record")?;
+        assert_eq!(rt; *written, record.as_bytes(), "record {number}");
+    }
     Ok(())
 }
 
 // The records of lines in another order, their sections in the other order, and both.
-fn reads_mixed(alloc: Global, rt: &impl Abort, lines: [Returned; LINES]) -> Result<(), Fail> {
-    let text = notes_of(alloc, &lines)?;
-    let notes = Notes::new(township()?, lines);
+fn reads_mixed(alloc: Global, rt: &impl Abort, notes: Notes) -> Result<(), Fail> {
+    let text = text_of(alloc, &notes)?;
     let mixed = shuffled(alloc, text.as_slice())?;
     assert!(rt; mixed != text);
     assert_eq!(rt; read(alloc, mixed.as_slice())?, notes);
@@ -54,15 +90,15 @@ fn reads_mixed(alloc: Global, rt: &impl Abort, lines: [Returned; LINES]) -> Resu
 
 #[test]
 fn reads_records_in_any_order(rt: HostRuntime) -> Result<(), Fail> {
-    reads_mixed(rt.alloc(), &rt, even_lines()?)?;
-    reads_mixed(rt.alloc(), &rt, uneven_lines()?)
+    reads_mixed(rt.alloc(), &rt, even_notes()?)?;
+    reads_mixed(rt.alloc(), &rt, uneven_notes()?)
 }
 
 #[test]
 fn reads_other_forms_of_a_text(rt: HostRuntime) -> Result<(), Fail> {
     let alloc = rt.alloc();
-    let notes = Notes::new(township()?, uneven_lines()?);
-    let text = notes_of(alloc, &uneven_lines()?)?;
+    let notes = uneven_notes()?;
+    let text = text_of(alloc, &notes)?;
     let text = text.as_slice();
     // Other ends of records, and records apart by empty lines.
     for end in ["\r\n", "\r", "\n\n", "\r\n\r\n\n"] {
@@ -88,7 +124,7 @@ fn reads_other_forms_of_a_text(rt: HostRuntime) -> Result<(), Fail> {
 #[test]
 fn reads_the_greatest_numbers(rt: HostRuntime) -> Result<(), Fail> {
     let alloc = rt.alloc();
-    let text = notes_of(alloc, &even_lines()?)?;
+    let text = text_of(alloc, &even_notes()?)?;
     let edits = [(2, "T,99,S,99,E\n"), (3, "N,01,,00.5,99.999\n")];
     let notes = read(alloc, edited(alloc, text.as_slice(), &edits)?.as_slice())?;
     let far = Township::new(99, NorthSouth::S, 99, EastWest::E).ok_or("a township")?;
@@ -103,7 +139,7 @@ fn reads_the_greatest_numbers(rt: HostRuntime) -> Result<(), Fail> {
 #[test]
 fn refuses_each_fault(rt: HostRuntime) -> Result<(), Fail> {
     let alloc = rt.alloc();
-    let text = notes_of(alloc, &even_lines()?)?;
+    let text = text_of(alloc, &even_notes()?)?;
     for (record, other, number, at) in [
         (1, "Line,between,and,quarter,corner\n", 3, 1),
         (1, "line,between,and,quarter\n", 3, 1),
@@ -178,7 +214,7 @@ fn refuses_texts_that_end_early(rt: HostRuntime) -> Result<(), Fail> {
 #[test]
 fn answers_the_first_fault(rt: HostRuntime) -> Result<(), Fail> {
     let alloc = rt.alloc();
-    let text = notes_of(alloc, &even_lines()?)?;
+    let text = text_of(alloc, &even_notes()?)?;
     for (edits, number, at) in [
         ([(1, "line\n"), (2, "T\n")], 3, 1),
         ([(2, "T\n"), (3, "X\n")], 4, 2),
@@ -214,12 +250,9 @@ fn refuses_too_many_bytes(rt: HostRuntime) -> Result<(), Fail> {
         number: 1,
         at: 65_536,
     });
-    let mut text = notes_of(alloc, &even_lines()?)?;
+    let mut text = text_of(alloc, &even_notes()?)?;
     text.resize(65_536, b'\n')?;
-    assert_eq!(rt;
-        read(alloc, text.as_slice())?,
-        Notes::new(township()?, even_lines()?)
-    );
+    assert_eq!(rt; read(alloc, text.as_slice())?, even_notes()?);
     text.push(b'\n')?;
     assert_eq!(rt; refusal_in(alloc, text.as_slice()), large);
     let mut letters = Vec::new(alloc);

@@ -1,7 +1,7 @@
 use super::*;
 use crate::fault::NotesFault;
 use crate::notes::Notes;
-use crate::sample::{notes_of, township, uneven_lines};
+use crate::sample::{text_of, uneven_notes};
 use std::io;
 use std::io::{Error, ErrorKind, Read};
 use std::test::Fail;
@@ -80,8 +80,8 @@ impl Read for FailsAt<'_> {
 #[test]
 fn reads_pieces_of_any_size(rt: HostRuntime) -> Result<(), Fail> {
     let alloc = rt.alloc();
-    let text = notes_of(alloc, &uneven_lines()?)?;
-    let notes = Notes::new(township()?, uneven_lines()?);
+    let notes = uneven_notes()?;
+    let text = text_of(alloc, &notes)?;
     for most in [1, 2, 3, 7, 1_000] {
         let mut source = Counted::new(text.as_slice(), most, false);
         assert_eq!(rt; Notes::read(alloc, &mut source)?, notes, "pieces of {most}");
@@ -128,7 +128,7 @@ fn reads_to_a_limit(rt: HostRuntime) -> Result<(), Fail> {
 #[test]
 fn tells_that_a_reader_failed(rt: HostRuntime) -> Result<(), Fail> {
     let alloc = rt.alloc();
-    let text = notes_of(alloc, &uneven_lines()?)?;
+    let text = text_of(alloc, &uneven_notes()?)?;
     // 32 bytes of the heading, 10 of the township, 16 of each of the 84 lines, and of each of the 36
     // sections its digits at each of its 4 sides: 32 + 10 + 84 * 16 + 4 * (9 + 27 * 2) is 1,638. They are
     // given by 4 calls, and the 5th finds the end.

@@ -1,0 +1,107 @@
+-- The text that is written of field notes: the heading, the township, and the lines by rising index.
+use Rattle.std.specs.Prelude.{◌≡◌, ℕ, ◌+◌, ◌≤◌, ◌<◌, List, [], ◌∷◌, ◌++◌, length, take, Option, Some, None, codes, decimal, map, ⊤}
+use Rattle.std.specs.List.{flat_map}
+use Rattle.twp_measure.specs.LengthTexts.{IsLength, length_text}
+use Rattle.twp_grid.specs.Winding.{StandsAt}
+use Rattle.twp_grid.specs.Lines.{LINE_COUNT, IsLine, IsLineOf, north_run, west_run}
+use Rattle.twp_grid.specs.Townships.{Designation, IsTownshipNumber}
+use Rattle.twp_grid.specs.declared.line.Run.{Run}
+use Rattle.twp_grid.specs.declared.line.Run.TheVariants as run
+use Rattle.twp_notes.specs.Records.{Fields, record_at}
+use Rattle.twp_notes.specs.FieldNotes.{FieldNotes, heading, north_south_text, east_west_text, run_text, returned_of}
+use Rattle.twp_notes.specs.declared.returned.Returned.{Returned}
+use Rattle.twp_notes.specs.declared.writing.Field.{Field}
+use Rattle.twp_notes.specs.declared.writing.Field.TheVariants as field
+
+-- the bytes between two fields and behind a record
+abbrev pub comma : ℕ
+comma = 44
+
+abbrev pub line_feed : ℕ
+line_feed = 10
+
+-- the fields behind the first, each behind a comma, and a line feed
+abbrev pub rest_text : Fields → List ℕ
+rest_text [] = line_feed ∷ []
+rest_text (field ∷ rest) = comma ∷ (field ++ rest_text rest)
+
+-- a record's text: its fields with commas between, and a line feed
+abbrev pub record_text : Fields → List ℕ
+record_text [] = line_feed ∷ []
+record_text (field ∷ rest) = field ++ rest_text rest
+
+-- the text of a field that is written
+abbrev pub field_text : Field → List ℕ
+field_text (field.Letter byte) = byte ∷ []
+field_text (field.Number number) = decimal number
+field_text (field.Distance length) = length_text length
+field_text field.Nothing = []
+
+-- the record of a township
+abbrev pub township_fields : Designation → Fields
+township_fields township =
+    codes "T" ∷ decimal township.number ∷ north_south_text township.north_south
+    ∷ decimal township.range ∷ east_west_text township.east_west ∷ []
+
+-- the line that bounds the section at this row and column at the end of the run's side: on its west where
+-- lines are run north, on its south where they are run west
+abbrev pub far_side : Run → ℕ → ℕ → ℕ
+far_side run.North row column = north_run row (column + 1)
+far_side run.West row column = west_run (row + 1) column
+
+-- the section stands east of a line that is run north, or north of a line that is run west
+pub record StandsBefore (run : Run) (section line : ℕ) : Type 0 where
+  pub row : ℕ
+  pub column : ℕ
+  pub stands : StandsAt section row column
+  pub side : line ≡ far_side run row column
+
+-- of two sections beside a line the one that stands before it is named first
+abbrev pub IsNamedFirst : Run → ℕ → Option ℕ → ℕ → Type 0
+IsNamedFirst run section (Some other) line = StandsBefore run section line
+IsNamedFirst run section None line = ⊤
+
+-- the run and the sections by which a line is named in writing
+pub record AreNames (line : ℕ) (run : Run) (section : ℕ) (other : Option ℕ) : Type 0 where
+  pub is_line : IsLineOf run section other line
+  pub first : IsNamedFirst run section other line
+
+-- a neighbour's number, or nothing on the township's boundary
+abbrev pub neighbour_text : Option ℕ → List ℕ
+neighbour_text (Some section) = decimal section
+neighbour_text None = []
+
+-- the fields are those of a line's record: its names and its distances
+pub record AreLineFields (line : ℕ) (returned : Returned) (fields : Fields) : Type 0 where
+  pub run : Run
+  pub section : ℕ
+  pub other : Option ℕ
+  pub names : AreNames line run section other
+  pub fields_are : fields ≡ run_text run ∷ decimal section ∷ neighbour_text other
+      ∷ length_text returned.quarter ∷ length_text returned.corner ∷ []
+
+-- the first so many lines have these records
+pub record AreLineRecords (notes : FieldNotes) (count : ℕ) (rows : List Fields) : Type 0 where
+  pub count_is : length rows ≡ count
+  pub each : (line : ℕ) → line < count → AreLineFields line (returned_of notes line) (record_at rows line)
+
+-- the text of the records of the heading, of the township and of these lines
+abbrev pub text_before : FieldNotes → List Fields → List ℕ
+text_before notes rows = flat_map record_text (heading ∷ township_fields notes.township ∷ rows)
+
+-- the text is that of the notes
+pub record IsNotesText (notes : FieldNotes) (text : List ℕ) : Type 0 where
+  pub rows : List Fields
+  pub rows_are : AreLineRecords notes LINE_COUNT rows
+  pub text_is : text ≡ text_before notes rows
+
+-- the numbers of notes that can be written: a township's, and 84 lines with lengths
+pub record AreWithinLimits (notes : FieldNotes) : Type 0 where
+  pub township : IsTownshipNumber notes.township.number × IsTownshipNumber notes.township.range
+  pub count : length notes.lines ≡ LINE_COUNT
+  pub lengths : (line : ℕ) → IsLine line
+      → IsLength (returned_of notes line).quarter × IsLength (returned_of notes line).corner
+
+-- the first bytes are these
+abbrev pub BeginsWith : List ℕ → List ℕ → Type 0
+BeginsWith front bytes = take (length front) bytes ≡ front
