@@ -1,5 +1,5 @@
 -- The text that is written of field notes: the heading, the township, and the lines by rising index.
-use Rattle.std.specs.Prelude.{◌≡◌, ℕ, ◌+◌, ◌≤◌, ◌<◌, List, [], ◌∷◌, ◌++◌, length, take, Option, Some, None, codes, decimal, map, ⊤}
+use Rattle.std.specs.Prelude.{◌≡◌, ℕ, ◌+◌, ◌<◌, List, [], ◌∷◌, ◌++◌, length, take, Option, Some, None, codes, decimal, ⊤}
 use Rattle.std.specs.List.{flat_map}
 use Rattle.twp_measure.specs.LengthTexts.{IsLength, length_text}
 use Rattle.twp_grid.specs.Winding.{StandsAt}

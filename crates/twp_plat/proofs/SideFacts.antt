@@ -1,11 +1,10 @@
 -- The lines of a section, and which of them close.
-use Rattle.std.proofs.Common.{◌≡◌, ◌≢◌, ℕ, ◌+◌, ◌*◌, ◌<◌, List, [], ◌∷◌, get_or, Option, Some, None, if◌then◌else◌, nat_lt, refl, ap, sym, ◌∙◌, inl, inr, arith}
+use Rattle.std.proofs.Common.{◌≡◌, ◌≢◌, ℕ, ◌+◌, ◌*◌, ◌<◌, List, [], ◌∷◌, get_or, Option, Some, refl, ap, sym, ◌∙◌, inl, inr, arith}
 use Rattle.std.proofs.lemmas.Bool.{cases_lt}
-use Rattle.std.proofs.lemmas.Bool.Decides.{nat_tests}
 use Rattle.std.specs.Option.{SomeIff}
 use Rattle.twp_grid.specs.Winding.{StandsAt}
 use Rattle.twp_grid.proofs.WindingFacts.{same_standing}
-use Rattle.twp_grid.specs.Lines.{IsClosing, AreSides, north_run, west_run}
+use Rattle.twp_grid.specs.Lines.{IsLine, IsClosing, AreSides, north_run, west_run}
 use Rattle.twp_plat.specs.Closing.{QUARTER_MILE}
 use Rattle.twp_plat.specs.Plats.{TownshipPlat, IsPlat, closing_quarter_of, ClosingQuarters, AreClosingQuarters, HaveRegularLines, AreInLimits}
 use Rattle.twp_plat.specs.Pieces.{line_length, over_of}
