@@ -1,6 +1,6 @@
 -- Bytes have one answer: notes are of one township and return one thing of each line, notes have no fault,
 -- and one fault is the first.
-use Rattle.std.proofs.Common.{◌≡◌, ◌≢◌, ◌==◌, ◌⊎◌, ℕ, ◌<◌, ◌≤◌, List, [], length, get_or, Option, Some, None, IsSome, IfSome, Result, Ok, Err, inl, inr, refl, ap, subst, sym, ◌∙◌, arith, if◌then◌else◌}
+use Rattle.std.proofs.Common.{◌≡◌, ◌≢◌, ◌==◌, ◌⊎◌, ℕ, ◌<◌, ◌≤◌, List, length, get_or, Option, Some, None, IsSome, IfSome, Ok, Err, inl, inr, refl, ap, subst, sym, ◌∙◌, arith, if◌then◌else◌}
 use Rattle.std.proofs.lemmas.Bool.{cases_eq}
 use Rattle.std.proofs.lemmas.List.{ext_get_or}
 use Rattle.twp_measure.proofs.LengthFacts.{one_length}
@@ -11,7 +11,7 @@ use Rattle.twp_grid.specs.declared.township.EastWest.{EastWest}
 use Rattle.twp_grid.specs.declared.township.EastWest.TheVariants as ew
 use Rattle.twp_notes.specs.Records.{Fields, record_numbered, records_of}
 use Rattle.twp_notes.specs.FieldNotes.{FieldNotes, FIELDS, nothing_returned, returned_of, north_south_text, east_west_text, IsTownshipRecord, IsLineNumber, IsLineRecord, AreNotes}
-use Rattle.twp_notes.specs.NotesFaults.{HasFault, IsFrom, IsFirstFault, AnswersNotes, stage_of, number_of, place_of, refusal_of}
+use Rattle.twp_notes.specs.NotesFaults.{HasFault, IsFirstFault, AnswersNotes, number_of, place_of, refusal_of}
 use Rattle.twp_notes.specs.Laws.{IsAnswered, OneAnswer}
 use Rattle.twp_notes.specs.declared.fault.NotesFault.{NotesFault}
 use Rattle.twp_notes.specs.declared.fault.NotesFault.TheVariants as fault

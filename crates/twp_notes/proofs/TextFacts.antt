@@ -1,10 +1,9 @@
 -- Texts that are appended to.
-use Rattle.std.proofs.Common.{◌≡◌, ℕ, ◌+◌, ◌≤◌, ◌<◌, List, [], ◌∷◌, ◌++◌, length, take, get_or, map, inl, inr, refl, ap, subst, sym, ◌∙◌, arith, append_assoc, length-append}
-use Rattle.std.specs.List.{flat_map}
+use Rattle.std.proofs.Common.{◌≡◌, ℕ, ◌+◌, ◌≤◌, List, [], ◌∷◌, ◌++◌, length, take, get_or, map, inl, inr, refl, ap, subst, sym, ◌∙◌, arith, append_assoc, length-append}
 use Rattle.std.specs.Prelude.{Result, Ok, Err, OnOk, OnErr}
 use Rattle.std.proofs.lemmas.Bool.{cases_lt}
 use Rattle.std.proofs.lemmas.List.{append-nil, take_at, take-take, take_all, length_push, get_or_push, get_or_append_left, flat_map_more}
-use Rattle.twp_notes.specs.Records.{Fields, record_at}
+use Rattle.twp_notes.specs.Records.{Fields}
 use Rattle.twp_notes.specs.FieldNotes.{FieldNotes, heading, returned_of}
 use Rattle.twp_notes.specs.NotesTexts.{BeginsWith, record_text, township_fields, AreLineFields, AreLineRecords, text_before}
 

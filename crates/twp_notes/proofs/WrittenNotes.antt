@@ -1,13 +1,12 @@
 -- The text that is written of notes is read as those notes.
-use Rattle.std.proofs.Common.{◌≡◌, ◌≢◌, ◌⊎◌, ℕ, zero, suc, ◌+◌, ◌-◌, ◌*◌, ◌^◌, ◌≤◌, ◌<◌, List, [], ◌∷◌, ◌++◌, length, get_or, inl, inr, Option, Some, None, codes, decimal, refl, ap, subst, sym, ◌∙◌, arith, length-append}
+use Rattle.std.proofs.Common.{◌≡◌, ℕ, suc, ◌+◌, ◌-◌, ◌*◌, ◌≤◌, ◌<◌, List, [], ◌∷◌, ◌++◌, length, inl, inr, Option, Some, None, codes, decimal, refl, ap, subst, sym, ◌∙◌, arith, length-append}
 use Rattle.std.specs.List.{AllByRecursion, flat_map}
-use Rattle.std.specs.Prelude.{slice_index_or}
 use Rattle.std.proofs.lemmas.Fmt.{decimal_is_IsNumeral, length-decimal-le}
-use Rattle.csv.specs.Reading.{records_from, strip_bom, default_config}
+use Rattle.csv.specs.Reading.{strip_bom}
 use Rattle.twp_measure.specs.LengthTexts.{IsShortNumber, IsLength, length_text}
 use Rattle.twp_measure.proofs.WrittenLengths.{written_is_length}
-use Rattle.twp_grid.specs.Winding.{IsSection, StandsAt}
-use Rattle.twp_grid.specs.Lines.{LINE_COUNT, IsLine, IsSide, IsLineOf, LiesBeside}
+use Rattle.twp_grid.specs.Winding.{IsSection}
+use Rattle.twp_grid.specs.Lines.{LINE_COUNT, IsSide, LiesBeside}
 use Rattle.twp_grid.specs.Townships.{Designation, IsTownshipNumber}
 use Rattle.twp_grid.specs.declared.line.Run.{Run}
 use Rattle.twp_grid.specs.declared.line.Run.TheVariants as run
@@ -16,8 +15,8 @@ use Rattle.twp_grid.specs.declared.township.NorthSouth.TheVariants as ns
 use Rattle.twp_grid.specs.declared.township.EastWest.{EastWest}
 use Rattle.twp_grid.specs.declared.township.EastWest.TheVariants as ew
 use Rattle.twp_notes.specs.Records.{Fields, records_of, record_at, record_numbered}
-use Rattle.twp_notes.specs.FieldNotes.{FieldNotes, NOTES_MOST, heading, north_south_text, east_west_text, run_text, returned_of, IsTownshipRecord, IsSectionText, IsNeighbourText, NamesLine, Returns, IsLineRecord, IsLineNumber, AreNoteRecords, AreNotes}
-use Rattle.twp_notes.specs.NotesTexts.{record_text, township_fields, neighbour_text, AreLineFields, AreLineRecords, text_before, IsNotesText, AreWithinLimits}
+use Rattle.twp_notes.specs.FieldNotes.{FieldNotes, NOTES_MOST, heading, north_south_text, east_west_text, run_text, returned_of, IsTownshipRecord, IsSectionText, IsNeighbourText, NamesLine, IsLineRecord, IsLineNumber, AreNoteRecords, AreNotes}
+use Rattle.twp_notes.specs.NotesTexts.{record_text, township_fields, neighbour_text, AreLineFields, AreLineRecords, text_before, AreWithinLimits}
 use Rattle.twp_notes.specs.Laws.{WrittenIsRead}
 use Rattle.twp_notes.specs.declared.returned.Returned.{Returned}
 use Rattle.twp_notes.proofs.NameFacts.{names_one}

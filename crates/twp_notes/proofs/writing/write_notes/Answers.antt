@@ -1,7 +1,7 @@
 -- The records were appended one after another.
-use Rattle.std.proofs.Common.{◌≡◌, ◌++◌, subst, sym}
+use Rattle.std.proofs.Common.{◌≡◌}
 use Rattle.twp_notes.specs.FieldNotes.{returned_of}
-use Rattle.twp_notes.specs.NotesTexts.{record_text, township_fields, text_before, AreLineFields}
+use Rattle.twp_notes.specs.NotesTexts.{text_before, AreLineFields}
 use Rattle.twp_notes.proofs.TextFacts.{no_line, line_more, begins_more, err_anyway}
 use Rattle.twp_notes.proofs.writing.write_notes.Goals as goal
 

@@ -1,7 +1,6 @@
 -- The fields were appended one after another.
-use Rattle.std.proofs.Common.{◌≡◌, ◌++◌, ◌∷◌, [], length, ◌∙◌, ap, sym, arith}
-use Rattle.std.specs.Prelude.{slice_index_or}
-use Rattle.twp_notes.specs.NotesTexts.{field_text, record_text}
+use Rattle.std.proofs.Common.{◌≡◌, length, arith}
+use Rattle.twp_notes.specs.NotesTexts.{field_text}
 use Rattle.twp_notes.proofs.TextFacts.{five_appended, five_mapped, on_ok, on_err, begins_more}
 use Rattle.twp_notes.proofs.writing.write_record.Goals as goal
 
