@@ -17,4 +17,5 @@ OneAnswer = (bytes : List ℕ) (answer answer' : Result FieldNotes NotesFault)
 
 -- the text of notes is those notes, so that it is read as them
 abbrev pub WrittenIsRead : Type 0
-WrittenIsRead = (notes : FieldNotes) (text : List ℕ) → AreWithinLimits notes → IsNotesText notes text → AreNotes text notes
+WrittenIsRead = (notes : FieldNotes) (text : List ℕ)
+    → AreWithinLimits notes → IsNotesText notes text → AreNotes text notes

@@ -43,8 +43,8 @@ township_fields township =
     codes "T" ∷ decimal township.number ∷ north_south_text township.north_south
     ∷ decimal township.range ∷ east_west_text township.east_west ∷ []
 
--- the line that bounds the section at this row and column at the end of the run's side: on its west where
--- lines are run north, on its south where they are run west
+-- the side of the section at this row and column that is its west side, of lines that are run north, or
+-- its south side, of lines that are run west
 abbrev pub far_side : Run → ℕ → ℕ → ℕ
 far_side run.North row column = north_run row (column + 1)
 far_side run.West row column = west_run (row + 1) column
@@ -83,7 +83,8 @@ pub record AreLineFields (line : ℕ) (returned : Returned) (fields : Fields) : 
 -- the first so many lines have these records
 pub record AreLineRecords (notes : FieldNotes) (count : ℕ) (rows : List Fields) : Type 0 where
   pub count_is : length rows ≡ count
-  pub each : (line : ℕ) → line < count → AreLineFields line (returned_of notes line) (record_at rows line)
+  pub each : (line : ℕ) → line < count
+      → AreLineFields line (returned_of notes line) (record_at rows line)
 
 -- the text of the records of the heading, of the township and of these lines
 abbrev pub text_before : FieldNotes → List Fields → List ℕ
@@ -94,6 +95,10 @@ pub record IsNotesText (notes : FieldNotes) (text : List ℕ) : Type 0 where
   pub rows : List Fields
   pub rows_are : AreLineRecords notes LINE_COUNT rows
   pub text_is : text ≡ text_before notes rows
+
+-- the text of the notes was appended
+abbrev pub AppendsNotes : FieldNotes → List ℕ → List ℕ → Type 0
+AppendsNotes notes old new = (text : List ℕ) × IsNotesText notes text × (new ≡ old ++ text)
 
 -- the numbers of notes that can be written: a township's, and 84 lines with lengths
 pub record AreWithinLimits (notes : FieldNotes) : Type 0 where

@@ -1,8 +1,8 @@
-ghost use Rattle.std.specs.Prelude.{◌≡◌, ◌+◌, ◌↔◌, ℕ, List, Some, true, false, ◌++◌, OnOk, OnErr, IsErrOf};
+ghost use Rattle.std.specs.Prelude.{◌≡◌, ◌+◌, ◌↔◌, ℕ, List, Some, true, false, OnOk, OnErr, IsErrOf};
 ghost use Rattle.twp_grid.specs.Devices.{Tells, TakesAtMost};
 ghost use Rattle.twp_notes.specs.FieldNotes.{FieldNotes, NOTES_MOST, returned_of};
 ghost use Rattle.twp_notes.specs.NotesFaults.{AnswersNotes};
-ghost use Rattle.twp_notes.specs.NotesTexts.{IsNotesText};
+ghost use Rattle.twp_notes.specs.NotesTexts.{AppendsNotes};
 
 use crate::fault::NotesFault;
 use crate::parsing::parse;
@@ -67,7 +67,7 @@ impl Notes {
     /// the section on its east or on its north first (this project's order). Where memory runs out the
     /// vector is as it was.
     pub fn write(&self, out: &mut Vec<u8>) -> Result<(), AllocError>
-        ensures ok { OnOk result ((text : List ℕ) × IsNotesText self.now text × (out.new.items ≡ out.old.items ++ text)) }
+        ensures ok { OnOk result (AppendsNotes self.now out.old.items out.new.items) }
         ensures err { OnErr result (out.new.items ≡ out.old.items) }
     {
         let written = out.len();

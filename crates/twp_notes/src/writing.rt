@@ -1,9 +1,9 @@
-ghost use Rattle.std.specs.Prelude.{◌≡◌, ◌≢◌, ℕ, ◌<◌, ◌∷◌, [], ◌++◌, List, length, map, OnOk, OnErr};
+ghost use Rattle.std.specs.Prelude.{◌≡◌, ◌<◌, ◌∷◌, [], ◌++◌, map, OnOk, OnErr};
 ghost use Rattle.twp_grid.specs.Winding.{SECTIONS_ACROSS};
 ghost use Rattle.twp_grid.specs.Lines.{LINES_ACROSS, north_run, west_run};
 ghost use Rattle.twp_notes.specs.Records.{Fields};
 ghost use Rattle.twp_notes.specs.FieldNotes.{run_text, north_south_text, east_west_text};
-ghost use Rattle.twp_notes.specs.NotesTexts.{field_text, record_text, township_fields, AreNames, AreLineFields, IsNotesText, BeginsWith, neighbour_text};
+ghost use Rattle.twp_notes.specs.NotesTexts.{field_text, record_text, township_fields, AreNames, AreLineFields, AppendsNotes, BeginsWith, neighbour_text};
 
 use crate::fields::FIELDS;
 use crate::notes::Notes;
@@ -48,7 +48,7 @@ pub struct Names {
 
 /// Appends the text of notes. Where memory runs out a front of it is left.
 pub fn write_notes(notes: &Notes, out: &mut Vec<u8>) -> Result<(), AllocError>
-    ensures ok { OnOk result ((text : List ℕ) × IsNotesText notes.now text × (out.new.items ≡ out.old.items ++ text)) }
+    ensures ok { OnOk result (AppendsNotes notes.now out.old.items out.new.items) }
     ensures err { OnErr result (BeginsWith out.old.items out.new.items) }
 {
     out.extend_from_slice(b"line,between,and,quarter,corner\n")?;
