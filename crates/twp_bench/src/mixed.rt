@@ -8,6 +8,7 @@ pub struct Mixed {
 }
 
 impl Mixed {
+    /// The same ones each time.
     pub fn new() -> Mixed {
         Mixed { state: 1796 }
     }

@@ -1,5 +1,5 @@
 -- What the code computes of lots is what the table has. The finitely many cases are computed.
-use Rattle.std.proofs.Common.{◌≡◌, ◌==◌, ℕ, zero, suc, ◌+◌, ◌-◌, ◌<◌, ◌&&◌, ◌||◌, ◌⊎◌, Bool, true, false, List, [], ◌∷◌, Option, Some, None, refl, ap, inl, inr, arith, if◌then◌else◌, find, nat_le, nat_lt}
+use Rattle.std.proofs.Common.{◌≡◌, ◌==◌, ℕ, zero, suc, ◌+◌, ◌-◌, ◌<◌, ◌&&◌, ◌||◌, ◌⊎◌, ◌↔◌, Bool, true, false, List, [], ◌∷◌, Option, Some, None, refl, ap, inl, inr, arith, if◌then◌else◌, find, nat_le, nat_lt}
 use Rattle.std.specs.List.{list_all}
 use Rattle.std.proofs.lemmas.Bool.{cases_lt, eqb-true, ne_eqb, and_parts}
 use Rattle.std.proofs.lemmas.Bool.Decides.{nat_tests}
@@ -140,3 +140,47 @@ position_of_lot_is s n range = elim (cases_lt n 8) [
       let none : position_by_code s n ≡ None = grind (arith, nat_tests) in
       rw (none_over s n lots lots_within (omega arith), none) refl
 ]
+
+-- a lot's position leads back to the lot, and a position's lot to the position
+abbrev leads_to_lot : ℕ → ℕ → Option (ℕ × ℕ) → Bool
+leads_to_lot s n None = true
+leads_to_lot s n (Some p) = same_number (lot_at_position s p.0 p.1) (Some n)
+
+abbrev leads_to_position : ℕ → ℕ → ℕ → Option ℕ → Bool
+leads_to_position s c r None = true
+leads_to_position s c r (Some n) = same_pair (position_of_lot s n) (Some (c, r))
+
+to_lot_test : each 37 (λ s. each 8 (λ n. (s == 0) || leads_to_lot s n (position_of_lot s n))) ≡ true
+unfolding each position_of_lot lot_at_position lots
+to_lot_test = refl
+
+to_position_test : each 37 (λ s. each 4 (λ c. each 4 (λ r. (s == 0) || leads_to_position s c r (lot_at_position s c r)))) ≡ true
+unfolding each position_of_lot lot_at_position lots
+to_position_test = refl
+
+no_lot_over : (s n : ℕ) → 7 < n → position_of_lot s n ≡ None
+unfolding position_of_lot
+no_lot_over s n over = rw (none_over s n lots lots_within over) refl
+
+lot_of_position : (s c r n : ℕ) → IsSection s → position_of_lot s n ≡ Some (c, r) → lot_at_position s c r ≡ Some n
+lot_of_position s c r n range is = elim (cases_lt n 8) [
+  | inl below ↦
+      let test = either (s == 0) _ (each_at 8 _ n (each_at 37 (λ s. each 8 (λ n. (s == 0) || leads_to_lot s n (position_of_lot s n))) s to_lot_test (omega (arith, range.1))) below) (a_section s range) in
+      same_number_tells _ _ (rw is at test)
+  | inr over ↦ let none = no_lot_over s n (omega arith) in absurd (cc (none, is))
+]
+
+position_of_its_lot : (s c r n : ℕ) → IsSection s → lot_at_position s c r ≡ Some n → position_of_lot s n ≡ Some (c, r)
+position_of_its_lot s c r n range is = elim (cases_lt c 4) [
+  | inl in-c ↦ elim (cases_lt r 4) [
+    | inl in-r ↦
+        let test = either (s == 0) _ (each_of_three 37 4 4 (λ s c r. (s == 0) || leads_to_position s c r (lot_at_position s c r)) s c r to_position_test (omega (arith, range.1)) in-c in-r) (a_section s range) in
+        same_pair_tells _ _ (rw is at test)
+    | inr out ↦ let none = lot_outside s c r (inr (omega arith)) in absurd (cc (none, is))
+  ]
+  | inr out ↦ let none = lot_outside s c r (inl (omega arith)) in absurd (cc (none, is))
+]
+
+-- lots and the positions that they fill match
+pub lots_match : (s c r n : ℕ) → IsSection s → (lot_at_position s c r ≡ Some n) ↔ (position_of_lot s n ≡ Some (c, r))
+lots_match s c r n range = (position_of_its_lot s c r n range, lot_of_position s c r n range)

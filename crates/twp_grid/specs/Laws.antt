@@ -1,8 +1,8 @@
 -- Laws over the definitions.
-use Rattle.std.specs.Prelude.{List, Option, false, length, true, ℕ, ◌&&◌, ◌+◌, ◌-◌, ◌^◌, ◌↔◌, ◌≡◌, ◌≤◌, ◌⊎◌}
+use Rattle.std.specs.Prelude.{List, Option, Some, false, length, true, ℕ, ◌&&◌, ◌+◌, ◌-◌, ◌^◌, ◌↔◌, ◌≡◌, ◌≤◌, ◌⊎◌}
 use Rattle.twp_grid.specs.Winding.{IsSection, StandsAt}
 use Rattle.twp_grid.specs.Lines.{IsLineOf}
-use Rattle.twp_grid.specs.Lots.{POSITIONS_ACROSS, IsPosition}
+use Rattle.twp_grid.specs.Lots.{POSITIONS_ACROSS, IsPosition, lot_at_position, position_of_lot}
 use Rattle.twp_grid.specs.Places.{places_across, IsPlace, position_along, binary, begins}
 use Rattle.twp_grid.specs.Spans.{in_rectangle, position_block}
 use Rattle.twp_grid.specs.Cuts.{Cut, rows_asked, columns_asked, AreWithin, reached}
@@ -49,6 +49,11 @@ abbrev pub OneLotOrRegular : Type 0
 OneLotOrRegular = (section column row : ℕ) → IsSection section → IsPosition column row
     → ((lots_filling section column row ≡ 1) × (is_regular section column row ≡ false))
     ⊎ ((lots_filling section column row ≡ 0) × (is_regular section column row ≡ true))
+
+-- the lot at a position is the lot that fills it
+abbrev pub LotsMatchPositions : Type 0
+LotsMatchPositions = (section column row number : ℕ) → IsSection section
+    → (lot_at_position section column row ≡ Some number) ↔ (position_of_lot section number ≡ Some (column, row))
 
 -- a section's lots and regular positions hold each of its places once
 abbrev pub HeldOnce : Type 0

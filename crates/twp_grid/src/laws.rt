@@ -1,7 +1,7 @@
 //! What holds of the grid as it is defined: each law is a contract, and its function has nothing to do.
 ghost use Rattle.twp_grid.specs.Laws.{OneStanding, OneSection, OneLine};
 ghost use Rattle.twp_grid.specs.Laws.{HoldsWhatIsAsked, HalvesAsAsked};
-ghost use Rattle.twp_grid.specs.Laws.{OnePosition, OneLotOrRegular, HeldOnce};
+ghost use Rattle.twp_grid.specs.Laws.{OnePosition, OneLotOrRegular, LotsMatchPositions, HeldOnce};
 
 /// A section stands at one row and column.
 #[tactic(auto, using(crate::proofs::WindingFacts::same_standing))]
@@ -46,6 +46,12 @@ pub fn one_position()
 #[tactic(auto, using(crate::proofs::TilingFacts::lot_or_regular))]
 pub fn one_lot_or_regular()
     ensures { OneLotOrRegular }
+{}
+
+/// The lot at a position of a section is the lot that fills it.
+#[tactic(auto, using(crate::proofs::LotFacts::lots_match))]
+pub fn lots_match_positions()
+    ensures { LotsMatchPositions }
 {}
 
 /// A section's lots and regular positions hold each of its places once.
