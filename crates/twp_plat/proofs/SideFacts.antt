@@ -5,7 +5,7 @@ use Rattle.std.proofs.lemmas.Bool.Decides.{nat_tests}
 use Rattle.std.specs.Option.{SomeIff}
 use Rattle.twp_grid.specs.Winding.{StandsAt}
 use Rattle.twp_grid.proofs.WindingFacts.{same_standing}
-use Rattle.twp_grid.specs.Lines.{IsClosing, AreSides, north_run, west_run}
+use Rattle.twp_grid.specs.Lines.{IsLine, IsClosing, AreSides, north_run, west_run}
 use Rattle.twp_plat.specs.Closing.{QUARTER_MILE}
 use Rattle.twp_plat.specs.Plats.{TownshipPlat, IsPlat, closing_quarter_of, ClosingQuarters, AreClosingQuarters, HaveRegularLines, AreInLimits}
 use Rattle.twp_plat.specs.Pieces.{line_length, over_of}
