@@ -7,3 +7,4 @@ pub mod PieceFacts
 pub mod FaultFacts
 pub mod OneAnswer
 pub mod PlatPieces
+mod WorkedPieces

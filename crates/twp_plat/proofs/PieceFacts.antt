@@ -10,10 +10,10 @@ use Rattle.twp_plat.proofs.FormulaFacts.{piece_is_formula, piece_terms}
 use Rattle.twp_plat.proofs.RatioFacts.{parts_of_whole}
 use Rattle.twp_plat.proofs.WholeFacts.{whole_piece}
 
--- what runs straight, at two distances from its start
-pub both_lengths_are : (start end length ends s e : ℕ) → ends ≤ 2 * length → s ≡ start → e ≡ end
+-- twice the mean of what runs straight, between two points
+pub doubled_mean_is : (start end length ends s e : ℕ) → ends ≤ 2 * length → s ≡ start → e ≡ end
     → pos (s * (2 * length - ends) + e * ends) ≡ pos (2 * start * length) +ℤ (pos end -ℤ pos start) *ℤ pos ends
-both_lengths_are start end length ends s e within s_is e_is =
+doubled_mean_is start end length ends s e within s_is e_is =
     let total : 2 * length - ends + ends ≡ 2 * length = omega arith in
     let twice : start * (2 * length - ends + ends) ≡ 2 * start * length = rw total (omega arith) in
     rw (s_is, e_is, sym twice) (weighted start end (2 * length - ends) ends)

@@ -4,6 +4,7 @@
 use Rattle.std.specs.Prelude.{ℕ, ◌+◌, ◌*◌, List, [], ◌∷◌, take, slice_index_or, pos, ◌-ℤ◌, ◌*ℤ◌}
 use Rattle.std.specs.List.{sum}
 use Rattle.twp_measure.specs.Areas.{Fraction}
+use Rattle.twp_grid.specs.Winding.{SECTIONS_ACROSS, WESTERN_COLUMN}
 use Rattle.twp_grid.specs.Lines.{north_run, west_run}
 use Rattle.twp_plat.specs.Closing.{QUARTER_MILE, CLOSING_MOST}
 use Rattle.twp_plat.specs.Plats.{TownshipPlat, closing_quarter_of, ClosingQuarters, AreClosingQuarters}
@@ -71,8 +72,8 @@ divisor_of q = 4 * line_length q.north * line_length q.west
 -- first tier, and whose west line is the westernmost of the first row.
 unfoldable pub over_of : TownshipPlat → ℕ
 over_of plat =
-    4 * line_length (closing_quarter_of plat (west_run 0 5))
-    * line_length (closing_quarter_of plat (north_run 0 6))
+    4 * line_length (closing_quarter_of plat (west_run 0 WESTERN_COLUMN))
+    * line_length (closing_quarter_of plat (north_run 0 SECTIONS_ACROSS))
 
 -- the most that it can be
 abbrev pub OVER_MOST : ℕ

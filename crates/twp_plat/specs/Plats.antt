@@ -1,6 +1,6 @@
 -- The plat that field notes make: the township, and the closing quarters of its lines.
 use Rattle.std.specs.Prelude.{◌≡◌, ℕ, ◌≤◌, ◌⊎◌, List, [], ◌∷◌, length, slice_index_or}
-use Rattle.twp_grid.specs.Lines.{IsLine, IsClosing, AreSides}
+use Rattle.twp_grid.specs.Lines.{LINE_COUNT, IsLine, IsClosing, AreSides}
 use Rattle.twp_grid.specs.Townships.{Designation}
 use Rattle.twp_notes.specs.FieldNotes.{FieldNotes, returned_of}
 use Rattle.twp_plat.specs.Closing.{QUARTER_MILE, CLOSING_LEAST, CLOSING_MOST, MakesPlat, IsClosingQuarter}
@@ -20,7 +20,7 @@ pub record IsPlatOf (notes : FieldNotes) (plat : TownshipPlat) : Type 0 where
   pub township_is : plat.township ≡ notes.township
   pub closing : (line : ℕ) → IsLine line
       → IsClosingQuarter line (returned_of notes line) (closing_quarter_of plat line)
-  pub lines : length plat.closing_quarters ≡ 84
+  pub lines : length plat.closing_quarters ≡ LINE_COUNT
 
 -- a closing quarter of a line on some plat
 pub record IsQuarterOnPlat (line quarter : ℕ) : Type 0 where
@@ -30,7 +30,7 @@ pub record IsQuarterOnPlat (line quarter : ℕ) : Type 0 where
 
 -- what holds of every plat, whatever its notes
 pub record IsPlat (plat : TownshipPlat) : Type 0 where
-  pub lines : length plat.closing_quarters ≡ 84
+  pub lines : length plat.closing_quarters ≡ LINE_COUNT
   pub within : (line : ℕ) → IsLine line → IsQuarterOnPlat line (closing_quarter_of plat line)
 
 -- the closing quarters of a section's east, west, north and south lines

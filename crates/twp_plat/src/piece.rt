@@ -46,14 +46,15 @@ impl SideQuarters {
         self.parts(column, row) / self.divisor()
     }
 
-    /// The area of a position, as so many parts of a unit: the sum of its widths times that of its heights.
+    /// The area of a position in parts of a unit: four times its mean width times its mean height, times
+    /// the lengths of the lines along which these run.
     pub fn parts(self, column: u8, row: u8) -> u64
         requires column { column < 4 }
         requires row { row < 4 }
         ensures piece { IsSame (piece self column row) (ratio (pos result) (divisor_of self)) }
         ensures most { result ≤ CLOSING_MOST * CLOSING_MOST * divisor_of self }
     {
-        self.both_widths(column, row) * self.both_heights(column, row)
+        self.doubled_width(column, row) * self.doubled_height(column, row)
     }
 
     /// How many parts make a unit.
@@ -61,37 +62,37 @@ impl SideQuarters {
         ensures value { result ≡ divisor_of self }
         ensures range { 0 < result }
     {
-        4 * self.north_length() * self.west_length()
+        4 * self.north_line() * self.west_line()
     }
 
-    /// The widths of a position at its south and at its north, times the west line's length.
-    fn both_widths(self, column: u8, row: u8) -> u64
+    /// Twice the mean width of a position, times the west line's length.
+    fn doubled_width(self, column: u8, row: u8) -> u64
         requires { row < 4 }
         ensures value { pos result ≡ both_widths self column row }
         ensures most { result ≤ 2 * CLOSING_MOST * west_length self }
     {
-        let length = self.west_length();
+        let length = self.west_line();
         if column != 3 {
             return 2 * QUARTER * length;
         }
-        both_lengths(self.south, self.north, length, both_ends(length, row))
+        doubled_mean(self.south, self.north, length, doubled_middle(length, row))
     }
 
-    /// The heights of a position at its east and at its west, times the north line's length.
-    fn both_heights(self, column: u8, row: u8) -> u64
+    /// Twice the mean height of a position, times the north line's length.
+    fn doubled_height(self, column: u8, row: u8) -> u64
         requires { column < 4 }
         ensures value { pos result ≡ both_heights self column row }
         ensures most { result ≤ 2 * CLOSING_MOST * north_length self }
     {
-        let length = self.north_length();
+        let length = self.north_line();
         if row != 3 {
             return 2 * QUARTER * length;
         }
-        both_lengths(self.east, self.west, length, both_ends(length, column))
+        doubled_mean(self.east, self.west, length, doubled_middle(length, column))
     }
 
     /// The length of the west line.
-    fn west_length(self) -> u64
+    fn west_line(self) -> u64
         ensures value { result ≡ west_length self }
         ensures range { (line_length 0 ≤ result) × (result ≤ line_length CLOSING_MOST) }
     {
@@ -99,7 +100,7 @@ impl SideQuarters {
     }
 
     /// The length of the north line.
-    fn north_length(self) -> u64
+    fn north_line(self) -> u64
         ensures value { result ≡ north_length self }
         ensures range { (line_length 0 ≤ result) × (result ≤ line_length CLOSING_MOST) }
     {
@@ -107,8 +108,8 @@ impl SideQuarters {
     }
 }
 
-/// The distances of a quarter mile's two ends from the start of its line, added up.
-fn both_ends(length: u64, number: u8) -> u64
+/// Twice the distance of a quarter mile's middle from the start of a line of this length.
+fn doubled_middle(length: u64, number: u8) -> u64
     requires length { (line_length 0 ≤ length) × (length ≤ line_length CLOSING_MOST) }
     requires number { number < 4 }
     ensures value { result ≡ both_ends length number }
@@ -121,15 +122,15 @@ fn both_ends(length: u64, number: u8) -> u64
     }
 }
 
-/// A width or a height runs straight from `start` to `end` along a line: what it is at two distances that
-/// add up to `ends`, added up and times the line's length.
-fn both_lengths(start: u32, end: u32, length: u64, ends: u64) -> u64
+/// Twice the mean of a width or a height between two points of a line along which it runs straight, from
+/// `start` to `end`, times the line's length. The middle is the points' distance from the line's start.
+fn doubled_mean(start: u32, end: u32, length: u64, doubled_middle: u64) -> u64
     requires start { start ≤ CLOSING_MOST }
     requires end { end ≤ CLOSING_MOST }
     requires length { length ≤ line_length CLOSING_MOST }
-    requires ends { ends ≤ 2 * length }
-    ensures value { pos result ≡ pos (2 * start * length) +ℤ (pos end -ℤ pos start) *ℤ pos ends }
+    requires middle { doubled_middle ≤ 2 * length }
+    ensures value { pos result ≡ pos (2 * start * length) +ℤ (pos end -ℤ pos start) *ℤ pos doubled_middle }
     ensures most { result ≤ 2 * CLOSING_MOST * length }
 {
-    u64::from(start) * (2 * length - ends) + u64::from(end) * ends
+    u64::from(start) * (2 * length - doubled_middle) + u64::from(end) * doubled_middle
 }

@@ -45,7 +45,7 @@ impl Plat {
         ensures { AnswersPlat notes.now result }
     {
         let mut closing_quarters = [0; LINES];
-        for index in 0..84u8 {
+        for index in 0..LINES as u8 {
             let line = Line::at_index(index).unwrap();
             closing_quarters[usize::from(index)] = closing_quarter(line, notes.line(line))?;
         }
