@@ -1,7 +1,7 @@
 use super::*;
 use crate::joined::run_joined;
 use std::test::Fail;
-use twp_grid::{Bytes, Device, EastWest, NorthSouth, Refusal, Township};
+use twp_grid::{Bytes, Device, EastWest, Line, NorthSouth, Refusal, Township};
 use twp_measure::Length;
 use twp_notes::{Notes, Returned};
 
@@ -11,7 +11,7 @@ mod devices;
 const NOTHING_YET: Refusal = Refusal { number: 99, at: 0 };
 
 /// A line's index, and the distances to its quarter corner and to its end.
-type Change = (usize, &'static str, &'static str);
+type Change = (u8, &'static str, &'static str);
 
 /// What differs in the uneven township from lines of 40 and 80 chains.
 const UNEVEN: [Change; 6] = [
@@ -28,7 +28,8 @@ fn notes_of(alloc: Global, changes: &[Change]) -> Result<Vec<u8>, Fail> {
     let township = Township::new(2, NorthSouth::N, 3, EastWest::W).ok_or("numbers to 99")?;
     let mut lines = [returned("40", "80")?; 84];
     for (index, quarter, corner) in changes {
-        lines[*index] = returned(quarter, corner)?;
+        let line = Line::at_index(*index).ok_or("a line's index")?;
+        lines[usize::from(line.index())] = returned(quarter, corner)?;
     }
     let mut text = Vec::new(alloc);
     Notes::new(township, lines).write(&mut text)?;
@@ -113,7 +114,7 @@ fn refuses_notes_that_make_no_plat(rt: HostRuntime) -> Result<(), Fail> {
         let (index, _, _) = change;
         let notes = notes_of(alloc, &[change])?;
         let answer = answer_to(alloc, notes.as_slice(), "sec. 5, lot 1.")?;
-        assert_eq!(rt; answer, refused(alloc, number, index as u32)?);
+        assert_eq!(rt; answer, refused(alloc, number, u32::from(index))?);
     }
     Ok(())
 }

@@ -5,7 +5,7 @@ use crate::verdict::{RunFault, Verdict};
 use std::io;
 use std::io::{Error, ErrorKind, Read, Write};
 use std::test::Fail;
-use twp_grid::{Bytes, Device, DeviceFault, Refusal, Source};
+use twp_grid::{Bytes, Device, DeviceFault, Refusal, Sink, Source};
 
 // Gives its bytes, at most so many a call, or spaces without end, and counts what it gave.
 #[derive(Drop)]
