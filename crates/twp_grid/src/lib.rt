@@ -2,6 +2,7 @@
 //! sections, its designation; and the devices that bytes are read from and written to.
 #![tactic(auto)]
 
+mod block;
 mod device;
 pub mod laws;
 mod line;
@@ -10,6 +11,7 @@ mod refusal;
 mod section;
 mod township;
 
+pub use block::{Corner, Side};
 pub use device::{Bytes, Device, DeviceFault, Sink, Source};
 pub use line::{Line, Run, sides};
 pub use lot::{lot_at, lot_count, lot_place};
