@@ -1,0 +1,6 @@
+pub mod Tokens
+pub mod Grammar
+pub mod Items
+pub mod Sentences
+pub mod Machine
+pub mod Laws

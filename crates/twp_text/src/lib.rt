@@ -1,0 +1,8 @@
+//! Descriptions of land: the tokens that their bytes are cut into, the grammar, the items that a sentence
+//! of it names, and why a text is no sentence.
+#![tactic(auto)]
+
+mod item;
+mod kind;
+pub mod laws;
+mod state;
