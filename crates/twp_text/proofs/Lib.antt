@@ -1,1 +1,2 @@
 pub mod Derivatives
+pub mod Table
