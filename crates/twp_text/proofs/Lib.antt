@@ -1,2 +1,3 @@
 pub mod Derivatives
+pub mod NewestItem
 pub mod Table

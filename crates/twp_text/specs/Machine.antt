@@ -1,6 +1,20 @@
--- What may follow a beginning of a sentence: the machine that the reader runs. No public promise speaks of it;
--- proofs/Derivatives shows that it is the grammar's.
-use Rattle.std.specs.Prelude.{Bool, true, false, Option, Some, None}
+-- The machine that the reader runs: what may follow a beginning of a sentence, and what each token does to the
+-- items. No public promise speaks of it; proofs/Table and proofs/Walk show that it is the grammar's.
+use Rattle.std.specs.Prelude.{ℕ, Bool, true, false, List, [], ◌∷◌, ◌++◌, Option, Some, None}
+use Rattle.twp_grid.specs.declared.township.NorthSouth.{NorthSouth as NorthOrSouth}
+use Rattle.twp_grid.specs.declared.township.NorthSouth.TheVariants as ns
+use Rattle.twp_grid.specs.declared.township.EastWest.{EastWest as EastOrWest}
+use Rattle.twp_grid.specs.declared.township.EastWest.TheVariants as ew
+use Rattle.twp_text.specs.declared.kind.Kind.{Kind}
+use Rattle.twp_text.specs.declared.kind.Kind.TheVariants as kind
+use Rattle.twp_text.specs.declared.item.Numeral.{Numeral}
+use Rattle.twp_text.specs.declared.item.Step.{Step}
+use Rattle.twp_text.specs.declared.item.Step.TheVariants.{Half, Quarter}
+use Rattle.twp_text.specs.declared.item.Item.{Item}
+use Rattle.twp_text.specs.declared.item.Item.TheVariants as item
+use Rattle.twp_text.specs.declared.items.Change.{Change}
+use Rattle.twp_text.specs.declared.items.Change.TheVariants as change
+use Rattle.twp_text.specs.Items.{north_or_south, east_or_west}
 use Rattle.twp_text.specs.declared.state.State.{State}
 use Rattle.twp_text.specs.declared.state.State.TheVariants.{Start, Heading, BeforeGroup, Semicolon, Section, Sections, SectionsColon, SectionsAll, Lot, Lots, Parts, End}
 use Rattle.twp_text.specs.declared.state.HeadingState.{HeadingState}
@@ -175,3 +189,66 @@ is_final (Parts part.Step) = true
 is_final (Parts part.All) = true
 is_final End = true
 is_final _ = false
+
+-- an item with what a token says of it
+abbrev pub changed : Change → Item → Item
+changed (change.TownshipNumber n) (item.Heading _ side range way at) = item.Heading n side range way at
+changed (change.TownshipSide side) (item.Heading n _ range way at) = item.Heading n side range way at
+changed (change.RangeNumber range) (item.Heading n side _ way at) = item.Heading n side range way at
+changed (change.RangeSide way) (item.Heading n side range _ at) = item.Heading n side range way at
+changed (change.Last last) (item.Sections first _ whole) = item.Sections first last whole
+changed (change.Last last) (item.Lots first _) = item.Lots first last
+changed change.Parted (item.Sections first last _) = item.Sections first last false
+changed (change.Grown step) (item.Chain steps at) = item.Chain (steps ++ step ∷ []) at
+changed _ it = it
+
+-- items are listed here with the newest first
+abbrev pub with_newest : Change → List Item → List Item
+with_newest change [] = []
+with_newest change (it ∷ items) = changed change it ∷ items
+
+-- a first part makes its section one that isn't whole
+abbrev pub before_parts : State → List Item → List Item
+before_parts (Section state) items = with_newest change.Parted items
+before_parts _ items = items
+
+abbrev pub take_step : State → Step → ℕ → List Item → List Item
+take_step (Parts part.Step) step at items = with_newest (change.Grown step) items
+take_step (Parts part.Of) step at items = with_newest (change.Grown step) items
+take_step (Parts part.OfThe) step at items = with_newest (change.Grown step) items
+take_step state step at items = item.Chain (step ∷ []) at ∷ before_parts state items
+
+abbrev pub take_north_south : State → NorthOrSouth → ℕ → List Item → List Item
+take_north_south (Heading state) side at items = with_newest (change.TownshipSide side) items
+take_north_south state side at items = take_step state (Half (north_or_south side)) at items
+
+abbrev pub take_east_west : State → EastOrWest → ℕ → List Item → List Item
+take_east_west (Heading state) side at items = with_newest (change.RangeSide side) items
+take_east_west state side at items = take_step state (Half (east_or_west side)) at items
+
+abbrev pub take_number : State → Numeral → List Item → List Item
+take_number (Heading Range) n items = with_newest (change.RangeNumber n.value) items
+take_number (Heading RangeStop) n items = with_newest (change.RangeNumber n.value) items
+take_number (Heading _) n items = with_newest (change.TownshipNumber n.value) items
+take_number (Sections To) n items = with_newest (change.Last n) items
+take_number (Lots To) n items = with_newest (change.Last n) items
+take_number (Lots _) n items = item.Lots n n ∷ items
+take_number Lot n items = item.Lots n n ∷ items
+take_number _ n items = item.Sections n n true ∷ items
+
+abbrev pub take_all : State → ℕ → List Item → List Item
+take_all (Sections state) at items = items
+take_all SectionsColon at items = items
+take_all state at items = item.All at ∷ before_parts state items
+
+-- the items with one more token
+abbrev pub take_token : State → Kind → ℕ → List Item → List Item
+take_token state kind.T at items = item.Heading 0 ns.N 0 ew.E at ∷ items
+take_token state (kind.NorthSouth side) at items = take_north_south state side at items
+take_token state (kind.EastWest side) at items = take_east_west state side at items
+take_token state (kind.Corner which) at items = take_step state (Quarter which) at items
+take_token state (kind.Number value) at items = take_number state (record { value = value; at = at }) items
+take_token state kind.Lot at items = before_parts state items
+take_token state kind.Colon at items = before_parts state items
+take_token state kind.All at items = take_all state at items
+take_token state _ at items = items

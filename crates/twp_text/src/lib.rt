@@ -3,6 +3,7 @@
 #![tactic(auto)]
 
 mod item;
+mod items;
 mod kind;
 pub mod laws;
 mod state;
