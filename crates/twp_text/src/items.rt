@@ -1,6 +1,7 @@
-ghost use Rattle.std.specs.Prelude.{◌≡◌, ◌∷◌, [], OnOk, IfOk};
+ghost use Rattle.std.specs.Prelude.{◌≡◌, ◌∷◌, [], OnOk};
+ghost use Rattle.twp_text.specs.Items.{north_or_south, east_or_west};
 
-use crate::item::{Item, Numeral, Step};
+use crate::item::{Item, Numeral, Step, Steps};
 use crate::kind::Kind;
 use crate::state::{HeadingState, ListState, PartState, State};
 use std::alloc::{AllocError, Global};
@@ -73,6 +74,154 @@ impl Items {
             return Ok(());
         };
         item.change(change)
+    }
+
+    /// What a token that may follow in a state does to the items.
+    pub fn take(
+        &mut self,
+        alloc: Global,
+        state: State,
+        kind: Kind,
+        at: u32,
+    ) -> Result<(), AllocError>
+        ensures { OnOk result (self.new ≡ take_token state kind at self.old) }
+    {
+        match kind {
+            Kind::T => self.push(Item::Heading {
+                number: 0,
+                north_south: NorthSouth::N,
+                range: 0,
+                east_west: EastWest::E,
+                at,
+            }),
+            Kind::NorthSouth(side) => self.take_north_south(alloc, state, side, at),
+            Kind::EastWest(side) => self.take_east_west(alloc, state, side, at),
+            Kind::Corner(corner) => self.take_step(alloc, state, Step::Quarter(corner), at),
+            Kind::Number(value) => self.take_number(state, Numeral { value, at }),
+            Kind::Lot => self.before_parts(state),
+            Kind::Colon => self.before_parts(state),
+            Kind::All => self.take_all(state, at),
+            _ => Ok(()),
+        }
+    }
+
+    /// The side of a township, or a half.
+    fn take_north_south(
+        &mut self,
+        alloc: Global,
+        state: State,
+        side: NorthSouth,
+        at: u32,
+    ) -> Result<(), AllocError>
+        ensures { OnOk result (self.new ≡ take_north_south state side at self.old) }
+    {
+        match state {
+            State::Heading(_) => self.change(Change::TownshipSide(side)),
+            _ => self.take_step(alloc, state, Step::Half(north_or_south(side)), at),
+        }
+    }
+
+    /// The side of a range, or a half.
+    fn take_east_west(
+        &mut self,
+        alloc: Global,
+        state: State,
+        side: EastWest,
+        at: u32,
+    ) -> Result<(), AllocError>
+        ensures { OnOk result (self.new ≡ take_east_west state side at self.old) }
+    {
+        match state {
+            State::Heading(_) => self.change(Change::RangeSide(side)),
+            _ => self.take_step(alloc, state, Step::Half(east_or_west(side)), at),
+        }
+    }
+
+    /// A step: of the chain, where one stands before it, and else the first of a chain.
+    fn take_step(
+        &mut self,
+        alloc: Global,
+        state: State,
+        step: Step,
+        at: u32,
+    ) -> Result<(), AllocError>
+        ensures { OnOk result (self.new ≡ take_step state step at self.old) }
+    {
+        match state {
+            State::Parts(PartState::Step | PartState::Of | PartState::OfThe) => {
+                self.change(Change::Grown(step))
+            }
+            _ => {
+                let steps = Steps::one(alloc, step)?;
+                self.before_parts(state)?;
+                self.push(Item::Chain { steps, at })
+            }
+        }
+    }
+
+    /// A number of the heading, the first or the last number of a range of sections or lots.
+    fn take_number(&mut self, state: State, number: Numeral) -> Result<(), AllocError>
+        ensures { OnOk result (self.new ≡ take_number state number self.old) }
+    {
+        match state {
+            State::Heading(HeadingState::Range | HeadingState::RangeStop) => {
+                self.change(Change::RangeNumber(number.value))
+            }
+            State::Heading(_) => self.change(Change::TownshipNumber(number.value)),
+            State::Sections(ListState::To) | State::Lots(ListState::To) => {
+                self.change(Change::Last(number))
+            }
+            State::Lots(_) | State::Lot => self.push(Item::Lots {
+                first: number,
+                last: number,
+            }),
+            _ => self.push(Item::Sections {
+                first: number,
+                last: number,
+                whole: true,
+            }),
+        }
+    }
+
+    /// All of a section is a part. Behind several sections, which are whole, it says nothing new.
+    fn take_all(&mut self, state: State, at: u32) -> Result<(), AllocError>
+        ensures { OnOk result (self.new ≡ take_all state at self.old) }
+    {
+        match state {
+            State::Sections(_) | State::SectionsColon => Ok(()),
+            _ => {
+                self.before_parts(state)?;
+                self.push(Item::All { at })
+            }
+        }
+    }
+
+    /// The first part of a section makes it one that isn't whole.
+    fn before_parts(&mut self, state: State) -> Result<(), AllocError>
+        ensures { OnOk result (self.new ≡ before_parts state self.old) }
+    {
+        match state {
+            State::Section(_) => self.change(Change::Parted),
+            _ => Ok(()),
+        }
+    }
+}
+
+fn north_or_south(side: NorthSouth) -> Side
+    ensures { result ≡ north_or_south side }
+{
+    match side {
+        NorthSouth::N => Side::N,
+        NorthSouth::S => Side::S,
+    }
+}
+
+fn east_or_west(side: EastWest) -> Side
+    ensures { result ≡ east_or_west side }
+{
+    match side {
+        EastWest::E => Side::E,
+        EastWest::W => Side::W,
     }
 }
 
