@@ -1,3 +1,4 @@
 pub mod Derivatives
 pub mod NewestItem
 pub mod Table
+pub mod Walk
