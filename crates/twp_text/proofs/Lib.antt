@@ -2,3 +2,5 @@ pub mod Derivatives
 pub mod NewestItem
 pub mod Table
 pub mod Walk
+pub mod Reading
+pub mod Several

@@ -1,5 +1,5 @@
 -- The machine is the grammar's: in each state what it takes is what the grammar leaves to be read there.
-use Rattle.std.proofs.Common.{◌≡◌, ◌==◌, ℕ, ◌<◌, ◌≤◌, Bool, true, false, cond, ◌&&◌, List, [], ◌∷◌, ◌++◌, Option, Some, None, length, get_or, refl, sym, ap, subst, ◌∙◌, arith}
+use Rattle.std.proofs.Common.{◌≡◌, ◌==◌, ℕ, zero, suc, ◌<◌, ◌≤◌, Bool, true, false, cond, ◌&&◌, List, [], ◌∷◌, ◌++◌, Option, Some, None, length, get_or, refl, sym, ap, subst, ◌∙◌, arith}
 use Rattle.std.specs.List.{list_all}
 use Rattle.twp_text.specs.declared.state.State.{State}
 use Rattle.twp_text.specs.declared.state.State.TheVariants.{Start, Heading, BeforeGroup, Semicolon, Section, Sections, SectionsColon, SectionsAll, Lot, Lots, Parts, End}
@@ -8,7 +8,7 @@ use Rattle.twp_text.specs.declared.state.SectionState.TheVariants as section
 use Rattle.twp_text.specs.declared.state.ListState.TheVariants.{Number, To, Last, Inclusive, Comma, LastComma, And}
 use Rattle.twp_text.specs.declared.state.PartState.TheVariants as part
 use Rattle.twp_text.specs.Tokens.{Token}
-use Rattle.twp_text.specs.Grammar.{Class, sec, lot, all, and, to, inclusive, of, the, t, r, north_south, east_west, corner, half, quarter, number, comma, semicolon, colon, stop, class_of, Ebnf, never, nothing, one, ◌⨾◌, ◌∣◌, many, description}
+use Rattle.twp_text.specs.Grammar.{Class, sec, lot, all, and, to, inclusive, of, the, t, r, north_south, east_west, corner, half, quarter, number, comma, semicolon, colon, stop, other, bad_number, bad_byte, class_of, Ebnf, never, nothing, one, ◌⨾◌, ◌∣◌, many, description}
 use Rattle.twp_text.specs.Machine.{next, is_final}
 use Rattle.twp_text.proofs.Derivatives.{classes, place_of_class, class_at_place, same_class, same_class_tells, Derives, is_nullable, after, derives_none, takes_token}
 
@@ -194,3 +194,77 @@ row (Parts part.Comma) = record { edges = refl; end = refl; out = refl; few = om
 row (Parts part.Step) = record { edges = refl; end = refl; out = refl; few = omega arith }
 row (Parts part.Of) = record { edges = refl; end = refl; out = refl; few = omega arith }
 row (Parts part.OfThe) = record { edges = refl; end = refl; out = refl; few = omega arith }
+
+both : (x y : Bool) → (x && y) ≡ true → (x ≡ true) × (y ≡ true)
+both true y h = (refl, h)
+both false y h = cc h
+
+same_tells : (g h : Ebnf) → same g h ≡ true → g ≡ h
+same_tells never never e = refl
+same_tells nothing nothing e = refl
+same_tells (one c) (one d) e = ap (λ x. one x) (same_class_tells c d e)
+same_tells (g ⨾ h) (k ⨾ l) e =
+    let parts = both (same g k) (same h l) e in
+    let left : g ≡ k = same_tells g k parts.0 in
+    let right : h ≡ l = same_tells h l parts.1 in
+    rw (left, right) refl
+same_tells (g ∣ h) (k ∣ l) e =
+    let parts = both (same g k) (same h l) e in
+    let left : g ≡ k = same_tells g k parts.0 in
+    let right : h ≡ l = same_tells h l parts.1 in
+    rw (left, right) refl
+same_tells (many g) (many k) e = ap (λ x. many x) (same_tells g k e)
+same_tells _ _ e = cc e
+
+-- what holds of all classes holds of each
+of_each : (p : Class → Bool) (cs : List Class) (k : ℕ) → list_all p cs ≡ true → k < length cs → p (get_or cs k sec) ≡ true
+of_each p [] k each below = absurd (omega arith)
+of_each p (c ∷ cs) zero each below = (both (p c) (list_all p cs) each).0
+of_each p (c ∷ cs) (suc k) each below = of_each p cs k (both (p c) (list_all p cs) each).1 (omega arith)
+
+in_classes : (c : Class) → place_of_class c < length classes
+in_classes sec = omega arith
+in_classes lot = omega arith
+in_classes all = omega arith
+in_classes and = omega arith
+in_classes to = omega arith
+in_classes inclusive = omega arith
+in_classes of = omega arith
+in_classes the = omega arith
+in_classes t = omega arith
+in_classes r = omega arith
+in_classes north_south = omega arith
+in_classes east_west = omega arith
+in_classes corner = omega arith
+in_classes half = omega arith
+in_classes quarter = omega arith
+in_classes number = omega arith
+in_classes comma = omega arith
+in_classes semicolon = omega arith
+in_classes colon = omega arith
+in_classes stop = omega arith
+in_classes other = omega arith
+in_classes bad_number = omega arith
+in_classes bad_byte = omega arith
+
+of_class : (p : Class → Bool) (c : Class) → list_all p classes ≡ true → p c ≡ true
+of_class p c each = rw class_at_place at (of_each p classes (place_of_class c) each (in_classes c))
+
+-- a token that the machine takes leaves the grammar's derivative
+pub edge : (s s' : State) (c : Class) → next s c ≡ Some s' → after c (rest s) ≡ rest s'
+edge s s' c e =
+    let found : is_edge s c (next s c) ≡ true = of_class (λ d. is_edge s d (next s d)) c (row s).edges in
+    same_tells (after c (rest s)) (rest s') (subst (λ (o : Option State). is_edge s c o ≡ true) e found)
+
+pub end : (s : State) → is_final s ≡ true → is_nullable (rest s) ≡ true
+end s e = subst (λ (x : Bool). is_end s x ≡ true) e (row s).end
+
+pub leads : (s : State) → leads_out (Some s) (way_out s) ≡ true
+leads s = (row s).out
+
+pub few : (s : State) → length (way_out s) ≤ 7
+few s = (row s).few
+
+pub rest_at_start : rest Start ≡ description
+unfolding rest after_all
+rest_at_start = refl

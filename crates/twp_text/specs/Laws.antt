@@ -1,8 +1,14 @@
 -- Laws over the definitions.
-use Rattle.std.specs.Prelude.{◌≡◌, ℕ, List}
+use Rattle.std.specs.Prelude.{◌≡◌, ℕ, ◌↔◌, List, [], ◌∷◌, ◌++◌}
 use Rattle.twp_text.specs.declared.item.Item.{Item}
 use Rattle.twp_text.specs.Tokens.{Token, HasTokens}
-use Rattle.twp_text.specs.Sentences.{HasItems}
+use Rattle.twp_text.specs.Grammar.{entries, several, number}
+use Rattle.twp_text.specs.Items.{Leaf, Tree, token_of, tokens}
+use Rattle.twp_text.specs.Sentences.{HasItems, IsSentence, IsFront}
+
+-- each list of bytes is cut into tokens
+abbrev pub HasTokenList : Type 0
+HasTokenList = (at : ℕ) (bytes : List ℕ) → (tokens : List Token) × HasTokens at bytes tokens
 
 -- bytes are cut into tokens in one way
 abbrev pub OneTokenList : Type 0
@@ -11,3 +17,16 @@ OneTokenList = (at : ℕ) (bytes : List ℕ) (tokens tokens' : List Token) → H
 -- a list of tokens is read as one list of items
 abbrev pub OneItemList : Type 0
 OneItemList = (tokens : List Token) (items items' : List Item) → HasItems tokens items → HasItems tokens items' → items ≡ items'
+
+-- whatever a sentence goes on with, a few tokens would do
+abbrev pub ShortCompletion : Type 0
+ShortCompletion = (tokens more : List Token) → IsSentence (tokens ++ more) → IsFront tokens
+
+-- one number alone
+abbrev pub IsOneNumber : List Token → Type 0
+IsOneNumber ts = (n : Leaf number) × (ts ≡ token_of number n ∷ [])
+
+-- several entries are entries, and not one number alone
+abbrev pub SeveralAreEntries : Type 0
+SeveralAreEntries = (ts : List Token) →
+    ((v : Tree several) × (tokens several v ≡ ts)) ↔ (((v : Tree entries) × (tokens entries v ≡ ts)) × ¬ IsOneNumber ts)
