@@ -4,3 +4,5 @@ pub mod Table
 pub mod Walk
 pub mod Reading
 pub mod Several
+pub mod Numerals
+pub mod WordFacts

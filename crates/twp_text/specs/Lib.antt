@@ -2,5 +2,6 @@ pub mod Tokens
 pub mod Grammar
 pub mod Items
 pub mod Sentences
+pub mod Cutting
 pub mod Machine
 pub mod Laws

@@ -28,20 +28,24 @@ pub record Word : Type 0 where
 abbrev pub word : List ℕ → Kind → Word
 word letters kind = record { letters = letters; kind = kind }
 
--- the words that a description is made of
-abbrev pub words : List Word
-words =
-    word (codes "sec") Sec ∷ word (codes "secs") Sec ∷ word (codes "section") Sec ∷ word (codes "sections") Sec
-    ∷ word (codes "lot") Lot ∷ word (codes "lots") Lot
-    ∷ word (codes "all") All ∷ word (codes "and") And
-    ∷ word (codes "to") To ∷ word (codes "thru") To ∷ word (codes "through") To
-    ∷ word (codes "inclusive") Inclusive ∷ word (codes "of") Of ∷ word (codes "the") The
-    ∷ word (codes "t") T ∷ word (codes "r") R
-    ∷ word (codes "n") (NorthSouth ns.N) ∷ word (codes "s") (NorthSouth ns.S)
-    ∷ word (codes "e") (EastWest ew.E) ∷ word (codes "w") (EastWest ew.W)
+-- the words that a description is made of: those of four letters and more, and those of up to three
+abbrev pub long_words : List Word
+long_words =
+    word (codes "secs") Sec ∷ word (codes "section") Sec ∷ word (codes "sections") Sec ∷ word (codes "lots") Lot
+    ∷ word (codes "thru") To ∷ word (codes "through") To ∷ word (codes "inclusive") Inclusive ∷ []
+
+abbrev pub short_words : List Word
+short_words =
+    word (codes "sec") Sec ∷ word (codes "lot") Lot ∷ word (codes "all") All ∷ word (codes "and") And ∷ word (codes "the") The
+    ∷ word (codes "to") To ∷ word (codes "of") Of
     ∷ word (codes "ne") (Corner corner.NE) ∷ word (codes "nw") (Corner corner.NW)
     ∷ word (codes "sw") (Corner corner.SW) ∷ word (codes "se") (Corner corner.SE)
-    ∷ []
+    ∷ word (codes "n") (NorthSouth ns.N) ∷ word (codes "s") (NorthSouth ns.S)
+    ∷ word (codes "e") (EastWest ew.E) ∷ word (codes "w") (EastWest ew.W)
+    ∷ word (codes "t") T ∷ word (codes "r") R ∷ []
+
+abbrev pub words : List Word
+words = long_words ++ short_words
 
 -- the same bytes
 abbrev pub same_bytes : List ℕ → List ℕ → Bool

@@ -6,4 +6,6 @@ mod item;
 mod items;
 mod kind;
 pub mod laws;
+mod lexeme;
 mod state;
+mod word;
