@@ -1,11 +1,15 @@
 -- Digits and the numbers that they spell.
-use Rattle.std.proofs.Common.{◌≡◌, ℕ, ◌+◌, ◌-◌, ◌*◌, ◌^◌, ◌<◌, ◌≤◌, true, List, [], ◌∷◌, length, take, get_or, refl, ap, sym, ◌∙◌, arith, add-one}
+use Rattle.std.proofs.Common.{◌≡◌, ℕ, ◌+◌, ◌-◌, ◌*◌, ◌^◌, ◌<◌, ◌≤◌, Bool, true, false, cond, one-add, le-leb, inl, inr, List, [], ◌∷◌, length, take, get_or, refl, ap, sym, ◌∙◌, arith, add-one}
 use Rattle.std.specs.Char.{is_ascii_digit, digit_value}
 use Rattle.std.specs.Int.{IsInRange}
 use Rattle.std.specs.Str.{all_ascii_digits}
-use Rattle.std.specs.List.{list_all}
+use Rattle.std.specs.List.{list_all, prefix_len}
+use Rattle.twp_text.specs.declared.kind.Kind.TheVariants.{Number, BadNumber}
+use Rattle.twp_text.specs.Cutting.{lexeme, numeral_of, cut_number}
 use Rattle.std.specs.Str.Parse.{AllDigits, digits_value}
 use Rattle.std.proofs.Math.Nat.{pow-suc}
+use Rattle.std.proofs.Math.Dec.{leb}
+use Rattle.std.proofs.lemmas.Bool.Decides.{leb_tells}
 use Rattle.std.proofs.lemmas.List.{take_more}
 use Rattle.std.proofs.lemmas.Str.{digit_value_digit}
 use Rattle.std.proofs.lemmas.Str.Parse.{IsNumeralModel, numerals_by_value, tells_all_ascii_digits, digit_at}
@@ -39,3 +43,30 @@ one_more_digit digits i v all in_range is small =
     let more = ap (digits_value 10) (take_more digits i 0 in_range) ∙ digits_value_push 10 (take i digits) digit in
     let power : 10 ^ (i + 1) ≡ 10 ^ i * 10 = rw add-one (pow-suc 10 i) in
     record { byte = omega arith; value = omega arith; bound = omega arith }
+
+-- the digits in front of bytes are digits
+one_in_front : (p : ℕ → Bool) (byte : ℕ) (bytes : List ℕ) (x : Bool) → p byte ≡ x → list_all p (take (prefix_len p bytes) bytes) ≡ true → list_all p (take (cond x (1 + prefix_len p bytes) 0) (byte ∷ bytes)) ≡ true
+one_in_front p byte bytes true e more = rw one-add (rw e more)
+one_in_front p byte bytes false e more = refl
+
+all_in_front : (p : ℕ → Bool) (bytes : List ℕ) → list_all p (take (prefix_len p bytes) bytes) ≡ true
+all_in_front p [] = refl
+all_in_front p (byte ∷ bytes) = one_in_front p byte bytes (p byte) refl (all_in_front p bytes)
+
+pub digits_in_front : (bytes : List ℕ) (size : ℕ) → size ≡ prefix_len is_ascii_digit bytes → AllDigits 10 (take size bytes)
+digits_in_front bytes size is = rw is (digits_tested (take (prefix_len is_ascii_digit bytes) bytes) (all_in_front is_ascii_digit bytes))
+
+number_to : (bytes : List ℕ) (size : ℕ) → size ≡ prefix_len is_ascii_digit bytes → numeral_of size bytes ≡ cut_number bytes
+unfolding cut_number
+number_to bytes size is = ap (λ n. numeral_of n bytes) is
+
+pub few_digits : (bytes : List ℕ) (size : ℕ) → size ≡ prefix_len is_ascii_digit bytes → size ≤ 4 → lexeme (Number (digits_value 10 (take size bytes))) size ≡ cut_number bytes
+few_digits bytes size is few =
+    sym (ap (λ x. cond x (lexeme (Number (digits_value 10 (take size bytes))) size) (lexeme BadNumber size)) (le-leb size 4 few)) ∙ number_to bytes size is
+
+pub many_digits : (bytes : List ℕ) (size : ℕ) → size ≡ prefix_len is_ascii_digit bytes → 4 < size → lexeme BadNumber size ≡ cut_number bytes
+many_digits bytes size is many =
+    sym (ap (λ x. cond x (lexeme (Number (digits_value 10 (take size bytes))) size) (lexeme BadNumber size)) (not_le size many)) ∙ number_to bytes size is
+  where
+    not_le : (n : ℕ) → 4 < n → leb n 4 ≡ false
+    not_le n many = elim (leb_tells n 4) [ inl (e, few) ↦ absurd (omega arith) | inr (e, more) ↦ e ]

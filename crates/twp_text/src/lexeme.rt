@@ -1,5 +1,5 @@
 ghost use Rattle.std.specs.Prelude.{◌≡◌, ◌<◌, ◌≤◌, Some, length, slice_index};
-ghost use Rattle.std.specs.Char.{is_ascii_alphabetic};
+ghost use Rattle.std.specs.Char.{is_ascii_alphabetic, is_ascii_digit};
 ghost use Rattle.std.specs.List.{prefix_len};
 ghost use Rattle.std.specs.Str.Parse.{AllDigits, digits_value};
 ghost use Rattle.twp_text.specs.Cutting.{small_letter, cut_word, cut_number, cut_digits, cut_mark, cut};
@@ -88,14 +88,33 @@ fn long_word(bytes: &[u8]) -> Lexeme
     requires { 3 < prefix_len is_ascii_alphabetic bytes.now }
     ensures { result ≡ cut_word bytes.now }
 {
-    let size = bytes
-        .iter()
-        .take_while(|byte| byte.is_ascii_alphabetic())
-        .count();
+    let size = count_letters(bytes);
     Lexeme {
         kind: word::long_word(&bytes[..size]),
         size,
     }
+}
+
+/// How many letters bytes begin with.
+fn count_letters(bytes: &[u8]) -> usize
+    ensures value { result ≡ prefix_len is_ascii_alphabetic bytes.now }
+    ensures range { result ≤ length bytes.now }
+{
+    bytes
+        .iter()
+        .take_while(|byte| byte.is_ascii_alphabetic())
+        .count()
+}
+
+/// How many digits bytes begin with.
+fn count_digits(bytes: &[u8]) -> usize
+    ensures value { result ≡ prefix_len is_ascii_digit bytes.now }
+    ensures range { result ≤ length bytes.now }
+{
+    bytes
+        .iter()
+        .take_while(|byte| byte.is_ascii_digit())
+        .count()
 }
 
 /// A half, a quarter or a number.
@@ -124,13 +143,15 @@ fn digits(bytes: &[u8]) -> Lexeme
 }
 
 /// Digits: a number, or too many.
+#[tactic(auto, using(
+    crate::proofs::Numerals::digits_in_front,
+    crate::proofs::Numerals::few_digits,
+    crate::proofs::Numerals::many_digits
+))]
 fn number(bytes: &[u8]) -> Lexeme
     ensures { result ≡ cut_number bytes.now }
 {
-    let size = bytes
-        .iter()
-        .take_while(|byte| byte.is_ascii_digit())
-        .count();
+    let size = count_digits(bytes);
     if size > 4 {
         return Lexeme {
             kind: Kind::BadNumber,
