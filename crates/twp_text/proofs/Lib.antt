@@ -6,3 +6,4 @@ pub mod Reading
 pub mod Several
 pub mod Numerals
 pub mod WordFacts
+pub mod Cuts
