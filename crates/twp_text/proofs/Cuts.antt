@@ -1,5 +1,5 @@
 -- The token that is cut off bytes is the one token that they begin with.
-use Rattle.std.proofs.Common.{◌≡◌, ◌==◌, ℕ, zero, suc, ◌+◌, ◌-◌, ◌<◌, ◌≤◌, ◌⊎◌, Bool, true, false, cond, ◌&&◌, ◌||◌, List, [], ◌∷◌, ◌++◌, length, take, drop, slice_index, refl, sym, ap, subst, ◌∙◌, inl, inr, arith, one-add, le-leb, codes, length-append, if◌then◌else◌}
+use Rattle.std.proofs.Common.{◌≡◌, ◌==◌, ℕ, zero, suc, ◌+◌, ◌-◌, ◌<◌, ◌≤◌, ◌⊎◌, Bool, true, false, cond, ◌&&◌, ◌||◌, List, [], ◌∷◌, ◌++◌, length, take, drop, slice_index, refl, sym, ap, subst, ◌∙◌, inl, inr, arith, one-add, le-leb, codes, length-append, if◌then◌else◌, not}
 use Rattle.std.specs.Char.{is_ascii_alphabetic, is_ascii_digit}
 use Rattle.std.specs.List.{prefix_len, list_all}
 use Rattle.std.specs.Str.Parse.{digits_value}
@@ -14,7 +14,8 @@ use Rattle.twp_text.specs.declared.kind.Kind.{Kind}
 use Rattle.twp_text.specs.declared.kind.Kind.TheVariants.{Sec, Lot, All, And, To, Inclusive, Of, The, T, R, NorthSouth, EastWest, Corner, Half, Quarter, Number, Comma, Semicolon, Colon, Stop, Other, BadNumber, BadByte}
 use Rattle.twp_text.specs.declared.lexeme.Lexeme.{Lexeme}
 use Rattle.twp_text.specs.Cutting.{lexeme, cut_word, numeral_of, cut_number, cut_digits, cut_mark, cut}
-use Rattle.twp_text.specs.Tokens.{is_white, Word, words, kind_among, kind_of_word, begins_with, IsWholeRun, Begins, IsNumber, IsGoodToken, a_word, a_number, a_bad_number, a_half, a_half_sign, a_quarter, a_quarter_sign, a_comma, a_semicolon, a_colon, a_stop, NoGoodToken, IsBadByte, IsToken, good, bad}
+use Rattle.std.specs.Str.{str_to_ascii_lowercase}
+use Rattle.twp_text.specs.Tokens.{is_white, Word, same_bytes, words, kind_among, kind_of_word, begins_with, IsWholeRun, Begins, IsNumber, IsGoodToken, a_word, a_number, a_bad_number, a_half, a_half_sign, a_quarter, a_quarter_sign, a_comma, a_semicolon, a_colon, a_stop, NoGoodToken, IsBadByte, IsToken, good, bad}
 
 -- which bytes a byte isn't
 letter_no_digit : (byte : ℕ) → is_ascii_digit byte ≡ true → is_ascii_alphabetic byte ≡ false
@@ -251,3 +252,83 @@ unfolding cut
 cuts byte bytes =
     choose _ (is_ascii_alphabetic byte) _ _ (word_cuts byte bytes) (λ _.
     choose _ (is_ascii_digit byte) _ _ (digit_cuts byte bytes) (λ _. mark_cuts byte bytes))
+
+-- no good token is a bad byte
+abbrev is_bad_byte : Kind → Bool
+is_bad_byte BadByte = true
+is_bad_byte _ = false
+
+none_among : (letters : List ℕ) (ws : List Word) → list_all (λ (w : Word). not (is_bad_byte w.kind)) ws ≡ true → is_bad_byte (kind_among letters ws) ≡ false
+none_among letters [] all = refl
+none_among letters (w ∷ ws) all =
+    let parts = both (not (is_bad_byte w.kind)) (list_all (λ (v : Word). not (is_bad_byte v.kind)) ws) all in
+    by_test (same_bytes letters w.letters) (is_bad_byte w.kind) refl parts.0 (none_among letters ws parts.1)
+  where
+    by_test : (x y : Bool) → is_bad_byte w.kind ≡ y → not y ≡ true → is_bad_byte (kind_among letters ws) ≡ false → is_bad_byte (cond x w.kind (kind_among letters ws)) ≡ false
+    by_test true true e h more = cc h
+    by_test true false e h more = e
+    by_test false y e h more = more
+
+good_kind : (text rest : List ℕ) (kind : Kind) → IsGoodToken text rest kind → is_bad_byte kind ≡ false
+good_kind text rest kind (a_word run e) = rw e (none_among (str_to_ascii_lowercase text) words refl)
+good_kind text rest kind (a_number number few e) = rw e refl
+good_kind text rest kind (a_bad_number number many e) = rw e refl
+good_kind text rest kind (a_half t e) = rw e refl
+good_kind text rest kind (a_half_sign t e) = rw e refl
+good_kind text rest kind (a_quarter t e) = rw e refl
+good_kind text rest kind (a_quarter_sign t e) = rw e refl
+good_kind text rest kind (a_comma t e) = rw e refl
+good_kind text rest kind (a_semicolon t e) = rw e refl
+good_kind text rest kind (a_colon t e) = rw e refl
+good_kind text rest kind (a_stop t e) = rw e refl
+
+kind_of_cut : (l : Lexeme) (kind : Kind) (size : ℕ) → l ≡ lexeme kind size → l.kind ≡ kind
+kind_of_cut l kind size e = ap (λ (m : Lexeme). m.kind) e
+
+size_of_cut : (l : Lexeme) (kind : Kind) (size : ℕ) → l ≡ lexeme kind size → l.size ≡ size
+size_of_cut l kind size e = ap (λ (m : Lexeme). m.size) e
+
+nothing_good : (bytes : List ℕ) → cut bytes ≡ lexeme BadByte 1 → NoGoodToken bytes
+nothing_good bytes e text rest kind spelt is_good =
+    let found : cut (text ++ rest) ≡ lexeme kind (length text) = (the_good text rest kind is_good).is in
+    let same : kind ≡ BadByte = sym (kind_of_cut (cut (text ++ rest)) kind (length text) found) ∙ ap (λ b. (cut b).kind) (sym spelt) ∙ kind_of_cut (cut bytes) BadByte 1 e in
+    false≢true (sym (good_kind text rest kind is_good) ∙ ap is_bad_byte same)
+
+the_cut : (text rest : List ℕ) (kind : Kind) → IsToken text rest kind → IsTheCut text rest kind
+the_cut text rest kind (good is_good) = the_good text rest kind is_good
+the_cut text rest kind (bad is_bad e) = rw (e, is_bad.is) (elim (cuts is_bad.byte rest) [
+  | inl (fits, is_good) ↦
+      let l = cut (is_bad.byte ∷ rest) in
+      let apart : NoGoodToken (is_bad.byte ∷ rest) = subst (λ t. NoGoodToken (t ++ rest)) is_bad.is is_bad.no_token in
+      absurd (apart (take l.size (is_bad.byte ∷ rest)) (drop l.size (is_bad.byte ∷ rest)) l.kind (sym (take-append-drop l.size (is_bad.byte ∷ rest))) is_good)
+  | inr e' ↦ record { is = e'; some = omega arith; no_space = is_bad.no_space }
+])
+
+-- the token that is cut
+pub record IsFirstToken (bytes : List ℕ) (l : Lexeme) : Type 0 where
+  pub some : 0 < l.size
+  pub fits : l.size ≤ length bytes
+  pub is : IsToken (take l.size bytes) (drop l.size bytes) l.kind
+
+size_of_take : (n : ℕ) (bytes : List ℕ) → 0 < length (take n bytes) → 0 < n
+size_of_take zero bytes h = h
+size_of_take (suc n) bytes h = omega arith
+
+pub cut_is_token : (byte : ℕ) (bytes : List ℕ) → is_white byte ≡ false → IsFirstToken (byte ∷ bytes) (cut (byte ∷ bytes))
+cut_is_token byte bytes space = elim (cuts byte bytes) [
+  | inl (fits, is_good) ↦
+      let l = cut (byte ∷ bytes) in
+      record {
+        some = size_of_take l.size (byte ∷ bytes) (the_good (take l.size (byte ∷ bytes)) (drop l.size (byte ∷ bytes)) l.kind is_good).some;
+        fits = fits;
+        is = good is_good;
+      }
+  | inr e ↦
+      let apart : NoGoodToken (byte ∷ bytes) = nothing_good (byte ∷ bytes) e in
+      let first : IsFirstToken (byte ∷ bytes) (lexeme BadByte 1) = record {
+        some = omega arith;
+        fits = omega arith;
+        is = bad (record { byte = byte; is = refl; no_space = space; no_token = apart }) refl;
+      } in
+      subst (λ (l : Lexeme). IsFirstToken (byte ∷ bytes) l) (sym e) first
+]

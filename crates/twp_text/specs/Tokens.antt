@@ -1,5 +1,5 @@
 -- What the bytes of a description are cut into: white space, and the texts of tokens.
-use Rattle.std.specs.Prelude.{◌≡◌, ◌==◌, ◌||◌, ◌&&◌, ℕ, ◌+◌, ◌<◌, ◌≤◌, Bool, true, false, List, [], ◌∷◌, ◌++◌, length, if◌then◌else◌, codes}
+use Rattle.std.specs.Prelude.{◌≡◌, ◌==◌, ◌||◌, ◌&&◌, ℕ, ◌+◌, ◌<◌, ◌≤◌, Bool, true, false, List, [], ◌∷◌, ◌++◌, Option, Some, None, length, if◌then◌else◌, codes}
 use Rattle.std.specs.Char.{is_ascii_alphabetic, is_ascii_digit}
 use Rattle.std.specs.List.{AllPass}
 use Rattle.std.specs.Str.{str_to_ascii_lowercase}
@@ -7,6 +7,7 @@ use Rattle.std.specs.Str.Parse.{digits_value}
 use Rattle.twp_grid.specs.declared.township.NorthSouth.TheVariants as ns
 use Rattle.twp_grid.specs.declared.township.EastWest.TheVariants as ew
 use Rattle.twp_grid.specs.declared.block.Corner.TheVariants as corner
+use Rattle.twp_text.specs.declared.token.Token.{Token as Piece}
 use Rattle.twp_text.specs.declared.kind.Kind.{Kind}
 use Rattle.twp_text.specs.declared.kind.Kind.TheVariants.{Sec, Lot, All, And, To, Inclusive, Of, The, T, R, NorthSouth, EastWest, Corner, Half, Quarter, Number, Comma, Semicolon, Colon, Stop, Other, BadNumber, BadByte}
 
@@ -128,3 +129,18 @@ abbrev pub HasTokens : ℕ → List ℕ → List Token → Type 0
 HasTokens at bytes [] = AllPass is_white bytes
 HasTokens at bytes (token ∷ tokens) =
     (rest : List ℕ) × StartsWith at bytes token rest × HasTokens (token.at + length token.text) rest tokens
+
+-- what is left of a text, and where it stands
+pub record Left : Type 0 where
+  pub at : ℕ
+  pub bytes : List ℕ
+
+-- a token as a contract sees it
+abbrev pub seen : Piece → Token
+seen token = record { kind = token.kind; text = token.text.now; at = token.at }
+
+-- the next token of what is left, or None where that is white space
+abbrev pub GivesToken : Left → Option Piece → Left → Type 0
+GivesToken left None after = AllPass is_white left.bytes × (after ≡ record { at = left.at + length left.bytes; bytes = [] })
+GivesToken left (Some token) after =
+    StartsWith left.at left.bytes (seen token) after.bytes × (after.at ≡ token.at + length token.text.now)

@@ -8,4 +8,5 @@ mod kind;
 pub mod laws;
 mod lexeme;
 mod state;
+mod token;
 mod word;
