@@ -32,7 +32,7 @@ both true y h = (refl, h)
 both false y h = cc h
 
 -- the length of a run that ends
-run_len : (p : ℕ → Bool) (text rest : List ℕ) → list_all p text ≡ true → begins_with p rest ≡ false → prefix_len p (text ++ rest) ≡ length text
+pub run_len : (p : ℕ → Bool) (text rest : List ℕ) → list_all p text ≡ true → begins_with p rest ≡ false → prefix_len p (text ++ rest) ≡ length text
 run_len p [] [] all end = refl
 run_len p [] (byte ∷ rest) all end = ap (λ x. cond x (1 + prefix_len p rest) 0) end
 run_len p (byte ∷ text) rest all end =
@@ -43,7 +43,7 @@ run_of : (p : ℕ → Bool) (text rest : List ℕ) → IsWholeRun p text rest �
 run_of p text rest run = run_len p text rest (list_all-from_AllPass p text run.all) run.ends
 
 -- the run in front of bytes is a whole one
-front_passes : (p : ℕ → Bool) (bytes : List ℕ) → list_all p (take (prefix_len p bytes) bytes) ≡ true
+pub front_passes : (p : ℕ → Bool) (bytes : List ℕ) → list_all p (take (prefix_len p bytes) bytes) ≡ true
 front_passes p [] = refl
 front_passes p (byte ∷ bytes) = step p byte bytes (p byte) refl (front_passes p bytes)
   where
@@ -51,7 +51,7 @@ front_passes p (byte ∷ bytes) = step p byte bytes (p byte) refl (front_passes 
     step p byte bytes true e more = rw one-add (rw e more)
     step p byte bytes false e more = refl
 
-front_ends : (p : ℕ → Bool) (bytes : List ℕ) → begins_with p (drop (prefix_len p bytes) bytes) ≡ false
+pub front_ends : (p : ℕ → Bool) (bytes : List ℕ) → begins_with p (drop (prefix_len p bytes) bytes) ≡ false
 front_ends p [] = refl
 front_ends p (byte ∷ bytes) = step p byte bytes (p byte) refl (front_ends p bytes)
   where
@@ -104,10 +104,10 @@ no_begin bytes last h (more, e) =
     false≢true (sym h ∙ there)
 
 -- a good token is the one that is cut
-record IsTheCut (text rest : List ℕ) (kind : Kind) : Type 0 where
-  is : cut (text ++ rest) ≡ lexeme kind (length text)
-  some : 0 < length text
-  no_space : begins_with is_white (text ++ rest) ≡ false
+pub record IsTheCut (text rest : List ℕ) (kind : Kind) : Type 0 where
+  pub is : cut (text ++ rest) ≡ lexeme kind (length text)
+  pub some : 0 < length text
+  pub no_space : begins_with is_white (text ++ rest) ≡ false
 
 cut_letters : (byte : ℕ) (bytes : List ℕ) → is_ascii_alphabetic byte ≡ true → cut (byte ∷ bytes) ≡ cut_word (byte ∷ bytes)
 unfolding cut
@@ -282,10 +282,10 @@ good_kind text rest kind (a_semicolon t e) = rw e refl
 good_kind text rest kind (a_colon t e) = rw e refl
 good_kind text rest kind (a_stop t e) = rw e refl
 
-kind_of_cut : (l : Lexeme) (kind : Kind) (size : ℕ) → l ≡ lexeme kind size → l.kind ≡ kind
+pub kind_of_cut : (l : Lexeme) (kind : Kind) (size : ℕ) → l ≡ lexeme kind size → l.kind ≡ kind
 kind_of_cut l kind size e = ap (λ (m : Lexeme). m.kind) e
 
-size_of_cut : (l : Lexeme) (kind : Kind) (size : ℕ) → l ≡ lexeme kind size → l.size ≡ size
+pub size_of_cut : (l : Lexeme) (kind : Kind) (size : ℕ) → l ≡ lexeme kind size → l.size ≡ size
 size_of_cut l kind size e = ap (λ (m : Lexeme). m.size) e
 
 nothing_good : (bytes : List ℕ) → cut bytes ≡ lexeme BadByte 1 → NoGoodToken bytes
@@ -294,7 +294,7 @@ nothing_good bytes e text rest kind spelt is_good =
     let same : kind ≡ BadByte = sym (kind_of_cut (cut (text ++ rest)) kind (length text) found) ∙ ap (λ b. (cut b).kind) (sym spelt) ∙ kind_of_cut (cut bytes) BadByte 1 e in
     false≢true (sym (good_kind text rest kind is_good) ∙ ap is_bad_byte same)
 
-the_cut : (text rest : List ℕ) (kind : Kind) → IsToken text rest kind → IsTheCut text rest kind
+pub the_cut : (text rest : List ℕ) (kind : Kind) → IsToken text rest kind → IsTheCut text rest kind
 the_cut text rest kind (good is_good) = the_good text rest kind is_good
 the_cut text rest kind (bad is_bad e) = rw (e, is_bad.is) (elim (cuts is_bad.byte rest) [
   | inl (fits, is_good) ↦

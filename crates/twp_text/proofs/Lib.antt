@@ -7,3 +7,4 @@ pub mod Several
 pub mod Numerals
 pub mod WordFacts
 pub mod Cuts
+pub mod TokenFacts
