@@ -134,3 +134,9 @@ heading_item (letter & _ & township & side & _ & _ & _ & _ & range & way & _) =
 abbrev pub items : Tree description → List Item
 items (inl v & first & more & _) = heading_item v ∷ group_items first ++ flat_map (behind (behind group_items)) more
 items (inr _ & first & more & _) = group_items first ++ flat_map (behind (behind group_items)) more
+
+-- the items begin with sections, behind a heading or at once
+abbrev pub BeginWithSections : List Item → Type 0
+BeginWithSections (Heading _ _ _ _ _ ∷ Sections _ _ _ ∷ more) = Unit {0}
+BeginWithSections (Sections _ _ _ ∷ more) = Unit {0}
+BeginWithSections _ = ⊥

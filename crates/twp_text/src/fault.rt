@@ -47,7 +47,9 @@ impl TextFault {
 }
 
 impl From<AllocError> for TextFault {
-    ghost from_gives = { λ _ fault. fault ≡ TextFault.Memory };
+    ghost use Rattle.twp_text.specs.declared.fault.TextFault.TheVariants.{Memory};
+
+    ghost from_gives = { λ _ fault. fault ≡ Memory };
 
     fn from(_: AllocError) -> TextFault {
         TextFault::Memory

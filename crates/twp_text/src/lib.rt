@@ -2,6 +2,7 @@
 //! of it names, and why a text is no sentence.
 #![tactic(auto)]
 
+mod description;
 mod fault;
 mod item;
 mod items;
