@@ -8,3 +8,4 @@ pub mod Numerals
 pub mod WordFacts
 pub mod Cuts
 pub mod TokenFacts
+pub mod ReaderFacts

@@ -26,7 +26,7 @@ turned (it ∷ xs) ys zs = turned xs (it ∷ ys) zs
 pub oldest_first : (xs : List Item) → newest_first (newest_first xs []) [] ≡ xs
 oldest_first xs = turned xs [] [] ∙ append-nil xs
 
-abbrev Outcome : Type 0
+abbrev pub Outcome : Type 0
 Outcome = Option (State × List Item)
 
 -- the state and the items that a run ends with
@@ -38,7 +38,7 @@ abbrev items_of : Outcome → List Item
 items_of None = []
 items_of (Some (end, its)) = its
 
-abbrev ended : State → List Item → Outcome
+abbrev pub ended : State → List Item → Outcome
 ended end its = Some (end, its)
 
 read_items : (ts : List Token) (its : List Item) → HasItems ts its → IsRead ts its
@@ -91,7 +91,7 @@ accepted ts e its h final =
     state_or_start (Some s) = s
 
 -- a run goes on where it ended
-abbrev go_on : Outcome → List Token → Outcome
+abbrev pub go_on : Outcome → List Token → Outcome
 go_on None ts = None
 go_on (Some (s, its)) ts = run (Some s) its ts
 

@@ -72,6 +72,12 @@ pub data IsFirstTextFault (text : List ℕ) (r : Refusal) : Type 0 where
   bad_token : length text ≤ TEXT_LIMIT → IsBadToken text r → IsFirstTextFault text r
   syntax : length text ≤ TEXT_LIMIT → IsSyntaxFault text r → IsFirstTextFault text r
 
+-- the fault of a bad token
+abbrev pub fault_of_bad : Kind → ℕ → Option TextFault
+fault_of_bad BadByte at = Some (fault.BadByte at)
+fault_of_bad BadNumber at = Some (fault.BadNumber at)
+fault_of_bad _ at = None
+
 -- the number and the place of a fault; want of memory has none
 abbrev pub refusal_of : TextFault → Option Refusal
 refusal_of fault.TooLarge = Some (refusal 41 TEXT_LIMIT)
@@ -79,3 +85,17 @@ refusal_of (fault.BadByte at) = Some (refusal 42 at)
 refusal_of (fault.BadNumber at) = Some (refusal 43 at)
 refusal_of (fault.Syntax at) = Some (refusal 44 at)
 refusal_of fault.Memory = None
+
+-- the text goes wrong at this place, whether or not it has bad tokens
+pub record GoesWrong (text : List ℕ) (at : ℕ) : Type 0 where
+  pub tokens : List Token
+  pub cut : HasTokens 0 text tokens
+  pub i : ℕ
+  pub fault : IsFault tokens i
+  pub place : at ≡ place_of tokens i (length text)
+
+-- the text has no bad token
+pub record HasNoneBad (text : List ℕ) : Type 0 where
+  pub tokens : List Token
+  pub cut : HasTokens 0 text tokens
+  pub none_bad : NoneBad tokens

@@ -1,4 +1,5 @@
-ghost use Rattle.std.specs.Prelude.{◌≡◌, ◌≤◌, ◌<◌, List, length, IfOk, IfErr, IfSome, MatchOption, MatchResult};
+ghost use Rattle.std.specs.Prelude.{◌≡◌, ◌≤◌, length, IfOk, IfErr, IfSome, IsSomeAnd, MatchOption};
+ghost use Rattle.twp_text.specs.TextFaults.{refusal_of, fault_of_bad, HasNoneBad, GoesWrong, IsBadToken, IsFirstTextFault};
 
 use crate::fault::{TEXT_LIMIT, TextFault};
 use crate::item::Item;
@@ -31,7 +32,7 @@ impl Model for Description {
 
 impl Description {
     ghost use Rattle.twp_text.specs.Items.{BeginWithSections};
-    ghost use Rattle.twp_text.specs.TextFaults.{IsReadAs, IsFirstTextFault, refusal_of};
+    ghost use Rattle.twp_text.specs.TextFaults.{IsReadAs};
 
     /// Reads a description by the grammar (the form of the Specifications for Descriptions of Land; the
     /// grammar is this project's). Nothing is judged of a plat.
@@ -42,6 +43,15 @@ impl Description {
         if text.len() > TEXT_LIMIT {
             return Err(TextFault::TooLarge);
         }
+        Description::read_within(alloc, text)
+    }
+
+    /// Reads a description within the limit.
+    fn read_within(alloc: Global, text: &[u8]) -> Result<Description, TextFault>
+        requires { length text.now ≤ TEXT_LIMIT }
+        ensures read { IfOk result (IsReadAs text.now) }
+        ensures refused { IfErr result (λ fault. IfSome (refusal_of fault) (IsFirstTextFault text.now)) }
+    {
         let mut items = Items::new(alloc);
         let mut state = State::Start;
         let mut tokens = Tokens::new(text);
@@ -73,6 +83,8 @@ impl Description {
 fn fault_of(text: &[u8], at: usize) -> TextFault
     requires within { at ≤ length text.now }
     requires limit { length text.now ≤ TEXT_LIMIT }
+    requires wrong { GoesWrong text.now at }
+    ensures { IsSomeAnd (refusal_of result) (IsFirstTextFault text.now) }
 {
     match first_bad(text) {
         Some(fault) => fault,
@@ -83,21 +95,25 @@ fn fault_of(text: &[u8], at: usize) -> TextFault
 /// The leftmost bad token.
 fn first_bad(text: &[u8]) -> Option<TextFault>
     requires { length text.now ≤ TEXT_LIMIT }
+    ensures { MatchOption result (HasNoneBad text.now)
+        (λ fault. IsSomeAnd (refusal_of fault) (IsBadToken text.now)) }
 {
-    for token in Tokens::new(text) {
-        match token.kind {
-            Kind::BadByte => {
-                return Some(TextFault::BadByte {
-                    at: token.at as u32,
-                });
-            }
-            Kind::BadNumber => {
-                return Some(TextFault::BadNumber {
-                    at: token.at as u32,
-                });
-            }
-            _ => {}
+    let mut tokens = Tokens::new(text);
+    while let Some(token) = tokens.next() {
+        if let Some(fault) = fault_of_bad(token.kind, token.at as u32) {
+            return Some(fault);
         }
     }
     None
+}
+
+/// The fault that a token is wherever it stands.
+fn fault_of_bad(kind: Kind, at: u32) -> Option<TextFault>
+    ensures { result ≡ fault_of_bad kind at }
+{
+    match kind {
+        Kind::BadByte => Some(TextFault::BadByte { at }),
+        Kind::BadNumber => Some(TextFault::BadNumber { at }),
+        _ => None,
+    }
 }
