@@ -12,3 +12,9 @@ mod lexeme;
 mod state;
 mod token;
 mod word;
+
+pub use description::Description;
+pub use fault::{TEXT_LIMIT, TextFault};
+pub use item::{Item, Numeral, Step, Steps};
+pub use kind::Kind;
+pub use token::{Token, Tokens};
