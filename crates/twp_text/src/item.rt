@@ -47,6 +47,7 @@ impl Model for Steps {
 
 impl Steps {
     /// One step.
+    #[inline(always)]
     pub fn one(alloc: Global, step: Step) -> Result<Steps, AllocError>
         ensures { IfOk result (λ steps. steps ≡ step ∷ []) }
     {
@@ -63,6 +64,7 @@ impl Steps {
     }
 
     /// Adds the step of which the last one is a part.
+    #[inline(always)]
     pub fn push(&mut self, step: Step) -> Result<(), AllocError>
         ensures ok { OnOk result (self.new ≡ self.old ++ step ∷ []) }
         ensures err { OnErr result (self.new ≡ self.old) }

@@ -60,6 +60,7 @@ impl Items {
         items
     }
 
+    #[inline(always)]
     fn push(&mut self, item: Item) -> Result<(), AllocError>
         ensures { OnOk result (self.new ≡ item ∷ self.old) }
     {
@@ -67,6 +68,7 @@ impl Items {
         Ok(())
     }
 
+    #[inline(always)]
     fn change(&mut self, change: Change) -> Result<(), AllocError>
         ensures { OnOk result (self.new ≡ with_newest change self.old) }
     {
@@ -77,6 +79,7 @@ impl Items {
     }
 
     /// What a token that may follow in a state does to the items.
+    #[inline(always)]
     pub fn take(
         &mut self,
         alloc: Global,
@@ -106,6 +109,7 @@ impl Items {
     }
 
     /// The side of a township, or a half.
+    #[inline(always)]
     fn take_north_south(
         &mut self,
         alloc: Global,
@@ -122,6 +126,7 @@ impl Items {
     }
 
     /// The side of a range, or a half.
+    #[inline(always)]
     fn take_east_west(
         &mut self,
         alloc: Global,
@@ -138,6 +143,7 @@ impl Items {
     }
 
     /// A step: of the chain, where one stands before it, and else the first of a chain.
+    #[inline(always)]
     fn take_step(
         &mut self,
         alloc: Global,
@@ -160,6 +166,7 @@ impl Items {
     }
 
     /// A number of the heading, the first or the last number of a range of sections or lots.
+    #[inline(always)]
     fn take_number(&mut self, state: State, number: Numeral) -> Result<(), AllocError>
         ensures { OnOk result (self.new ≡ take_number state number self.old) }
     {
@@ -184,6 +191,7 @@ impl Items {
     }
 
     /// All of a section is a part. Behind several sections, which are whole, it says nothing new.
+    #[inline(always)]
     fn take_all(&mut self, state: State, at: u32) -> Result<(), AllocError>
         ensures { OnOk result (self.new ≡ take_all state at self.old) }
     {
@@ -197,6 +205,7 @@ impl Items {
     }
 
     /// The first part of a section makes it one that isn't whole.
+    #[inline(always)]
     fn before_parts(&mut self, state: State) -> Result<(), AllocError>
         ensures { OnOk result (self.new ≡ before_parts state self.old) }
     {
@@ -207,6 +216,7 @@ impl Items {
     }
 }
 
+#[inline(always)]
 fn north_or_south(side: NorthSouth) -> Side
     ensures { result ≡ north_or_south side }
 {
@@ -216,6 +226,7 @@ fn north_or_south(side: NorthSouth) -> Side
     }
 }
 
+#[inline(always)]
 fn east_or_west(side: EastWest) -> Side
     ensures { result ≡ east_or_west side }
 {
@@ -228,6 +239,7 @@ fn east_or_west(side: EastWest) -> Side
 impl Item {
     ghost use Rattle.twp_text.specs.Machine.{changed};
 
+    #[inline(always)]
     fn change(&mut self, change: Change) -> Result<(), AllocError>
         ensures { OnOk result (self.new ≡ changed change self.old) }
     {

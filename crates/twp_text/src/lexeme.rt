@@ -16,6 +16,7 @@ pub struct Lexeme {
 
 impl Lexeme {
     /// The token that bytes begin with.
+    #[inline(always)]
     #[tactic(auto, unfolding(crate::specs::Cutting::cut))]
     pub fn first(bytes: &[u8]) -> Lexeme
         requires { 0 < length bytes.now }
@@ -33,6 +34,7 @@ impl Lexeme {
 }
 
 /// A byte, or 0 past the end.
+#[inline(always)]
 fn byte_at(bytes: &[u8], index: usize) -> u8
     ensures { result ≡ slice_index bytes.now index }
 {
@@ -40,6 +42,7 @@ fn byte_at(bytes: &[u8], index: usize) -> u8
 }
 
 /// A letter as a small one. In ASCII the two differ in one bit.
+#[inline(always)]
 fn small_letter(byte: u8) -> Option<u8>
     ensures { result ≡ small_letter byte }
 {
@@ -51,6 +54,7 @@ fn small_letter(byte: u8) -> Option<u8>
 }
 
 /// A word, whose first letter is known.
+#[inline(always)]
 #[tactic(auto, using(
     crate::proofs::WordFacts::one_letter,
     crate::proofs::WordFacts::two_letters,
@@ -83,6 +87,7 @@ fn word(bytes: &[u8], first: u8) -> Lexeme
 }
 
 /// A word of four letters or more.
+#[inline(never)]
 #[tactic(auto, using(crate::proofs::WordFacts::long_word_is))]
 fn long_word(bytes: &[u8]) -> Lexeme
     requires { 3 < prefix_len is_ascii_alphabetic bytes.now }
@@ -118,6 +123,7 @@ fn count_digits(bytes: &[u8]) -> usize
 }
 
 /// A half, a quarter or a number.
+#[inline(always)]
 #[tactic(auto, unfolding(crate::specs::Cutting::cut_digits))]
 fn digits(bytes: &[u8]) -> Lexeme
     ensures { result ≡ cut_digits bytes.now }
@@ -143,6 +149,7 @@ fn digits(bytes: &[u8]) -> Lexeme
 }
 
 /// Digits: a number, or too many.
+#[inline(never)]
 #[tactic(auto, using(
     crate::proofs::Numerals::digits_in_front,
     crate::proofs::Numerals::few_digits,

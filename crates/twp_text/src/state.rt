@@ -83,6 +83,7 @@ pub enum PartState {
 
 impl State {
     /// What the tokens are the beginning of with one more, or None where they are of nothing.
+    #[inline(always)]
     pub fn next(self, kind: Kind) -> Option<State>
         ensures { result ≡ next self (class_of kind) }
     {
@@ -226,6 +227,7 @@ fn in_lots(state: ListState, kind: Kind) -> Option<State>
     }
 }
 
+#[inline(always)]
 fn in_parts(state: PartState, kind: Kind) -> Option<State>
     ensures { result ≡ in_parts state (class_of kind) }
 {
@@ -252,6 +254,7 @@ fn in_parts(state: PartState, kind: Kind) -> Option<State>
 }
 
 /// The first token of a part.
+#[inline(always)]
 fn before_part(kind: Kind) -> Option<State>
     ensures { result ≡ before_part (class_of kind) }
 {
@@ -265,6 +268,7 @@ fn before_part(kind: Kind) -> Option<State>
 }
 
 /// What ends a group.
+#[inline(always)]
 fn group_end(kind: Kind) -> Option<State>
     ensures { result ≡ group_end (class_of kind) }
 {

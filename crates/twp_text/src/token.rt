@@ -84,6 +84,7 @@ impl<'a> Iterator for Tokens<'a> {
 }
 
 /// How many bytes of white space bytes begin with.
+#[inline(always)]
 fn count_white(bytes: &[u8]) -> usize
     ensures value { result ≡ prefix_len is_white bytes.now }
     ensures range { result ≤ length bytes.now }
@@ -92,6 +93,7 @@ fn count_white(bytes: &[u8]) -> usize
 }
 
 /// Whether a byte is a space, a tabulator, a line feed or a carriage return.
+#[inline(always)]
 fn is_white(byte: u8) -> bool
     ensures { result ≡ is_white byte }
 {

@@ -6,6 +6,7 @@ use crate::kind::Kind;
 use twp_grid::{Corner, EastWest, NorthSouth};
 
 /// What a word of one small letter is.
+#[inline(always)]
 pub fn one_letter(first: u8) -> Kind
     ensures { result ≡ kind_among (first ∷ []) words }
 {
@@ -21,6 +22,7 @@ pub fn one_letter(first: u8) -> Kind
 }
 
 /// What a word of two small letters is.
+#[inline(always)]
 pub fn two_letters(first: u8, second: u8) -> Kind
     ensures { result ≡ kind_among (first ∷ second ∷ []) words }
 {
@@ -36,6 +38,7 @@ pub fn two_letters(first: u8, second: u8) -> Kind
 }
 
 /// What a word of three small letters is.
+#[inline(always)]
 pub fn three_letters(first: u8, second: u8, third: u8) -> Kind
     ensures { result ≡ kind_among (first ∷ second ∷ third ∷ []) words }
 {
