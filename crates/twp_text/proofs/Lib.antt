@@ -9,3 +9,4 @@ pub mod WordFacts
 pub mod Cuts
 pub mod TokenFacts
 pub mod ReaderFacts
+pub mod OneAnswer

@@ -147,53 +147,55 @@ record Row (s : State) : Type 0 where
   end : is_end s (is_final s) ≡ true
   out : leads_out (Some s) (way_out s) ≡ true
   few : length (way_out s) ≤ 7
+  no_byte : next s bad_byte ≡ None
+  no_number : next s bad_number ≡ None
 
 row : (s : State) → Row s
 unfolding rest after_all
-row Start = record { edges = refl; end = refl; out = refl; few = omega arith }
-row (Heading Township) = record { edges = refl; end = refl; out = refl; few = omega arith }
-row (Heading TownshipStop) = record { edges = refl; end = refl; out = refl; few = omega arith }
-row (Heading TownshipNumber) = record { edges = refl; end = refl; out = refl; few = omega arith }
-row (Heading TownshipSide) = record { edges = refl; end = refl; out = refl; few = omega arith }
-row (Heading TownshipSideStop) = record { edges = refl; end = refl; out = refl; few = omega arith }
-row (Heading TownshipComma) = record { edges = refl; end = refl; out = refl; few = omega arith }
-row (Heading Range) = record { edges = refl; end = refl; out = refl; few = omega arith }
-row (Heading RangeStop) = record { edges = refl; end = refl; out = refl; few = omega arith }
-row (Heading RangeNumber) = record { edges = refl; end = refl; out = refl; few = omega arith }
-row (Heading RangeSide) = record { edges = refl; end = refl; out = refl; few = omega arith }
-row (Heading RangeSideStop) = record { edges = refl; end = refl; out = refl; few = omega arith }
-row (Section section.Word) = record { edges = refl; end = refl; out = refl; few = omega arith }
-row (Section section.Stop) = record { edges = refl; end = refl; out = refl; few = omega arith }
-row (Section section.Number) = record { edges = refl; end = refl; out = refl; few = omega arith }
-row (Section section.Comma) = record { edges = refl; end = refl; out = refl; few = omega arith }
-row Semicolon = record { edges = refl; end = refl; out = refl; few = omega arith }
-row BeforeGroup = record { edges = refl; end = refl; out = refl; few = omega arith }
-row End = record { edges = refl; end = refl; out = refl; few = omega arith }
-row (Sections To) = record { edges = refl; end = refl; out = refl; few = omega arith }
-row (Sections And) = record { edges = refl; end = refl; out = refl; few = omega arith }
-row (Sections Number) = record { edges = refl; end = refl; out = refl; few = omega arith }
-row (Sections Last) = record { edges = refl; end = refl; out = refl; few = omega arith }
-row (Sections Inclusive) = record { edges = refl; end = refl; out = refl; few = omega arith }
-row (Sections Comma) = record { edges = refl; end = refl; out = refl; few = omega arith }
-row (Sections LastComma) = record { edges = refl; end = refl; out = refl; few = omega arith }
-row SectionsColon = record { edges = refl; end = refl; out = refl; few = omega arith }
-row SectionsAll = record { edges = refl; end = refl; out = refl; few = omega arith }
-row Lot = record { edges = refl; end = refl; out = refl; few = omega arith }
-row (Lots Number) = record { edges = refl; end = refl; out = refl; few = omega arith }
-row (Lots To) = record { edges = refl; end = refl; out = refl; few = omega arith }
-row (Lots Last) = record { edges = refl; end = refl; out = refl; few = omega arith }
-row (Lots Inclusive) = record { edges = refl; end = refl; out = refl; few = omega arith }
-row (Lots Comma) = record { edges = refl; end = refl; out = refl; few = omega arith }
-row (Lots LastComma) = record { edges = refl; end = refl; out = refl; few = omega arith }
-row (Lots And) = record { edges = refl; end = refl; out = refl; few = omega arith }
-row (Parts part.Before) = record { edges = refl; end = refl; out = refl; few = omega arith }
-row (Parts part.Side) = record { edges = refl; end = refl; out = refl; few = omega arith }
-row (Parts part.Corner) = record { edges = refl; end = refl; out = refl; few = omega arith }
-row (Parts part.All) = record { edges = refl; end = refl; out = refl; few = omega arith }
-row (Parts part.Comma) = record { edges = refl; end = refl; out = refl; few = omega arith }
-row (Parts part.Step) = record { edges = refl; end = refl; out = refl; few = omega arith }
-row (Parts part.Of) = record { edges = refl; end = refl; out = refl; few = omega arith }
-row (Parts part.OfThe) = record { edges = refl; end = refl; out = refl; few = omega arith }
+row Start = record { edges = refl; end = refl; out = refl; few = omega arith; no_byte = refl; no_number = refl }
+row (Heading Township) = record { edges = refl; end = refl; out = refl; few = omega arith; no_byte = refl; no_number = refl }
+row (Heading TownshipStop) = record { edges = refl; end = refl; out = refl; few = omega arith; no_byte = refl; no_number = refl }
+row (Heading TownshipNumber) = record { edges = refl; end = refl; out = refl; few = omega arith; no_byte = refl; no_number = refl }
+row (Heading TownshipSide) = record { edges = refl; end = refl; out = refl; few = omega arith; no_byte = refl; no_number = refl }
+row (Heading TownshipSideStop) = record { edges = refl; end = refl; out = refl; few = omega arith; no_byte = refl; no_number = refl }
+row (Heading TownshipComma) = record { edges = refl; end = refl; out = refl; few = omega arith; no_byte = refl; no_number = refl }
+row (Heading Range) = record { edges = refl; end = refl; out = refl; few = omega arith; no_byte = refl; no_number = refl }
+row (Heading RangeStop) = record { edges = refl; end = refl; out = refl; few = omega arith; no_byte = refl; no_number = refl }
+row (Heading RangeNumber) = record { edges = refl; end = refl; out = refl; few = omega arith; no_byte = refl; no_number = refl }
+row (Heading RangeSide) = record { edges = refl; end = refl; out = refl; few = omega arith; no_byte = refl; no_number = refl }
+row (Heading RangeSideStop) = record { edges = refl; end = refl; out = refl; few = omega arith; no_byte = refl; no_number = refl }
+row (Section section.Word) = record { edges = refl; end = refl; out = refl; few = omega arith; no_byte = refl; no_number = refl }
+row (Section section.Stop) = record { edges = refl; end = refl; out = refl; few = omega arith; no_byte = refl; no_number = refl }
+row (Section section.Number) = record { edges = refl; end = refl; out = refl; few = omega arith; no_byte = refl; no_number = refl }
+row (Section section.Comma) = record { edges = refl; end = refl; out = refl; few = omega arith; no_byte = refl; no_number = refl }
+row Semicolon = record { edges = refl; end = refl; out = refl; few = omega arith; no_byte = refl; no_number = refl }
+row BeforeGroup = record { edges = refl; end = refl; out = refl; few = omega arith; no_byte = refl; no_number = refl }
+row End = record { edges = refl; end = refl; out = refl; few = omega arith; no_byte = refl; no_number = refl }
+row (Sections To) = record { edges = refl; end = refl; out = refl; few = omega arith; no_byte = refl; no_number = refl }
+row (Sections And) = record { edges = refl; end = refl; out = refl; few = omega arith; no_byte = refl; no_number = refl }
+row (Sections Number) = record { edges = refl; end = refl; out = refl; few = omega arith; no_byte = refl; no_number = refl }
+row (Sections Last) = record { edges = refl; end = refl; out = refl; few = omega arith; no_byte = refl; no_number = refl }
+row (Sections Inclusive) = record { edges = refl; end = refl; out = refl; few = omega arith; no_byte = refl; no_number = refl }
+row (Sections Comma) = record { edges = refl; end = refl; out = refl; few = omega arith; no_byte = refl; no_number = refl }
+row (Sections LastComma) = record { edges = refl; end = refl; out = refl; few = omega arith; no_byte = refl; no_number = refl }
+row SectionsColon = record { edges = refl; end = refl; out = refl; few = omega arith; no_byte = refl; no_number = refl }
+row SectionsAll = record { edges = refl; end = refl; out = refl; few = omega arith; no_byte = refl; no_number = refl }
+row Lot = record { edges = refl; end = refl; out = refl; few = omega arith; no_byte = refl; no_number = refl }
+row (Lots Number) = record { edges = refl; end = refl; out = refl; few = omega arith; no_byte = refl; no_number = refl }
+row (Lots To) = record { edges = refl; end = refl; out = refl; few = omega arith; no_byte = refl; no_number = refl }
+row (Lots Last) = record { edges = refl; end = refl; out = refl; few = omega arith; no_byte = refl; no_number = refl }
+row (Lots Inclusive) = record { edges = refl; end = refl; out = refl; few = omega arith; no_byte = refl; no_number = refl }
+row (Lots Comma) = record { edges = refl; end = refl; out = refl; few = omega arith; no_byte = refl; no_number = refl }
+row (Lots LastComma) = record { edges = refl; end = refl; out = refl; few = omega arith; no_byte = refl; no_number = refl }
+row (Lots And) = record { edges = refl; end = refl; out = refl; few = omega arith; no_byte = refl; no_number = refl }
+row (Parts part.Before) = record { edges = refl; end = refl; out = refl; few = omega arith; no_byte = refl; no_number = refl }
+row (Parts part.Side) = record { edges = refl; end = refl; out = refl; few = omega arith; no_byte = refl; no_number = refl }
+row (Parts part.Corner) = record { edges = refl; end = refl; out = refl; few = omega arith; no_byte = refl; no_number = refl }
+row (Parts part.All) = record { edges = refl; end = refl; out = refl; few = omega arith; no_byte = refl; no_number = refl }
+row (Parts part.Comma) = record { edges = refl; end = refl; out = refl; few = omega arith; no_byte = refl; no_number = refl }
+row (Parts part.Step) = record { edges = refl; end = refl; out = refl; few = omega arith; no_byte = refl; no_number = refl }
+row (Parts part.Of) = record { edges = refl; end = refl; out = refl; few = omega arith; no_byte = refl; no_number = refl }
+row (Parts part.OfThe) = record { edges = refl; end = refl; out = refl; few = omega arith; no_byte = refl; no_number = refl }
 
 both : (x y : Bool) → (x && y) ≡ true → (x ≡ true) × (y ≡ true)
 both true y h = (refl, h)
@@ -268,3 +270,10 @@ few s = (row s).few
 pub rest_at_start : rest Start ≡ description
 unfolding rest after_all
 rest_at_start = refl
+
+-- no state takes a bad token
+pub takes_no_bad_byte : (s : State) → next s bad_byte ≡ None
+takes_no_bad_byte s = (row s).no_byte
+
+pub takes_no_bad_number : (s : State) → next s bad_number ≡ None
+takes_no_bad_number s = (row s).no_number

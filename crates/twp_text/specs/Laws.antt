@@ -4,7 +4,9 @@ use Rattle.twp_text.specs.declared.item.Item.{Item}
 use Rattle.twp_text.specs.Tokens.{Token, HasTokens}
 use Rattle.twp_text.specs.Grammar.{entries, several, number}
 use Rattle.twp_text.specs.Items.{Leaf, Tree, token_of, tokens}
+use Rattle.twp_grid.specs.declared.refusal.Refusal.{Refusal}
 use Rattle.twp_text.specs.Sentences.{HasItems, IsSentence, IsFront}
+use Rattle.twp_text.specs.TextFaults.{IsReadAs, IsFirstTextFault}
 
 -- each list of bytes is cut into tokens
 abbrev pub HasTokenList : Type 0
@@ -30,3 +32,15 @@ IsOneNumber ts = (n : Leaf number) × (ts ≡ token_of number n ∷ [])
 abbrev pub SeveralAreEntries : Type 0
 SeveralAreEntries = (ts : List Token) →
     ((v : Tree several) × (tokens several v ≡ ts)) ↔ (((v : Tree entries) × (tokens entries v ≡ ts)) × ¬ IsOneNumber ts)
+
+-- a text is read as one list of items
+abbrev pub OneReading : Type 0
+OneReading = (text : List ℕ) (items items' : List Item) → IsReadAs text items → IsReadAs text items' → items ≡ items'
+
+-- a text that is read has no fault
+abbrev pub ReadHasNoFault : Type 0
+ReadHasNoFault = (text : List ℕ) (items : List Item) (r : Refusal) → IsReadAs text items → ¬ IsFirstTextFault text r
+
+-- a text has one first fault
+abbrev pub OneTextFault : Type 0
+OneTextFault = (text : List ℕ) (r r' : Refusal) → IsFirstTextFault text r → IsFirstTextFault text r' → r ≡ r'

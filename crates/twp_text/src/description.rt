@@ -1,4 +1,4 @@
-ghost use Rattle.std.specs.Prelude.{◌≡◌, ◌≤◌, length, IfOk, IfErr, IfSome, IsSomeAnd, MatchOption};
+ghost use Rattle.std.specs.Prelude.{◌≡◌, ◌≤◌, List, length, IfOk, IfErr, IfSome, IsSomeAnd, MatchOption, MatchResult};
 ghost use Rattle.twp_text.specs.TextFaults.{refusal_of, fault_of_bad, HasNoneBad, GoesWrong, IsBadToken, IsFirstTextFault};
 
 use crate::fault::{TEXT_LIMIT, TextFault};
@@ -38,6 +38,8 @@ impl Description {
     /// grammar is this project's). Nothing is judged of a plat.
     pub fn read(alloc: Global, text: &[u8]) -> Result<Description, TextFault>
         ensures read { IfOk result (IsReadAs text.now) }
+        ensures taken { (items : List Item) → IsReadAs text.now items
+            → MatchResult result (λ d. d ≡ items) (λ fault. fault ≡ TextFault.Memory) }
         ensures refused { IfErr result (λ fault. IfSome (refusal_of fault) (IsFirstTextFault text.now)) }
     {
         if text.len() > TEXT_LIMIT {
@@ -117,3 +119,6 @@ fn fault_of_bad(kind: Kind, at: u32) -> Option<TextFault>
         _ => None,
     }
 }
+
+#[cfg(test)]
+mod tests;

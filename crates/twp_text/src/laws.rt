@@ -1,6 +1,6 @@
 //! What holds of descriptions as they are defined: each law is a contract, and its function has nothing
 //! to do.
-ghost use Rattle.twp_text.specs.Laws.{HasTokenList, OneTokenList, OneItemList, ShortCompletion, SeveralAreEntries};
+ghost use Rattle.twp_text.specs.Laws.{HasTokenList, OneTokenList, OneItemList, ShortCompletion, SeveralAreEntries, OneReading, ReadHasNoFault, OneTextFault};
 
 /// Every list of bytes is cut into tokens.
 pub fn has_token_list()
@@ -25,4 +25,19 @@ pub fn short_completion()
 /// Several entries are entries that are not one number alone.
 pub fn several_are_entries()
     ensures { SeveralAreEntries }
+{}
+
+/// A text is read as one list of items.
+pub fn one_reading()
+    ensures { OneReading }
+{}
+
+/// A text that is read as items has no fault.
+pub fn read_has_no_fault()
+    ensures { ReadHasNoFault }
+{}
+
+/// A text has one first fault.
+pub fn one_text_fault()
+    ensures { OneTextFault }
 {}
