@@ -99,6 +99,7 @@ no_fault text is r read (syntax small f) =
   where
     at_length : (n i : ℕ) → i ≤ n → n ≤ i → i ≡ n
     at_length n i h h' = omega arith
+
     apart : (ts : List Token) (i : ℕ) → IsFault ts i → IsSentence ts → ⊥
     apart ts i f whole = elim (cases_lt i (length ts)) [
       | inl below ↦ f.here below (drop (i + 1) ts) (rw take-append-drop whole)

@@ -26,7 +26,6 @@ abbrev pub token_of : (class : Class) → Leaf class → Token
 token_of class leaf = record { kind = kind_of class leaf.value; text = leaf.text; at = leaf.at }
 
 infixr 6 ◌&◌
-
 -- a tree and the one after it
 pub data Then (A B : Type 0) : Type 0 where
   ◌&◌ : A → B → Then A B

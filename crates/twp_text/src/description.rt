@@ -18,9 +18,7 @@ pub struct Description {
 
 impl Model for Description {
     ghost use Rattle.std.specs.Prelude.{List};
-
     ghost use Rattle.twp_text.specs.declared.item.Item.{Item};
-
     ghost use Rattle.twp_text.specs.Items.{BeginWithSections};
 
     ghost Value = { List Item };

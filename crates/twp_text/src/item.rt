@@ -1,9 +1,9 @@
+ghost use Rattle.std.specs.Prelude.{◌≡◌, [], ◌∷◌, ◌++◌, OnOk, OnErr, IfOk};
+
 use smallvec::SmallVec;
 use std::alloc::{AllocError, Global};
 use std::marker::Model;
 use twp_grid::{Corner, EastWest, NorthSouth, Side};
-
-ghost use Rattle.std.specs.Prelude.{◌≡◌, [], ◌∷◌, ◌++◌, OnOk, OnErr, IfOk};
 
 /// A number as it was written, and its place in the text.
 #[derive(Clone, Copy, Debug, PartialEq, Eq, Hash)]
@@ -37,7 +37,6 @@ pub struct Steps {
 
 impl Model for Steps {
     ghost use Rattle.std.specs.Prelude.{List};
-
     ghost use Rattle.twp_text.specs.declared.item.Step.{Step};
 
     ghost Value = { List Step };
@@ -93,9 +92,17 @@ pub enum Item {
         whole: bool,
     },
     /// The section's lots from `first` to `last`.
-    Lots { first: Numeral, last: Numeral },
+    Lots {
+        first: Numeral,
+        last: Numeral,
+    },
     /// An aliquot part of the section. `at` is the place of its first token.
-    Chain { steps: Steps, at: u32 },
+    Chain {
+        steps: Steps,
+        at: u32,
+    },
     /// The whole section. `at` is the place of the word.
-    All { at: u32 },
+    All {
+        at: u32,
+    },
 }

@@ -16,7 +16,6 @@ pub struct Items {
 
 impl Model for Items {
     ghost use Rattle.std.specs.Prelude.{List, reverse};
-
     ghost use Rattle.twp_text.specs.declared.item.Item.{Item};
 
     ghost Value = { List Item };

@@ -55,12 +55,7 @@ fn small_letter(byte: u8) -> Option<u8>
 
 /// A word, whose first letter is known.
 #[inline(always)]
-#[tactic(auto, using(
-    crate::proofs::WordFacts::one_letter,
-    crate::proofs::WordFacts::two_letters,
-    crate::proofs::WordFacts::three_letters,
-    crate::proofs::WordFacts::long
-))]
+#[tactic(auto, using(crate::proofs::WordFacts::one_letter, crate::proofs::WordFacts::two_letters, crate::proofs::WordFacts::three_letters, crate::proofs::WordFacts::long))]
 fn word(bytes: &[u8], first: u8) -> Lexeme
     requires { small_letter (slice_index bytes.now 0) ≡ Some first }
     ensures { result ≡ cut_word bytes.now }
@@ -150,11 +145,7 @@ fn digits(bytes: &[u8]) -> Lexeme
 
 /// Digits: a number, or too many.
 #[inline(never)]
-#[tactic(auto, using(
-    crate::proofs::Numerals::digits_in_front,
-    crate::proofs::Numerals::few_digits,
-    crate::proofs::Numerals::many_digits
-))]
+#[tactic(auto, using(crate::proofs::Numerals::digits_in_front, crate::proofs::Numerals::few_digits, crate::proofs::Numerals::many_digits))]
 fn number(bytes: &[u8]) -> Lexeme
     ensures { result ≡ cut_number bytes.now }
 {

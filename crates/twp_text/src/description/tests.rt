@@ -1,10 +1,6 @@
 use super::*;
-use crate::item::{Numeral, Step};
-use crate::token::Token;
-use std::alloc::AllocError;
-use std::process::Abort;
 use std::test::Fail;
-use twp_grid::{Corner, EastWest, NorthSouth, Refusal, Side};
+use twp_grid::Refusal;
 
 /// The refusal's number and place, or None where the text is read.
 fn answer(alloc: Global, text: &[u8]) -> Result<Option<(u8, u32)>, TextFault> {
@@ -18,7 +14,7 @@ fn answer(alloc: Global, text: &[u8]) -> Result<Option<(u8, u32)>, TextFault> {
 }
 
 /// Descriptions that are read.
-const READ: [&[u8]; 38] = [
+const READ: [&[u8]; 37] = [
     b"sec. 14.",
     b"secs. 1 thru 36.",
     b"sec. 5, lot 1.",
@@ -56,27 +52,20 @@ const READ: [&[u8]; 38] = [
     b"sec 1 E1/2W1/2",
     b"sec 1, all and all",
     b"sec 1, lots 1 to 2, inclusive, and 3, SW1/4",
-    b"sec 1, lot 1, inclusive",
     b"section 0000, LOT 9999",
 ];
 
 #[test]
 fn reads_descriptions(rt: HostRuntime) -> Result<(), Fail> {
     for text in READ {
-        let wanted = if text == b"sec 1, lot 1, inclusive" {
-            // `inclusive` stands behind a range alone: at offset 14.
-            Some((44, 14))
-        } else {
-            None
-        };
-        assert_eq!(rt; answer(rt.alloc(), text)?, wanted);
+        assert_eq!(rt; answer(rt.alloc(), text)?, None);
     }
     Ok(())
 }
 
 #[test]
 fn refuses_other_texts(rt: HostRuntime) -> Result<(), Fail> {
-    let table: [(&[u8], u8, u32); 22] = [
+    let table: [(&[u8], u8, u32); 23] = [
         (b"", 44, 0),
         (b"sec. 14,", 44, 8),
         (b"sec. 14, NE1/2.", 44, 11),
@@ -103,6 +92,8 @@ fn refuses_other_texts(rt: HostRuntime) -> Result<(), Fail> {
         (b"sec. 14 NE1/4 the SW1/4", 44, 14),
         (b"sec. 14, NE1/4 4", 44, 15),
         (b"sec. 14..", 44, 8),
+        // `inclusive` stands behind a range alone.
+        (b"sec 1, lot 1, inclusive", 44, 14),
     ];
     for (text, number, at) in table {
         assert_eq!(rt; answer(rt.alloc(), text)?, Some((number, at)));
@@ -171,5 +162,123 @@ fn refuses_too_large_texts_before_all(rt: HostRuntime) -> Result<(), Fail> {
     assert_eq!(rt; answer(rt.alloc(), spaces.as_slice())?, Some((41, 65_536)));
     assert_eq!(rt; spaces.len(), 65_537);
     assert_eq!(rt; answer(rt.alloc(), &spaces[..65_536])?, Some((44, 65_536)));
+    Ok(())
+}
+
+/// The items of `T. 2 N., R. 3 W., sec. 6, lots 1 thru 3, S1/2 of the NE1/4; secs. 7, 8 all`. Of the places,
+/// `sec` begins at 18, its number at 23, `lots` at 26, the lots at 31 and 38, the chain at 41, `secs` at 60,
+/// its numbers at 66 and 69.
+#[test]
+fn names_items(rt: HostRuntime) -> Result<(), Fail> {
+    let text = b"T. 2 N., R. 3 W., sec. 6, lots 1 thru 3, S1/2 of the NE1/4; secs. 7, 8 all";
+    let description = Description::read(rt.alloc(), text)?;
+    let wanted = [
+        "Heading { number: 2, north_south: N, range: 3, east_west: W, at: 0 }",
+        "Sections { first: Numeral { value: 6, at: 23 }, last: Numeral { value: 6, at: 23 }, whole: false }",
+        "Lots { first: Numeral { value: 1, at: 31 }, last: Numeral { value: 3, at: 38 } }",
+        "Chain { steps: Steps { steps: [Half(S), Quarter(NE)] }, at: 41 }",
+        "Sections { first: Numeral { value: 7, at: 66 }, last: Numeral { value: 7, at: 66 }, whole: true }",
+        "Sections { first: Numeral { value: 8, at: 69 }, last: Numeral { value: 8, at: 69 }, whole: true }",
+    ];
+    let items = description.items();
+    assert_eq!(rt; items.len(), wanted.len());
+    for (item, wanted) in items.iter().zip(wanted) {
+        let told = format!(in rt.alloc(); "{item:?}")?;
+        assert_eq!(rt; told.as_str(), wanted);
+    }
+    Ok(())
+}
+
+/// A chain of more steps than stand in the item itself.
+#[test]
+fn names_long_chains(rt: HostRuntime) -> Result<(), Fail> {
+    let description = Description::read(
+        rt.alloc(),
+        b"sec 1, NE1/4E1/2S1/2W1/2N1/2SW1/4SE1/4NW1/4S1/2of N1/2",
+    )?;
+    let items = description.items();
+    assert_eq!(rt; items.len(), 2);
+    let told = format!(in rt.alloc(); "{:?}", items.last())?;
+    assert_eq!(rt;
+        told.as_str(),
+        "Some(Chain { steps: Steps { steps: [Quarter(NE), Half(E), Half(S), Half(W), Half(N), Quarter(SW), Quarter(SE), Quarter(NW), Half(S), Half(N)] }, at: 7 })"
+    );
+    Ok(())
+}
+
+/// A token of each class that a sentence can have, and a word of none.
+const SAMPLES: &str = "sec lot all and to inclusive of the t r n e ne 1/2 1/4 1 , ; : . x";
+
+/// Fronts of sentences, and which of the samples may follow, worked out by hand from the grammar.
+const FRONTS: [(&str, &str); 46] = [
+    ("", "sec t"),
+    ("t", ". 1"),
+    ("t.", "1"),
+    ("t 2", "n"),
+    ("t 2 n", ". , r"),
+    ("t 2 n.", ", r"),
+    ("t 2 n,", "r"),
+    ("t 2 n r", ". 1"),
+    ("t 2 n r.", "1"),
+    ("t 2 n r 3", "e"),
+    ("t 2 n r 3 w", ". , sec"),
+    ("t 2 n r 3 w.", ", sec"),
+    ("t 2 n r 3 w,", "sec"),
+    ("sec", ". 1"),
+    ("sec.", "1"),
+    ("sec 1", "to , : and lot all n e ne ; ."),
+    ("sec 1,", "and 1 lot all n e ne"),
+    ("sec 1:", "lot all n e ne"),
+    ("sec 1 and", "1"),
+    ("sec 1 to", "1"),
+    ("sec 1 to 2", "inclusive , : and all ; ."),
+    ("sec 1 to 2 inclusive", ", : and all ; ."),
+    ("sec 1 to 2,", "inclusive and 1 all"),
+    ("sec 1, 2", "to , : and all ; ."),
+    ("sec 1, 2,", "and 1 all"),
+    ("sec 1, 2:", "all"),
+    ("sec 1, 2 all", "; ."),
+    ("sec 1 lot", "1"),
+    ("sec 1 lot 2", "to , and ; ."),
+    ("sec 1 lot 2 to", "1"),
+    ("sec 1 lot 2 to 3", "inclusive , and ; ."),
+    ("sec 1 lot 2 to 3 inclusive", ", and ; ."),
+    ("sec 1 lot 2,", "and 1 lot all n e ne"),
+    ("sec 1 lot 2 to 3,", "inclusive and 1 lot all n e ne"),
+    ("sec 1 lot 2 and", "1 lot all n e ne"),
+    ("sec 1 n", "1/2"),
+    ("sec 1 ne", "1/4"),
+    ("sec 1 n1/2", "of n e ne , and ; ."),
+    ("sec 1 n1/2 of", "the n e ne"),
+    ("sec 1 n1/2 of the", "n e ne"),
+    ("sec 1 all", ", and ; ."),
+    ("sec 1 all,", "and lot all n e ne"),
+    ("sec 1 all and", "lot all n e ne"),
+    ("sec 1;", "and sec"),
+    ("sec 1; and", "sec"),
+    ("sec 1.", ""),
+];
+
+/// Where a token may follow, the text goes wrong behind it, if at all; and else at it.
+#[test]
+fn takes_the_tokens_that_may_follow(rt: HostRuntime) -> Result<(), Fail> {
+    for (front, may_follow) in FRONTS {
+        for token in SAMPLES.split_whitespace() {
+            let mut text = Vec::new(rt.alloc());
+            text.extend_from_slice(front.as_bytes())?;
+            text.push(b' ')?;
+            let at = text.len();
+            text.extend_from_slice(token.as_bytes())?;
+            let wrong_at = match answer(rt.alloc(), text.as_slice())? {
+                None => text.len(),
+                Some((_, at)) => at as usize,
+            };
+            let follows = may_follow
+                .split_whitespace()
+                .any(|sample| sample.as_bytes() == token.as_bytes());
+            let wanted = if follows { text.len() } else { at };
+            assert_eq!(rt; wrong_at, wanted);
+        }
+    }
     Ok(())
 }
