@@ -7,7 +7,15 @@ use twp_text::Description;
 
 fn main(rt: HostRuntime) -> io::Result<()> {
     let mut text = Vec::new(rt.alloc());
-    rt.reader().read_to_end(&mut text)?;
+    let mut reader = rt.reader();
+    let mut piece = [0; 4_096];
+    for _ in 0..256 {
+        let count = reader.read(&mut piece)?;
+        if count == 0 {
+            break;
+        }
+        text.extend_from_slice(&piece[..count])?;
+    }
     match Description::read(rt.alloc(), text.as_slice()) {
         Ok(description) => {
             let count = description.items().len();

@@ -10,3 +10,5 @@ pub mod Cuts
 pub mod TokenFacts
 pub mod ReaderFacts
 pub mod OneAnswer
+pub mod StepFacts
+pub mod LetterFacts

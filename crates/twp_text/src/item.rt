@@ -1,6 +1,6 @@
-ghost use Rattle.std.specs.Prelude.{◌≡◌, [], ◌∷◌, ◌++◌, OnOk, OnErr, IfOk};
+ghost use Rattle.std.specs.Prelude.{◌≡◌, [], ◌∷◌, ◌++◌, length, slice_get, OnOk};
 
-use smallvec::SmallVec;
+use arrayvec::ArrayVec;
 use std::alloc::{AllocError, Global};
 use std::marker::Model;
 use twp_grid::{Corner, EastWest, NorthSouth, Side};
@@ -29,46 +29,70 @@ impl Default for Step {
 }
 
 /// The steps of an aliquot part, the smallest first, as they are written: `S1/2NE1/4` is the south half
-/// of the north-east quarter.
+/// of the north-east quarter. Up to eight take no memory of their own.
 #[derive(Debug, Drop)]
 pub struct Steps {
-    steps: SmallVec<Step, 8>,
+    first: ArrayVec<Step, 8>,
+    more: Vec<Step>,
 }
 
 impl Model for Steps {
-    ghost use Rattle.std.specs.Prelude.{List};
+    ghost use Rattle.std.specs.Prelude.{◌≡◌, ◌<◌, List, [], ◌++◌, length};
+
     ghost use Rattle.twp_text.specs.declared.item.Step.{Step};
 
     ghost Value = { List Step };
 
-    ghost view = { λ s. s.steps.items };
+    ghost view = { λ s. s.first.items ++ s.more.items };
+
+    ghost invariant = { λ s. length s.first.items < 8 → s.more.items ≡ [] };
 }
 
 impl Steps {
     /// One step.
     #[inline(always)]
-    pub fn one(alloc: Global, step: Step) -> Result<Steps, AllocError>
-        ensures { IfOk result (λ steps. steps ≡ step ∷ []) }
+    pub fn one(alloc: Global, step: Step) -> Steps
+        ensures { result ≡ step ∷ [] }
     {
-        let mut steps = SmallVec::new(alloc);
-        steps.push(step)?;
-        Ok(Steps { steps })
+        let mut first = ArrayVec::new();
+        first.push(step);
+        Steps {
+            first,
+            more: Vec::new(alloc),
+        }
     }
 
-    /// The steps, the smallest first.
-    pub fn as_slice(&self) -> &[Step]
-        ensures { result.now ≡ self.now }
+    /// How many steps there are.
+    pub fn len(&self) -> usize
+        ensures { result ≡ length self.now }
     {
-        self.steps.as_slice()
+        self.first.len() + self.more.len()
+    }
+
+    /// The step at an index, counted from the smallest. None past the last.
+    #[tactic(auto, using(crate::proofs::StepFacts::in_first, crate::proofs::StepFacts::in_more))]
+    pub fn get(&self, index: usize) -> Option<Step>
+        ensures { result ≡ slice_get self.now index }
+    {
+        let first = self.first.as_slice();
+        if index < first.len() {
+            Some(first[index])
+        } else {
+            self.more.get(index - first.len()).copied()
+        }
     }
 
     /// Adds the step of which the last one is a part.
     #[inline(always)]
+    #[tactic(auto, using(crate::proofs::StepFacts::push_first, crate::proofs::StepFacts::push_more))]
     pub fn push(&mut self, step: Step) -> Result<(), AllocError>
-        ensures ok { OnOk result (self.new ≡ self.old ++ step ∷ []) }
-        ensures err { OnErr result (self.new ≡ self.old) }
+        ensures { OnOk result (self.new ≡ self.old ++ step ∷ []) }
     {
-        self.steps.push(step)?;
+        if self.first.len() < 8 {
+            self.first.push(step);
+            return Ok(());
+        }
+        self.more.push(step)?;
         Ok(())
     }
 }

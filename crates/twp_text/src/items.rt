@@ -157,8 +157,8 @@ impl Items {
                 self.change(Change::Grown(step))
             }
             _ => {
-                let steps = Steps::one(alloc, step)?;
                 self.before_parts(state)?;
+                let steps = Steps::one(alloc, step);
                 self.push(Item::Chain { steps, at })
             }
         }

@@ -43,11 +43,13 @@ fn byte_at(bytes: &[u8], index: usize) -> u8
 
 /// A letter as a small one. In ASCII the two differ in one bit.
 #[inline(always)]
+#[tactic(auto, using(crate::proofs::LetterFacts::by_its_bit))]
 fn small_letter(byte: u8) -> Option<u8>
     ensures { result ≡ small_letter byte }
 {
-    if byte.is_ascii_alphabetic() {
-        Some(byte.to_ascii_lowercase())
+    let small = byte | 0x20;
+    if small.is_ascii_lowercase() {
+        Some(small)
     } else {
         None
     }

@@ -176,7 +176,7 @@ fn names_items(rt: HostRuntime) -> Result<(), Fail> {
         "Heading { number: 2, north_south: N, range: 3, east_west: W, at: 0 }",
         "Sections { first: Numeral { value: 6, at: 23 }, last: Numeral { value: 6, at: 23 }, whole: false }",
         "Lots { first: Numeral { value: 1, at: 31 }, last: Numeral { value: 3, at: 38 } }",
-        "Chain { steps: Steps { steps: [Half(S), Quarter(NE)] }, at: 41 }",
+        "Chain { steps: Steps { first: [Half(S), Quarter(NE)], more: [] }, at: 41 }",
         "Sections { first: Numeral { value: 7, at: 66 }, last: Numeral { value: 7, at: 66 }, whole: true }",
         "Sections { first: Numeral { value: 8, at: 69 }, last: Numeral { value: 8, at: 69 }, whole: true }",
     ];
@@ -201,7 +201,7 @@ fn names_long_chains(rt: HostRuntime) -> Result<(), Fail> {
     let told = format!(in rt.alloc(); "{:?}", items.last())?;
     assert_eq!(rt;
         told.as_str(),
-        "Some(Chain { steps: Steps { steps: [Quarter(NE), Half(E), Half(S), Half(W), Half(N), Quarter(SW), Quarter(SE), Quarter(NW), Half(S), Half(N)] }, at: 7 })"
+        "Some(Chain { steps: Steps { steps: [Quarter(NE), Half(E), Half(S), Half(W), Half(N), Quarter(SW), Quarter(SE), Quarter(NW)], more: [Half(S), Half(N)] }, at: 7 })"
     );
     Ok(())
 }
