@@ -241,9 +241,13 @@ take_all (Sections state) at items = items
 take_all SectionsColon at items = items
 take_all state at items = item.All at ∷ before_parts state items
 
+-- a heading begins
+abbrev pub take_township : ℕ → List Item → List Item
+take_township at items = item.Heading 0 ns.N 0 ew.E at ∷ items
+
 -- the items with one more token
 abbrev pub take_token : State → Kind → ℕ → List Item → List Item
-take_token state kind.T at items = item.Heading 0 ns.N 0 ew.E at ∷ items
+take_token state kind.T at items = take_township at items
 take_token state (kind.NorthSouth side) at items = take_north_south state side at items
 take_token state (kind.EastWest side) at items = take_east_west state side at items
 take_token state (kind.Corner which) at items = take_step state (Quarter which) at items

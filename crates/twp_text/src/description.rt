@@ -80,6 +80,8 @@ impl Description {
 }
 
 /// The fault of a text that goes wrong at a place: its leftmost bad token, if it has one.
+#[cold]
+#[inline(never)]
 fn fault_of(text: &[u8], at: usize) -> TextFault
     requires within { at ≤ length text.now }
     requires limit { length text.now ≤ TEXT_LIMIT }

@@ -6,7 +6,7 @@ use crate::kind::Kind;
 use crate::state::{HeadingState, ListState, PartState, State};
 use std::alloc::{AllocError, Global};
 use std::marker::Model;
-use twp_grid::{EastWest, NorthSouth, Side};
+use twp_grid::{Corner, EastWest, NorthSouth, Side};
 
 /// The items of the tokens so far. Contracts see them with the newest first.
 #[derive(Drop)]
@@ -40,7 +40,7 @@ pub enum Change {
 
 impl Items {
     ghost use Rattle.std.specs.Prelude.{reverse};
-    ghost use Rattle.twp_text.specs.Machine.{with_newest, before_parts, take_step, take_number, take_all, take_north_south, take_east_west, take_token};
+    ghost use Rattle.twp_text.specs.Machine.{with_newest, before_parts, take_step, take_number, take_all, take_township, take_north_south, take_east_west, take_token};
 
     /// No items.
     pub fn new(alloc: Global) -> Items
@@ -89,16 +89,10 @@ impl Items {
         ensures { OnOk result (self.new ≡ take_token state kind at self.old) }
     {
         match kind {
-            Kind::T => self.push(Item::Heading {
-                number: 0,
-                north_south: NorthSouth::N,
-                range: 0,
-                east_west: EastWest::E,
-                at,
-            }),
+            Kind::T => self.take_township(at),
             Kind::NorthSouth(side) => self.take_north_south(alloc, state, side, at),
             Kind::EastWest(side) => self.take_east_west(alloc, state, side, at),
-            Kind::Corner(corner) => self.take_step(alloc, state, Step::Quarter(corner), at),
+            Kind::Corner(corner) => self.take_corner(alloc, state, corner, at),
             Kind::Number(value) => self.take_number(state, Numeral { value, at }),
             Kind::Lot => self.before_parts(state),
             Kind::Colon => self.before_parts(state),
@@ -107,8 +101,22 @@ impl Items {
         }
     }
 
+    /// The `T` of a heading, whose other parts are still to come.
+    #[inline(never)]
+    fn take_township(&mut self, at: u32) -> Result<(), AllocError>
+        ensures { OnOk result (self.new ≡ take_township at self.old) }
+    {
+        self.push(Item::Heading {
+            number: 0,
+            north_south: NorthSouth::N,
+            range: 0,
+            east_west: EastWest::E,
+            at,
+        })
+    }
+
     /// The side of a township, or a half.
-    #[inline(always)]
+    #[inline(never)]
     fn take_north_south(
         &mut self,
         alloc: Global,
@@ -125,7 +133,7 @@ impl Items {
     }
 
     /// The side of a range, or a half.
-    #[inline(always)]
+    #[inline(never)]
     fn take_east_west(
         &mut self,
         alloc: Global,
@@ -139,6 +147,20 @@ impl Items {
             State::Heading(_) => self.change(Change::RangeSide(side)),
             _ => self.take_step(alloc, state, Step::Half(east_or_west(side)), at),
         }
+    }
+
+    /// A quarter.
+    #[inline(never)]
+    fn take_corner(
+        &mut self,
+        alloc: Global,
+        state: State,
+        corner: Corner,
+        at: u32,
+    ) -> Result<(), AllocError>
+        ensures { OnOk result (self.new ≡ take_step state (Step.Quarter corner) at self.old) }
+    {
+        self.take_step(alloc, state, Step::Quarter(corner), at)
     }
 
     /// A step: of the chain, where one stands before it, and else the first of a chain.
@@ -165,7 +187,7 @@ impl Items {
     }
 
     /// A number of the heading, the first or the last number of a range of sections or lots.
-    #[inline(always)]
+    #[inline(never)]
     fn take_number(&mut self, state: State, number: Numeral) -> Result<(), AllocError>
         ensures { OnOk result (self.new ≡ take_number state number self.old) }
     {
@@ -190,7 +212,7 @@ impl Items {
     }
 
     /// All of a section is a part. Behind several sections, which are whole, it says nothing new.
-    #[inline(always)]
+    #[inline(never)]
     fn take_all(&mut self, state: State, at: u32) -> Result<(), AllocError>
         ensures { OnOk result (self.new ≡ take_all state at self.old) }
     {
@@ -204,7 +226,7 @@ impl Items {
     }
 
     /// The first part of a section makes it one that isn't whole.
-    #[inline(always)]
+    #[inline(never)]
     fn before_parts(&mut self, state: State) -> Result<(), AllocError>
         ensures { OnOk result (self.new ≡ before_parts state self.old) }
     {
