@@ -1,0 +1,14 @@
+pub mod Derivatives
+pub mod NewestItem
+pub mod Table
+pub mod Walk
+pub mod Reading
+pub mod Several
+pub mod Numerals
+pub mod WordFacts
+pub mod Cuts
+pub mod TokenFacts
+pub mod ReaderFacts
+pub mod OneAnswer
+pub mod StepFacts
+pub mod LetterFacts

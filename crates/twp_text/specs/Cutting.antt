@@ -1,0 +1,51 @@
+-- How the reader cuts the first token off bytes that begin with no white space. No public promise speaks of it;
+-- proofs/Cuts shows that it is the one token that the bytes begin with. Past the end a byte is read as 0.
+use Rattle.std.specs.Prelude.{◌==◌, ◌&&◌, ℕ, ◌≤◌, nat_le, List, take, Option, Some, None, slice_index, if◌then◌else◌}
+use Rattle.std.specs.Char.{is_ascii_alphabetic, is_ascii_digit, to_ascii_lowercase}
+use Rattle.std.specs.List.{prefix_len}
+use Rattle.std.specs.Str.Parse.{digits_value}
+use Rattle.twp_text.specs.declared.kind.Kind.{Kind}
+use Rattle.twp_text.specs.declared.kind.Kind.TheVariants.{Half, Quarter, Number, Comma, Semicolon, Colon, Stop, BadNumber, BadByte}
+use Rattle.twp_text.specs.declared.lexeme.Lexeme.{Lexeme}
+use Rattle.twp_text.specs.Tokens.{kind_of_word}
+
+abbrev pub lexeme : Kind → ℕ → Lexeme
+lexeme kind size = record { kind = kind; size = size }
+
+-- a letter as a small one
+abbrev pub small_letter : ℕ → Option ℕ
+small_letter byte = if is_ascii_alphabetic byte then Some (to_ascii_lowercase byte) else None
+
+unfoldable pub cut_word : List ℕ → Lexeme
+cut_word bytes = lexeme (kind_of_word (take (prefix_len is_ascii_alphabetic bytes) bytes)) (prefix_len is_ascii_alphabetic bytes)
+
+-- what so many digits are
+abbrev pub numeral_of : ℕ → List ℕ → Lexeme
+numeral_of size bytes = if nat_le size 4 then lexeme (Number (digits_value 10 (take size bytes))) size else lexeme BadNumber size
+
+unfoldable pub cut_number : List ℕ → Lexeme
+cut_number bytes = numeral_of (prefix_len is_ascii_digit bytes) bytes
+
+-- bytes that begin with a digit
+unfoldable pub cut_digits : List ℕ → Lexeme
+cut_digits bytes =
+    if (slice_index bytes 0 == 49) && (slice_index bytes 1 == 47) && (slice_index bytes 2 == 50) then lexeme Half 3
+    else if (slice_index bytes 0 == 49) && (slice_index bytes 1 == 47) && (slice_index bytes 2 == 52) then lexeme Quarter 3
+    else cut_number bytes
+
+-- a byte that is neither a letter nor a digit, and the one behind it
+unfoldable pub cut_mark : ℕ → ℕ → Lexeme
+cut_mark byte behind =
+    if byte == 44 then lexeme Comma 1
+    else if byte == 46 then lexeme Stop 1
+    else if byte == 59 then lexeme Semicolon 1
+    else if byte == 58 then lexeme Colon 1
+    else if (byte == 194) && (behind == 189) then lexeme Half 2
+    else if (byte == 194) && (behind == 188) then lexeme Quarter 2
+    else lexeme BadByte 1
+
+unfoldable pub cut : List ℕ → Lexeme
+cut bytes =
+    if is_ascii_alphabetic (slice_index bytes 0) then cut_word bytes
+    else if is_ascii_digit (slice_index bytes 0) then cut_digits bytes
+    else cut_mark (slice_index bytes 0) (slice_index bytes 1)

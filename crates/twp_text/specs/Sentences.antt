@@ -1,0 +1,32 @@
+-- Which lists of tokens are descriptions, and where one that isn't goes wrong.
+use Rattle.std.specs.Prelude.{◌≡◌, ℕ, ◌+◌, ◌≤◌, ◌<◌, List, ◌++◌, length, take}
+use Rattle.twp_text.specs.declared.item.Item.{Item}
+use Rattle.twp_text.specs.Tokens.{Token}
+use Rattle.twp_text.specs.Grammar.{description}
+use Rattle.twp_text.specs.Items as derived
+
+-- the grammar derives the tokens, and these are the items
+pub record HasItems (tokens : List Token) (items : List Item) : Type 0 where
+  pub tree : derived.Tree description
+  pub spelt : derived.tokens description tree ≡ tokens
+  pub read_off : derived.items tree ≡ items
+
+-- the grammar derives the tokens
+pub record IsSentence (tokens : List Token) : Type 0 where
+  pub tree : derived.Tree description
+  pub spelt : derived.tokens description tree ≡ tokens
+
+-- the most tokens that a beginning of a sentence lacks
+abbrev pub LONGEST_COMPLETION : ℕ
+LONGEST_COMPLETION = 7
+
+-- a sentence begins with the tokens, and lacks no more than these few
+abbrev pub IsFront : List Token → Type 0
+IsFront tokens = (more : List Token) × (length more ≤ LONGEST_COMPLETION) × IsSentence (tokens ++ more)
+
+-- the tokens before the i-th begin a sentence, and with it they begin none; or all of them begin one, and are none
+pub record IsFault (tokens : List Token) (i : ℕ) : Type 0 where
+  pub within : i ≤ length tokens
+  pub before : IsFront (take i tokens)
+  pub here : i < length tokens → (more : List Token) → ¬ IsSentence (take (i + 1) tokens ++ more)
+  pub at_end : i ≡ length tokens → ¬ IsSentence tokens

@@ -1,0 +1,101 @@
+-- Which bytes are read as items, and which refusal is answered for all others.
+use Rattle.std.specs.Prelude.{◌≡◌, ℕ, ◌≤◌, ◌<◌, zero, suc, List, [], ◌∷◌, ◌++◌, Option, Some, None, length}
+use Rattle.twp_grid.specs.declared.refusal.Refusal.{Refusal}
+use Rattle.twp_text.specs.declared.kind.Kind.{Kind}
+use Rattle.twp_text.specs.declared.kind.Kind.TheVariants.{BadByte, BadNumber}
+use Rattle.twp_text.specs.declared.item.Item.{Item}
+use Rattle.twp_text.specs.declared.fault.TextFault.{TextFault}
+use Rattle.twp_text.specs.declared.fault.TextFault.TheVariants as fault
+use Rattle.twp_text.specs.Tokens.{Token, HasTokens}
+use Rattle.twp_text.specs.Sentences.{HasItems, IsFault}
+
+-- the most bytes of a description
+abbrev pub TEXT_LIMIT : ℕ
+TEXT_LIMIT = 65536
+
+-- the bytes are read as these items
+pub record IsReadAs (text : List ℕ) (items : List Item) : Type 0 where
+  pub within : length text ≤ TEXT_LIMIT
+  pub tokens : List Token
+  pub cut : HasTokens 0 text tokens
+  pub named : HasItems tokens items
+
+abbrev pub refusal : ℕ → ℕ → Refusal
+refusal number at = record { number = number; at = at }
+
+-- the number that a kind of token is refused by, wherever it stands
+abbrev pub number_of_bad : Kind → Option ℕ
+number_of_bad BadByte = Some 42
+number_of_bad BadNumber = Some 43
+number_of_bad _ = None
+
+-- no token is bad
+abbrev pub NoneBad : List Token → Type 0
+NoneBad [] = Unit {0}
+NoneBad (token ∷ tokens) = (number_of_bad token.kind ≡ None) × NoneBad tokens
+
+-- the token is the leftmost that is bad
+pub record IsFirstBad (tokens : List Token) (token : Token) : Type 0 where
+  pub before : List Token
+  pub after : List Token
+  pub is : tokens ≡ before ++ token ∷ after
+  pub none_before : NoneBad before
+
+-- where the i-th token stands, or the end of the text
+abbrev pub place_of : List Token → ℕ → ℕ → ℕ
+place_of [] i end = end
+place_of (token ∷ tokens) zero end = token.at
+place_of (token ∷ tokens) (suc i) end = place_of tokens i end
+
+-- a bad token
+pub record IsBadToken (text : List ℕ) (r : Refusal) : Type 0 where
+  pub tokens : List Token
+  pub cut : HasTokens 0 text tokens
+  pub token : Token
+  pub first : IsFirstBad tokens token
+  pub number : number_of_bad token.kind ≡ Some r.number
+  pub place : r.at ≡ token.at
+
+-- a fault of syntax in a text without a bad token
+pub record IsSyntaxFault (text : List ℕ) (r : Refusal) : Type 0 where
+  pub tokens : List Token
+  pub cut : HasTokens 0 text tokens
+  pub none_bad : NoneBad tokens
+  pub i : ℕ
+  pub fault : IsFault tokens i
+  pub number : r.number ≡ 44
+  pub place : r.at ≡ place_of tokens i (length text)
+
+-- the refusal of a text: 41 before all, then the leftmost bad token, and then the fault of syntax
+pub data IsFirstTextFault (text : List ℕ) (r : Refusal) : Type 0 where
+  too_large : TEXT_LIMIT < length text → r ≡ refusal 41 TEXT_LIMIT → IsFirstTextFault text r
+  bad_token : length text ≤ TEXT_LIMIT → IsBadToken text r → IsFirstTextFault text r
+  syntax : length text ≤ TEXT_LIMIT → IsSyntaxFault text r → IsFirstTextFault text r
+
+-- the fault of a bad token
+abbrev pub fault_of_bad : Kind → ℕ → Option TextFault
+fault_of_bad BadByte at = Some (fault.BadByte at)
+fault_of_bad BadNumber at = Some (fault.BadNumber at)
+fault_of_bad _ at = None
+
+-- the number and the place of a fault; want of memory has none
+abbrev pub refusal_of : TextFault → Option Refusal
+refusal_of fault.TooLarge = Some (refusal 41 TEXT_LIMIT)
+refusal_of (fault.BadByte at) = Some (refusal 42 at)
+refusal_of (fault.BadNumber at) = Some (refusal 43 at)
+refusal_of (fault.Syntax at) = Some (refusal 44 at)
+refusal_of fault.Memory = None
+
+-- the text goes wrong at this place, whether or not it has bad tokens
+pub record GoesWrong (text : List ℕ) (at : ℕ) : Type 0 where
+  pub tokens : List Token
+  pub cut : HasTokens 0 text tokens
+  pub i : ℕ
+  pub fault : IsFault tokens i
+  pub place : at ≡ place_of tokens i (length text)
+
+-- the text has no bad token
+pub record HasNoneBad (text : List ℕ) : Type 0 where
+  pub tokens : List Token
+  pub cut : HasTokens 0 text tokens
+  pub none_bad : NoneBad tokens

@@ -1,0 +1,124 @@
+ghost use Rattle.std.specs.Prelude.{◌≡◌, ◌≤◌, List, length, IfOk, IfErr, IfSome, IsSomeAnd, MatchOption, MatchResult};
+ghost use Rattle.twp_text.specs.TextFaults.{refusal_of, fault_of_bad, HasNoneBad, GoesWrong, IsBadToken, IsFirstTextFault};
+
+use crate::fault::{TEXT_LIMIT, TextFault};
+use crate::item::Item;
+use crate::items::Items;
+use crate::kind::Kind;
+use crate::state::State;
+use crate::token::Tokens;
+use std::alloc::Global;
+use std::marker::Model;
+
+/// A description of land, as the items that it names, from left to right.
+#[derive(Debug, Drop)]
+pub struct Description {
+    items: Vec<Item>,
+}
+
+impl Model for Description {
+    ghost use Rattle.std.specs.Prelude.{List};
+    ghost use Rattle.twp_text.specs.declared.item.Item.{Item};
+    ghost use Rattle.twp_text.specs.Items.{BeginWithSections};
+
+    ghost Value = { List Item };
+
+    ghost view = { λ d. d.items.items };
+
+    ghost invariant = { λ d. BeginWithSections d.items.items };
+}
+
+impl Description {
+    ghost use Rattle.twp_text.specs.Items.{BeginWithSections};
+    ghost use Rattle.twp_text.specs.TextFaults.{IsReadAs};
+
+    /// Reads a description by the grammar (the form of the Specifications for Descriptions of Land; the
+    /// grammar is this project's). Nothing is judged of a plat.
+    pub fn read(alloc: Global, text: &[u8]) -> Result<Description, TextFault>
+        ensures read { IfOk result (IsReadAs text.now) }
+        ensures taken { (items : List Item) → IsReadAs text.now items
+            → MatchResult result (λ d. d ≡ items) (λ fault. fault ≡ TextFault.Memory) }
+        ensures refused { IfErr result (λ fault. IfSome (refusal_of fault) (IsFirstTextFault text.now)) }
+    {
+        if text.len() > TEXT_LIMIT {
+            return Err(TextFault::TooLarge);
+        }
+        Description::read_within(alloc, text)
+    }
+
+    /// Reads a description within the limit.
+    fn read_within(alloc: Global, text: &[u8]) -> Result<Description, TextFault>
+        requires { length text.now ≤ TEXT_LIMIT }
+        ensures read { IfOk result (IsReadAs text.now) }
+        ensures refused { IfErr result (λ fault. IfSome (refusal_of fault) (IsFirstTextFault text.now)) }
+    {
+        let mut items = Items::new(alloc);
+        let mut state = State::Start;
+        let mut tokens = Tokens::new(text);
+        while let Some(token) = tokens.advance() {
+            let Some(behind) = state.next(token.kind) else {
+                return Err(fault_of(text, token.at));
+            };
+            items.take(alloc, state, token.kind, token.at as u32)?;
+            state = behind;
+        }
+        if !state.is_final() {
+            return Err(fault_of(text, text.len()));
+        }
+        Ok(Description {
+            items: items.into_vec(),
+        })
+    }
+
+    /// The items, from left to right. Sections come first, or stand behind the heading.
+    pub fn items(&self) -> &[Item]
+        ensures items { result.now ≡ self.now }
+        ensures sections_first { BeginWithSections self.now }
+    {
+        &self.items
+    }
+}
+
+/// The fault of a text that goes wrong at a place: its leftmost bad token, if it has one.
+#[cold]
+#[inline(never)]
+fn fault_of(text: &[u8], at: usize) -> TextFault
+    requires within { at ≤ length text.now }
+    requires limit { length text.now ≤ TEXT_LIMIT }
+    requires wrong { GoesWrong text.now at }
+    ensures { IsSomeAnd (refusal_of result) (IsFirstTextFault text.now) }
+{
+    match first_bad(text) {
+        Some(fault) => fault,
+        None => TextFault::Syntax { at: at as u32 },
+    }
+}
+
+/// The leftmost bad token.
+fn first_bad(text: &[u8]) -> Option<TextFault>
+    requires { length text.now ≤ TEXT_LIMIT }
+    ensures { MatchOption result (HasNoneBad text.now)
+        (λ fault. IsSomeAnd (refusal_of fault) (IsBadToken text.now)) }
+{
+    let mut tokens = Tokens::new(text);
+    while let Some(token) = tokens.next() {
+        if let Some(fault) = fault_of_bad(token.kind, token.at as u32) {
+            return Some(fault);
+        }
+    }
+    None
+}
+
+/// The fault that a token is wherever it stands.
+fn fault_of_bad(kind: Kind, at: u32) -> Option<TextFault>
+    ensures { result ≡ fault_of_bad kind at }
+{
+    match kind {
+        Kind::BadByte => Some(TextFault::BadByte { at }),
+        Kind::BadNumber => Some(TextFault::BadNumber { at }),
+        _ => None,
+    }
+}
+
+#[cfg(test)]
+mod tests;

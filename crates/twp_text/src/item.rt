@@ -1,0 +1,132 @@
+ghost use Rattle.std.specs.Prelude.{◌≡◌, [], ◌∷◌, ◌++◌, length, slice_get, OnOk};
+
+use arrayvec::ArrayVec;
+use std::alloc::{AllocError, Global};
+use std::marker::Model;
+use twp_grid::{Corner, EastWest, NorthSouth, Side};
+
+/// A number as it was written, and its place in the text.
+#[derive(Clone, Copy, Debug, PartialEq, Eq, Hash)]
+pub struct Numeral {
+    /// 0 to 9999. Whether the plat has such a section or lot is not judged here.
+    pub value: u16,
+    /// The offset of its first digit.
+    pub at: u32,
+}
+
+/// A step of an aliquot part: which half, or which quarter, of what the steps after it name.
+#[derive(Clone, Copy, Debug, PartialEq, Eq, Hash)]
+pub enum Step {
+    Half(Side),
+    Quarter(Corner),
+}
+
+/// The north half stands in places of `Steps` that aren't used yet.
+impl Default for Step {
+    fn default() -> Step {
+        Step::Half(Side::N)
+    }
+}
+
+/// The steps of an aliquot part, the smallest first, as they are written: `S1/2NE1/4` is the south half
+/// of the north-east quarter. Up to eight take no memory of their own.
+#[derive(Debug, Drop)]
+pub struct Steps {
+    first: ArrayVec<Step, 8>,
+    more: Vec<Step>,
+}
+
+impl Model for Steps {
+    ghost use Rattle.std.specs.Prelude.{◌≡◌, ◌<◌, List, [], ◌++◌, length};
+
+    ghost use Rattle.twp_text.specs.declared.item.Step.{Step};
+
+    ghost Value = { List Step };
+
+    ghost view = { λ s. s.first.items ++ s.more.items };
+
+    ghost invariant = { λ s. length s.first.items < 8 → s.more.items ≡ [] };
+}
+
+impl Steps {
+    /// One step.
+    #[inline(always)]
+    pub fn one(alloc: Global, step: Step) -> Steps
+        ensures { result ≡ step ∷ [] }
+    {
+        let mut first = ArrayVec::new();
+        first.push(step);
+        Steps {
+            first,
+            more: Vec::new(alloc),
+        }
+    }
+
+    /// How many steps there are.
+    pub fn len(&self) -> usize
+        ensures { result ≡ length self.now }
+    {
+        self.first.len() + self.more.len()
+    }
+
+    /// The step at an index, counted from the smallest. None past the last.
+    #[tactic(auto, using(crate::proofs::StepFacts::in_first, crate::proofs::StepFacts::in_more))]
+    pub fn get(&self, index: usize) -> Option<Step>
+        ensures { result ≡ slice_get self.now index }
+    {
+        let first = self.first.as_slice();
+        if index < first.len() {
+            Some(first[index])
+        } else {
+            self.more.get(index - first.len()).copied()
+        }
+    }
+
+    /// Adds the step of which the last one is a part.
+    #[inline(always)]
+    #[tactic(auto, using(crate::proofs::StepFacts::push_first, crate::proofs::StepFacts::push_more))]
+    pub fn push(&mut self, step: Step) -> Result<(), AllocError>
+        ensures { OnOk result (self.new ≡ self.old ++ step ∷ []) }
+    {
+        if self.first.len() < 8 {
+            self.first.push(step);
+            return Ok(());
+        }
+        self.more.push(step)?;
+        Ok(())
+    }
+}
+
+/// What a description names, one after another. Places are offsets in the text.
+#[derive(Debug, Drop)]
+pub enum Item {
+    /// The township that the description is of. `at` is the place of its `T`.
+    Heading {
+        number: u16,
+        north_south: NorthSouth,
+        range: u16,
+        east_west: EastWest,
+        at: u32,
+    },
+    /// The sections from `first` to `last`: whole, or the one section of which the parts that follow are
+    /// parts.
+    Sections {
+        first: Numeral,
+        last: Numeral,
+        whole: bool,
+    },
+    /// The section's lots from `first` to `last`.
+    Lots {
+        first: Numeral,
+        last: Numeral,
+    },
+    /// An aliquot part of the section. `at` is the place of its first token.
+    Chain {
+        steps: Steps,
+        at: u32,
+    },
+    /// The whole section. `at` is the place of the word.
+    All {
+        at: u32,
+    },
+}

@@ -1,0 +1,306 @@
+ghost use Rattle.std.specs.Prelude.{◌≡◌, ◌∷◌, [], OnOk};
+ghost use Rattle.twp_text.specs.Items.{north_or_south, east_or_west};
+
+use crate::item::{Item, Numeral, Step, Steps};
+use crate::kind::Kind;
+use crate::state::{HeadingState, ListState, PartState, State};
+use std::alloc::{AllocError, Global};
+use std::marker::Model;
+use twp_grid::{Corner, EastWest, NorthSouth, Side};
+
+/// The items of the tokens so far. Contracts see them with the newest first.
+#[derive(Drop)]
+pub struct Items {
+    items: Vec<Item>,
+}
+
+impl Model for Items {
+    ghost use Rattle.std.specs.Prelude.{List, reverse};
+    ghost use Rattle.twp_text.specs.declared.item.Item.{Item};
+
+    ghost Value = { List Item };
+
+    ghost view = { λ s. reverse s.items.items };
+}
+
+/// What a token says of the newest item.
+#[derive(Clone, Copy, Debug, PartialEq, Eq)]
+pub enum Change {
+    TownshipNumber(u16),
+    TownshipSide(NorthSouth),
+    RangeNumber(u16),
+    RangeSide(EastWest),
+    /// The last number of a range.
+    Last(Numeral),
+    /// Parts of the section follow.
+    Parted,
+    /// One step more, of which the last one is a part.
+    Grown(Step),
+}
+
+impl Items {
+    ghost use Rattle.std.specs.Prelude.{reverse};
+    ghost use Rattle.twp_text.specs.Machine.{with_newest, before_parts, take_step, take_number, take_all, take_township, take_north_south, take_east_west, take_token};
+
+    /// No items.
+    pub fn new(alloc: Global) -> Items
+        ensures { result ≡ [] }
+    {
+        Items {
+            items: Vec::new(alloc),
+        }
+    }
+
+    /// The items, the oldest first.
+    pub fn into_vec(self) -> Vec<Item>
+        ensures { result.items ≡ reverse self }
+    {
+        let Items { items } = self;
+        items
+    }
+
+    #[inline(always)]
+    fn push(&mut self, item: Item) -> Result<(), AllocError>
+        ensures { OnOk result (self.new ≡ item ∷ self.old) }
+    {
+        self.items.push(item)?;
+        Ok(())
+    }
+
+    #[inline(always)]
+    fn change(&mut self, change: Change) -> Result<(), AllocError>
+        ensures { OnOk result (self.new ≡ with_newest change self.old) }
+    {
+        let Some(item) = self.items.last_mut() else {
+            return Ok(());
+        };
+        item.change(change)
+    }
+
+    /// What a token that may follow in a state does to the items.
+    #[inline(always)]
+    pub fn take(
+        &mut self,
+        alloc: Global,
+        state: State,
+        kind: Kind,
+        at: u32,
+    ) -> Result<(), AllocError>
+        ensures { OnOk result (self.new ≡ take_token state kind at self.old) }
+    {
+        match kind {
+            Kind::T => self.take_township(at),
+            Kind::NorthSouth(side) => self.take_north_south(alloc, state, side, at),
+            Kind::EastWest(side) => self.take_east_west(alloc, state, side, at),
+            Kind::Corner(corner) => self.take_corner(alloc, state, corner, at),
+            Kind::Number(value) => self.take_number(state, Numeral { value, at }),
+            Kind::Lot => self.before_parts(state),
+            Kind::Colon => self.before_parts(state),
+            Kind::All => self.take_all(state, at),
+            _ => Ok(()),
+        }
+    }
+
+    /// The `T` of a heading, whose other parts are still to come.
+    #[inline(never)]
+    fn take_township(&mut self, at: u32) -> Result<(), AllocError>
+        ensures { OnOk result (self.new ≡ take_township at self.old) }
+    {
+        self.push(Item::Heading {
+            number: 0,
+            north_south: NorthSouth::N,
+            range: 0,
+            east_west: EastWest::E,
+            at,
+        })
+    }
+
+    /// The side of a township, or a half.
+    #[inline(never)]
+    fn take_north_south(
+        &mut self,
+        alloc: Global,
+        state: State,
+        side: NorthSouth,
+        at: u32,
+    ) -> Result<(), AllocError>
+        ensures { OnOk result (self.new ≡ take_north_south state side at self.old) }
+    {
+        match state {
+            State::Heading(_) => self.change(Change::TownshipSide(side)),
+            _ => self.take_step(alloc, state, Step::Half(north_or_south(side)), at),
+        }
+    }
+
+    /// The side of a range, or a half.
+    #[inline(never)]
+    fn take_east_west(
+        &mut self,
+        alloc: Global,
+        state: State,
+        side: EastWest,
+        at: u32,
+    ) -> Result<(), AllocError>
+        ensures { OnOk result (self.new ≡ take_east_west state side at self.old) }
+    {
+        match state {
+            State::Heading(_) => self.change(Change::RangeSide(side)),
+            _ => self.take_step(alloc, state, Step::Half(east_or_west(side)), at),
+        }
+    }
+
+    /// A quarter.
+    #[inline(never)]
+    fn take_corner(
+        &mut self,
+        alloc: Global,
+        state: State,
+        corner: Corner,
+        at: u32,
+    ) -> Result<(), AllocError>
+        ensures { OnOk result (self.new ≡ take_step state (Step.Quarter corner) at self.old) }
+    {
+        self.take_step(alloc, state, Step::Quarter(corner), at)
+    }
+
+    /// A step: of the chain, where one stands before it, and else the first of a chain.
+    #[inline(always)]
+    fn take_step(
+        &mut self,
+        alloc: Global,
+        state: State,
+        step: Step,
+        at: u32,
+    ) -> Result<(), AllocError>
+        ensures { OnOk result (self.new ≡ take_step state step at self.old) }
+    {
+        match state {
+            State::Parts(PartState::Step | PartState::Of | PartState::OfThe) => {
+                self.change(Change::Grown(step))
+            }
+            _ => {
+                self.before_parts(state)?;
+                let steps = Steps::one(alloc, step);
+                self.push(Item::Chain { steps, at })
+            }
+        }
+    }
+
+    /// A number of the heading, the first or the last number of a range of sections or lots.
+    #[inline(never)]
+    fn take_number(&mut self, state: State, number: Numeral) -> Result<(), AllocError>
+        ensures { OnOk result (self.new ≡ take_number state number self.old) }
+    {
+        match state {
+            State::Heading(HeadingState::Range | HeadingState::RangeStop) => {
+                self.change(Change::RangeNumber(number.value))
+            }
+            State::Heading(_) => self.change(Change::TownshipNumber(number.value)),
+            State::Sections(ListState::To) | State::Lots(ListState::To) => {
+                self.change(Change::Last(number))
+            }
+            State::Lots(_) | State::Lot => self.push(Item::Lots {
+                first: number,
+                last: number,
+            }),
+            _ => self.push(Item::Sections {
+                first: number,
+                last: number,
+                whole: true,
+            }),
+        }
+    }
+
+    /// All of a section is a part. Behind several sections, which are whole, it says nothing new.
+    #[inline(never)]
+    fn take_all(&mut self, state: State, at: u32) -> Result<(), AllocError>
+        ensures { OnOk result (self.new ≡ take_all state at self.old) }
+    {
+        match state {
+            State::Sections(_) | State::SectionsColon => Ok(()),
+            _ => {
+                self.before_parts(state)?;
+                self.push(Item::All { at })
+            }
+        }
+    }
+
+    /// The first part of a section makes it one that isn't whole.
+    #[inline(never)]
+    fn before_parts(&mut self, state: State) -> Result<(), AllocError>
+        ensures { OnOk result (self.new ≡ before_parts state self.old) }
+    {
+        match state {
+            State::Section(_) => self.change(Change::Parted),
+            _ => Ok(()),
+        }
+    }
+}
+
+#[inline(always)]
+fn north_or_south(side: NorthSouth) -> Side
+    ensures { result ≡ north_or_south side }
+{
+    match side {
+        NorthSouth::N => Side::N,
+        NorthSouth::S => Side::S,
+    }
+}
+
+#[inline(always)]
+fn east_or_west(side: EastWest) -> Side
+    ensures { result ≡ east_or_west side }
+{
+    match side {
+        EastWest::E => Side::E,
+        EastWest::W => Side::W,
+    }
+}
+
+impl Item {
+    ghost use Rattle.twp_text.specs.Machine.{changed};
+
+    #[inline(always)]
+    fn change(&mut self, change: Change) -> Result<(), AllocError>
+        ensures { OnOk result (self.new ≡ changed change self.old) }
+    {
+        match change {
+            Change::TownshipNumber(value) => {
+                if let Item::Heading { number, .. } = self {
+                    *number = value;
+                }
+            }
+            Change::TownshipSide(side) => {
+                if let Item::Heading { north_south, .. } = self {
+                    *north_south = side;
+                }
+            }
+            Change::RangeNumber(value) => {
+                if let Item::Heading { range, .. } = self {
+                    *range = value;
+                }
+            }
+            Change::RangeSide(side) => {
+                if let Item::Heading { east_west, .. } = self {
+                    *east_west = side;
+                }
+            }
+            Change::Last(number) => match self {
+                Item::Sections { last, .. } => *last = number,
+                Item::Lots { last, .. } => *last = number,
+                _ => {}
+            },
+            Change::Parted => {
+                if let Item::Sections { whole, .. } = self {
+                    *whole = false;
+                }
+            }
+            Change::Grown(step) => {
+                if let Item::Chain { steps, .. } = self {
+                    steps.push(step)?;
+                }
+            }
+        }
+        Ok(())
+    }
+}

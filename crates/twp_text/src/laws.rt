@@ -1,0 +1,43 @@
+//! What holds of descriptions as they are defined: each law is a contract, and its function has nothing
+//! to do.
+ghost use Rattle.twp_text.specs.Laws.{HasTokenList, OneTokenList, OneItemList, ShortCompletion, SeveralAreEntries, OneReading, ReadHasNoFault, OneTextFault};
+
+/// Every list of bytes is cut into tokens.
+pub fn has_token_list()
+    ensures { HasTokenList }
+{}
+
+/// Bytes are cut into tokens in one way.
+pub fn one_token_list()
+    ensures { OneTokenList }
+{}
+
+/// A list of tokens is read as one list of items.
+pub fn one_item_list()
+    ensures { OneItemList }
+{}
+
+/// What a beginning of a sentence lacks is at most seven tokens, whatever they are.
+pub fn short_completion()
+    ensures { ShortCompletion }
+{}
+
+/// Several entries are entries that are not one number alone.
+pub fn several_are_entries()
+    ensures { SeveralAreEntries }
+{}
+
+/// A text is read as one list of items.
+pub fn one_reading()
+    ensures { OneReading }
+{}
+
+/// A text that is read as items has no fault.
+pub fn read_has_no_fault()
+    ensures { ReadHasNoFault }
+{}
+
+/// A text has one first fault.
+pub fn one_text_fault()
+    ensures { OneTextFault }
+{}

@@ -1,0 +1,195 @@
+ghost use Rattle.std.specs.Prelude.{◌≡◌, ◌<◌, ◌≤◌, Some, length, slice_index};
+ghost use Rattle.std.specs.Char.{is_ascii_alphabetic, is_ascii_digit};
+ghost use Rattle.std.specs.List.{prefix_len};
+ghost use Rattle.std.specs.Str.Parse.{AllDigits, digits_value};
+ghost use Rattle.twp_text.specs.Cutting.{small_letter, cut_word, cut_number, cut_digits, cut_mark, cut};
+
+use crate::kind::Kind;
+use crate::word::{self, one_letter, three_letters, two_letters};
+
+/// The first token of some bytes: its kind, and how many bytes it has.
+#[derive(Clone, Copy, Debug, PartialEq, Eq)]
+pub struct Lexeme {
+    pub kind: Kind,
+    pub size: usize,
+}
+
+impl Lexeme {
+    /// The token that bytes begin with.
+    #[inline(always)]
+    #[tactic(auto, unfolding(crate::specs::Cutting::cut))]
+    pub fn first(bytes: &[u8]) -> Lexeme
+        requires { 0 < length bytes.now }
+        ensures { result ≡ cut bytes.now }
+    {
+        let byte = byte_at(bytes, 0);
+        if let Some(letter) = small_letter(byte) {
+            return word(bytes, letter);
+        }
+        if byte.is_ascii_digit() {
+            return digits(bytes);
+        }
+        mark(byte, byte_at(bytes, 1))
+    }
+}
+
+/// A byte, or 0 past the end.
+#[inline(always)]
+fn byte_at(bytes: &[u8], index: usize) -> u8
+    ensures { result ≡ slice_index bytes.now index }
+{
+    if index < bytes.len() { bytes[index] } else { 0 }
+}
+
+/// A letter as a small one. In ASCII the two differ in one bit.
+#[inline(always)]
+#[tactic(auto, using(crate::proofs::LetterFacts::by_its_bit))]
+fn small_letter(byte: u8) -> Option<u8>
+    ensures { result ≡ small_letter byte }
+{
+    let small = byte | 0x20;
+    if small.is_ascii_lowercase() {
+        Some(small)
+    } else {
+        None
+    }
+}
+
+/// A word, whose first letter is known.
+#[inline(always)]
+#[tactic(auto, using(crate::proofs::WordFacts::one_letter, crate::proofs::WordFacts::two_letters, crate::proofs::WordFacts::three_letters, crate::proofs::WordFacts::long))]
+fn word(bytes: &[u8], first: u8) -> Lexeme
+    requires { small_letter (slice_index bytes.now 0) ≡ Some first }
+    ensures { result ≡ cut_word bytes.now }
+{
+    let Some(second) = small_letter(byte_at(bytes, 1)) else {
+        return Lexeme {
+            kind: one_letter(first),
+            size: 1,
+        };
+    };
+    let Some(third) = small_letter(byte_at(bytes, 2)) else {
+        return Lexeme {
+            kind: two_letters(first, second),
+            size: 2,
+        };
+    };
+    let Some(_) = small_letter(byte_at(bytes, 3)) else {
+        return Lexeme {
+            kind: three_letters(first, second, third),
+            size: 3,
+        };
+    };
+    long_word(bytes)
+}
+
+/// A word of four letters or more.
+#[inline(never)]
+#[tactic(auto, using(crate::proofs::WordFacts::long_word_is))]
+fn long_word(bytes: &[u8]) -> Lexeme
+    requires { 3 < prefix_len is_ascii_alphabetic bytes.now }
+    ensures { result ≡ cut_word bytes.now }
+{
+    let size = count_letters(bytes);
+    Lexeme {
+        kind: word::long_word(&bytes[..size]),
+        size,
+    }
+}
+
+/// How many letters bytes begin with.
+fn count_letters(bytes: &[u8]) -> usize
+    ensures value { result ≡ prefix_len is_ascii_alphabetic bytes.now }
+    ensures range { result ≤ length bytes.now }
+{
+    bytes
+        .iter()
+        .take_while(|byte| byte.is_ascii_alphabetic())
+        .count()
+}
+
+/// How many digits bytes begin with.
+fn count_digits(bytes: &[u8]) -> usize
+    ensures value { result ≡ prefix_len is_ascii_digit bytes.now }
+    ensures range { result ≤ length bytes.now }
+{
+    bytes
+        .iter()
+        .take_while(|byte| byte.is_ascii_digit())
+        .count()
+}
+
+/// A half, a quarter or a number.
+#[inline(always)]
+#[tactic(auto, unfolding(crate::specs::Cutting::cut_digits))]
+fn digits(bytes: &[u8]) -> Lexeme
+    ensures { result ≡ cut_digits bytes.now }
+{
+    if byte_at(bytes, 0) == b'1' && byte_at(bytes, 1) == b'/' {
+        match byte_at(bytes, 2) {
+            b'2' => {
+                return Lexeme {
+                    kind: Kind::Half,
+                    size: 3,
+                };
+            }
+            b'4' => {
+                return Lexeme {
+                    kind: Kind::Quarter,
+                    size: 3,
+                };
+            }
+            _ => {}
+        }
+    }
+    number(bytes)
+}
+
+/// Digits: a number, or too many.
+#[inline(never)]
+#[tactic(auto, using(crate::proofs::Numerals::digits_in_front, crate::proofs::Numerals::few_digits, crate::proofs::Numerals::many_digits))]
+fn number(bytes: &[u8]) -> Lexeme
+    ensures { result ≡ cut_number bytes.now }
+{
+    let size = count_digits(bytes);
+    if size > 4 {
+        return Lexeme {
+            kind: Kind::BadNumber,
+            size,
+        };
+    }
+    Lexeme {
+        kind: Kind::Number(value(&bytes[..size])),
+        size,
+    }
+}
+
+/// The number that up to four digits spell.
+fn value(digits: &[u8]) -> u16
+    requires digits { AllDigits 10 digits.now }
+    requires few { length digits.now ≤ 4 }
+    ensures { result ≡ digits_value 10 digits.now }
+{
+    let mut value = 0;
+    for byte in digits {
+        value = 10 * value + u16::from(*byte - b'0');
+    }
+    value
+}
+
+/// A mark, or a byte that begins no token.
+#[tactic(auto, unfolding(crate::specs::Cutting::cut_mark))]
+fn mark(byte: u8, behind: u8) -> Lexeme
+    ensures { result ≡ cut_mark byte behind }
+{
+    let (kind, size) = match (byte, behind) {
+        (b',', _) => (Kind::Comma, 1),
+        (b'.', _) => (Kind::Stop, 1),
+        (b';', _) => (Kind::Semicolon, 1),
+        (b':', _) => (Kind::Colon, 1),
+        (0xC2, 0xBD) => (Kind::Half, 2),
+        (0xC2, 0xBC) => (Kind::Quarter, 2),
+        _ => (Kind::BadByte, 1),
+    };
+    Lexeme { kind, size }
+}

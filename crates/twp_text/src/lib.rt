@@ -1,0 +1,20 @@
+//! Descriptions of land: the tokens that their bytes are cut into, the grammar, the items that a sentence
+//! of it names, and why a text is no sentence.
+#![tactic(auto)]
+
+mod description;
+mod fault;
+mod item;
+mod items;
+mod kind;
+pub mod laws;
+mod lexeme;
+mod state;
+mod token;
+mod word;
+
+pub use description::Description;
+pub use fault::{TEXT_LIMIT, TextFault};
+pub use item::{Item, Numeral, Step, Steps};
+pub use kind::Kind;
+pub use token::{Token, Tokens};

@@ -1,0 +1,166 @@
+ghost use Rattle.std.specs.Prelude.{◌≡◌, ◌≤◌, length};
+ghost use Rattle.twp_text.specs.Tokens.{is_white};
+ghost use Rattle.std.specs.Iterator.{at_most};
+ghost use Rattle.std.specs.List.{prefix_len};
+
+use crate::kind::Kind;
+use crate::lexeme::Lexeme;
+use std::marker::Model;
+
+/// A piece of a description: a word, a number, a half or a quarter, a mark, or what is none of these.
+#[derive(Clone, Copy, Debug, PartialEq, Eq)]
+pub struct Token<'a> {
+    pub kind: Kind,
+    /// The bytes of the token, a slice of the text that stands at `at`.
+    pub text: &'a [u8],
+    /// The offset of its first byte in the text.
+    pub at: usize,
+}
+
+/// The tokens of a description, from left to right. White space between them is left out. A byte that
+/// begins no token is one of kind `BadByte`, and more than four digits are one of kind `BadNumber`.
+#[derive(Debug, Drop)]
+pub struct Tokens<'a> {
+    rest: &'a [u8],
+    at: usize,
+}
+
+impl<'a> Model for Tokens<'a> {
+    ghost use Rattle.std.specs.Prelude.{ℕ, ◌+◌, ◌<◌, ◌^◌, length};
+    ghost use Rattle.twp_text.specs.Tokens.{Left};
+
+    ghost Value = { Left };
+
+    ghost view = { λ s. record { at = s.at; bytes = s.rest.now } };
+
+    ghost invariant = { λ s. s.at + length s.rest.now < 2 ^ 64 };
+}
+
+impl<'a> Tokens<'a> {
+    ghost use Rattle.twp_text.specs.Tokens.{Left, GivesToken};
+
+    /// The tokens of a text, which stands at 0.
+    pub fn new(text: &'a [u8]) -> Tokens<'a>
+        ensures { result ≡ record { at = 0; bytes = text.now } }
+    {
+        Tokens { rest: text, at: 0 }
+    }
+
+    /// What `next` gives.
+    #[inline(always)]
+    pub(crate) fn advance(&mut self) -> Option<Token<'a>>
+        ensures { GivesToken self.old result self.new }
+    {
+        let (space, bytes) = self.rest.split_at(count_white(self.rest));
+        let at = self.at + space.len();
+        self.at = at;
+        self.rest = bytes;
+        if bytes.is_empty() {
+            return None;
+        }
+        let Lexeme { kind, size } = Lexeme::first(bytes);
+        let (text, rest) = bytes.split_at(size);
+        self.at = at + size;
+        self.rest = rest;
+        Some(Token { kind, text, at })
+    }
+}
+
+impl<'a> Iterator for Tokens<'a> {
+    type Item = Token<'a>;
+
+    ghost use Rattle.std.specs.Prelude.{length};
+    ghost use Rattle.twp_text.specs.Tokens.{GivesToken};
+
+    ghost next_gives = { GivesToken };
+
+    ghost remaining = { λ s. at_most (length s.bytes) };
+
+    fn next(&mut self) -> Option<Token<'a>> {
+        self.advance()
+    }
+}
+
+/// How many bytes of white space bytes begin with.
+#[inline(always)]
+fn count_white(bytes: &[u8]) -> usize
+    ensures value { result ≡ prefix_len is_white bytes.now }
+    ensures range { result ≤ length bytes.now }
+{
+    bytes.iter().take_while(|byte| is_white(**byte)).count()
+}
+
+/// Whether a byte is a space, a tabulator, a line feed or a carriage return.
+#[inline(always)]
+fn is_white(byte: u8) -> bool
+    ensures { result ≡ is_white byte }
+{
+    byte <= b' ' && matches!(byte, b' ' | b'\t' | b'\n' | b'\r')
+}
+
+#[cfg(test)]
+mod tests {
+    use super::*;
+    use std::test::Fail;
+    use twp_grid::{Corner, NorthSouth};
+
+    #[test]
+    fn cuts_a_text_into_tokens(rt: HostRuntime) -> Result<(), Fail> {
+        let text = b"T 01/2 S\xC2\xBD,ne1/4;All:9999 12345 x\xA0.";
+        let wanted: [(Kind, &[u8], usize); 17] = [
+            (Kind::T, b"T", 0),
+            (Kind::Number(1), b"01", 2),
+            (Kind::BadByte, b"/", 4),
+            (Kind::Number(2), b"2", 5),
+            (Kind::NorthSouth(NorthSouth::S), b"S", 7),
+            (Kind::Half, b"\xC2\xBD", 8),
+            (Kind::Comma, b",", 10),
+            (Kind::Corner(Corner::NE), b"ne", 11),
+            (Kind::Quarter, b"1/4", 13),
+            (Kind::Semicolon, b";", 16),
+            (Kind::All, b"All", 17),
+            (Kind::Colon, b":", 20),
+            (Kind::Number(9999), b"9999", 21),
+            (Kind::BadNumber, b"12345", 26),
+            (Kind::Other, b"x", 32),
+            (Kind::BadByte, b"\xA0", 33),
+            (Kind::Stop, b".", 34),
+        ];
+        let mut tokens = Tokens::new(text);
+        for (kind, bytes, at) in wanted {
+            let token = tokens.next().ok_or("a token is missing")?;
+            assert_eq!(rt; token.kind, kind);
+            assert_eq!(rt; token.text, bytes);
+            assert_eq!(rt; token.at, at);
+        }
+        assert!(rt; tokens.next().is_none());
+        assert!(rt; tokens.next().is_none());
+        Ok(())
+    }
+
+    #[test]
+    fn knows_the_words(rt: HostRuntime) -> Result<(), Fail> {
+        let words = "sec SECS Section sections lot Lots to THRU through inclusive of the and all";
+        let kinds = [
+            Kind::Sec,
+            Kind::Sec,
+            Kind::Sec,
+            Kind::Sec,
+            Kind::Lot,
+            Kind::Lot,
+            Kind::To,
+            Kind::To,
+            Kind::To,
+            Kind::Inclusive,
+            Kind::Of,
+            Kind::The,
+            Kind::And,
+            Kind::All,
+        ];
+        let mut tokens = Tokens::new(words.as_bytes());
+        for kind in kinds {
+            assert_eq!(rt; tokens.next().ok_or("a word is missing")?.kind, kind);
+        }
+        Ok(())
+    }
+}
