@@ -1,7 +1,7 @@
 use super::*;
 use std::test::Fail;
 use twp_grid::{EastWest, NorthSouth, Side, Township};
-use twp_land::Grid;
+use twp_land::{Grid, lots_whole};
 use twp_measure::Length;
 use twp_notes::{Notes, Returned};
 
@@ -44,6 +44,14 @@ fn lot(number: u8, lot: u8) -> Result<Block, Fail> {
     Ok(Block::of_lot(section(number)?, lot).ok_or("a lot")?)
 }
 
+// The area of a land whose lots are whole.
+fn area(plat: &Plat, land: &Grid) -> Result<Area, Fail> {
+    if !lots_whole(land) {
+        return Err("part of a lot".into());
+    }
+    Ok(area_of(plat, land))
+}
+
 // Whole sections, from a first one to a last one.
 fn sections(first: u8, last: u8) -> Result<Grid, Fail> {
     let mut land = Grid::empty();
@@ -74,8 +82,8 @@ fn adds_whole_sections_up(rt: HostRuntime) -> Result<(), Fail> {
         // 24 more, 6 has 0.3225 less, 7 has 36 less, 18 has 1,600 - 80 * (19.5 + 20) / 2 = 20 less.
         (1, 36, 2_303_757),
     ] {
-        let area = area_of(&plat, &sections(first, last)?);
-        assert_eq!(rt; area.hundredths(), hundredths, "sections {first} to {last}");
+        let acreage = area(&plat, &sections(first, last)?)?;
+        assert_eq!(rt; acreage.hundredths(), hundredths, "sections {first} to {last}");
     }
     Ok(())
 }
@@ -84,9 +92,9 @@ fn adds_whole_sections_up(rt: HostRuntime) -> Result<(), Fail> {
 fn adds_lots_and_places_up_exactly(rt: HostRuntime) -> Result<(), Fail> {
     let plat = uneven_plat()?;
     let mut land = Grid::empty();
-    let area = area_of(&plat, &land);
+    let nothing = area(&plat, &land)?;
     // Four times the lengths of section 6's north and west lines: 4 * 79,200 * 80,800.
-    assert_eq!(rt; (area.units(), area.over()), (0, 25_597_440_000));
+    assert_eq!(rt; (nothing.units(), nothing.over()), (0, 25_597_440_000));
     // One place of section 14 is a sixteenth of 40 acres: 25,000,000 units.
     let mut place = Block::whole();
     for _ in 0..4u8 {
@@ -95,8 +103,8 @@ fn adds_lots_and_places_up_exactly(rt: HostRuntime) -> Result<(), Fail> {
     }
     land.add(section(14)?, place);
     let over = u128::from(plat.over());
-    assert_eq!(rt; area_of(&plat, &land).units(), 25_000_000 * over);
-    assert_eq!(rt; area_of(&plat, &land).hundredths(), 250);
+    assert_eq!(rt; area(&plat, &land)?.units(), 25_000_000 * over);
+    assert_eq!(rt; area(&plat, &land)?.hundredths(), 250);
     // Section 5's lots are 20 chains wide and 20.225, 20.275, 20.325 and 20.375 high: with the place
     // 404.5, 405.5, 406.5 and 407.5 square chains more.
     for (number, units) in [
@@ -106,7 +114,7 @@ fn adds_lots_and_places_up_exactly(rt: HostRuntime) -> Result<(), Fail> {
         (4, 1_649_000_000),
     ] {
         land.add(section(5)?, lot(5, number)?);
-        assert_eq!(rt; area_of(&plat, &land).units(), units * over, "lot {number}");
+        assert_eq!(rt; area(&plat, &land)?.units(), units * over, "lot {number}");
     }
     Ok(())
 }
