@@ -38,6 +38,21 @@ places_where held column row = if held (column * 4) (row * 4) then 16 else 0
 abbrev pub piece_where : (ℕ → ℕ → Bool) → (ℕ → ℕ → ℕ) → ℕ → ℕ → ℕ
 piece_where held pieces column row = if held (column * 4) (row * 4) then pieces column row else 0
 
+-- as a test of the first place tells
+pub places_held : (held : ℕ → ℕ → Bool) (column row : ℕ) (test : Bool) → test ≡ held (column * 4) (row * 4) → test ≡ true → places_where held column row ≡ 16
+places_held held column row test is holds = ap (λ b. if b then 16 else 0) (sym is ∙ holds)
+
+pub places_not_held : (held : ℕ → ℕ → Bool) (column row : ℕ) (test : Bool) → test ≡ held (column * 4) (row * 4) → test ≡ false → places_where held column row ≡ 0
+places_not_held held column row test is holds = ap (λ b. if b then 16 else 0) (sym is ∙ holds)
+
+pub piece_held : (held : ℕ → ℕ → Bool) (pieces : ℕ → ℕ → ℕ) (column row : ℕ) (test : Bool) → test ≡ held (column * 4) (row * 4) → test ≡ true
+    → piece_where held pieces column row ≡ pieces column row
+piece_held held pieces column row test is holds = ap (λ b. if b then pieces column row else 0) (sym is ∙ holds)
+
+pub piece_not_held : (held : ℕ → ℕ → Bool) (pieces : ℕ → ℕ → ℕ) (column row : ℕ) (test : Bool) → test ≡ held (column * 4) (row * 4) → test ≡ false
+    → piece_where held pieces column row ≡ 0
+piece_not_held held pieces column row test is holds = ap (λ b. if b then pieces column row else 0) (sym is ∙ holds)
+
 -- how many of a position's places are held
 abbrev pub held_of : (ℕ → ℕ → Bool) → ℕ → ℕ → ℕ
 held_of held column row = count_held held (position_block PLACE_DIGITS column row)

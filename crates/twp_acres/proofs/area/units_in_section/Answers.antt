@@ -3,7 +3,7 @@ use Rattle.std.proofs.Common.{◌≡◌, ℕ, ◌+◌, ◌-◌, ◌*◌, ◌<◌
 use Rattle.twp_grid.specs.Lots.{number_of_lots}
 use Rattle.twp_land.proofs.LotFacts.{few_lots}
 use Rattle.twp_plat.specs.Pieces.{over_of}
-use Rattle.twp_acres.proofs.SectionSums.{places_where, piece_where, of_lots-none, of_lots-next, lots_within, few_places, sum_of_section}
+use Rattle.twp_acres.proofs.SectionSums.{places_where, piece_where, places_held, places_not_held, piece_held, piece_not_held, of_lots-none, of_lots-next, lots_within, few_places, sum_of_section}
 use Rattle.twp_acres.proofs.PieceFacts.{piece_at}
 use Rattle.twp_acres.proofs.AreaFacts.{lot_at_is, grows, bounded}
 use Rattle.twp_acres.proofs.area.units_in_section.Goals as goal
@@ -32,7 +32,7 @@ overflow_sub-off_lots g c =
     let at = lot_at_is c.args.section c.loop-lot.lot _ c.unwrap-column.result c.lot_place.ensures.position c.lot_place.ensures.within c.unwrap-column.ensures in
     let next = of_lots-next c.args.section c.loop-lot.lot c.unwrap-column.result.0 c.unwrap-column.result.1 (places_where held) range (omega arith) at.within at.position in
     let within = lots_within c.args.section (c.loop-lot.lot + 1) held range (λ lot. c.requires.whole c.args.section lot range) in
-    let there : places_where held c.unwrap-column.result.0 c.unwrap-column.result.1 ≡ 16 = ap (λ b. if b then 16 else 0) (sym c.holds.ensures ∙ c.if-holds.true) in
+    let there = places_held held c.unwrap-column.result.0 c.unwrap-column.result.1 c.holds.result c.holds.ensures c.if-holds.true in
     omega (arith, c.loop-lot.invariant.taken)
 
 pub loop-lot-preserved : goal.loop-lot-preserved
@@ -47,26 +47,24 @@ loop-lot-preserved g c =
     let pieces_next = λ (pieces : ℕ → ℕ → ℕ → ℕ). of_lots-next c.args.section c.loop-lot.lot column row (piece_where held (pieces c.args.section)) range (omega arith) at.within at.position in
     elim c.if-holds.branch [
       | then-holds w ↦
-          let is : held (column * 4) (row * 4) ≡ true = sym c.holds.ensures ∙ w.if-holds.true in
-          let there : places_where held column row ≡ 16 = ap (λ b. if b then 16 else 0) is in
+          let there = places_held held column row c.holds.result c.holds.ensures w.if-holds.true in
           let within = lots_within c.args.section (c.loop-lot.lot + 1) held range (λ lot. c.requires.whole c.args.section lot range) in
           let added = w.units-units.ensures.value in
           record {
             taken = omega (arith, so_far.taken, w.off_lots-is);
             gained = λ pieces are.
                 let piece = piece_at c.args.plat.now pieces c.args.section column row w.piece_area.result are range at.within w.piece_area.ensures.piece w.piece_area.ensures.over in
-                let there : piece_where held (pieces c.args.section) column row ≡ pieces c.args.section column row = ap (λ b. if b then pieces c.args.section column row else 0) is in
+                let there = piece_held held (pieces c.args.section) column row c.holds.result c.holds.ensures w.if-holds.true in
                 omega (arith, so_far.gained pieces are, pieces_next pieces, w.units-is);
             most = rw w.units-is (grows c.loop-lot.lot _ c.loop-lot.units w.units-units.result so_far.first so_far.most (rw (added, ← w.piece_area.ensures.over) w.piece_area.ensures.most));
             first = omega arith;
           }
       | else-holds w ↦
-          let is : held (column * 4) (row * 4) ≡ false = sym c.holds.ensures ∙ w.if-holds.false in
-          let there : places_where held column row ≡ 0 = ap (λ b. if b then 16 else 0) is in
+          let there = places_not_held held column row c.holds.result c.holds.ensures w.if-holds.false in
           record {
             taken = omega (arith, so_far.taken, w.off_lots-is);
             gained = λ pieces are.
-                let there : piece_where held (pieces c.args.section) column row ≡ 0 = ap (λ b. if b then pieces c.args.section column row else 0) is in
+                let there = piece_not_held held (pieces c.args.section) column row c.holds.result c.holds.ensures w.if-holds.false in
                 omega (arith, so_far.gained pieces are, pieces_next pieces, w.units-is);
             most = rw w.units-is (rw (← plus_none c.loop-lot.units) (grows c.loop-lot.lot _ c.loop-lot.units 0 so_far.first so_far.most (omega arith)));
             first = omega arith;
