@@ -1,2 +1,3 @@
 pub mod LandFacts
+pub mod LotFacts
 pub mod RowFacts

@@ -3,6 +3,7 @@
 #![tactic(auto)]
 
 mod land;
+mod lots;
 mod plot;
 mod row;
 mod rows;
@@ -10,6 +11,7 @@ mod sections;
 mod window;
 
 pub use land::Land;
+pub use lots::lots_whole;
 pub use plot::Plot;
 pub use rows::{Grid, Rows};
 pub use sections::Sections;

@@ -1,0 +1,92 @@
+-- One land, one area; and the areas of disjoint lands add up.
+use Rattle.std.proofs.Common.{◌≡◌, ℕ, ◌+◌, ◌*◌, ◌/◌, ◌<◌, ◌≤◌, ◌||◌, Bool, true, false, ap, refl, sym, ◌∙◌, arith, if◌then◌else◌}
+use Rattle.std.proofs.lemmas.Nat.{mul-le}
+use Rattle.twp_measure.specs.Areas.{Fraction}
+use Rattle.twp_grid.specs.Winding.{SECTION_COUNT, IsSection}
+use Rattle.twp_grid.specs.Lots.{POSITIONS_ACROSS, IsPosition}
+use Rattle.twp_grid.specs.Places.{places_across, places_to_position, position_along}
+use Rattle.twp_grid.specs.Totals.{total, total_over}
+use Rattle.twp_grid.specs.Spans.{whole_block}
+use Rattle.twp_grid.proofs.TotalFacts.{total-ext, total-both}
+use Rattle.twp_grid.proofs.TilingFacts.{one_position}
+use Rattle.twp_land.specs.Lands.{union}
+use Rattle.twp_plat.specs.Plats.{TownshipPlat}
+use Rattle.twp_plat.specs.Pieces.{over_of}
+use Rattle.twp_plat.proofs.RatioFacts.{cancelled}
+use Rattle.twp_acres.specs.LandAreas.{places_of_position, ArePieces, piece_where_held, section_sum, township_sum, IsLandArea}
+use Rattle.twp_acres.specs.Laws.{AreDisjoint, OneLandArea, DisjointAreasAdd}
+use Rattle.twp_acres.proofs.PieceFacts.{same_pieces}
+
+-- sums over the places of a township of functions that agree there
+township-ext : (g : ℕ) (f f' : ℕ → ℕ → ℕ → ℕ) → ((section column row : ℕ) → IsSection section → column < places_across g → row < places_across g → f section column row ≡ f' section column row)
+    → total SECTION_COUNT (λ before. total_over (whole_block g) (f (before + 1))) ≡ total SECTION_COUNT (λ before. total_over (whole_block g) (f' (before + 1)))
+township-ext g f f' same =
+    total-ext SECTION_COUNT (λ before. total_over (whole_block g) (f (before + 1))) (λ before. total_over (whole_block g) (f' (before + 1))) (λ before below.
+    total-ext (places_across g) (λ up. total (places_across g) (λ along. f (before + 1) (0 + along) (0 + up))) (λ up. total (places_across g) (λ along. f' (before + 1) (0 + along) (0 + up))) (λ up in_up.
+    total-ext (places_across g) (λ along. f (before + 1) (0 + along) (0 + up)) (λ along. f' (before + 1) (0 + along) (0 + up)) (λ along in_along.
+    same (before + 1) (0 + along) (0 + up) (omega arith, omega arith) (omega arith) (omega arith))))
+
+township-both : (g : ℕ) (f f' : ℕ → ℕ → ℕ → ℕ) → total SECTION_COUNT (λ before. total_over (whole_block g) (λ column row. f (before + 1) column row + f' (before + 1) column row))
+    ≡ total SECTION_COUNT (λ before. total_over (whole_block g) (f (before + 1))) + total SECTION_COUNT (λ before. total_over (whole_block g) (f' (before + 1)))
+township-both g f f' =
+    total-ext SECTION_COUNT (λ before. total_over (whole_block g) (λ column row. f (before + 1) column row + f' (before + 1) column row)) (λ before. total_over (whole_block g) (f (before + 1)) + total_over (whole_block g) (f' (before + 1))) (λ before below.
+    total-ext (places_across g) (λ up. total (places_across g) (λ along. f (before + 1) (0 + along) (0 + up) + f' (before + 1) (0 + along) (0 + up)))
+    (λ up. total (places_across g) (λ along. f (before + 1) (0 + along) (0 + up)) + total (places_across g) (λ along. f' (before + 1) (0 + along) (0 + up))) (λ up in_up.
+    total-both (places_across g) (λ along. f (before + 1) (0 + along) (0 + up)) (λ along. f' (before + 1) (0 + along) (0 + up)))
+    ∙ total-both (places_across g) (λ up. total (places_across g) (λ along. f (before + 1) (0 + along) (0 + up))) (λ up. total (places_across g) (λ along. f' (before + 1) (0 + along) (0 + up))))
+    ∙ total-both SECTION_COUNT (λ before. total_over (whole_block g) (f (before + 1))) (λ before. total_over (whole_block g) (f' (before + 1)))
+
+-- a set has one sum, whichever way its pieces are given
+one_sum : (g : ℕ) → POSITIONS_ACROSS ≤ places_across g → (plat : TownshipPlat) (places : ℕ → ℕ → ℕ → Bool) (pieces pieces' : ℕ → ℕ → ℕ → ℕ)
+    → ArePieces plat pieces → ArePieces plat pieces' → township_sum g pieces places ≡ township_sum g pieces' places
+one_sum g fits plat places pieces pieces' are are' =
+    township-ext g (λ section. piece_where_held g (pieces section) (places section)) (λ section. piece_where_held g (pieces' section) (places section)) (λ section column row range in_column in_row.
+    ap (λ p. if places section column row then p else 0)
+    (same_pieces plat pieces pieces' are are' section (position_along g column) (position_along g row) range (one_position g fits column row (in_column, in_row)).0))
+
+-- a position has places
+some_places : (g : ℕ) → POSITIONS_ACROSS ≤ places_across g → 0 < places_of_position g
+some_places g fits = square (places_to_position g) (quarter (places_across g) fits)
+  where
+    quarter : (n : ℕ) → 4 ≤ n → 0 < n / 4
+    quarter n least = omega arith
+
+    square : (n : ℕ) → 0 < n → 0 < n * n
+    square n some = let least = mul-le 1 1 n n some some in omega arith
+
+pub one_land_area : OneLandArea
+one_land_area g fits plat places area area' is is' =
+    let sum = one_sum g fits plat places is.pieces is'.pieces is.are is'.are in
+    let units : area.units ≡ area'.units = cancelled area.units area'.units (places_of_position g) (some_places g fits)
+        (order (places_of_position g) area.units ∙ is.sum_is ∙ sum ∙ sym is'.sum_is ∙ sym (order (places_of_position g) area'.units)) in
+    let over : area.over ≡ area'.over = is.over_is ∙ sym is'.over_is in
+    let make : ℕ → ℕ → Fraction = λ units over. record { units = units; over = over } in
+    ap (λ u. make u area.over) units ∙ ap (make area'.units) over
+  where
+    order : (n u : ℕ) → u * n ≡ n * u
+    order n u = omega arith
+
+pub disjoint_areas_add : DisjointAreasAdd
+disjoint_areas_add g fits plat places more area other apart is is' =
+    let first : ℕ → ℕ → ℕ → ℕ = λ section. piece_where_held g (is.pieces section) (places section) in
+    let second : ℕ → ℕ → ℕ → ℕ = λ section. piece_where_held g (is.pieces section) (more section) in
+    let sum : township_sum g is.pieces (union places more) ≡ township_sum g is.pieces places + township_sum g is.pieces more =
+    township-ext g (λ section. piece_where_held g (is.pieces section) (union places more section)) (λ section column row. first section column row + second section column row) (λ section column row range in_column in_row.
+    either (places section column row) (more section column row) (is.pieces section (position_along g column) (position_along g row)) (apart section column row))
+    ∙ township-both g first second in
+    let same = one_sum g fits plat more is.pieces is'.pieces is.are is'.are in
+    record {
+      pieces = is.pieces;
+      are = is.are;
+      over_is = is.over_is;
+      sum_is = both (places_of_position g) area.units other.units (township_sum g is.pieces places) (township_sum g is.pieces more) is.sum_is (is'.sum_is ∙ sym same) ∙ sym sum;
+    }
+  where
+    either : (a b : Bool) (p : ℕ) → (a ≡ true → b ≡ true → ⊥) → (if a || b then p else 0) ≡ (if a then p else 0) + (if b then p else 0)
+    either true true p apart = absurd (apart refl refl)
+    either true false p apart = omega arith
+    either false true p apart = omega arith
+    either false false p apart = omega arith
+
+    both : (n u u' s s' : ℕ) → n * u ≡ s → n * u' ≡ s' → n * (u + u') ≡ s + s'
+    both n u u' s s' e e' = omega arith

@@ -1,0 +1,12 @@
+-- The most that is added up.
+use Rattle.std.specs.Prelude.{ℕ, ◌+◌, ◌*◌}
+use Rattle.twp_grid.specs.Places.{PLACE_DIGITS, places_across}
+use Rattle.twp_plat.specs.Closing.{CLOSING_MOST}
+
+-- the places of a section
+abbrev pub SECTION_PLACES_MOST : ℕ
+SECTION_PLACES_MOST = places_across PLACE_DIGITS * places_across PLACE_DIGITS
+
+-- a section's area in whole units is less than that of 16 positions and 7 lots as large as can be
+abbrev pub SECTION_UNITS_MOST : ℕ
+SECTION_UNITS_MOST = (16 + 7) * (CLOSING_MOST * CLOSING_MOST)

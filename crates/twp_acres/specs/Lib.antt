@@ -1,0 +1,3 @@
+pub mod LandAreas
+pub mod Bounds
+pub mod Laws

@@ -1,0 +1,7 @@
+use Rattle.std.proofs.Common.{ℕ, ◌<◌}
+use Rattle.twp_grid.specs.Places.{PLACE_DIGITS}
+use Rattle.twp_land.specs.WholeLots.{IsWholeOrNot}
+use Rattle.twp_land.proofs.lots.has_whole_lots.Given as goal
+
+abbrev pub invariant-loop-lot : goal.invariant-loop-lot
+invariant-loop-lot g l = (lot : ℕ) → lot < l.lot → IsWholeOrNot PLACE_DIGITS l.section lot (g.L.Land.places l.land l.section)

@@ -1,0 +1,39 @@
+ghost use Rattle.std.specs.Prelude.{ℕ, ◌↔◌, IsTrue};
+ghost use Rattle.twp_grid.specs.Places.{PLACE_DIGITS};
+ghost use Rattle.twp_land.specs.WholeLots.{IsWholeOrNot, HasWholeLots};
+
+use crate::land::Land;
+use twp_grid::{Block, Section, lot_count};
+
+/// How many sections a township has.
+const SECTIONS: u8 = 36;
+
+/// Whether each lot is held whole or not at all: no part of a lot is described but the lot (Specifications
+/// for Descriptions of Land).
+pub fn lots_whole<L: Land>(land: &L) -> bool
+    ensures { IsTrue result ↔ HasWholeLots PLACE_DIGITS (L.places land.now) }
+{
+    for number in 1..SECTIONS + 1 {
+        let section = Section::new(number).unwrap();
+        if !has_whole_lots(land, section) {
+            return false;
+        }
+    }
+    true
+}
+
+/// Whether each lot of a section is held whole or not at all.
+fn has_whole_lots<L: Land>(land: &L, section: Section) -> bool
+    ensures { IsTrue result ↔ ((lot : ℕ) → IsWholeOrNot PLACE_DIGITS section lot (L.places land.now section)) }
+{
+    for lot in 1..lot_count(section) + 1 {
+        let block = Block::of_lot(section, lot).unwrap();
+        if land.meets(section, block) && !land.full(section, block) {
+            return false;
+        }
+    }
+    true
+}
+
+#[cfg(test)]
+mod tests;
