@@ -28,6 +28,7 @@ mod tests {
     #[test]
     fn writes_two_decimals(rt: HostRuntime) -> Result<(), Fail> {
         for (hundredths, text) in [
+            // 39 times 100 and 5; nothing times 100 and 5; 160 times 100.
             (3_905, "<39.05"),
             (5, "<0.05"),
             (0, "<0.00"),

@@ -189,11 +189,14 @@ mod tests {
     #[test]
     fn reads_lengths(rt: HostRuntime) {
         let read = |text: &[u8]| Length::read(text).map(|length| length.thousandths());
+        // 80 times 1,000 thousandths, and 7 times.
         assert_eq!(rt; read(b"80"), Ok(80_000));
         assert_eq!(rt; read(b"7"), Ok(7_000));
+        // 19 chains and 575 thousandths; 5 tenths; 0 tenths and 5 hundredths.
         assert_eq!(rt; read(b"19.575"), Ok(19_575));
         assert_eq!(rt; read(b"19.5"), Ok(19_500));
         assert_eq!(rt; read(b"00.05"), Ok(50));
+        // The longest: 100 chains less a thousandth.
         assert_eq!(rt; read(b"99.999"), Ok(99_999));
     }
 
