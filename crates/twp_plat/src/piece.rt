@@ -24,7 +24,8 @@ impl Model for SideQuarters {
 
     ghost view = { λ q. record { east = q.east; west = q.west; north = q.north; south = q.south } };
 
-    ghost invariant = { λ q. AreInLimits (record { east = q.east; west = q.west; north = q.north; south = q.south }) };
+    ghost invariant = { λ q. AreInLimits
+        (record { east = q.east; west = q.west; north = q.north; south = q.south }) };
 
     ghost inverse = { λ q. record { east = q.east; west = q.west; north = q.north; south = q.south } };
 }
