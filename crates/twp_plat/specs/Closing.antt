@@ -58,4 +58,5 @@ MakesPlat notes = (line : ℕ) → IsLine line → IsInLimits line (returned_of 
 -- A line's closing quarter: of a closing line its last quarter mile, of any other 20 chains.
 abbrev pub IsClosingQuarter : ℕ → Returned → ℕ → Type 0
 IsClosingQuarter line returned quarter =
-    (IsClosing line × (pos quarter ≡ last_quarter returned)) ⊎ (¬ IsClosing line × (quarter ≡ QUARTER_MILE))
+    (IsClosing line × (pos quarter ≡ last_quarter returned))
+    ⊎ (¬ IsClosing line × (quarter ≡ QUARTER_MILE))

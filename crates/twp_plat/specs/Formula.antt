@@ -20,16 +20,19 @@ both_ends length number = if number == 3 then 3 * QUARTER_MILE + length else QUA
 abbrev pub both_widths : ClosingQuarters → ℕ → ℕ → ℤ
 both_widths q column row =
     if column == 3
-    then pos (2 * q.south * west_length q) +ℤ (pos q.north -ℤ pos q.south) *ℤ pos (both_ends (west_length q) row)
+    then pos (2 * q.south * west_length q)
+    +ℤ (pos q.north -ℤ pos q.south) *ℤ pos (both_ends (west_length q) row)
     else pos (2 * QUARTER_MILE * west_length q)
 
 -- the sum of its two heights, times the length of the north line
 abbrev pub both_heights : ClosingQuarters → ℕ → ℕ → ℤ
 both_heights q column row =
     if row == 3
-    then pos (2 * q.east * north_length q) +ℤ (pos q.west -ℤ pos q.east) *ℤ pos (both_ends (north_length q) column)
+    then pos (2 * q.east * north_length q)
+    +ℤ (pos q.west -ℤ pos q.east) *ℤ pos (both_ends (north_length q) column)
     else pos (2 * QUARTER_MILE * north_length q)
 
 -- both sums, over four times both lengths
 abbrev pub formula : ClosingQuarters → ℕ → ℕ → Ratio
-formula q column row = ratio (both_widths q column row *ℤ both_heights q column row) (4 * west_length q * north_length q)
+formula q column row =
+    ratio (both_widths q column row *ℤ both_heights q column row) (4 * west_length q * north_length q)

@@ -26,7 +26,8 @@ NotesGivePlats = (notes : FieldNotes) (plat : TownshipPlat) → IsPlatOf notes p
 -- a position has one area over a denominator
 abbrev pub OneArea : Type 0
 OneArea = (plat : TownshipPlat) (section column row : ℕ) (area area' : Fraction)
-    → column < 4 → row < 4 → IsPieceArea plat section column row area → IsPieceArea plat section column row area'
+    → column < 4 → row < 4
+    → IsPieceArea plat section column row area → IsPieceArea plat section column row area'
     → area.over ≡ area'.over → area ≡ area'
 
 -- interpolation between the lines is the formula

@@ -29,9 +29,12 @@ IsIrregular half = (half <ℤ pos (HALF_MILE - TOLERANCE)) ⊎ (pos (HALF_MILE +
 -- the line's returned distances have the fault
 abbrev pub HasLineFault : ℕ → Returned → PlatFault → Type 0
 HasLineFault line returned (fault.Irregular at half.First) = IsIrregular (first_half returned)
-HasLineFault line returned (fault.Irregular at half.Second) = ¬ IsClosing line × IsIrregular (second_half returned)
-HasLineFault line returned (fault.ClosingShort at) = IsClosing line × (last_quarter returned <ℤ pos CLOSING_LEAST)
-HasLineFault line returned (fault.ClosingLong at) = IsClosing line × (pos CLOSING_MOST <ℤ last_quarter returned)
+HasLineFault line returned (fault.Irregular at half.Second) =
+    ¬ IsClosing line × IsIrregular (second_half returned)
+HasLineFault line returned (fault.ClosingShort at) =
+    IsClosing line × (last_quarter returned <ℤ pos CLOSING_LEAST)
+HasLineFault line returned (fault.ClosingLong at) =
+    IsClosing line × (pos CLOSING_MOST <ℤ last_quarter returned)
 
 -- the fault is there, at its line
 abbrev pub HasFault : FieldNotes → PlatFault → Type 0

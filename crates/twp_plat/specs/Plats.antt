@@ -41,16 +41,16 @@ pub record ClosingQuarters : Type 0 where
   pub south : ℕ
 
 -- these are the closing quarters of the section's lines
-pub record AreClosingQuarters (plat : TownshipPlat) (section : ℕ) (quarters : ClosingQuarters) : Type 0 where
+pub record AreClosingQuarters (plat : TownshipPlat) (section : ℕ) (q : ClosingQuarters) : Type 0 where
   pub east_line : ℕ
   pub west_line : ℕ
   pub north_line : ℕ
   pub south_line : ℕ
   pub sides : AreSides section (east_line ∷ west_line ∷ north_line ∷ south_line ∷ [])
-  pub east : quarters.east ≡ closing_quarter_of plat east_line
-  pub west : quarters.west ≡ closing_quarter_of plat west_line
-  pub north : quarters.north ≡ closing_quarter_of plat north_line
-  pub south : quarters.south ≡ closing_quarter_of plat south_line
+  pub east : q.east ≡ closing_quarter_of plat east_line
+  pub west : q.west ≡ closing_quarter_of plat west_line
+  pub north : q.north ≡ closing_quarter_of plat north_line
+  pub south : q.south ≡ closing_quarter_of plat south_line
 
 -- the closing quarters of a section's lines are within the limits of a plat
 pub record AreInLimits (q : ClosingQuarters) : Type 0 where
@@ -62,4 +62,5 @@ pub record AreInLimits (q : ClosingQuarters) : Type 0 where
 -- a section's north and south lines are regular, or its east and west lines are
 abbrev pub HaveRegularLines : ClosingQuarters → Type 0
 HaveRegularLines q =
-    ((q.north ≡ QUARTER_MILE) × (q.south ≡ QUARTER_MILE)) ⊎ ((q.east ≡ QUARTER_MILE) × (q.west ≡ QUARTER_MILE))
+    ((q.north ≡ QUARTER_MILE) × (q.south ≡ QUARTER_MILE))
+    ⊎ ((q.east ≡ QUARTER_MILE) × (q.west ≡ QUARTER_MILE))

@@ -24,7 +24,8 @@ impl Model for SideQuarters {
 
     ghost view = { λ q. record { east = q.east; west = q.west; north = q.north; south = q.south } };
 
-    ghost invariant = { λ q. AreInLimits (record { east = q.east; west = q.west; north = q.north; south = q.south }) };
+    ghost invariant = { λ q. AreInLimits
+        (record { east = q.east; west = q.west; north = q.north; south = q.south }) };
 
     ghost inverse = { λ q. record { east = q.east; west = q.west; north = q.north; south = q.south } };
 }
@@ -129,7 +130,8 @@ fn doubled_mean(start: u32, end: u32, length: u64, doubled_middle: u64) -> u64
     requires end { end ≤ CLOSING_MOST }
     requires length { length ≤ line_length CLOSING_MOST }
     requires middle { doubled_middle ≤ 2 * length }
-    ensures value { pos result ≡ pos (2 * start * length) +ℤ (pos end -ℤ pos start) *ℤ pos doubled_middle }
+    ensures value { pos result ≡ pos (2 * start * length)
+        +ℤ (pos end -ℤ pos start) *ℤ pos doubled_middle }
     ensures most { result ≤ 2 * CLOSING_MOST * length }
 {
     u64::from(start) * (2 * length - doubled_middle) + u64::from(end) * doubled_middle

@@ -32,7 +32,8 @@ impl Model for Plat {
 
     ghost view = { λ plat. record { township = plat.township; closing_quarters = plat.closing_quarters } };
 
-    ghost invariant = { λ plat. IsPlat (record { township = plat.township; closing_quarters = plat.closing_quarters }) };
+    ghost invariant = { λ plat. IsPlat
+        (record { township = plat.township; closing_quarters = plat.closing_quarters }) };
 
     ghost inverse = { λ plat. record { township = plat.township; closing_quarters = plat.closing_quarters } };
 }
@@ -88,7 +89,8 @@ impl Plat {
     fn units(&self, section: Section, column: u8, row: u8) -> u128
         requires column { column < 4 }
         requires row { row < 4 }
-        ensures piece { IsPieceArea self.now section column row (record { units = result; over = over_of self.now }) }
+        ensures piece { IsPieceArea self.now section column row
+            (record { units = result; over = over_of self.now }) }
         ensures most { result ≤ CLOSING_MOST * CLOSING_MOST * over_of self.now }
     {
         let quarters = self.quarters(section);
