@@ -5,6 +5,7 @@ use Rattle.twp_measure.specs.Acres.{acres_text}
 use Rattle.twp_grid.specs.Lots.{position_of_lot}
 use Rattle.twp_grid.specs.declared.refusal.Refusal.{Refusal}
 use Rattle.twp_notes.specs.FieldNotes.{FieldNotes, AreNotes}
+use Rattle.twp_notes.specs.NotesTexts.{line_feed}
 use Rattle.twp_notes.specs.NotesFaults as notes_faults
 use Rattle.twp_notes.specs.declared.fault.NotesFault.{NotesFault}
 use Rattle.twp_plat.specs.Plats.{TownshipPlat, IsPlatOf}
@@ -14,10 +15,6 @@ use Rattle.twp_plat.specs.declared.fault.PlatFault.{PlatFault}
 use Rattle.twp_cmd.specs.LotTexts.{IsLotText}
 use Rattle.twp_cmd.specs.declared.verdict.Verdict.{Verdict}
 use Rattle.twp_cmd.specs.declared.verdict.Verdict.TheVariants.{Accepted, Refused, TractRefused}
-
--- the byte that ends a line
-abbrev pub line_feed : ℕ
-line_feed = 10
 
 -- the most bytes of a description
 abbrev pub DESCRIPTION_MOST : ℕ

@@ -17,7 +17,7 @@ mod township;
 pub use block::{Block, Corner, Side};
 pub use bytes::Bytes;
 pub use device::{Device, DeviceFault, Sink, Source};
-pub use line::{Line, Run, sides};
+pub use line::{LINES, Line, Run, sides};
 pub use lot::{lot_at, lot_count, lot_place};
 pub use refusal::Refusal;
 pub use section::Section;

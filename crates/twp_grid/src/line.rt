@@ -13,6 +13,9 @@ pub enum Run {
     West,
 }
 
+/// How many section lines a township has.
+pub const LINES: usize = 84;
+
 /// One of a township's 84 section lines, each a mile, by its index: first the north-run lines, seven to
 /// a row from the east, then the west-run lines, six to a tier from the east (this project's rule).
 #[derive(Clone, Copy, Debug, PartialEq, Eq, PartialOrd, Ord, Hash)]
@@ -118,7 +121,7 @@ impl Line {
     pub fn at_index(index: u8) -> Option<Line>
         ensures { SomeIff result (IsLine index) index }
     {
-        if index < 84 {
+        if usize::from(index) < LINES {
             Some(Line { index })
         } else {
             None
@@ -214,7 +217,7 @@ mod tests {
 
     #[test]
     fn tells_closing_lines(rt: HostRuntime) -> Result<(), Fail> {
-        for index in 0..84u8 {
+        for index in 0..LINES as u8 {
             let line = Line::at_index(index).ok_or("an index")?;
             assert_eq!(rt; line.index(), index);
             let closing = [0, 1, 2, 3, 4, 5, 6, 47, 53, 59, 65, 71, 77, 83].contains(&index);

@@ -8,11 +8,10 @@ use crate::fault::NotesFault;
 use crate::parsing::parse;
 use crate::reading::read_whole;
 use crate::returned::Returned;
-use crate::table::LINES;
 use crate::writing::write_notes;
 use std::alloc::{AllocError, Global};
 use std::marker::Model;
-use twp_grid::{Line, Source, Township};
+use twp_grid::{LINES, Line, Source, Township};
 
 /// The most bytes of field notes.
 const MOST_BYTES: usize = 65_536;

@@ -1,10 +1,9 @@
 //! Notes for tests, and notes that are damaged.
 use crate::notes::Notes;
 use crate::returned::Returned;
-use crate::table::LINES;
 use std::alloc::Global;
 use std::test::Fail;
-use twp_grid::{EastWest, NorthSouth, Township};
+use twp_grid::{EastWest, LINES, NorthSouth, Township};
 use twp_measure::Length;
 
 /// A length of chains.

@@ -4,10 +4,7 @@ ghost use Rattle.twp_notes.specs.Tables.{entry_of, AreEntries, IsLeastMissing};
 
 use crate::returned::Returned;
 use std::marker::Model;
-use twp_grid::Line;
-
-/// How many lines a township has.
-pub const LINES: usize = 84;
+use twp_grid::{LINES, Line};
 
 /// What the records so far return, by the indexes of their lines.
 #[derive(Clone, Copy)]
@@ -59,7 +56,7 @@ impl LineTable {
         ensures missing { IfErr result (IsLeastMissing self.now) }
     {
         let mut lines = [Returned::default(); LINES];
-        for index in 0..84u8 {
+        for index in 0..LINES as u8 {
             match self.entries[usize::from(index)] {
                 Some(returned) => lines[usize::from(index)] = returned,
                 None => return Err(index),

@@ -10,7 +10,7 @@ use crate::notes::Notes;
 use crate::returned::Returned;
 use itoa::Buffer;
 use std::alloc::AllocError;
-use twp_grid::{EastWest, Line, NorthSouth, Run, Section, Township};
+use twp_grid::{EastWest, LINES, Line, NorthSouth, Run, Section, Township};
 use twp_measure::Length;
 
 /// A field as it is written.
@@ -53,7 +53,7 @@ pub fn write_notes(notes: &Notes, out: &mut Vec<u8>) -> Result<(), AllocError>
 {
     out.extend_from_slice(b"line,between,and,quarter,corner\n")?;
     write_township(notes.township(), out)?;
-    for index in 0..84u8 {
+    for index in 0..LINES as u8 {
         let Some(line) = Line::at_index(index) else {
             unreachable!();
         };

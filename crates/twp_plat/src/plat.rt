@@ -8,12 +8,9 @@ use crate::closing::closing_quarter;
 use crate::fault::PlatFault;
 use crate::piece::SideQuarters;
 use std::marker::Model;
-use twp_grid::{Line, Section, Township, sides};
+use twp_grid::{LINES, Line, Section, Township, sides};
 use twp_measure::Area;
 use twp_notes::Notes;
-
-/// How many lines a township has.
-const LINES: usize = 84;
 
 /// The section in the township's north-western corner, the one whose north and west lines both close.
 const CORNER_SECTION: u8 = 6;

@@ -1,7 +1,7 @@
 use super::*;
 use crate::joined::run_joined;
 use std::test::Fail;
-use twp_grid::{Bytes, Device, EastWest, Line, NorthSouth, Refusal, Township};
+use twp_grid::{Bytes, Device, EastWest, LINES, Line, NorthSouth, Refusal, Township};
 use twp_measure::Length;
 use twp_notes::{Notes, Returned};
 
@@ -26,7 +26,7 @@ const UNEVEN: [Change; 6] = [
 /// The field notes of T. 2 N., R. 3 W., with all lines of 40 and 80 chains but for the changes.
 fn notes_of(alloc: Global, changes: &[Change]) -> Result<Vec<u8>, Fail> {
     let township = Township::new(2, NorthSouth::N, 3, EastWest::W).ok_or("numbers to 99")?;
-    let mut lines = [returned("40", "80")?; 84];
+    let mut lines = [returned("40", "80")?; LINES];
     for (index, quarter, corner) in changes {
         let line = Line::at_index(*index).ok_or("a line's index")?;
         lines[usize::from(line.index())] = returned(quarter, corner)?;
