@@ -6,3 +6,4 @@ pub mod TextFaults
 pub mod Cutting
 pub mod Machine
 pub mod Laws
+pub mod Expected

@@ -83,7 +83,7 @@ abbrev pub refusal_of : TextFault → Option Refusal
 refusal_of fault.TooLarge = Some (refusal 41 TEXT_LIMIT)
 refusal_of (fault.BadByte at) = Some (refusal 42 at)
 refusal_of (fault.BadNumber at) = Some (refusal 43 at)
-refusal_of (fault.Syntax at) = Some (refusal 44 at)
+refusal_of (fault.Syntax at expected) = Some (refusal 44 at)
 refusal_of fault.Memory = None
 
 -- the text goes wrong at this place, whether or not it has bad tokens

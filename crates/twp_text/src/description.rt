@@ -1,6 +1,7 @@
 ghost use Rattle.std.specs.Prelude.{◌≡◌, ◌≤◌, List, length, IfOk, IfErr, IfSome, IsSomeAnd, MatchOption, MatchResult};
 ghost use Rattle.twp_text.specs.TextFaults.{refusal_of, fault_of_bad, HasNoneBad, GoesWrong, IsBadToken, IsFirstTextFault};
 
+use crate::expected::Expected;
 use crate::fault::{TEXT_LIMIT, TextFault};
 use crate::item::Item;
 use crate::items::Items;
@@ -57,13 +58,13 @@ impl Description {
         let mut tokens = Tokens::new(text);
         while let Some(token) = tokens.advance() {
             let Some(behind) = state.next(token.kind) else {
-                return Err(fault_of(text, token.at));
+                return Err(fault_of(text, token.at, state.expected()));
             };
             items.take(alloc, state, token.kind, token.at as u32)?;
             state = behind;
         }
         if !state.is_final() {
-            return Err(fault_of(text, text.len()));
+            return Err(fault_of(text, text.len(), state.expected()));
         }
         Ok(Description {
             items: items.into_vec(),
@@ -79,10 +80,11 @@ impl Description {
     }
 }
 
-/// The fault of a text that goes wrong at a place: its leftmost bad token, if it has one.
+/// The fault of a text that goes wrong at a place, where something else could stand: its leftmost bad
+/// token, if it has one.
 #[cold]
 #[inline(never)]
-fn fault_of(text: &[u8], at: usize) -> TextFault
+fn fault_of(text: &[u8], at: usize, expected: Expected) -> TextFault
     requires within { at ≤ length text.now }
     requires limit { length text.now ≤ TEXT_LIMIT }
     requires wrong { GoesWrong text.now at }
@@ -90,7 +92,10 @@ fn fault_of(text: &[u8], at: usize) -> TextFault
 {
     match first_bad(text) {
         Some(fault) => fault,
-        None => TextFault::Syntax { at: at as u32 },
+        None => TextFault::Syntax {
+            at: at as u32,
+            expected,
+        },
     }
 }
 
