@@ -1,5 +1,5 @@
 -- What could stand where a description goes wrong.
-use Rattle.std.specs.Prelude.{Bool, List, [], ◌∷◌, ◌++◌}
+use Rattle.std.specs.Prelude.{◌≡◌, ◌⊎◌, List, [], ◌∷◌, ◌++◌}
 use Rattle.twp_text.specs.declared.expected.Expected.{Expected}
 use Rattle.twp_text.specs.declared.expected.Expected.TheVariants as expected
 use Rattle.twp_text.specs.declared.state.State.{State}
@@ -45,6 +45,11 @@ named expected.Quarter = quarter ∷ []
 named expected.MoreParts = of ∷ north_south ∷ east_west ∷ corner ∷ and ∷ semicolon ∷ marks
 named expected.Step = the ∷ north_south ∷ east_west ∷ corner ∷ []
 named expected.Nothing = []
+
+-- the class is named
+abbrev pub IsNamed : Class → List Class → Type 0
+IsNamed class [] = ⊥
+IsNamed class (first ∷ rest) = (class ≡ first) ⊎ IsNamed class rest
 
 -- what is named in each state
 abbrev pub expected_of : State → Expected

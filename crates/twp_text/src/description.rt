@@ -1,5 +1,5 @@
 ghost use Rattle.std.specs.Prelude.{◌≡◌, ◌≤◌, List, length, IfOk, IfErr, IfSome, IsSomeAnd, MatchOption, MatchResult};
-ghost use Rattle.twp_text.specs.TextFaults.{refusal_of, fault_of_bad, HasNoneBad, GoesWrong, IsBadToken, IsFirstTextFault};
+ghost use Rattle.twp_text.specs.TextFaults.{refusal_of, fault_of_bad, HasNoneBad, GoesWrong, Helps, IsBadToken, IsFirstTextFault};
 
 use crate::expected::Expected;
 use crate::fault::{TEXT_LIMIT, TextFault};
@@ -40,6 +40,7 @@ impl Description {
         ensures taken { (items : List Item) → IsReadAs text.now items
             → MatchResult result (λ d. d ≡ items) (λ fault. fault ≡ TextFault.Memory) }
         ensures refused { IfErr result (λ fault. IfSome (refusal_of fault) (IsFirstTextFault text.now)) }
+        ensures helps { IfErr result (Helps text.now) }
     {
         if text.len() > TEXT_LIMIT {
             return Err(TextFault::TooLarge);
@@ -52,6 +53,7 @@ impl Description {
         requires { length text.now ≤ TEXT_LIMIT }
         ensures read { IfOk result (IsReadAs text.now) }
         ensures refused { IfErr result (λ fault. IfSome (refusal_of fault) (IsFirstTextFault text.now)) }
+        ensures helps { IfErr result (Helps text.now) }
     {
         let mut items = Items::new(alloc);
         let mut state = State::Start;
@@ -87,8 +89,9 @@ impl Description {
 fn fault_of(text: &[u8], at: usize, expected: Expected) -> TextFault
     requires within { at ≤ length text.now }
     requires limit { length text.now ≤ TEXT_LIMIT }
-    requires wrong { GoesWrong text.now at }
-    ensures { IsSomeAnd (refusal_of result) (IsFirstTextFault text.now) }
+    requires wrong { GoesWrong text.now at expected }
+    ensures refused { IsSomeAnd (refusal_of result) (IsFirstTextFault text.now) }
+    ensures helps { Helps text.now result }
 {
     match first_bad(text) {
         Some(fault) => fault,

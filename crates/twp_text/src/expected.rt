@@ -57,7 +57,7 @@ impl fmt::Display for Expected {
             Expected::Quarter => "`1/4`",
             Expected::MoreParts => "another part, `;`, or the end",
             Expected::Step => "what the aliquot part is of, as `NE1/4`",
-            Expected::Nothing => "nothing: the description has ended",
+            Expected::Nothing => "nothing more",
         })
     }
 }

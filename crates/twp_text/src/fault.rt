@@ -78,8 +78,11 @@ mod tests {
                 "the number at 5 has more than four digits",
             ),
             (
-                TextFault::Syntax { at: 8 },
-                "the description goes wrong at 8",
+                TextFault::Syntax {
+                    at: 8,
+                    expected: Expected::PartOrSection,
+                },
+                "the description goes wrong at 8: here could stand a part of the section, or another section's number",
             ),
             (TextFault::Memory, "out of memory"),
         ] {

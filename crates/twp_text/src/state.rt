@@ -316,9 +316,8 @@ fn expected_in_heading(state: HeadingState) -> Expected
     match state {
         HeadingState::Township | HeadingState::TownshipStop => Expected::TownshipNumber,
         HeadingState::TownshipNumber => Expected::TownshipSide,
-        HeadingState::TownshipSide
-        | HeadingState::TownshipSideStop
-        | HeadingState::TownshipComma => Expected::Range,
+        HeadingState::TownshipSide | HeadingState::TownshipSideStop | HeadingState::TownshipComma =>
+            Expected::Range,
         HeadingState::Range | HeadingState::RangeStop => Expected::RangeNumber,
         HeadingState::RangeNumber => Expected::RangeSide,
         HeadingState::RangeSide | HeadingState::RangeSideStop => Expected::Sections,
