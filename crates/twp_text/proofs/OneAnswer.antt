@@ -146,7 +146,7 @@ pub only_memory : (text : List ℕ) (is : List Item) (f : TextFault) → IsReadA
 only_memory text is fault.TooLarge read h = absurd (no_fault text is _ read h)
 only_memory text is (fault.BadByte at) read h = absurd (no_fault text is _ read h)
 only_memory text is (fault.BadNumber at) read h = absurd (no_fault text is _ read h)
-only_memory text is (fault.Syntax at) read h = absurd (no_fault text is _ read h)
+only_memory text is (fault.Syntax at expected) read h = absurd (no_fault text is _ read h)
 only_memory text is fault.Memory read h = refl
 
 pub taken : (text : List ℕ) (answer : Result (List Item) TextFault) → IfOk answer (IsReadAs text) → IfErr answer (λ f. IfSome (refusal_of f) (IsFirstTextFault text)) → (is : List Item) → IsReadAs text is → MatchResult answer (λ d. d ≡ is) (λ f. f ≡ fault.Memory)

@@ -1,7 +1,8 @@
 -- What the reader knows between two tokens, and what follows from it where it ends.
 use Rattle.std.proofs.Common.{◌≡◌, ℕ, zero, suc, ◌+◌, ◌<◌, ◌≤◌, Bool, true, false, List, [], ◌∷◌, ◌++◌, Option, Some, None, IsSomeAnd, length, take, drop, map, reverse, refl, sym, ap, subst, ◌∙◌, inl, inr, append_assoc, arith, length-append}
 use Rattle.std.specs.List.{AllPass, flat_map}
-use Rattle.std.proofs.lemmas.List.{append-nil, reverse-append}
+use Rattle.std.proofs.lemmas.List.{append-nil, reverse-append, take_all}
+use Rattle.std.proofs.Math.Seq.{take-append_seam}
 use Rattle.twp_text.specs.declared.item.Item.{Item}
 use Rattle.twp_text.specs.declared.item.Item.TheVariants as item
 use Rattle.twp_text.specs.declared.state.State.{State}
@@ -16,10 +17,13 @@ use Rattle.twp_text.specs.Machine.{next, is_final, take_token}
 use Rattle.twp_text.specs.declared.kind.Kind.{Kind}
 use Rattle.twp_text.specs.declared.kind.Kind.TheVariants.{BadByte, BadNumber}
 use Rattle.twp_text.specs.declared.fault.TextFault.{TextFault}
-use Rattle.twp_text.specs.TextFaults.{refusal_of, fault_of_bad, TEXT_LIMIT, IsReadAs, refusal, number_of_bad, NoneBad, IsFirstBad, place_of, IsBadToken, IsSyntaxFault, IsFirstTextFault, too_large, bad_token, syntax, GoesWrong, HasNoneBad}
+use Rattle.twp_text.specs.declared.fault.TextFault.TheVariants as faults
+use Rattle.twp_text.specs.declared.expected.Expected.{Expected}
+use Rattle.twp_text.specs.Expected.{expected_of}
+use Rattle.twp_text.specs.TextFaults.{refusal_of, fault_of_bad, TEXT_LIMIT, IsReadAs, refusal, number_of_bad, NoneBad, IsFirstBad, place_of, IsBadToken, IsSyntaxFault, IsFirstTextFault, too_large, bad_token, syntax, GoesWrong, Helps, HasNoneBad}
 use Rattle.twp_text.proofs.TokenFacts.{one_token_list, has_token_list}
 use Rattle.twp_text.proofs.Walk.{run, newest_first}
-use Rattle.twp_text.proofs.Reading.{Outcome, ended, go_on, run-append, accepted, fault_here, fault_at_end, one_item_list}
+use Rattle.twp_text.proofs.Reading.{Outcome, ended, go_on, run-append, accepted, fault_here, fault_at_end, one_item_list, what_follows}
 
 -- the tokens before some place: those behind it are the rest of the text's
 pub record Before (text : List ℕ) (at : ℕ) (bytes : List ℕ) (before : List Token) : Type 0 where
@@ -71,7 +75,7 @@ place_at_end : (tokens : List Token) (end : ℕ) → place_of tokens (length tok
 place_at_end [] end = refl
 place_at_end (token ∷ tokens) end = place_at_end tokens end
 
-pub wrong_here : (text : List ℕ) (at : ℕ) (bytes : List ℕ) (state : State) (its : List Item) (token : Token) (rest : List ℕ) → Front text at bytes state its → StartsWith at bytes token rest → next state (class_of token.kind) ≡ None → GoesWrong text token.at
+pub wrong_here : (text : List ℕ) (at : ℕ) (bytes : List ℕ) (state : State) (its : List Item) (token : Token) (rest : List ℕ) → Front text at bytes state its → StartsWith at bytes token rest → next state (class_of token.kind) ≡ None → GoesWrong text token.at (expected_of state)
 wrong_here text at bytes state its token rest f starts stuck =
     let left = has_token_list (token.at + length token.text) rest in
     record {
@@ -80,18 +84,22 @@ wrong_here text at bytes state its token rest f starts stuck =
       i = length f.tokens;
       fault = fault_here f.tokens left.0 token state its f.walked stuck;
       place = sym (place_here f.tokens left.0 token (length text));
+      named_is = λ other more is. what_follows f.tokens other more state its f.walked
+          (subst (λ (ts : List Token). IsSentence (ts ++ other ∷ more)) (take-append_seam f.tokens (token ∷ left.0)) is);
     }
 
 all_tokens : (text : List ℕ) (at : ℕ) (bytes : List ℕ) (tokens : List Token) → Before text at bytes tokens → AllPass is_white bytes → HasTokens 0 text tokens
 all_tokens text at bytes tokens b white = subst (λ (ts : List Token). HasTokens 0 text ts) (append-nil tokens) (b.joins [] white)
 
-pub wrong_at_end : (text : List ℕ) (at : ℕ) (bytes : List ℕ) (state : State) (its : List Item) → Front text at bytes state its → AllPass is_white bytes → is_final state ≡ false → GoesWrong text (length text)
+pub wrong_at_end : (text : List ℕ) (at : ℕ) (bytes : List ℕ) (state : State) (its : List Item) → Front text at bytes state its → AllPass is_white bytes → is_final state ≡ false → GoesWrong text (length text) (expected_of state)
 wrong_at_end text at bytes state its f white final = record {
   tokens = f.tokens;
   cut = all_tokens text at bytes f.tokens f.before white;
   i = length f.tokens;
   fault = fault_at_end f.tokens state its f.walked final;
   place = sym (place_at_end f.tokens (length text));
+  named_is = λ other more is. what_follows f.tokens other more state its f.walked
+      (subst (λ (ts : List Token). IsSentence (ts ++ other ∷ more)) (take_all (length f.tokens) f.tokens (omega arith)) is);
 }
 
 -- newest first, turned round
@@ -167,8 +175,8 @@ pub search_none : (text : List ℕ) (at : ℕ) (bytes : List ℕ) → Search tex
 search_none text at bytes f white = record { tokens = f.tokens; cut = all_tokens text at bytes f.tokens f.before white; none_bad = f.none_bad }
 
 -- where there is no bad token, the text's fault is one of syntax
-pub syntax_fault : (text : List ℕ) (at : ℕ) → HasNoneBad text → GoesWrong text at → IsSyntaxFault text (refusal 44 at)
-syntax_fault text at none wrong =
+pub syntax_fault : (text : List ℕ) (at : ℕ) (expected : Expected) → HasNoneBad text → GoesWrong text at expected → IsSyntaxFault text (refusal 44 at)
+syntax_fault text at expected none wrong =
     let same : none.tokens ≡ wrong.tokens = one_token_list 0 text none.tokens wrong.tokens none.cut wrong.cut in
     record {
       tokens = wrong.tokens;
@@ -206,3 +214,18 @@ pub found_bad : (text : List ℕ) (at : ℕ) (bytes : List ℕ) (token : Token) 
 found_bad text at bytes token rest fault f starts is =
     let told : Tells token.kind token.at (Some fault) = subst (λ (o : Option TextFault). Tells token.kind token.at o) is (some_tells token.kind token.at) in
     subst (λ (o : Option Refusal). IsSomeAnd o (IsBadToken text)) (sym told.2) (search_found text at bytes token rest told.0 f starts told.1)
+
+other_number : (a b : ℕ) → a < b → Some a ≡ Some b → ⊥
+other_number a b below e =
+    let same : a ≡ b = cc e in
+    omega arith
+
+not_44 : (kind : Kind) → number_of_bad kind ≡ Some 44 → ⊥
+not_44 BadByte e = other_number 42 44 (omega arith) e
+not_44 BadNumber e = other_number 43 44 (omega arith) e
+not_44 _ e = cc e
+
+-- a bad token is no fault of syntax
+pub bad_helps : (text : List ℕ) (fault : TextFault) → IsSomeAnd (refusal_of fault) (IsBadToken text) → Helps text fault
+bad_helps text (faults.Syntax at expected) bad = absurd (not_44 bad.token.kind bad.number)
+bad_helps text _ bad = tt

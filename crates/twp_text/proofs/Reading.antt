@@ -1,5 +1,7 @@
 -- What the machine finds is what the definitions say: sentences and their items, and the place of a fault.
 use Rattle.std.proofs.Common.{◌≡◌, ℕ, zero, suc, ◌+◌, ◌<◌, ◌≤◌, Bool, true, false, ◌⊎◌, List, [], ◌∷◌, ◌++◌, map, length, take, Option, Some, None, refl, sym, ap, subst, ◌∙◌, inl, inr, append_assoc, arith, length-append, reverse}
+use Rattle.std.specs.List.{list_any}
+use Rattle.std.proofs.lemmas.Bool.{cases_Bool}
 use Rattle.std.proofs.lemmas.List.{append-nil, length-map, take_all}
 use Rattle.std.proofs.Math.Seq.{take-append_seam, take-append-add}
 use Rattle.twp_text.specs.declared.item.Item.{Item}
@@ -14,7 +16,8 @@ use Rattle.twp_text.specs.Grammar.{Class, sec, lot, all, and, to, inclusive, of,
 use Rattle.twp_text.specs.Items.{Leaf, token_of, Tree, tokens, items}
 use Rattle.twp_text.specs.Sentences.{HasItems, IsSentence, IsFront, IsFault}
 use Rattle.twp_text.specs.Machine.{next, is_final, take_token}
-use Rattle.twp_text.proofs.Derivatives.{Derives, after, derives_none, takes_token}
+use Rattle.twp_text.specs.Expected.{named, expected_of, IsNamed}
+use Rattle.twp_text.proofs.Derivatives.{same_class, same_class_tells, Derives, after, derives_none, takes_token}
 use Rattle.twp_text.proofs.Table as table
 use Rattle.twp_text.proofs.Walk.{run, newest_first, IsRead, read_description}
 
@@ -228,3 +231,18 @@ short_completion ts more is_sentence = by_run (run (Some Start) [] ts) refl
     by_run : (o : Outcome) → run (Some Start) [] ts ≡ o → IsFront ts
     by_run None h = absurd (not_stuck (ts ++ more) (run-append (Some Start) [] ts more ∙ ap (λ o. go_on o more) h) is_sentence)
     by_run (Some (s, its)) h = front ts s its h
+
+named_of : (c : Class) (cs : List Class) → list_any (λ d. same_class c d) cs ≡ true → IsNamed c cs
+named_of c [] h = cc h
+named_of c (d ∷ ds) h = elim (cases_Bool (same_class c d)) [
+  | inl same ↦ inl (same_class_tells c d same)
+  | inr apart ↦ inr (named_of c ds (rw apart at h))
+]
+
+-- whatever a sentence has behind some tokens is named in the state that they lead to
+pub what_follows : (before : List Token) (token : Token) (more : List Token) (s : State) (its : List Item) → run (Some Start) [] before ≡ ended s its → IsSentence (before ++ token ∷ more) → IsNamed (class_of token.kind) (named (expected_of s))
+what_follows before token more s its h is = follows (next s (class_of token.kind)) refl
+  where
+    follows : (o : Option State) → next s (class_of token.kind) ≡ o → IsNamed (class_of token.kind) (named (expected_of s))
+    follows None stuck = absurd (not_stuck (before ++ token ∷ more) (run-append (Some Start) [] before (token ∷ more) ∙ ap (λ o. go_on o (token ∷ more)) h ∙ ap (λ o. run o (take_token s token.kind token.at its) more) stuck) is)
+    follows (Some s') step = named_of (class_of token.kind) (named (expected_of s)) (table.follows_named s s' (class_of token.kind) step)

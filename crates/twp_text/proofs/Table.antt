@@ -1,6 +1,6 @@
 -- The machine is the grammar's: in each state what it takes is what the grammar leaves to be read there.
 use Rattle.std.proofs.Common.{◌≡◌, ◌==◌, ℕ, zero, suc, ◌<◌, ◌≤◌, Bool, true, false, cond, ◌&&◌, List, [], ◌∷◌, ◌++◌, Option, Some, None, length, get_or, refl, sym, ap, subst, ◌∙◌, arith}
-use Rattle.std.specs.List.{list_all}
+use Rattle.std.specs.List.{list_all, list_any}
 use Rattle.twp_text.specs.declared.state.State.{State}
 use Rattle.twp_text.specs.declared.state.State.TheVariants.{Start, Heading, BeforeGroup, Semicolon, Section, Sections, SectionsColon, SectionsAll, Lot, Lots, Parts, End}
 use Rattle.twp_text.specs.declared.state.HeadingState.TheVariants.{Township, TownshipStop, TownshipNumber, TownshipSide, TownshipSideStop, TownshipComma, Range, RangeStop, RangeNumber, RangeSide, RangeSideStop}
@@ -10,6 +10,7 @@ use Rattle.twp_text.specs.declared.state.PartState.TheVariants as part
 use Rattle.twp_text.specs.Tokens.{Token}
 use Rattle.twp_text.specs.Grammar.{Class, sec, lot, all, and, to, inclusive, of, the, t, r, north_south, east_west, corner, half, quarter, number, comma, semicolon, colon, stop, other, bad_number, bad_byte, class_of, Ebnf, never, nothing, one, ◌⨾◌, ◌∣◌, many, description}
 use Rattle.twp_text.specs.Machine.{next, is_final}
+use Rattle.twp_text.specs.Expected.{named, expected_of}
 use Rattle.twp_text.proofs.Derivatives.{classes, place_of_class, class_at_place, same_class, same_class_tells, Derives, is_nullable, after, derives_none, takes_token}
 
 -- the state behind some classes, read from Start
@@ -142,6 +143,11 @@ leads_out None cs = false
 leads_out (Some s) [] = is_final s
 leads_out (Some s) (c ∷ cs) = leads_out (next s c) cs
 
+-- a token that may follow is among the named ones
+abbrev is_among : Class → Option State → List Class → Bool
+is_among c None cs = true
+is_among c (Some s) cs = list_any (λ d. same_class c d) cs
+
 record Row (s : State) : Type 0 where
   edges : list_all (λ c. is_edge s c (next s c)) classes ≡ true
   end : is_end s (is_final s) ≡ true
@@ -149,53 +155,54 @@ record Row (s : State) : Type 0 where
   few : length (way_out s) ≤ 7
   no_byte : next s bad_byte ≡ None
   no_number : next s bad_number ≡ None
+  names_all : list_all (λ c. is_among c (next s c) (named (expected_of s))) classes ≡ true
 
 row : (s : State) → Row s
 unfolding rest after_all
-row Start = record { edges = refl; end = refl; out = refl; few = omega arith; no_byte = refl; no_number = refl }
-row (Heading Township) = record { edges = refl; end = refl; out = refl; few = omega arith; no_byte = refl; no_number = refl }
-row (Heading TownshipStop) = record { edges = refl; end = refl; out = refl; few = omega arith; no_byte = refl; no_number = refl }
-row (Heading TownshipNumber) = record { edges = refl; end = refl; out = refl; few = omega arith; no_byte = refl; no_number = refl }
-row (Heading TownshipSide) = record { edges = refl; end = refl; out = refl; few = omega arith; no_byte = refl; no_number = refl }
-row (Heading TownshipSideStop) = record { edges = refl; end = refl; out = refl; few = omega arith; no_byte = refl; no_number = refl }
-row (Heading TownshipComma) = record { edges = refl; end = refl; out = refl; few = omega arith; no_byte = refl; no_number = refl }
-row (Heading Range) = record { edges = refl; end = refl; out = refl; few = omega arith; no_byte = refl; no_number = refl }
-row (Heading RangeStop) = record { edges = refl; end = refl; out = refl; few = omega arith; no_byte = refl; no_number = refl }
-row (Heading RangeNumber) = record { edges = refl; end = refl; out = refl; few = omega arith; no_byte = refl; no_number = refl }
-row (Heading RangeSide) = record { edges = refl; end = refl; out = refl; few = omega arith; no_byte = refl; no_number = refl }
-row (Heading RangeSideStop) = record { edges = refl; end = refl; out = refl; few = omega arith; no_byte = refl; no_number = refl }
-row (Section section.Word) = record { edges = refl; end = refl; out = refl; few = omega arith; no_byte = refl; no_number = refl }
-row (Section section.Stop) = record { edges = refl; end = refl; out = refl; few = omega arith; no_byte = refl; no_number = refl }
-row (Section section.Number) = record { edges = refl; end = refl; out = refl; few = omega arith; no_byte = refl; no_number = refl }
-row (Section section.Comma) = record { edges = refl; end = refl; out = refl; few = omega arith; no_byte = refl; no_number = refl }
-row Semicolon = record { edges = refl; end = refl; out = refl; few = omega arith; no_byte = refl; no_number = refl }
-row BeforeGroup = record { edges = refl; end = refl; out = refl; few = omega arith; no_byte = refl; no_number = refl }
-row End = record { edges = refl; end = refl; out = refl; few = omega arith; no_byte = refl; no_number = refl }
-row (Sections To) = record { edges = refl; end = refl; out = refl; few = omega arith; no_byte = refl; no_number = refl }
-row (Sections And) = record { edges = refl; end = refl; out = refl; few = omega arith; no_byte = refl; no_number = refl }
-row (Sections Number) = record { edges = refl; end = refl; out = refl; few = omega arith; no_byte = refl; no_number = refl }
-row (Sections Last) = record { edges = refl; end = refl; out = refl; few = omega arith; no_byte = refl; no_number = refl }
-row (Sections Inclusive) = record { edges = refl; end = refl; out = refl; few = omega arith; no_byte = refl; no_number = refl }
-row (Sections Comma) = record { edges = refl; end = refl; out = refl; few = omega arith; no_byte = refl; no_number = refl }
-row (Sections LastComma) = record { edges = refl; end = refl; out = refl; few = omega arith; no_byte = refl; no_number = refl }
-row SectionsColon = record { edges = refl; end = refl; out = refl; few = omega arith; no_byte = refl; no_number = refl }
-row SectionsAll = record { edges = refl; end = refl; out = refl; few = omega arith; no_byte = refl; no_number = refl }
-row Lot = record { edges = refl; end = refl; out = refl; few = omega arith; no_byte = refl; no_number = refl }
-row (Lots Number) = record { edges = refl; end = refl; out = refl; few = omega arith; no_byte = refl; no_number = refl }
-row (Lots To) = record { edges = refl; end = refl; out = refl; few = omega arith; no_byte = refl; no_number = refl }
-row (Lots Last) = record { edges = refl; end = refl; out = refl; few = omega arith; no_byte = refl; no_number = refl }
-row (Lots Inclusive) = record { edges = refl; end = refl; out = refl; few = omega arith; no_byte = refl; no_number = refl }
-row (Lots Comma) = record { edges = refl; end = refl; out = refl; few = omega arith; no_byte = refl; no_number = refl }
-row (Lots LastComma) = record { edges = refl; end = refl; out = refl; few = omega arith; no_byte = refl; no_number = refl }
-row (Lots And) = record { edges = refl; end = refl; out = refl; few = omega arith; no_byte = refl; no_number = refl }
-row (Parts part.Before) = record { edges = refl; end = refl; out = refl; few = omega arith; no_byte = refl; no_number = refl }
-row (Parts part.Side) = record { edges = refl; end = refl; out = refl; few = omega arith; no_byte = refl; no_number = refl }
-row (Parts part.Corner) = record { edges = refl; end = refl; out = refl; few = omega arith; no_byte = refl; no_number = refl }
-row (Parts part.All) = record { edges = refl; end = refl; out = refl; few = omega arith; no_byte = refl; no_number = refl }
-row (Parts part.Comma) = record { edges = refl; end = refl; out = refl; few = omega arith; no_byte = refl; no_number = refl }
-row (Parts part.Step) = record { edges = refl; end = refl; out = refl; few = omega arith; no_byte = refl; no_number = refl }
-row (Parts part.Of) = record { edges = refl; end = refl; out = refl; few = omega arith; no_byte = refl; no_number = refl }
-row (Parts part.OfThe) = record { edges = refl; end = refl; out = refl; few = omega arith; no_byte = refl; no_number = refl }
+row Start = record { edges = refl; end = refl; out = refl; few = omega arith; no_byte = refl; no_number = refl; names_all = refl }
+row (Heading Township) = record { edges = refl; end = refl; out = refl; few = omega arith; no_byte = refl; no_number = refl; names_all = refl }
+row (Heading TownshipStop) = record { edges = refl; end = refl; out = refl; few = omega arith; no_byte = refl; no_number = refl; names_all = refl }
+row (Heading TownshipNumber) = record { edges = refl; end = refl; out = refl; few = omega arith; no_byte = refl; no_number = refl; names_all = refl }
+row (Heading TownshipSide) = record { edges = refl; end = refl; out = refl; few = omega arith; no_byte = refl; no_number = refl; names_all = refl }
+row (Heading TownshipSideStop) = record { edges = refl; end = refl; out = refl; few = omega arith; no_byte = refl; no_number = refl; names_all = refl }
+row (Heading TownshipComma) = record { edges = refl; end = refl; out = refl; few = omega arith; no_byte = refl; no_number = refl; names_all = refl }
+row (Heading Range) = record { edges = refl; end = refl; out = refl; few = omega arith; no_byte = refl; no_number = refl; names_all = refl }
+row (Heading RangeStop) = record { edges = refl; end = refl; out = refl; few = omega arith; no_byte = refl; no_number = refl; names_all = refl }
+row (Heading RangeNumber) = record { edges = refl; end = refl; out = refl; few = omega arith; no_byte = refl; no_number = refl; names_all = refl }
+row (Heading RangeSide) = record { edges = refl; end = refl; out = refl; few = omega arith; no_byte = refl; no_number = refl; names_all = refl }
+row (Heading RangeSideStop) = record { edges = refl; end = refl; out = refl; few = omega arith; no_byte = refl; no_number = refl; names_all = refl }
+row (Section section.Word) = record { edges = refl; end = refl; out = refl; few = omega arith; no_byte = refl; no_number = refl; names_all = refl }
+row (Section section.Stop) = record { edges = refl; end = refl; out = refl; few = omega arith; no_byte = refl; no_number = refl; names_all = refl }
+row (Section section.Number) = record { edges = refl; end = refl; out = refl; few = omega arith; no_byte = refl; no_number = refl; names_all = refl }
+row (Section section.Comma) = record { edges = refl; end = refl; out = refl; few = omega arith; no_byte = refl; no_number = refl; names_all = refl }
+row Semicolon = record { edges = refl; end = refl; out = refl; few = omega arith; no_byte = refl; no_number = refl; names_all = refl }
+row BeforeGroup = record { edges = refl; end = refl; out = refl; few = omega arith; no_byte = refl; no_number = refl; names_all = refl }
+row End = record { edges = refl; end = refl; out = refl; few = omega arith; no_byte = refl; no_number = refl; names_all = refl }
+row (Sections To) = record { edges = refl; end = refl; out = refl; few = omega arith; no_byte = refl; no_number = refl; names_all = refl }
+row (Sections And) = record { edges = refl; end = refl; out = refl; few = omega arith; no_byte = refl; no_number = refl; names_all = refl }
+row (Sections Number) = record { edges = refl; end = refl; out = refl; few = omega arith; no_byte = refl; no_number = refl; names_all = refl }
+row (Sections Last) = record { edges = refl; end = refl; out = refl; few = omega arith; no_byte = refl; no_number = refl; names_all = refl }
+row (Sections Inclusive) = record { edges = refl; end = refl; out = refl; few = omega arith; no_byte = refl; no_number = refl; names_all = refl }
+row (Sections Comma) = record { edges = refl; end = refl; out = refl; few = omega arith; no_byte = refl; no_number = refl; names_all = refl }
+row (Sections LastComma) = record { edges = refl; end = refl; out = refl; few = omega arith; no_byte = refl; no_number = refl; names_all = refl }
+row SectionsColon = record { edges = refl; end = refl; out = refl; few = omega arith; no_byte = refl; no_number = refl; names_all = refl }
+row SectionsAll = record { edges = refl; end = refl; out = refl; few = omega arith; no_byte = refl; no_number = refl; names_all = refl }
+row Lot = record { edges = refl; end = refl; out = refl; few = omega arith; no_byte = refl; no_number = refl; names_all = refl }
+row (Lots Number) = record { edges = refl; end = refl; out = refl; few = omega arith; no_byte = refl; no_number = refl; names_all = refl }
+row (Lots To) = record { edges = refl; end = refl; out = refl; few = omega arith; no_byte = refl; no_number = refl; names_all = refl }
+row (Lots Last) = record { edges = refl; end = refl; out = refl; few = omega arith; no_byte = refl; no_number = refl; names_all = refl }
+row (Lots Inclusive) = record { edges = refl; end = refl; out = refl; few = omega arith; no_byte = refl; no_number = refl; names_all = refl }
+row (Lots Comma) = record { edges = refl; end = refl; out = refl; few = omega arith; no_byte = refl; no_number = refl; names_all = refl }
+row (Lots LastComma) = record { edges = refl; end = refl; out = refl; few = omega arith; no_byte = refl; no_number = refl; names_all = refl }
+row (Lots And) = record { edges = refl; end = refl; out = refl; few = omega arith; no_byte = refl; no_number = refl; names_all = refl }
+row (Parts part.Before) = record { edges = refl; end = refl; out = refl; few = omega arith; no_byte = refl; no_number = refl; names_all = refl }
+row (Parts part.Side) = record { edges = refl; end = refl; out = refl; few = omega arith; no_byte = refl; no_number = refl; names_all = refl }
+row (Parts part.Corner) = record { edges = refl; end = refl; out = refl; few = omega arith; no_byte = refl; no_number = refl; names_all = refl }
+row (Parts part.All) = record { edges = refl; end = refl; out = refl; few = omega arith; no_byte = refl; no_number = refl; names_all = refl }
+row (Parts part.Comma) = record { edges = refl; end = refl; out = refl; few = omega arith; no_byte = refl; no_number = refl; names_all = refl }
+row (Parts part.Step) = record { edges = refl; end = refl; out = refl; few = omega arith; no_byte = refl; no_number = refl; names_all = refl }
+row (Parts part.Of) = record { edges = refl; end = refl; out = refl; few = omega arith; no_byte = refl; no_number = refl; names_all = refl }
+row (Parts part.OfThe) = record { edges = refl; end = refl; out = refl; few = omega arith; no_byte = refl; no_number = refl; names_all = refl }
 
 both : (x y : Bool) → (x && y) ≡ true → (x ≡ true) × (y ≡ true)
 both true y h = (refl, h)
@@ -277,3 +284,9 @@ takes_no_bad_byte s = (row s).no_byte
 
 pub takes_no_bad_number : (s : State) → next s bad_number ≡ None
 takes_no_bad_number s = (row s).no_number
+
+-- what may follow in a state is named there
+pub follows_named : (s s' : State) (c : Class) → next s c ≡ Some s' → list_any (λ d. same_class c d) (named (expected_of s)) ≡ true
+follows_named s s' c e =
+    let found : is_among c (next s c) (named (expected_of s)) ≡ true = of_class (λ d. is_among d (next s d) (named (expected_of s))) c (row s).names_all in
+    subst (λ (o : Option State). is_among c o (named (expected_of s)) ≡ true) e found

@@ -447,7 +447,7 @@ abbrev end_of_several : Tree several → EntryEnd
 end_of_several (_ & inl thru & more) = end_of_entries (through_end thru) more
 end_of_several (_ & inr (_ & second) & more) = end_of_entries (end_of_entry second) more
 
--- the first number was read before
+-- several entries behind the word
 read_several : (word : Leaf sec) (from : GroupStart) (st : Tree (maybe (one stop))) (v : Tree several) (is : List Item) (ts : List Token) → run (Some (group_start from)) is (token_of sec word ∷ onto (maybe (one stop)) st (onto several v ts)) ≡ run (Some (Sections (entry_end (end_of_several v)))) (newest_first (map whole_sections_item (ranges_of_several v)) is) ts
 read_several word from st (n & inl thru & more) is ts =
     read_section from word st n is (onto through thru (onto further_entries more ts))

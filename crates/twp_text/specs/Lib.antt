@@ -2,6 +2,7 @@ pub mod Tokens
 pub mod Grammar
 pub mod Items
 pub mod Sentences
+pub mod Expected
 pub mod TextFaults
 pub mod Cutting
 pub mod Machine

@@ -1,5 +1,5 @@
 -- Which bytes are read as items, and which refusal is answered for all others.
-use Rattle.std.specs.Prelude.{◌≡◌, ℕ, ◌≤◌, ◌<◌, zero, suc, List, [], ◌∷◌, ◌++◌, Option, Some, None, length}
+use Rattle.std.specs.Prelude.{◌≡◌, ℕ, ◌≤◌, ◌<◌, zero, suc, List, [], ◌∷◌, ◌++◌, Option, Some, None, length, take, ⊤}
 use Rattle.twp_grid.specs.declared.refusal.Refusal.{Refusal}
 use Rattle.twp_text.specs.declared.kind.Kind.{Kind}
 use Rattle.twp_text.specs.declared.kind.Kind.TheVariants.{BadByte, BadNumber}
@@ -7,7 +7,10 @@ use Rattle.twp_text.specs.declared.item.Item.{Item}
 use Rattle.twp_text.specs.declared.fault.TextFault.{TextFault}
 use Rattle.twp_text.specs.declared.fault.TextFault.TheVariants as fault
 use Rattle.twp_text.specs.Tokens.{Token, HasTokens}
-use Rattle.twp_text.specs.Sentences.{HasItems, IsFault}
+use Rattle.twp_text.specs.Grammar.{class_of}
+use Rattle.twp_text.specs.Sentences.{HasItems, IsSentence, IsFault}
+use Rattle.twp_text.specs.Expected.{named, IsNamed}
+use Rattle.twp_text.specs.declared.expected.Expected.{Expected}
 
 -- the most bytes of a description
 abbrev pub TEXT_LIMIT : ℕ
@@ -83,16 +86,24 @@ abbrev pub refusal_of : TextFault → Option Refusal
 refusal_of fault.TooLarge = Some (refusal 41 TEXT_LIMIT)
 refusal_of (fault.BadByte at) = Some (refusal 42 at)
 refusal_of (fault.BadNumber at) = Some (refusal 43 at)
-refusal_of (fault.Syntax at) = Some (refusal 44 at)
+refusal_of (fault.Syntax at expected) = Some (refusal 44 at)
 refusal_of fault.Memory = None
 
--- the text goes wrong at this place, whether or not it has bad tokens
-pub record GoesWrong (text : List ℕ) (at : ℕ) : Type 0 where
+-- The text goes wrong at this place, whether or not it has bad tokens, and whatever token a sentence could
+-- have there is named.
+pub record GoesWrong (text : List ℕ) (at : ℕ) (expected : Expected) : Type 0 where
   pub tokens : List Token
   pub cut : HasTokens 0 text tokens
   pub i : ℕ
   pub fault : IsFault tokens i
   pub place : at ≡ place_of tokens i (length text)
+  pub named_is : (token : Token) (more : List Token) → IsSentence (take i tokens ++ token ∷ more)
+      → IsNamed (class_of token.kind) (named expected)
+
+-- the refusal of syntax names whatever could stand at its place
+abbrev pub Helps : List ℕ → TextFault → Type 0
+Helps text (fault.Syntax at expected) = GoesWrong text at expected
+Helps text other = ⊤
 
 -- the text has no bad token
 pub record HasNoneBad (text : List ℕ) : Type 0 where

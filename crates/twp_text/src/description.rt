@@ -1,6 +1,7 @@
 ghost use Rattle.std.specs.Prelude.{◌≡◌, ◌≤◌, List, length, IfOk, IfErr, IfSome, IsSomeAnd, MatchOption, MatchResult};
-ghost use Rattle.twp_text.specs.TextFaults.{refusal_of, fault_of_bad, HasNoneBad, GoesWrong, IsBadToken, IsFirstTextFault};
+ghost use Rattle.twp_text.specs.TextFaults.{refusal_of, fault_of_bad, HasNoneBad, GoesWrong, Helps, IsBadToken, IsFirstTextFault};
 
+use crate::expected::Expected;
 use crate::fault::{TEXT_LIMIT, TextFault};
 use crate::item::Item;
 use crate::items::Items;
@@ -39,6 +40,7 @@ impl Description {
         ensures taken { (items : List Item) → IsReadAs text.now items
             → MatchResult result (λ d. d ≡ items) (λ fault. fault ≡ TextFault.Memory) }
         ensures refused { IfErr result (λ fault. IfSome (refusal_of fault) (IsFirstTextFault text.now)) }
+        ensures helps { IfErr result (Helps text.now) }
     {
         if text.len() > TEXT_LIMIT {
             return Err(TextFault::TooLarge);
@@ -51,19 +53,20 @@ impl Description {
         requires { length text.now ≤ TEXT_LIMIT }
         ensures read { IfOk result (IsReadAs text.now) }
         ensures refused { IfErr result (λ fault. IfSome (refusal_of fault) (IsFirstTextFault text.now)) }
+        ensures helps { IfErr result (Helps text.now) }
     {
         let mut items = Items::new(alloc);
         let mut state = State::Start;
         let mut tokens = Tokens::new(text);
         while let Some(token) = tokens.advance() {
             let Some(behind) = state.next(token.kind) else {
-                return Err(fault_of(text, token.at));
+                return Err(fault_of(text, token.at, state.expected()));
             };
             items.take(alloc, state, token.kind, token.at as u32)?;
             state = behind;
         }
         if !state.is_final() {
-            return Err(fault_of(text, text.len()));
+            return Err(fault_of(text, text.len(), state.expected()));
         }
         Ok(Description {
             items: items.into_vec(),
@@ -79,18 +82,23 @@ impl Description {
     }
 }
 
-/// The fault of a text that goes wrong at a place: its leftmost bad token, if it has one.
+/// The fault of a text that goes wrong at a place, where something else could stand: its leftmost bad
+/// token, if it has one.
 #[cold]
 #[inline(never)]
-fn fault_of(text: &[u8], at: usize) -> TextFault
+fn fault_of(text: &[u8], at: usize, expected: Expected) -> TextFault
     requires within { at ≤ length text.now }
     requires limit { length text.now ≤ TEXT_LIMIT }
-    requires wrong { GoesWrong text.now at }
-    ensures { IsSomeAnd (refusal_of result) (IsFirstTextFault text.now) }
+    requires wrong { GoesWrong text.now at expected }
+    ensures refused { IsSomeAnd (refusal_of result) (IsFirstTextFault text.now) }
+    ensures helps { Helps text.now result }
 {
     match first_bad(text) {
         Some(fault) => fault,
-        None => TextFault::Syntax { at: at as u32 },
+        None => TextFault::Syntax {
+            at: at as u32,
+            expected,
+        },
     }
 }
 

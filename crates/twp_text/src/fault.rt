@@ -1,6 +1,7 @@
 ghost use Rattle.std.specs.Prelude.{◌≡◌};
 ghost use Rattle.twp_text.specs.TextFaults.{refusal_of};
 
+use crate::expected::Expected;
 use std::alloc::AllocError;
 use thiserror::Error;
 use twp_grid::Refusal;
@@ -23,8 +24,8 @@ pub enum TextFault {
     #[error("the number at {at} has more than four digits")]
     BadNumber { at: u32 },
     /// The token here can't stand behind those before it, or the text ends too early.
-    #[error("the description goes wrong at {at}")]
-    Syntax { at: u32 },
+    #[error("the description goes wrong at {at}: here could stand {expected}")]
+    Syntax { at: u32, expected: Expected },
     /// Memory ran out.
     #[error("out of memory")]
     Memory,
@@ -39,7 +40,7 @@ impl TextFault {
             TextFault::TooLarge => (41, TEXT_LIMIT as u32),
             TextFault::BadByte { at } => (42, at),
             TextFault::BadNumber { at } => (43, at),
-            TextFault::Syntax { at } => (44, at),
+            TextFault::Syntax { at, .. } => (44, at),
             TextFault::Memory => return None,
         };
         Some(Refusal { number, at })
@@ -77,8 +78,11 @@ mod tests {
                 "the number at 5 has more than four digits",
             ),
             (
-                TextFault::Syntax { at: 8 },
-                "the description goes wrong at 8",
+                TextFault::Syntax {
+                    at: 8,
+                    expected: Expected::PartOrSection,
+                },
+                "the description goes wrong at 8: here could stand a part of the section, or another section's number",
             ),
             (TextFault::Memory, "out of memory"),
         ] {

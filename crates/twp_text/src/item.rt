@@ -38,7 +38,6 @@ pub struct Steps {
 
 impl Model for Steps {
     ghost use Rattle.std.specs.Prelude.{◌≡◌, ◌<◌, List, [], ◌++◌, length};
-
     ghost use Rattle.twp_text.specs.declared.item.Step.{Step};
 
     ghost Value = { List Step };
@@ -51,7 +50,7 @@ impl Model for Steps {
 impl Steps {
     /// One step.
     #[inline(always)]
-    pub fn one(alloc: Global, step: Step) -> Steps
+    pub(crate) fn one(alloc: Global, step: Step) -> Steps
         ensures { result ≡ step ∷ [] }
     {
         let mut first = ArrayVec::new();
@@ -85,7 +84,7 @@ impl Steps {
     /// Adds the step of which the last one is a part.
     #[inline(always)]
     #[tactic(auto, using(crate::proofs::StepFacts::push_first, crate::proofs::StepFacts::push_more))]
-    pub fn push(&mut self, step: Step) -> Result<(), AllocError>
+    pub(crate) fn push(&mut self, step: Step) -> Result<(), AllocError>
         ensures { OnOk result (self.new ≡ self.old ++ step ∷ []) }
     {
         if self.first.len() < 8 {
@@ -129,4 +128,25 @@ pub enum Item {
     All {
         at: u32,
     },
+}
+
+#[cfg(test)]
+mod tests {
+    use super::*;
+    use std::test::Fail;
+
+    #[test]
+    fn keeps_more_than_eight_steps(rt: HostRuntime) -> Result<(), Fail> {
+        let mut steps = Steps::one(rt.alloc(), Step::Half(Side::S));
+        for _ in 0..8 {
+            steps.push(Step::Quarter(Corner::NE))?;
+        }
+        steps.push(Step::Half(Side::W))?;
+        assert_eq!(rt; steps.len(), 10);
+        assert_eq!(rt; steps.get(0), Some(Step::Half(Side::S)));
+        assert_eq!(rt; steps.get(8), Some(Step::Quarter(Corner::NE)));
+        assert_eq!(rt; steps.get(9), Some(Step::Half(Side::W)));
+        assert_eq!(rt; steps.get(10), None);
+        Ok(())
+    }
 }

@@ -3,6 +3,7 @@
 #![tactic(auto)]
 
 mod description;
+mod expected;
 mod fault;
 mod item;
 mod items;
@@ -14,6 +15,7 @@ mod token;
 mod word;
 
 pub use description::Description;
+pub use expected::Expected;
 pub use fault::{TEXT_LIMIT, TextFault};
 pub use item::{Item, Numeral, Step, Steps};
 pub use kind::Kind;

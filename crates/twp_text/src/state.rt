@@ -1,7 +1,9 @@
 ghost use Rattle.std.specs.Prelude.{◌≡◌};
 ghost use Rattle.twp_text.specs.Grammar.{class_of};
 ghost use Rattle.twp_text.specs.Machine.{next, is_final, in_heading, in_section, in_sections, in_lots, in_parts, before_part, group_end};
+ghost use Rattle.twp_text.specs.Expected.{expected_of};
 
+use crate::expected::Expected;
 use crate::kind::Kind;
 
 /// What the tokens so far are the beginning of, named after the last of them. These are the states of the
@@ -102,6 +104,34 @@ impl State {
             (State::Lots(state), kind) => in_lots(state, kind),
             (State::Parts(state), kind) => in_parts(state, kind),
             _ => None,
+        }
+    }
+
+    /// What could stand behind the tokens so far.
+    pub fn expected(self) -> Expected
+        ensures { result ≡ expected_of self }
+    {
+        match self {
+            State::Start => Expected::Beginning,
+            State::Heading(state) => expected_in_heading(state),
+            State::BeforeGroup | State::Semicolon => Expected::Sections,
+            State::Section(SectionState::Word | SectionState::Stop) => Expected::SectionNumber,
+            State::Section(SectionState::Number) => Expected::PartsOrSections,
+            State::Section(SectionState::Comma) => Expected::PartOrSection,
+            State::Sections(ListState::To) => Expected::LastSection,
+            State::Sections(ListState::Comma | ListState::LastComma) => Expected::SectionOrAll,
+            State::Sections(ListState::And) => Expected::SectionNumber,
+            State::Sections(_) => Expected::MoreSections,
+            State::SectionsColon => Expected::All,
+            State::SectionsAll => Expected::GroupEnd,
+            State::Lot => Expected::LotNumber,
+            State::Lots(ListState::To) => Expected::LastLot,
+            State::Lots(ListState::Comma | ListState::LastComma | ListState::And) => {
+                Expected::LotOrPart
+            }
+            State::Lots(_) => Expected::MoreLots,
+            State::Parts(state) => expected_in_parts(state),
+            State::End => Expected::Nothing,
         }
     }
 
@@ -276,5 +306,33 @@ fn group_end(kind: Kind) -> Option<State>
         Kind::Semicolon => Some(State::Semicolon),
         Kind::Stop => Some(State::End),
         _ => None,
+    }
+}
+
+/// What could stand in a heading.
+fn expected_in_heading(state: HeadingState) -> Expected
+    ensures { result ≡ expected_of (State.Heading state) }
+{
+    match state {
+        HeadingState::Township | HeadingState::TownshipStop => Expected::TownshipNumber,
+        HeadingState::TownshipNumber => Expected::TownshipSide,
+        HeadingState::TownshipSide | HeadingState::TownshipSideStop | HeadingState::TownshipComma =>
+            Expected::Range,
+        HeadingState::Range | HeadingState::RangeStop => Expected::RangeNumber,
+        HeadingState::RangeNumber => Expected::RangeSide,
+        HeadingState::RangeSide | HeadingState::RangeSideStop => Expected::Sections,
+    }
+}
+
+/// What could stand among the parts of one section.
+fn expected_in_parts(state: PartState) -> Expected
+    ensures { result ≡ expected_of (State.Parts state) }
+{
+    match state {
+        PartState::Before | PartState::Comma => Expected::Part,
+        PartState::Side => Expected::Half,
+        PartState::Corner => Expected::Quarter,
+        PartState::Step | PartState::All => Expected::MoreParts,
+        PartState::Of | PartState::OfThe => Expected::Step,
     }
 }

@@ -282,3 +282,36 @@ fn takes_the_tokens_that_may_follow(rt: HostRuntime) -> Result<(), Fail> {
     }
     Ok(())
 }
+
+/// A refusal of syntax says where the text goes wrong and what could stand there.
+#[test]
+fn tells_what_could_stand_there(rt: HostRuntime) -> Result<(), Fail> {
+    for (text, message) in [
+        (
+            "sec. 14, NE1/2.",
+            "the description goes wrong at 11: here could stand `1/4`",
+        ),
+        (
+            "sec. 14, lots 1 and.",
+            "the description goes wrong at 19: here could stand another lot's number, or another part",
+        ),
+        (
+            "T. 2 N. R. 3 W.",
+            "the description goes wrong at 15: here could stand `sec.`",
+        ),
+        (
+            "lot 1.",
+            "the description goes wrong at 0: here could stand `T.` of a heading, or `sec.`",
+        ),
+        (
+            "sec. 14. sec. 15.",
+            "the description goes wrong at 9: here could stand nothing more",
+        ),
+    ] {
+        match Description::read(rt.alloc(), text.as_bytes()) {
+            Ok(_) => assert!(rt; false, "{text}"),
+            Err(fault) => assert_eq!(rt; fault.to_string(rt.alloc())?.as_str(), message),
+        }
+    }
+    Ok(())
+}

@@ -9,7 +9,7 @@ use Rattle.twp_text.proofs.description.Description.read_within.Goals as goal
 pub fault_of-requires-clause-wrong : goal.fault_of-requires-clause-wrong
 fault_of-requires-clause-wrong c =
     let left = c.loop-token.tokens in
-    wrong_here c.args.text.now left.at left.bytes c.loop-token.state c.loop-token.items (seen c.in-Some.token) c.advance.new.self.bytes c.loop-token.invariant c.in-Some.ensures.0 (sym c.in_default-next.ensures)
+    rw c.expected.ensures (wrong_here c.args.text.now left.at left.bytes c.loop-token.state c.loop-token.items (seen c.in-Some.token) c.advance.new.self.bytes c.loop-token.invariant c.in-Some.ensures.0 (sym c.in_default-next.ensures))
 
 pub loop-token-preserved : goal.loop-token-preserved
 loop-token-preserved c =
@@ -20,7 +20,8 @@ loop-token-preserved c =
 pub fault_of-requires-then-not-is_final-clause-wrong : goal.fault_of-requires-then-not-is_final-clause-wrong
 fault_of-requires-then-not-is_final-clause-wrong c =
     let left = c.loop-token.tokens in
-    wrong_at_end c.args.text.now left.at left.bytes c.loop-token.state c.loop-token.items c.loop-token.invariant c.in_default.ensures.0 (sym c.if-not-is_final.ensures)
+    rw c.expected-then-not-is_final.ensures
+    (wrong_at_end c.args.text.now left.at left.bytes c.loop-token.state c.loop-token.items c.loop-token.invariant c.in_default.ensures.0 (sym c.if-not-is_final.ensures))
 
 pub invariant_of-result : goal.invariant_of-result
 invariant_of-result c =
