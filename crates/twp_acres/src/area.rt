@@ -43,6 +43,7 @@ fn units_in_section<L: Land>(plat: &Plat, land: &L, section: Section) -> u128
         → places_of_position PLACE_DIGITS * result ≡ section_sum PLACE_DIGITS (pieces section) (L.places land.now section) }
     ensures most { result ≤ SECTION_UNITS_MOST * over_of plat.now }
 {
+    let over = plat.over();
     let mut off_lots = land.count(section, Block::whole());
     let mut units = 0;
     for lot in 1..lot_count(section) + 1 {
@@ -52,7 +53,7 @@ fn units_in_section<L: Land>(plat: &Plat, land: &L, section: Section) -> u128
             units += plat.piece_area(section, column, row).units();
         }
     }
-    units + regular_units(off_lots, plat.over())
+    units + regular_units(off_lots, over)
 }
 
 /// So many places that lie in no lot, in parts of a denominator.
