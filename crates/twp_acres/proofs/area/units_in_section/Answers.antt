@@ -1,6 +1,5 @@
 -- Lot by lot, what is held is taken off the count and its piece is added; what is left lies off the lots.
-use Rattle.std.proofs.Common.{◌≡◌, ℕ, ◌+◌, ◌-◌, ◌*◌, ◌<◌, ◌≤◌, true, false, ap, refl, sym, ◌∙◌, arith, if◌then◌else◌}
-use Rattle.twp_grid.specs.Lots.{number_of_lots}
+use Rattle.std.proofs.Common.{◌≡◌, ℕ, ◌+◌, ◌-◌, ◌≤◌, sym, arith}
 use Rattle.twp_land.proofs.LotFacts.{few_lots}
 use Rattle.twp_plat.specs.Pieces.{over_of}
 use Rattle.twp_acres.proofs.SectionSums.{places_where, piece_where, places_held, places_not_held, piece_held, piece_not_held, of_lots-none, of_lots-next, lots_within, few_places, sum_of_section}
