@@ -1,9 +1,8 @@
 -- The steps of the code that adds areas up.
-use Rattle.std.proofs.Common.{◌≡◌, ℕ, zero, suc, ◌+◌, ◌-◌, ◌*◌, ◌<◌, ◌≤◌, Bool, true, false, Option, Some, IfSome, ap, refl, sym, ◌∙◌, arith, if◌then◌else◌}
+use Rattle.std.proofs.Common.{◌≡◌, ℕ, zero, suc, ◌+◌, ◌-◌, ◌*◌, ◌≤◌, Bool, Option, Some, IfSome, ap, sym, ◌∙◌, arith}
 use Rattle.std.specs.Option.{SomeIff}
 use Rattle.std.proofs.lemmas.Nat.{mul-le}
 use Rattle.twp_measure.specs.Areas.{Fraction, IsArea}
-use Rattle.twp_grid.specs.Winding.{SECTION_COUNT}
 use Rattle.twp_grid.specs.Lots.{IsPosition, position_of_lot}
 use Rattle.twp_grid.specs.Places.{PLACE_DIGITS}
 use Rattle.twp_grid.specs.Totals.{total}
@@ -11,7 +10,7 @@ use Rattle.twp_grid.proofs.TotalFacts.{total-next}
 use Rattle.twp_plat.specs.Plats.{TownshipPlat, IsPlat}
 use Rattle.twp_plat.specs.Pieces.{over_of}
 use Rattle.twp_acres.specs.LandAreas.{ArePieces, section_sum, township_sum, IsLandArea}
-use Rattle.twp_acres.proofs.PieceFacts.{HasPieces, pieces_of}
+use Rattle.twp_acres.proofs.PieceFacts.{pieces_of}
 
 -- where a lot is
 pub record LotAt (section lot column row : ℕ) : Type 0 where

@@ -3,7 +3,7 @@ use Rattle.std.proofs.Common.{◌≡◌, ℕ, ◌+◌, ◌*◌, ◌/◌, ◌<◌
 use Rattle.std.proofs.lemmas.Nat.{mul-le}
 use Rattle.twp_measure.specs.Areas.{Fraction}
 use Rattle.twp_grid.specs.Winding.{SECTION_COUNT, IsSection}
-use Rattle.twp_grid.specs.Lots.{POSITIONS_ACROSS, IsPosition}
+use Rattle.twp_grid.specs.Lots.{POSITIONS_ACROSS}
 use Rattle.twp_grid.specs.Places.{places_across, places_to_position, position_along}
 use Rattle.twp_grid.specs.Totals.{total, total_over}
 use Rattle.twp_grid.specs.Spans.{whole_block}
@@ -11,10 +11,9 @@ use Rattle.twp_grid.proofs.TotalFacts.{total-ext, total-both}
 use Rattle.twp_grid.proofs.TilingFacts.{one_position}
 use Rattle.twp_land.specs.Lands.{union}
 use Rattle.twp_plat.specs.Plats.{TownshipPlat}
-use Rattle.twp_plat.specs.Pieces.{over_of}
 use Rattle.twp_plat.proofs.RatioFacts.{cancelled}
-use Rattle.twp_acres.specs.LandAreas.{places_of_position, ArePieces, piece_where_held, section_sum, township_sum, IsLandArea}
-use Rattle.twp_acres.specs.Laws.{AreDisjoint, OneLandArea, DisjointAreasAdd}
+use Rattle.twp_acres.specs.LandAreas.{places_of_position, ArePieces, piece_where_held, township_sum}
+use Rattle.twp_acres.specs.Laws.{OneLandArea, DisjointAreasAdd}
 use Rattle.twp_acres.proofs.PieceFacts.{same_pieces}
 
 -- sums over the places of a township of functions that agree there
@@ -58,7 +57,7 @@ pub one_land_area : OneLandArea
 one_land_area g fits plat places area area' is is' =
     let sum = one_sum g fits plat places is.pieces is'.pieces is.are is'.are in
     let units : area.units ≡ area'.units = cancelled area.units area'.units (places_of_position g) (some_places g fits)
-        (order (places_of_position g) area.units ∙ is.sum_is ∙ sum ∙ sym is'.sum_is ∙ sym (order (places_of_position g) area'.units)) in
+    (order (places_of_position g) area.units ∙ is.sum_is ∙ sum ∙ sym is'.sum_is ∙ sym (order (places_of_position g) area'.units)) in
     let over : area.over ≡ area'.over = is.over_is ∙ sym is'.over_is in
     let make : ℕ → ℕ → Fraction = λ units over. record { units = units; over = over } in
     ap (λ u. make u area.over) units ∙ ap (make area'.units) over

@@ -1,5 +1,5 @@
 -- Each plat has pieces, one set of them.
-use Rattle.std.proofs.Common.{◌≡◌, ◌≢◌, ℕ, ◌+◌, ◌-◌, ◌*◌, ◌/◌, ◌%◌, ◌<◌, ◌≤◌, ◌⊎◌, [], ◌∷◌, None, pos, ap, refl, sym, ◌∙◌, inl, inr, arith}
+use Rattle.std.proofs.Common.{◌≡◌, ℕ, ◌+◌, ◌-◌, ◌*◌, ◌/◌, ◌%◌, ◌<◌, ◌≤◌, ◌⊎◌, None, ap, refl, sym, inl, inr, arith}
 use Rattle.std.proofs.lemmas.Bool.{cases_lt}
 use Rattle.twp_measure.specs.Areas.{Fraction}
 use Rattle.twp_grid.specs.Winding.{IsSection, StandsAt}
@@ -7,7 +7,6 @@ use Rattle.twp_grid.specs.Lines.{north_run, west_run}
 use Rattle.twp_grid.specs.Lots.{IsPosition, lot_at_position}
 use Rattle.twp_grid.proofs.WindingFacts.{parity, stands_even, stands_odd}
 use Rattle.twp_plat.specs.Plats.{TownshipPlat, IsPlat, closing_quarter_of, ClosingQuarters, AreClosingQuarters}
-use Rattle.twp_plat.specs.Ratios.{ratio, whole, IsSame}
 use Rattle.twp_plat.specs.Pieces.{piece, IsPieceArea, over_of}
 use Rattle.twp_plat.proofs.FormulaFacts.{piece_terms}
 use Rattle.twp_plat.proofs.RatioFacts.{parts_of_whole}

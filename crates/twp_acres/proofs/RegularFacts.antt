@@ -1,6 +1,6 @@
 -- The piece of a position that is no lot's: 20 by 20 chains, on each plat.
-use Rattle.std.proofs.Common.{◌≡◌, ◌≢◌, ◌==◌, ℕ, zero, suc, ◌+◌, ◌-◌, ◌*◌, ◌/◌, ◌%◌, ◌≤◌, ◌<◌, ◌⊎◌, ◌||◌, ◌&&◌, Bool, true, false, [], ◌∷◌, Option, Some, None, pos, ◌+ℤ◌, ◌-ℤ◌, ◌*ℤ◌, refl, ap, sym, ◌∙◌, inl, inr, arith, if◌then◌else◌, nat_le}
-use Rattle.std.proofs.lemmas.Bool.{cases_eq, cases_lt}
+use Rattle.std.proofs.Common.{◌≡◌, ◌==◌, ℕ, ◌+◌, ◌-◌, ◌*◌, ◌%◌, ◌≤◌, ◌<◌, ◌&&◌, Bool, true, false, Some, None, pos, ◌+ℤ◌, ◌-ℤ◌, ◌*ℤ◌, refl, ap, sym, ◌∙◌, inl, inr, arith, if◌then◌else◌, nat_le}
+use Rattle.std.proofs.lemmas.Bool.{cases_eq}
 use Rattle.std.proofs.lemmas.Bool.Decides.{nat_tests}
 use Rattle.twp_grid.specs.Winding.{IsSection, StandsAt}
 use Rattle.twp_grid.specs.Lines.{IsClosing, north_run, west_run}
@@ -12,7 +12,7 @@ use Rattle.twp_plat.specs.Pieces.{piece}
 use Rattle.twp_plat.specs.Formula.{both_ends, west_length, north_length, both_widths, both_heights}
 use Rattle.twp_plat.proofs.FormulaFacts.{under_four, piece_is_formula, piece_terms}
 use Rattle.twp_plat.proofs.RatioFacts.{whole_of_parts}
-use Rattle.twp_plat.proofs.SideFacts.{Lines, lines_of}
+use Rattle.twp_plat.proofs.SideFacts.{lines_of}
 
 -- a column or a row that lies between regular lines, where it is the last one
 abbrev IsRegular : ℕ → ℕ → ℕ → Type 0

@@ -1,6 +1,5 @@
 -- What a land holds of a section: its lots that are held, and its places off the lots.
-use Rattle.std.proofs.Common.{◌≡◌, ◌≢◌, ◌==◌, ℕ, zero, suc, ◌+◌, ◌-◌, ◌*◌, ◌/◌, ◌<◌, ◌≤◌, ◌⊎◌, Bool, true, false, Option, Some, None, ap, refl, sym, ◌∙◌, inl, inr, arith, if◌then◌else◌, nat_le, nat_lt}
-use Rattle.std.proofs.lemmas.Bool.{cases_eq}
+use Rattle.std.proofs.Common.{◌≡◌, ◌≢◌, ℕ, ◌+◌, ◌*◌, ◌<◌, ◌≤◌, Bool, true, false, Option, Some, None, ap, refl, sym, ◌∙◌, arith, if◌then◌else◌, nat_lt}
 use Rattle.std.proofs.lemmas.Bool.Decides.{nat_tests}
 use Rattle.twp_grid.specs.Winding.{IsSection}
 use Rattle.twp_grid.specs.Lots.{IsPosition, lot_at_position, position_of_lot, number_of_lots}
@@ -10,7 +9,7 @@ use Rattle.twp_grid.specs.Totals.{total, total_over, one_where}
 use Rattle.twp_grid.proofs.TotalFacts.{total-ext, total-same, total-scale, total-le}
 use Rattle.twp_land.specs.Lands.{count_held}
 use Rattle.twp_land.specs.WholeLots.{lot_of_place, IsWholeOrNot}
-use Rattle.twp_land.proofs.LotFacts.{Fills, fills, has_lot}
+use Rattle.twp_land.proofs.LotFacts.{fills, has_lot}
 use Rattle.twp_plat.specs.Plats.{TownshipPlat, IsPlat}
 use Rattle.twp_plat.specs.Pieces.{over_of}
 use Rattle.twp_acres.specs.LandAreas.{ArePieces, piece_where_held, section_sum}
@@ -88,12 +87,12 @@ of_lots-next section n column row f range most position is =
     same c r None there other = rw there refl
     same c r (Some lot) there other =
         let differs : lot ≢ n = λ e.
-            let filled = fills section c r lot range there in
-            let at : position_of_lot section n ≡ Some (c, r) = rw e at filled.position in
-            let place : ℕ × ℕ = (c, r) in
-            let place' : ℕ × ℕ = (column, row) in
-            let equal : place ≡ place' = cc (sym at ∙ is) in
-            other (ap (λ (p : ℕ × ℕ). p.0) equal, ap (λ (p : ℕ × ℕ). p.1) equal) in
+        let filled = fills section c r lot range there in
+        let at : position_of_lot section n ≡ Some (c, r) = rw e at filled.position in
+        let place : ℕ × ℕ = (c, r) in
+        let place' : ℕ × ℕ = (column, row) in
+        let equal : place ≡ place' = cc (sym at ∙ is) in
+        other (ap (λ (p : ℕ × ℕ). p.0) equal, ap (λ (p : ℕ × ℕ). p.1) equal) in
         rw (there, passed lot differs) refl
 
 -- a section has 256 places

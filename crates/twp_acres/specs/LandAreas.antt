@@ -1,5 +1,5 @@
--- The area of a land on a plat, exact: a sum over single places. A place is an equal part of its position,
--- so its share of the area is the position's piece divided by the places of a position.
+-- The area of a land on a plat, exact: a sum over single places. A place is an equal part of its
+-- position, so its share of the area is the position's piece divided by the places of a position.
 use Rattle.std.specs.Prelude.{◌≡◌, ℕ, ◌+◌, ◌*◌, Bool, if◌then◌else◌}
 use Rattle.twp_measure.specs.Areas.{Fraction}
 use Rattle.twp_grid.specs.Winding.{SECTION_COUNT, IsSection}
@@ -17,7 +17,8 @@ places_of_position g = places_to_position g * places_to_position g
 -- the units of each section's pieces over the plat's denominator, by the position's column and row
 pub record ArePieces (plat : TownshipPlat) (pieces : ℕ → ℕ → ℕ → ℕ) : Type 0 where
   pub is_piece : (section column row : ℕ) → IsSection section → IsPosition column row
-      → IsPieceArea plat section column row (record { units = pieces section column row; over = over_of plat })
+      → IsPieceArea plat section column row
+      (record { units = pieces section column row; over = over_of plat })
 
 -- the units of the piece that a place lies in, where the place is held, and else 0
 abbrev pub piece_where_held : ℕ → (ℕ → ℕ → ℕ) → (ℕ → ℕ → Bool) → ℕ → ℕ → ℕ
@@ -33,9 +34,10 @@ abbrev pub township_sum : ℕ → (ℕ → ℕ → ℕ → ℕ) → (ℕ → ℕ
 township_sum g pieces places =
     total SECTION_COUNT (λ before. section_sum g (pieces (before + 1)) (places (before + 1)))
 
--- The area of a set of places: the sum of their pieces, divided by the places of a position, over the plat's
--- denominator. Nothing is rounded, and the division leaves no rest.
-pub record IsLandArea (g : ℕ) (plat : TownshipPlat) (places : ℕ → ℕ → ℕ → Bool) (area : Fraction) : Type 0 where
+-- The area of a set of places: the sum of their pieces, divided by the places of a position, over the
+-- plat's denominator. Nothing is rounded, and the division leaves no rest.
+pub record IsLandArea (g : ℕ) (plat : TownshipPlat) (places : ℕ → ℕ → ℕ → Bool)
+    (area : Fraction) : Type 0 where
   pub pieces : ℕ → ℕ → ℕ → ℕ
   pub are : ArePieces plat pieces
   pub over_is : area.over ≡ over_of plat

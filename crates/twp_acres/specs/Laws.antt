@@ -9,16 +9,19 @@ use Rattle.twp_acres.specs.LandAreas.{IsLandArea}
 
 -- no place is held by both
 abbrev pub AreDisjoint : (ℕ → ℕ → ℕ → Bool) → (ℕ → ℕ → ℕ → Bool) → Type 0
-AreDisjoint places more = (section column row : ℕ) → places section column row ≡ true → more section column row ≡ true → ⊥
+AreDisjoint places more = (section column row : ℕ)
+    → places section column row ≡ true → more section column row ≡ true → ⊥
 
 -- a set of places has one area
 abbrev pub OneLandArea : Type 0
-OneLandArea = (g : ℕ) → POSITIONS_ACROSS ≤ places_across g → (plat : TownshipPlat) (places : ℕ → ℕ → ℕ → Bool)
-    (area area' : Fraction) → IsLandArea g plat places area → IsLandArea g plat places area' → area ≡ area'
+OneLandArea = (g : ℕ) → POSITIONS_ACROSS ≤ places_across g → (plat : TownshipPlat)
+    (places : ℕ → ℕ → ℕ → Bool) (area area' : Fraction)
+    → IsLandArea g plat places area → IsLandArea g plat places area' → area ≡ area'
 
 -- the area of two disjoint sets together is the sum of theirs
 abbrev pub DisjointAreasAdd : Type 0
 DisjointAreasAdd = (g : ℕ) → POSITIONS_ACROSS ≤ places_across g → (plat : TownshipPlat)
     (places more : ℕ → ℕ → ℕ → Bool) (area other : Fraction) → AreDisjoint places more
     → IsLandArea g plat places area → IsLandArea g plat more other
-    → IsLandArea g plat (union places more) (record { units = area.units + other.units; over = area.over })
+    → IsLandArea g plat (union places more)
+    (record { units = area.units + other.units; over = area.over })

@@ -1,4 +1,5 @@
-//! What holds of areas as they are defined: each law is a contract, and its function has nothing to do.
+//! What holds of areas as they are defined: each law is a contract, and its function has nothing to
+//! do.
 ghost use Rattle.twp_acres.specs.Laws.{OneLandArea, DisjointAreasAdd};
 
 /// A set of places has one area on a plat.

@@ -6,7 +6,8 @@ use Rattle.twp_grid.specs.Places.{position_along}
 
 -- the lot of a section that a place lies in, if it lies in one
 abbrev pub lot_of_place : ℕ → ℕ → ℕ → ℕ → Option ℕ
-lot_of_place g section column row = lot_at_position section (position_along g column) (position_along g row)
+lot_of_place g section column row =
+    lot_at_position section (position_along g column) (position_along g row)
 
 -- of one section's places, two that lie in one lot are both held, or both not
 pub record IsWholeOrNot (g section lot : ℕ) (held : ℕ → ℕ → Bool) : Type 0 where
@@ -15,4 +16,5 @@ pub record IsWholeOrNot (g section lot : ℕ) (held : ℕ → ℕ → Bool) : Ty
 
 -- each lot is held whole or not at all
 abbrev pub HasWholeLots : ℕ → (ℕ → ℕ → ℕ → Bool) → Type 0
-HasWholeLots g places = (section lot : ℕ) → IsSection section → IsWholeOrNot g section lot (places section)
+HasWholeLots g places = (section lot : ℕ) → IsSection section
+    → IsWholeOrNot g section lot (places section)

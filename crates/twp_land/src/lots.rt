@@ -8,8 +8,8 @@ use twp_grid::{Block, Section, lot_count};
 /// How many sections a township has.
 const SECTIONS: u8 = 36;
 
-/// Whether each lot is held whole or not at all: no part of a lot is described but the lot (Specifications
-/// for Descriptions of Land).
+/// Whether each lot is held whole or not at all (a lot is taken whole: Specifications for Descriptions
+/// of Land).
 pub fn lots_whole<L: Land>(land: &L) -> bool
     ensures { IsTrue result ↔ HasWholeLots PLACE_DIGITS (L.places land.now) }
 {
@@ -24,7 +24,8 @@ pub fn lots_whole<L: Land>(land: &L) -> bool
 
 /// Whether each lot of a section is held whole or not at all.
 fn has_whole_lots<L: Land>(land: &L, section: Section) -> bool
-    ensures { IsTrue result ↔ ((lot : ℕ) → IsWholeOrNot PLACE_DIGITS section lot (L.places land.now section)) }
+    ensures { IsTrue result
+        ↔ ((lot : ℕ) → IsWholeOrNot PLACE_DIGITS section lot (L.places land.now section)) }
 {
     for lot in 1..lot_count(section) + 1 {
         let block = Block::of_lot(section, lot).unwrap();

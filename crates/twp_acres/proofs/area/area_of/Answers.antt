@@ -1,4 +1,4 @@
-use Rattle.std.proofs.Common.{◌≡◌, sym, arith}
+use Rattle.std.proofs.Common.{sym, arith}
 use Rattle.twp_grid.proofs.TotalFacts.{total-zero}
 use Rattle.twp_land.proofs.LotFacts.{section_is}
 use Rattle.twp_acres.proofs.AreaFacts.{grows, sum-next, area_is, land_area}

@@ -1,4 +1,4 @@
-use Rattle.std.proofs.Common.{◌+◌, ◌-◌, ◌*◌, ◌≤◌}
+use Rattle.std.proofs.Common.{◌-◌, ◌*◌, ◌≤◌}
 use Rattle.twp_plat.specs.Pieces.{over_of}
 use Rattle.twp_acres.specs.Bounds.{SECTION_UNITS_MOST}
 use Rattle.twp_acres.proofs.AreaFacts.{IsSumOf}

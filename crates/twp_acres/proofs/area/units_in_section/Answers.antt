@@ -1,6 +1,5 @@
 -- Lot by lot, what is held is taken off the count and its piece is added; what is left lies off the lots.
-use Rattle.std.proofs.Common.{◌≡◌, ℕ, ◌+◌, ◌-◌, ◌*◌, ◌<◌, ◌≤◌, true, false, ap, refl, sym, ◌∙◌, arith, if◌then◌else◌}
-use Rattle.twp_grid.specs.Lots.{number_of_lots}
+use Rattle.std.proofs.Common.{◌≡◌, ℕ, ◌+◌, ◌-◌, ◌≤◌, sym, arith}
 use Rattle.twp_land.proofs.LotFacts.{few_lots}
 use Rattle.twp_plat.specs.Pieces.{over_of}
 use Rattle.twp_acres.proofs.SectionSums.{places_where, piece_where, places_held, places_not_held, piece_held, piece_not_held, of_lots-none, of_lots-next, lots_within, few_places, sum_of_section}
@@ -79,8 +78,8 @@ regular_units-requires-clause-places g c = let few = few_places (g.L.Land.places
 
 pub returns-clause-sum : goal.returns-clause-sum
 returns-clause-sum g c = λ pieces are.
-    rw (c.regular_units.ensures, c.over.ensures.value)
-    (sum_of_section c.args.plat.now c.args.section c.loop-lot.lot c.loop-lot.off_lots c.loop-lot.units (g.L.Land.places c.args.land.now c.args.section) pieces c.over.ensures.plat are
+    rw (c.regular_units.ensures, c.over-over.ensures.value)
+    (sum_of_section c.args.plat.now c.args.section c.loop-lot.lot c.loop-lot.off_lots c.loop-lot.units (g.L.Land.places c.args.land.now c.args.section) pieces c.over-over.ensures.plat are
     c.lot_count-lot-end.ensures.section (λ lot. c.requires.whole c.args.section lot c.lot_count-lot-end.ensures.section) (omega arith) c.loop-lot.invariant.taken (c.loop-lot.invariant.gained pieces are))
 
 pub returns-clause-most : goal.returns-clause-most
@@ -88,5 +87,5 @@ returns-clause-most g c =
     let few = few_places (g.L.Land.places c.args.land.now c.args.section) in
     let few' = few_lots c.args.section c.lot_count-lot-end.ensures.section in
     let places : c.loop-lot.off_lots ≤ 256 = omega (arith, c.loop-lot.invariant.taken) in
-    let regular = rw c.over.ensures.value at c.regular_units.ensures in
+    let regular = rw c.over-over.ensures.value at c.regular_units.ensures in
     bounded (c.loop-lot.lot - 1) c.loop-lot.units c.loop-lot.off_lots (over_of c.args.plat.now) c.regular_units.result (omega arith) places c.loop-lot.invariant.most regular
