@@ -38,7 +38,6 @@ pub struct Steps {
 
 impl Model for Steps {
     ghost use Rattle.std.specs.Prelude.{◌≡◌, ◌<◌, List, [], ◌++◌, length};
-
     ghost use Rattle.twp_text.specs.declared.item.Step.{Step};
 
     ghost Value = { List Step };
