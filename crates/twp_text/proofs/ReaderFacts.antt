@@ -1,5 +1,5 @@
 -- What the reader knows between two tokens, and what follows from it where it ends.
-use Rattle.std.proofs.Common.{◌≡◌, ℕ, zero, suc, ◌+◌, ◌<◌, ◌≤◌, Bool, true, false, List, [], ◌∷◌, ◌++◌, Option, Some, None, IsSomeAnd, length, take, drop, map, reverse, refl, sym, ap, subst, ◌∙◌, inl, inr, append_assoc, arith, length-append}
+use Rattle.std.proofs.Common.{◌≡◌, ℕ, ◌+◌, ◌≤◌, Bool, true, false, List, [], ◌∷◌, ◌++◌, Option, Some, None, IsSomeAnd, length, map, reverse, refl, sym, ap, subst, ◌∙◌, inl, inr, append_assoc, arith, length-append}
 use Rattle.std.specs.List.{AllPass, flat_map}
 use Rattle.std.proofs.lemmas.List.{append-nil, reverse-append, take_all}
 use Rattle.std.proofs.Math.Seq.{take-append_seam}
@@ -12,7 +12,7 @@ use Rattle.twp_text.specs.Tokens.{Token, StartsWith, HasTokens, is_white}
 use Rattle.twp_text.specs.Grammar.{class_of, heading, description}
 use Rattle.twp_text.specs.declared.item.Numeral.{Numeral}
 use Rattle.twp_text.specs.Items.{Tree, ◌&◌, behind, items, numeral, end_of, range_of, whole_sections_item, parts_items, group_items, heading_item, BeginWithSections}
-use Rattle.twp_text.specs.Sentences.{HasItems, IsSentence, IsFault}
+use Rattle.twp_text.specs.Sentences.{HasItems}
 use Rattle.twp_text.specs.Machine.{next, is_final, take_token}
 use Rattle.twp_text.specs.declared.kind.Kind.{Kind}
 use Rattle.twp_text.specs.declared.kind.Kind.TheVariants.{BadByte, BadNumber}

@@ -5,7 +5,6 @@ use Rattle.std.proofs.lemmas.Bool.{cases_Bool}
 use Rattle.std.proofs.lemmas.List.{append-nil, length-map, take_all}
 use Rattle.std.proofs.Math.Seq.{take-append_seam, take-append-add}
 use Rattle.twp_text.specs.declared.item.Item.{Item}
-use Rattle.twp_text.specs.declared.item.Item.TheVariants as item
 use Rattle.twp_text.specs.declared.state.State.{State}
 use Rattle.twp_text.specs.declared.state.State.TheVariants.{Start}
 use Rattle.twp_grid.specs.declared.township.NorthSouth.TheVariants as ns
@@ -13,7 +12,7 @@ use Rattle.twp_grid.specs.declared.township.EastWest.TheVariants as ew
 use Rattle.twp_grid.specs.declared.block.Corner.TheVariants as which
 use Rattle.twp_text.specs.Tokens.{Token}
 use Rattle.twp_text.specs.Grammar.{Class, sec, lot, all, and, to, inclusive, of, the, t, r, north_south, east_west, corner, half, quarter, number, comma, semicolon, colon, stop, other, bad_number, bad_byte, Value, class_of, kind_of, description}
-use Rattle.twp_text.specs.Items.{Leaf, token_of, Tree, tokens, items}
+use Rattle.twp_text.specs.Items.{tokens, items}
 use Rattle.twp_text.specs.Sentences.{HasItems, IsSentence, IsFront, IsFault}
 use Rattle.twp_text.specs.Machine.{next, is_final, take_token}
 use Rattle.twp_text.specs.Expected.{named, expected_of, IsNamed}
