@@ -1,5 +1,5 @@
 -- What the machine finds is what the definitions say: sentences and their items, and the place of a fault.
-use Rattle.std.proofs.Common.{◌≡◌, ℕ, zero, suc, ◌+◌, ◌<◌, ◌≤◌, Bool, true, false, ◌⊎◌, List, [], ◌∷◌, ◌++◌, map, length, take, Option, Some, None, refl, sym, ap, subst, ◌∙◌, inl, inr, append_assoc, arith, length-append, reverse}
+use Rattle.std.proofs.Common.{◌≡◌, ◌+◌, true, false, List, [], ◌∷◌, ◌++◌, map, length, take, Option, Some, None, refl, sym, ap, subst, ◌∙◌, inl, inr, append_assoc, arith, length-append}
 use Rattle.std.specs.List.{list_any}
 use Rattle.std.proofs.lemmas.Bool.{cases_Bool}
 use Rattle.std.proofs.lemmas.List.{append-nil, length-map, take_all}
@@ -16,7 +16,7 @@ use Rattle.twp_text.specs.Items.{tokens, items}
 use Rattle.twp_text.specs.Sentences.{HasItems, IsSentence, IsFront, IsFault}
 use Rattle.twp_text.specs.Machine.{next, is_final, take_token}
 use Rattle.twp_text.specs.Expected.{named, expected_of, IsNamed}
-use Rattle.twp_text.proofs.Derivatives.{same_class, same_class_tells, Derives, after, derives_none, takes_token}
+use Rattle.twp_text.proofs.Derivatives.{same_class, same_class_tells, Derives, derives_none, takes_token}
 use Rattle.twp_text.proofs.Table as table
 use Rattle.twp_text.proofs.Walk.{run, newest_first, IsRead, read_description}
 
