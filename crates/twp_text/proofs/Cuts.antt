@@ -1,5 +1,5 @@
 -- The token that is cut off bytes is the one token that they begin with.
-use Rattle.std.proofs.Common.{◌≡◌, ◌==◌, ℕ, zero, suc, ◌+◌, ◌-◌, ◌<◌, ◌≤◌, ◌⊎◌, Bool, true, false, cond, ◌&&◌, ◌||◌, List, [], ◌∷◌, ◌++◌, length, take, drop, slice_index, refl, sym, ap, subst, ◌∙◌, inl, inr, arith, one-add, le-leb, codes, length-append, if◌then◌else◌, not}
+use Rattle.std.proofs.Common.{◌≡◌, ◌==◌, ℕ, zero, suc, ◌+◌, ◌<◌, ◌≤◌, ◌⊎◌, Bool, true, false, cond, ◌&&◌, List, [], ◌∷◌, ◌++◌, length, take, drop, slice_index, refl, sym, ap, subst, ◌∙◌, inl, inr, arith, one-add, le-leb, not}
 use Rattle.std.specs.Char.{is_ascii_alphabetic, is_ascii_digit}
 use Rattle.std.specs.List.{prefix_len, list_all}
 use Rattle.std.specs.Str.Parse.{digits_value}
@@ -11,11 +11,11 @@ use Rattle.std.proofs.lemmas.List.Sums.{AllPass-from_list_all, list_all-from_All
 use Rattle.std.proofs.lemmas.List.Folds.{length-prefix_len}
 use Rattle.std.proofs.Math.Seq.{take-append_seam}
 use Rattle.twp_text.specs.declared.kind.Kind.{Kind}
-use Rattle.twp_text.specs.declared.kind.Kind.TheVariants.{Sec, Lot, All, And, To, Inclusive, Of, The, T, R, NorthSouth, EastWest, Corner, Half, Quarter, Number, Comma, Semicolon, Colon, Stop, Other, BadNumber, BadByte}
+use Rattle.twp_text.specs.declared.kind.Kind.TheVariants.{Half, Quarter, Number, Comma, Semicolon, Colon, Stop, BadNumber, BadByte}
 use Rattle.twp_text.specs.declared.lexeme.Lexeme.{Lexeme}
 use Rattle.twp_text.specs.Cutting.{lexeme, cut_word, numeral_of, cut_number, cut_digits, cut_mark, cut}
 use Rattle.std.specs.Str.{str_to_ascii_lowercase}
-use Rattle.twp_text.specs.Tokens.{is_white, Word, same_bytes, words, kind_among, kind_of_word, begins_with, IsWholeRun, Begins, IsNumber, IsGoodToken, a_word, a_number, a_bad_number, a_half, a_half_sign, a_quarter, a_quarter_sign, a_comma, a_semicolon, a_colon, a_stop, NoGoodToken, IsBadByte, IsToken, good, bad}
+use Rattle.twp_text.specs.Tokens.{is_white, Word, same_bytes, words, kind_among, kind_of_word, begins_with, IsWholeRun, Begins, IsNumber, IsGoodToken, a_word, a_number, a_bad_number, a_half, a_half_sign, a_quarter, a_quarter_sign, a_comma, a_semicolon, a_colon, a_stop, NoGoodToken, IsToken, good, bad}
 
 -- which bytes a byte isn't
 letter_no_digit : (byte : ℕ) → is_ascii_digit byte ≡ true → is_ascii_alphabetic byte ≡ false

@@ -1,5 +1,5 @@
 -- A letter as a small one, by its bit: the 256 bytes are computed.
-use Rattle.std.proofs.Common.{◌≡◌, ◌==◌, ℕ, zero, suc, ◌<◌, Bool, true, false, cond, ◌&&◌, ◌⊎◌, Option, Some, None, bit_or, refl, ap, inl, inr, arith}
+use Rattle.std.proofs.Common.{◌≡◌, ◌==◌, ℕ, zero, suc, ◌<◌, Bool, true, false, cond, ◌&&◌, Option, Some, None, bit_or, refl, ap, inl, inr, arith}
 use Rattle.std.specs.Char.{is_ascii_lowercase}
 use Rattle.std.proofs.lemmas.Bool.{eqb-true, cases_lt}
 use Rattle.twp_text.specs.Cutting.{small_letter}

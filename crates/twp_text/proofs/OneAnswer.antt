@@ -1,5 +1,5 @@
 -- A text has one answer: one list of items, or one refusal, and not both.
-use Rattle.std.proofs.Common.{◌≡◌, ℕ, zero, suc, ◌+◌, ◌<◌, ◌≤◌, Bool, true, false, List, [], ◌∷◌, ◌++◌, Option, Some, None, length, take, drop, refl, sym, ap, subst, ◌∙◌, inl, inr, append_assoc, arith, IfSome, IfOk, IfErr, MatchResult, Result, Ok, Err}
+use Rattle.std.proofs.Common.{◌≡◌, ℕ, zero, suc, ◌+◌, ◌<◌, ◌≤◌, List, [], ◌∷◌, ◌++◌, Option, Some, None, length, take, drop, refl, sym, ap, subst, ◌∙◌, inl, inr, append_assoc, arith, IfSome, IfOk, IfErr, MatchResult, Result, Ok, Err}
 use Rattle.std.proofs.lemmas.Bool.{cases_lt}
 use Rattle.std.proofs.lemmas.List.{take-append-drop}
 use Rattle.twp_text.specs.declared.item.Item.{Item}
@@ -10,11 +10,11 @@ use Rattle.twp_text.specs.declared.state.State.{State}
 use Rattle.twp_text.specs.declared.fault.TextFault.{TextFault}
 use Rattle.twp_text.specs.declared.fault.TextFault.TheVariants as fault
 use Rattle.twp_grid.specs.declared.refusal.Refusal.{Refusal}
-use Rattle.twp_text.specs.Tokens.{Token, HasTokens}
+use Rattle.twp_text.specs.Tokens.{Token}
 use Rattle.twp_text.specs.Grammar.{class_of}
-use Rattle.twp_text.specs.Sentences.{HasItems, IsSentence, IsFront, IsFault}
+use Rattle.twp_text.specs.Sentences.{HasItems, IsSentence, IsFault}
 use Rattle.twp_text.specs.Machine.{next, take_token}
-use Rattle.twp_text.specs.TextFaults.{TEXT_LIMIT, IsReadAs, refusal, refusal_of, number_of_bad, NoneBad, IsFirstBad, place_of, IsBadToken, IsSyntaxFault, IsFirstTextFault, too_large, bad_token, syntax}
+use Rattle.twp_text.specs.TextFaults.{TEXT_LIMIT, IsReadAs, refusal, refusal_of, number_of_bad, NoneBad, IsFirstBad, place_of, IsFirstTextFault, too_large, bad_token, syntax}
 use Rattle.twp_text.proofs.TokenFacts.{one_token_list}
 use Rattle.twp_text.proofs.Table as table
 use Rattle.twp_text.proofs.Walk.{run}

@@ -1,5 +1,5 @@
 -- What the reader knows between two tokens, and what follows from it where it ends.
-use Rattle.std.proofs.Common.{◌≡◌, ℕ, zero, suc, ◌+◌, ◌<◌, ◌≤◌, Bool, true, false, List, [], ◌∷◌, ◌++◌, Option, Some, None, IsSomeAnd, length, take, drop, map, reverse, refl, sym, ap, subst, ◌∙◌, inl, inr, append_assoc, arith, length-append}
+use Rattle.std.proofs.Common.{◌≡◌, ◌<◌, ℕ, ◌+◌, ◌≤◌, Bool, true, false, List, [], ◌∷◌, ◌++◌, Option, Some, None, IsSomeAnd, length, map, reverse, refl, sym, ap, subst, ◌∙◌, inl, inr, append_assoc, arith, length-append}
 use Rattle.std.specs.List.{AllPass, flat_map}
 use Rattle.std.proofs.lemmas.List.{append-nil, reverse-append, take_all}
 use Rattle.std.proofs.Math.Seq.{take-append_seam}
@@ -12,7 +12,7 @@ use Rattle.twp_text.specs.Tokens.{Token, StartsWith, HasTokens, is_white}
 use Rattle.twp_text.specs.Grammar.{class_of, heading, description}
 use Rattle.twp_text.specs.declared.item.Numeral.{Numeral}
 use Rattle.twp_text.specs.Items.{Tree, ◌&◌, behind, items, numeral, end_of, range_of, whole_sections_item, parts_items, group_items, heading_item, BeginWithSections}
-use Rattle.twp_text.specs.Sentences.{HasItems, IsSentence, IsFault}
+use Rattle.twp_text.specs.Sentences.{IsSentence, HasItems}
 use Rattle.twp_text.specs.Machine.{next, is_final, take_token}
 use Rattle.twp_text.specs.declared.kind.Kind.{Kind}
 use Rattle.twp_text.specs.declared.kind.Kind.TheVariants.{BadByte, BadNumber}
@@ -20,10 +20,10 @@ use Rattle.twp_text.specs.declared.fault.TextFault.{TextFault}
 use Rattle.twp_text.specs.declared.fault.TextFault.TheVariants as faults
 use Rattle.twp_text.specs.declared.expected.Expected.{Expected}
 use Rattle.twp_text.specs.Expected.{expected_of}
-use Rattle.twp_text.specs.TextFaults.{refusal_of, fault_of_bad, TEXT_LIMIT, IsReadAs, refusal, number_of_bad, NoneBad, IsFirstBad, place_of, IsBadToken, IsSyntaxFault, IsFirstTextFault, too_large, bad_token, syntax, GoesWrong, Helps, HasNoneBad}
+use Rattle.twp_text.specs.TextFaults.{refusal_of, fault_of_bad, TEXT_LIMIT, IsReadAs, refusal, number_of_bad, NoneBad, place_of, IsBadToken, IsSyntaxFault, GoesWrong, Helps, HasNoneBad}
 use Rattle.twp_text.proofs.TokenFacts.{one_token_list, has_token_list}
 use Rattle.twp_text.proofs.Walk.{run, newest_first}
-use Rattle.twp_text.proofs.Reading.{Outcome, ended, go_on, run-append, accepted, fault_here, fault_at_end, one_item_list, what_follows}
+use Rattle.twp_text.proofs.Reading.{ended, go_on, run-append, accepted, fault_here, fault_at_end, what_follows}
 
 -- the tokens before some place: those behind it are the rest of the text's
 pub record Before (text : List ℕ) (at : ℕ) (bytes : List ℕ) (before : List Token) : Type 0 where

@@ -1,9 +1,8 @@
 -- Several entries are the entries that are not one number alone.
-use Rattle.std.proofs.Common.{◌≡◌, ◌⊎◌, List, [], ◌∷◌, ◌++◌, refl, sym, subst, ◌∙◌, inl, inr, append_assoc, ◌↔◌}
-use Rattle.std.specs.List.{flat_map}
+use Rattle.std.proofs.Common.{◌≡◌, List, [], ◌∷◌, refl, sym, subst, ◌∙◌, inl, inr}
 use Rattle.twp_text.specs.Tokens.{Token}
-use Rattle.twp_text.specs.Grammar.{entries, several, number, entry, separator, through, ◌⨾◌, ◌∣◌, many}
-use Rattle.twp_text.specs.Items.{Leaf, ◌&◌, Tree, token_of, tokens}
+use Rattle.twp_text.specs.Grammar.{entries, several}
+use Rattle.twp_text.specs.Items.{◌&◌, Tree, tokens}
 use Rattle.twp_text.specs.Laws.{IsOneNumber, SeveralAreEntries}
 
 -- several entries as entries

@@ -1,5 +1,5 @@
 -- The machine is the grammar's: in each state what it takes is what the grammar leaves to be read there.
-use Rattle.std.proofs.Common.{◌≡◌, ◌==◌, ℕ, zero, suc, ◌<◌, ◌≤◌, Bool, true, false, cond, ◌&&◌, List, [], ◌∷◌, ◌++◌, Option, Some, None, length, get_or, refl, sym, ap, subst, ◌∙◌, arith}
+use Rattle.std.proofs.Common.{◌≡◌, ℕ, zero, suc, ◌<◌, ◌≤◌, Bool, true, false, ◌&&◌, List, [], ◌∷◌, Option, Some, None, length, get_or, refl, ap, subst, arith}
 use Rattle.std.specs.List.{list_all, list_any}
 use Rattle.twp_text.specs.declared.state.State.{State}
 use Rattle.twp_text.specs.declared.state.State.TheVariants.{Start, Heading, BeforeGroup, Semicolon, Section, Sections, SectionsColon, SectionsAll, Lot, Lots, Parts, End}
@@ -7,11 +7,10 @@ use Rattle.twp_text.specs.declared.state.HeadingState.TheVariants.{Township, Tow
 use Rattle.twp_text.specs.declared.state.SectionState.TheVariants as section
 use Rattle.twp_text.specs.declared.state.ListState.TheVariants.{Number, To, Last, Inclusive, Comma, LastComma, And}
 use Rattle.twp_text.specs.declared.state.PartState.TheVariants as part
-use Rattle.twp_text.specs.Tokens.{Token}
-use Rattle.twp_text.specs.Grammar.{Class, sec, lot, all, and, to, inclusive, of, the, t, r, north_south, east_west, corner, half, quarter, number, comma, semicolon, colon, stop, other, bad_number, bad_byte, class_of, Ebnf, never, nothing, one, ◌⨾◌, ◌∣◌, many, description}
+use Rattle.twp_text.specs.Grammar.{Class, sec, lot, all, and, to, inclusive, of, the, t, r, north_south, east_west, corner, half, quarter, number, comma, semicolon, colon, stop, other, bad_number, bad_byte, Ebnf, never, nothing, one, ◌⨾◌, ◌∣◌, many, description}
 use Rattle.twp_text.specs.Machine.{next, is_final}
 use Rattle.twp_text.specs.Expected.{named, expected_of}
-use Rattle.twp_text.proofs.Derivatives.{classes, place_of_class, class_at_place, same_class, same_class_tells, Derives, is_nullable, after, derives_none, takes_token}
+use Rattle.twp_text.proofs.Derivatives.{classes, place_of_class, class_at_place, same_class, same_class_tells, is_nullable, after}
 
 -- the state behind some classes, read from Start
 after_all : Ebnf → List Class → Ebnf

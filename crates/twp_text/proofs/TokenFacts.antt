@@ -1,10 +1,9 @@
 -- White space and then the token that is cut are what bytes begin with, and they begin with nothing else. So
 -- bytes have one list of tokens.
-use Rattle.std.proofs.Common.{◌≡◌, ℕ, zero, suc, ◌+◌, ◌-◌, ◌<◌, ◌≤◌, Bool, true, false, cond, ◌&&◌, List, [], ◌∷◌, ◌++◌, length, take, drop, refl, sym, ap, subst, ◌∙◌, arith, length-append, length-drop, length-take-le, append_assoc}
-use Rattle.std.specs.List.{prefix_len, list_all, AllPass}
-use Rattle.std.proofs.lemmas.Bool.{false≢true}
-use Rattle.std.proofs.lemmas.List.{take-append-drop, append-nil, take_all, drop_all}
-use Rattle.std.proofs.lemmas.List.Sums.{AllPass-from_list_all, list_all-from_AllPass, prefix_len-le-length}
+use Rattle.std.proofs.Common.{◌≡◌, ℕ, zero, suc, ◌+◌, ◌-◌, ◌<◌, ◌≤◌, false, List, [], ◌∷◌, ◌++◌, length, take, drop, refl, sym, ap, subst, ◌∙◌, arith, length-append, length-drop, length-take-le}
+use Rattle.std.specs.List.{prefix_len, AllPass}
+use Rattle.std.proofs.lemmas.List.{take-append-drop, append-nil, drop_all}
+use Rattle.std.proofs.lemmas.List.Sums.{AllPass-from_list_all, list_all-from_AllPass}
 use Rattle.std.proofs.lemmas.List.Folds.{length-prefix_len}
 use Rattle.std.proofs.Math.Seq.{take-append_seam, drop-append_seam}
 use Rattle.twp_text.specs.declared.kind.Kind.{Kind}

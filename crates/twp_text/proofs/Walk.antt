@@ -1,6 +1,6 @@
 -- The machine reads a sentence along its derivation: behind the tokens of a tree it stands where the tree says,
 -- and has the tree's items. Each lemma reads one nonterminal of the grammar.
-use Rattle.std.proofs.Common.{◌≡◌, ℕ, Bool, true, false, ◌⊎◌, List, [], ◌∷◌, ◌++◌, map, Option, Some, None, refl, sym, ap, ◌∙◌, inl, inr, append_assoc}
+use Rattle.std.proofs.Common.{◌≡◌, ℕ, true, false, List, [], ◌∷◌, ◌++◌, map, Option, Some, None, refl, sym, ap, ◌∙◌, inl, inr, append_assoc}
 use Rattle.std.specs.List.{flat_map}
 use Rattle.std.proofs.lemmas.List.{append-nil}
 use Rattle.twp_text.specs.declared.item.Item.{Item}
@@ -8,8 +8,8 @@ use Rattle.twp_text.specs.declared.item.Item.TheVariants as item
 use Rattle.twp_text.specs.declared.item.Numeral.{Numeral}
 use Rattle.twp_text.specs.declared.item.Step.{Step}
 use Rattle.twp_text.specs.declared.state.State.{State}
-use Rattle.twp_text.specs.declared.state.State.TheVariants.{Start, Heading, BeforeGroup, Semicolon, Section, Sections, SectionsColon, SectionsAll, Lot, Lots, Parts, End}
-use Rattle.twp_text.specs.declared.state.HeadingState.TheVariants.{Township, TownshipNumber, Range as RangeLetter, RangeNumber, RangeSide, RangeSideStop}
+use Rattle.twp_text.specs.declared.state.State.TheVariants.{Start, Heading, BeforeGroup, Semicolon, Section, Sections, SectionsAll, Lot, Lots, Parts, End}
+use Rattle.twp_text.specs.declared.state.HeadingState.TheVariants.{TownshipNumber, Range as RangeLetter, RangeNumber, RangeSide, RangeSideStop}
 use Rattle.twp_text.specs.declared.state.SectionState.TheVariants as section
 use Rattle.twp_text.specs.declared.state.ListState.{ListState}
 use Rattle.twp_text.specs.declared.state.ListState.TheVariants as list
@@ -17,8 +17,8 @@ use Rattle.twp_text.specs.declared.state.PartState.TheVariants as part_state
 use Rattle.twp_grid.specs.declared.township.NorthSouth.TheVariants as ns
 use Rattle.twp_grid.specs.declared.township.EastWest.TheVariants as ew
 use Rattle.twp_text.specs.Tokens.{Token}
-use Rattle.twp_text.specs.Grammar.{sec, lot, all, and, to, inclusive, of, the, t, r, north_south, east_west, corner, half, quarter, number, comma, semicolon, colon, stop, class_of, Ebnf, never, nothing, one, ◌⨾◌, ◌∣◌, many, maybe, step, chain, through, entry, separator, entries, several, part, parts, comma_or_colon, group, heading, description}
-use Rattle.twp_text.specs.Items.{Leaf, token_of, Then, ◌&◌, behind, Tree, tokens, numeral, step_of, place_of_step, chain_item, Range, end_of, range_of, ranges_of, ranges_of_several, lots_item, whole_sections_item, part_items, parts_items, group_items, heading_item, items}
+use Rattle.twp_text.specs.Grammar.{sec, lot, all, and, of, the, t, r, north_south, east_west, number, comma, semicolon, stop, class_of, Ebnf, never, nothing, one, ◌⨾◌, ◌∣◌, many, maybe, step, through, entry, separator, several, part, parts, comma_or_colon, group, heading, description}
+use Rattle.twp_text.specs.Items.{Leaf, token_of, ◌&◌, behind, Tree, tokens, numeral, step_of, place_of_step, Range, end_of, range_of, ranges_of_several, lots_item, whole_sections_item, part_items, parts_items, group_items, heading_item, items}
 use Rattle.twp_text.specs.Machine.{next, is_final, take_token, before_parts}
 
 -- where the machine stands behind the tokens, and the items with the newest first; None where it can't take one

@@ -1,5 +1,5 @@
 -- The word that bytes begin with, found by its first letters.
-use Rattle.std.proofs.Common.{◌≡◌, ◌==◌, ℕ, zero, suc, ◌+◌, ◌<◌, Bool, true, false, cond, List, [], ◌∷◌, length, take, Option, Some, None, slice_index, refl, sym, ap, subst, ◌∙◌, arith, ◌≤◌, ◌↔◌, IsTrue, ◌++◌, ◌&&◌, nat_le}
+use Rattle.std.proofs.Common.{◌≡◌, ◌==◌, ℕ, ◌+◌, ◌<◌, Bool, true, false, cond, List, [], ◌∷◌, length, take, Option, Some, None, slice_index, refl, sym, ap, subst, ◌∙◌, arith, ◌≤◌, ◌↔◌, IsTrue, ◌++◌, ◌&&◌, nat_le}
 use Rattle.std.specs.Char.{is_ascii_alphabetic, to_ascii_lowercase}
 use Rattle.std.specs.List.{prefix_len}
 use Rattle.std.specs.Str.{str_to_ascii_lowercase}

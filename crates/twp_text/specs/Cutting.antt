@@ -1,6 +1,6 @@
 -- How the reader cuts the first token off bytes that begin with no white space. No public promise speaks of it;
 -- proofs/Cuts shows that it is the one token that the bytes begin with. Past the end a byte is read as 0.
-use Rattle.std.specs.Prelude.{◌==◌, ◌&&◌, ℕ, ◌≤◌, nat_le, List, take, Option, Some, None, slice_index, if◌then◌else◌}
+use Rattle.std.specs.Prelude.{◌==◌, ◌&&◌, ℕ, nat_le, List, take, Option, Some, None, slice_index, if◌then◌else◌}
 use Rattle.std.specs.Char.{is_ascii_alphabetic, is_ascii_digit, to_ascii_lowercase}
 use Rattle.std.specs.List.{prefix_len}
 use Rattle.std.specs.Str.Parse.{digits_value}

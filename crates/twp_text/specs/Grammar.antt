@@ -1,6 +1,6 @@
 -- The grammar of descriptions (the form of the Specifications for Descriptions of Land; the grammar is this
 -- project's). It speaks of the classes of tokens alone: which number or which side it is doesn't matter.
-use Rattle.std.specs.Prelude.{ℕ, List, ◌⊎◌}
+use Rattle.std.specs.Prelude.{ℕ}
 use Rattle.twp_grid.specs.declared.township.NorthSouth.{NorthSouth as NorthOrSouth}
 use Rattle.twp_grid.specs.declared.township.EastWest.{EastWest as EastOrWest}
 use Rattle.twp_grid.specs.declared.block.Corner.{Corner as OneCorner}

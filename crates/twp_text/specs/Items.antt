@@ -1,5 +1,5 @@
 -- Derivation trees of the grammar, the tokens that one spells, and the items that are read off it.
-use Rattle.std.specs.Prelude.{◌≡◌, ℕ, ◌⊎◌, List, [], ◌∷◌, ◌++◌, true, false, map}
+use Rattle.std.specs.Prelude.{ℕ, ◌⊎◌, List, [], ◌∷◌, ◌++◌, true, false, map}
 use Rattle.std.specs.List.{flat_map}
 use mathlib.Core.Logic.{inl, inr}
 use Rattle.twp_grid.specs.declared.township.NorthSouth.{NorthSouth as NorthOrSouth}
@@ -14,7 +14,7 @@ use Rattle.twp_text.specs.declared.item.Numeral.{Numeral}
 use Rattle.twp_text.specs.declared.item.Step.{Step}
 use Rattle.twp_text.specs.declared.item.Step.TheVariants.{Half, Quarter}
 use Rattle.twp_text.specs.Tokens.{Token}
-use Rattle.twp_text.specs.Grammar.{Class, Value, kind_of, Ebnf, never, nothing, one, ◌⨾◌, ◌∣◌, many, number, step, chain, through, entry, separator, entries, several, part, parts, group, heading, description}
+use Rattle.twp_text.specs.Grammar.{Class, Value, kind_of, Ebnf, never, nothing, one, ◌⨾◌, ◌∣◌, many, number, step, chain, through, entry, entries, several, part, parts, group, heading, description}
 
 -- a token of a class
 pub record Leaf (class : Class) : Type 0 where

@@ -201,7 +201,7 @@ fn names_long_chains(rt: HostRuntime) -> Result<(), Fail> {
     let told = format!(in rt.alloc(); "{:?}", items.last())?;
     assert_eq!(rt;
         told.as_str(),
-        "Some(Chain { steps: Steps { steps: [Quarter(NE), Half(E), Half(S), Half(W), Half(N), Quarter(SW), Quarter(SE), Quarter(NW)], more: [Half(S), Half(N)] }, at: 7 })"
+        "Some(Chain { steps: Steps { first: [Quarter(NE), Half(E), Half(S), Half(W), Half(N), Quarter(SW), Quarter(SE), Quarter(NW)], more: [Half(S), Half(N)] }, at: 7 })"
     );
     Ok(())
 }

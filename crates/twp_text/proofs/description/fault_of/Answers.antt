@@ -1,6 +1,5 @@
-use Rattle.std.proofs.Common.{refl}
 use Rattle.twp_text.specs.TextFaults.{syntax}
-use Rattle.twp_text.proofs.ReaderFacts.{syntax_fault, bad_helps}
+use Rattle.twp_text.proofs.ReaderFacts.{syntax_fault}
 use Rattle.twp_text.proofs.description.fault_of.Goals as goal
 
 pub returns-in-None-clause-refused : goal.returns-in-None-clause-refused

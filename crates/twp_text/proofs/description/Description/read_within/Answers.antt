@@ -1,8 +1,7 @@
 -- The reader has come to a token that it takes, to one that it can't take, or to the end.
-use Rattle.std.proofs.Common.{◌≡◌, true, sym, subst, reverse, ◌∙◌, rules}
+use Rattle.std.proofs.Common.{sym, subst, reverse}
 use Rattle.twp_text.specs.Tokens.{seen}
 use Rattle.twp_text.specs.TextFaults.{IsReadAs}
-use Rattle.twp_text.specs.declared.item.Item.{Item}
 use Rattle.twp_text.proofs.ReaderFacts.{Front, front_next, wrong_here, wrong_at_end, read_whole, begins}
 use Rattle.twp_text.proofs.description.Description.read_within.Goals as goal
 

@@ -1,6 +1,5 @@
-use Rattle.std.proofs.Common.{◌≡◌, ◌<◌, ◌≤◌, length, arith, sym, refl, ap}
+use Rattle.std.proofs.Common.{◌≡◌, ◌<◌, length, arith}
 use Rattle.std.proofs.lemmas.Bool.Decides.{nat_tests}
-use Rattle.twp_text.proofs.Cuts.{IsFirstToken}
 use Rattle.twp_text.proofs.TokenFacts.{cut_up, gives_none, gives_fits, gives_some}
 use Rattle.twp_text.proofs.token.Tokens.advance.Goals as goal
 
