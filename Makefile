@@ -20,6 +20,7 @@ bench: township
 	@cd crates/twp_bench && rt run -- count 10 > /dev/null
 	@sh bench/instructions.sh
 	@sh bench/lands.sh
+	@sh bench/descriptions.sh
 
 clean:
 	rm -rf crates/*/out township
