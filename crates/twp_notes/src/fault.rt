@@ -3,8 +3,8 @@ use std::alloc::AllocError;
 use thiserror::Error;
 use twp_grid::{Line, Refusal};
 
-/// The most bytes of field notes, as the place of the refusal of more.
-const MOST_BYTES: u32 = 65_536;
+/// The most bytes of field notes, which is also the place of the refusal of more.
+pub const MOST_BYTES: u32 = 65_536;
 
 /// Why bytes are no field notes. Records are numbered from 1, as `csv` gives them; the layout of the
 /// notes is this project's rule.

@@ -4,7 +4,7 @@ ghost use Rattle.twp_notes.specs.FieldNotes.{FieldNotes, NOTES_MOST, returned_of
 ghost use Rattle.twp_notes.specs.NotesFaults.{AnswersNotes};
 ghost use Rattle.twp_notes.specs.NotesTexts.{AppendsNotes};
 
-use crate::fault::NotesFault;
+use crate::fault::{MOST_BYTES, NotesFault};
 use crate::parsing::parse;
 use crate::reading::read_whole;
 use crate::returned::Returned;
@@ -12,9 +12,6 @@ use crate::writing::write_notes;
 use std::alloc::{AllocError, Global};
 use std::marker::Model;
 use twp_grid::{LINES, Line, Source, Township};
-
-/// The most bytes of field notes.
-const MOST_BYTES: usize = 65_536;
 
 /// The field notes of a township: what was returned of each of its 84 lines.
 #[derive(Clone, Debug, Drop, PartialEq, Eq)]
@@ -49,7 +46,7 @@ impl Notes {
         ensures answer { (bytes : List ℕ) × Tells (R.remaining source.old) bytes × AnswersNotes bytes result }
         ensures told { (bytes : List ℕ) → R.remaining source.old ≡ Some bytes → AnswersNotes bytes result }
     {
-        match read_whole(alloc, source, MOST_BYTES)? {
+        match read_whole(alloc, source, MOST_BYTES as usize)? {
             Some(bytes) => parse(alloc, bytes.as_slice()),
             None => Err(NotesFault::TooLarge),
         }
