@@ -38,8 +38,10 @@ pub fn answer_of<N: Source, D: Source>(
     ensures read { IsErrOf result RunFault.Read
         ↔ AnyFailed (N.has_failed notes.new) (D.has_failed description.new) }
     ensures no_write { IfErr result (λ fault. fault ≢ RunFault.Write) }
-    ensures notes_most { TakesAtMost (N.remaining notes.old) (N.remaining notes.new) (NOTES_MOST + 1) }
-    ensures description_most { TakesAtMost (D.remaining description.old) (D.remaining description.new) (DESCRIPTION_MOST + 1) }
+    ensures notes_most { TakesAtMost (N.remaining notes.old)
+        (N.remaining notes.new) (NOTES_MOST + 1) }
+    ensures description_most { TakesAtMost (D.remaining description.old)
+        (D.remaining description.new) (DESCRIPTION_MOST + 1) }
     ensures answer { ReadsTwo (N.remaining notes.old) (D.remaining description.old)
         MakePlat (description.new ≡ description.old)
         (λ n d. IfOk result (λ answer. IsAnswer n d answer.text.items answer.verdict)) }
@@ -62,8 +64,10 @@ fn hundredths_of<N: Source, D: Source>(
     ensures read { IsErrOf result (Failed RunFault.Read)
         ↔ AnyFailed (N.has_failed notes.new) (D.has_failed description.new) }
     ensures no_write { IfErr result (λ stop. stop ≢ Failed RunFault.Write) }
-    ensures notes_most { TakesAtMost (N.remaining notes.old) (N.remaining notes.new) (NOTES_MOST + 1) }
-    ensures description_most { TakesAtMost (D.remaining description.old) (D.remaining description.new) (DESCRIPTION_MOST + 1) }
+    ensures notes_most { TakesAtMost (N.remaining notes.old)
+        (N.remaining notes.new) (NOTES_MOST + 1) }
+    ensures description_most { TakesAtMost (D.remaining description.old)
+        (D.remaining description.new) (DESCRIPTION_MOST + 1) }
     ensures settles { ReadsTwo (N.remaining notes.old) (D.remaining description.old)
         MakePlat (description.new ≡ description.old)
         (λ n d. Settles n d result) }
@@ -77,7 +81,8 @@ fn read_plat<N: Source>(alloc: Global, notes: &mut N) -> Result<Plat, Stop>
     requires { N.has_failed notes.old ≡ false }
     ensures read { IsErrOf result (Failed RunFault.Read) ↔ (N.has_failed notes.new ≡ true) }
     ensures no_write { IfErr result (λ stop. stop ≢ Failed RunFault.Write) }
-    ensures most { TakesAtMost (N.remaining notes.old) (N.remaining notes.new) (NOTES_MOST + 1) }
+    ensures most { TakesAtMost (N.remaining notes.old)
+        (N.remaining notes.new) (NOTES_MOST + 1) }
     ensures plat { Reads (N.remaining notes.old) (λ n. IsPlatted n result) }
 {
     let notes = Notes::read(alloc, notes)?;
@@ -89,7 +94,8 @@ fn read_hundredths<D: Source>(alloc: Global, plat: &Plat, description: &mut D) -
     requires { D.has_failed description.old ≡ false }
     ensures read { IsErrOf result (Failed RunFault.Read) ↔ (D.has_failed description.new ≡ true) }
     ensures no_write { IfErr result (λ stop. stop ≢ Failed RunFault.Write) }
-    ensures most { TakesAtMost (D.remaining description.old) (D.remaining description.new) (DESCRIPTION_MOST + 1) }
+    ensures most { TakesAtMost (D.remaining description.old)
+        (D.remaining description.new) (DESCRIPTION_MOST + 1) }
     ensures hundredths { Reads (D.remaining description.old) (λ d. IsMeasured plat.now d result) }
 {
     let Some(text) = read_whole(alloc, description, MOST_BYTES)? else {

@@ -31,8 +31,10 @@ pub fn run_acres<N: Source, D: Source, W: Sink>(
     ensures write { IsErrOf result RunFault.Write ↔ (W.has_failed out.new ≡ true) }
 
     // Reading ends one byte past the limit, if not before.
-    ensures notes_most { TakesAtMost (N.remaining notes.old) (N.remaining notes.new) (NOTES_MOST + 1) }
-    ensures description_most { TakesAtMost (D.remaining description.old) (D.remaining description.new) (DESCRIPTION_MOST + 1) }
+    ensures notes_most { TakesAtMost (N.remaining notes.old)
+        (N.remaining notes.new) (NOTES_MOST + 1) }
+    ensures description_most { TakesAtMost (D.remaining description.old)
+        (D.remaining description.new) (DESCRIPTION_MOST + 1) }
 
     // What was written is the answer to what was read, whatever the devices tell of it. The description
     // is read only where the notes make a plat.
@@ -57,8 +59,10 @@ pub fn run_acres<N: Source, D: Source, W: Sink>(
 fn write_answer<W: Sink>(out: &mut W, answer: &Answer) -> Result<Verdict, RunFault>
     requires { W.has_failed out.old ≡ false }
     ensures verdict { IfOk result (λ verdict. verdict ≡ answer.now.verdict) }
-    ensures whole { OnOk result (Appends (W.contents out.old) (W.contents out.new) answer.now.text.items) }
-    ensures front { OnErr result (AppendsFront (W.contents out.old) (W.contents out.new) answer.now.text.items) }
+    ensures whole { OnOk result
+        (Appends (W.contents out.old) (W.contents out.new) answer.now.text.items) }
+    ensures front { OnErr result
+        (AppendsFront (W.contents out.old) (W.contents out.new) answer.now.text.items) }
     ensures write { IfErr result (λ fault. fault ≡ RunFault.Write) }
     ensures failed { W.has_failed out.new ≡ is_err result }
 {

@@ -8,7 +8,8 @@ use twp_grid::{DeviceFault, Sink};
 pub fn write_whole<W: Sink>(out: &mut W, bytes: &[u8]) -> Result<(), DeviceFault>
     requires { W.has_failed out.old ≡ false }
     ensures whole { OnOk result (Appends (W.contents out.old) (W.contents out.new) bytes.now) }
-    ensures front { OnErr result (AppendsFront (W.contents out.old) (W.contents out.new) bytes.now) }
+    ensures front { OnErr result
+        (AppendsFront (W.contents out.old) (W.contents out.new) bytes.now) }
     ensures failed { W.has_failed out.new ≡ is_err result }
 {
     let mut at = 0;
