@@ -42,9 +42,12 @@ impl Notes {
     pub fn read<R: Source>(alloc: Global, source: &mut R) -> Result<Notes, NotesFault>
         requires { R.has_failed source.old ≡ false }
         ensures failed { IsErrOf result NotesFault.Read ↔ (R.has_failed source.new ≡ true) }
-        ensures most { TakesAtMost (R.remaining source.old) (R.remaining source.new) (NOTES_MOST + 1) }
-        ensures answer { (bytes : List ℕ) × Tells (R.remaining source.old) bytes × AnswersNotes bytes result }
-        ensures told { (bytes : List ℕ) → R.remaining source.old ≡ Some bytes → AnswersNotes bytes result }
+        ensures most { TakesAtMost (R.remaining source.old)
+            (R.remaining source.new) (NOTES_MOST + 1) }
+        ensures answer { (bytes : List ℕ)
+            × Tells (R.remaining source.old) bytes × AnswersNotes bytes result }
+        ensures told { (bytes : List ℕ)
+            → R.remaining source.old ≡ Some bytes → AnswersNotes bytes result }
     {
         match read_whole(alloc, source, MOST_BYTES as usize)? {
             Some(bytes) => parse(alloc, bytes.as_slice()),

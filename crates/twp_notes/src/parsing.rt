@@ -51,7 +51,8 @@ pub fn parse(alloc: Global, bytes: &[u8]) -> Result<Notes, NotesFault>
 fn take_lines(records: &mut Records<'_>, row: &mut ByteRecord) -> Result<LineTable, NotesFault>
     requires reading { IsReading records.old }
     requires few { length (records_left records.old) < 2 ^ 17 }
-    ensures taken { IfOk result (AreTaken (records_left records.old) (length (records_left records.old))) }
+    ensures taken { IfOk result
+        (AreTaken (records_left records.old) (length (records_left records.old))) }
     ensures fault { IfErr result (IsRefusedAfter (records_left records.old)) }
 {
     let mut table = LineTable::new();

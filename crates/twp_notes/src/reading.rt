@@ -51,7 +51,8 @@ pub fn read_whole<S: Source>(
     ensures failed { IsErrOf result ReadFault.Read ↔ (S.has_failed source.new ≡ true) }
     ensures most { TakesAtMost (S.remaining source.old) (S.remaining source.new) (limit + 1) }
     ensures bytes { IfOk result (λ read. (bytes : List ℕ) × Tells (S.remaining source.old) bytes
-        × MatchOption read (limit < length bytes) (λ v. (v.items ≡ bytes) × (length bytes ≤ limit))) }
+        × MatchOption read (limit < length bytes)
+        (λ v. (v.items ≡ bytes) × (length bytes ≤ limit))) }
 {
     let bytes = read_up_to(alloc, source, limit + 1)?;
     Ok(if bytes.len() > limit {
@@ -72,7 +73,8 @@ pub fn read_up_to<S: Source>(
     requires room { most < 2 ^ 32 }
     ensures failed { IsErrOf result ReadFault.Read ↔ (S.has_failed source.new ≡ true) }
     ensures most { TakesAtMost (S.remaining source.old) (S.remaining source.new) most }
-    ensures bytes { IfOk result (λ read. (bytes : List ℕ) × Tells (S.remaining source.old) bytes × (read.items ≡ take most bytes)) }
+    ensures bytes { IfOk result (λ read. (bytes : List ℕ)
+        × Tells (S.remaining source.old) bytes × (read.items ≡ take most bytes)) }
 {
     let mut read = Vec::new(alloc);
     let mut piece = [0; PIECE];
