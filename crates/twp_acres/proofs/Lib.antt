@@ -5,7 +5,5 @@ pub mod SectionSums
 pub mod AreaLaws
 pub mod AreaFacts
 pub mod DeviceFacts
-pub mod TextFacts
 pub mod RunFacts
-pub mod PositionFacts
 pub mod OneAnswer

@@ -6,7 +6,8 @@ use Rattle.twp_grid.specs.Places.{places_across}
 use Rattle.twp_land.specs.Lands.{union}
 use Rattle.twp_plat.specs.Plats.{TownshipPlat}
 use Rattle.twp_acres.specs.LandAreas.{IsLandArea}
-use Rattle.twp_acres.specs.Answers.{IsAnswer}
+use Rattle.twp_acres.specs.Answers.{IsLandOnPlat}
+use Rattle.twp_acres.specs.AcresAnswers.{IsAcresAnswer}
 use Rattle.twp_acres.specs.declared.verdict.Verdict.{Verdict}
 
 -- no place is held by both
@@ -31,5 +32,15 @@ DisjointAreasAdd = (g : ℕ) → POSITIONS_ACROSS ≤ places_across g → (plat 
 -- field notes and a description have one answer and one verdict
 abbrev pub OneAnswer : Type 0
 OneAnswer = (notes description answer answer' : List ℕ) (verdict verdict' : Verdict)
-    → IsAnswer notes description answer verdict → IsAnswer notes description answer' verdict'
+    → IsAcresAnswer notes description answer verdict
+    → IsAcresAnswer notes description answer' verdict'
+    → (answer ≡ answer') × (verdict ≡ verdict')
+
+-- however a land is spelled, over the same notes it has one answer
+abbrev pub OneAnswerOfLand : Type 0
+OneAnswerOfLand = (notes description description' answer answer' : List ℕ)
+    (verdict verdict' : Verdict) (plat : TownshipPlat) (places : ℕ → ℕ → ℕ → Bool)
+    → IsLandOnPlat notes description plat places → IsLandOnPlat notes description' plat places
+    → IsAcresAnswer notes description answer verdict
+    → IsAcresAnswer notes description' answer' verdict'
     → (answer ≡ answer') × (verdict ≡ verdict')

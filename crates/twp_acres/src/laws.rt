@@ -1,6 +1,6 @@
 //! What holds of areas and answers as they are defined: each law is a contract, and its function has
 //! nothing to do.
-ghost use Rattle.twp_acres.specs.Laws.{OneLandArea, DisjointAreasAdd, OneAnswer};
+ghost use Rattle.twp_acres.specs.Laws.{OneLandArea, DisjointAreasAdd, OneAnswer, OneAnswerOfLand};
 
 /// A set of places has one area on a plat.
 pub fn one_land_area()
@@ -16,4 +16,10 @@ pub fn disjoint_areas_add()
 /// Two texts, the field notes and the description, have one answer and one verdict.
 pub fn one_answer()
     ensures { OneAnswer }
+{}
+
+/// Two descriptions of one land have one answer over the same notes, however the land is spelled.
+#[tactic(auto, using(crate::proofs::OneAnswer::one_answer_of_land))]
+pub fn one_answer_of_land()
+    ensures { OneAnswerOfLand }
 {}

@@ -2,13 +2,13 @@
 //! with them, and writes one answer.
 #![tactic(auto)]
 
+mod acres_answer;
 mod answer;
 mod area;
 pub mod laws;
 mod running;
+mod stages;
 mod stop;
-mod text;
-mod thin;
 mod verdict;
 mod writing;
 

@@ -1,6 +1,6 @@
 -- The answer is the refusal that settled the run.
 use Rattle.twp_acres.proofs.RunFacts.{if_ok}
-use Rattle.twp_acres.proofs.answer.answer_of.Goals as goal
+use Rattle.twp_acres.proofs.acres_answer.answer_of.Goals as goal
 
 pub returns-in-Err-Refused-clause-answer : goal.returns-in-Err-Refused-clause-answer
 returns-in-Err-Refused-clause-answer g c =

@@ -3,7 +3,7 @@ use Rattle.std.proofs.Common.{[], inr, refl}
 use Rattle.std.specs.Prelude.{unwrap_or}
 use Rattle.std.proofs.lemmas.Result.{err_from_is_err_and}
 use Rattle.twp_acres.proofs.RunFacts.{some_bytes, settles_platted}
-use Rattle.twp_acres.proofs.answer.hundredths_of.Goals as goal
+use Rattle.twp_acres.proofs.acres_answer.hundredths_of.Goals as goal
 
 pub returns-in_err-plat-clause-settles : goal.returns-in_err-plat-clause-settles
 returns-in_err-plat-clause-settles g c =
