@@ -3,6 +3,7 @@ pub mod RegularFacts
 pub mod PieceFacts
 pub mod SectionSums
 pub mod AreaLaws
+pub mod WholeAreas
 pub mod AreaFacts
 pub mod DeviceFacts
 pub mod RunFacts

@@ -33,7 +33,7 @@ positions-scale c f =
     ∙ total-scale 4 c (λ row. total 4 (λ column. f column row))
 
 -- two sums that differ at one number
-total_differs : (n at : ℕ) (f g : ℕ → ℕ) → at < n → ((k : ℕ) → k < n → k ≢ at → g k ≡ f k) → total n g + f at ≡ total n f + g at
+pub total_differs : (n at : ℕ) (f g : ℕ → ℕ) → at < n → ((k : ℕ) → k < n → k ≢ at → g k ≡ f k) → total n g + f at ≡ total n f + g at
 unfolding total
 total_differs zero at f g below same = absurd (omega arith)
 total_differs (suc n) at f g below same = elim (cases_eq n at) [
