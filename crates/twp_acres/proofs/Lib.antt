@@ -8,3 +8,4 @@ pub mod AreaFacts
 pub mod DeviceFacts
 pub mod RunFacts
 pub mod OneAnswer
+pub mod FigureFacts

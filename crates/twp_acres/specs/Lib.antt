@@ -5,4 +5,5 @@ pub mod AcresAnswers
 pub mod Runs
 pub mod Passing
 pub mod Stops
+pub mod PlatAnswers
 pub mod Laws

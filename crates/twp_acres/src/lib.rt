@@ -6,6 +6,7 @@ mod acres_answer;
 mod answer;
 mod area;
 pub mod laws;
+mod plat_answer;
 mod running;
 mod stages;
 mod stop;
