@@ -12,3 +12,6 @@ pub mod ReaderFacts
 pub mod OneAnswer
 pub mod StepFacts
 pub mod LetterFacts
+pub mod BlockFacts
+pub mod ChainFacts
+pub mod ChainFlaws
