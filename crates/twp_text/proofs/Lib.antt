@@ -15,3 +15,4 @@ pub mod LetterFacts
 pub mod BlockFacts
 pub mod ChainFacts
 pub mod ChainFlaws
+pub mod RangeFacts

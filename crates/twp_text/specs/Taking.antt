@@ -1,10 +1,11 @@
 -- What each step of resolving does with an item: it is taken into the land of the items before it, or its
 -- first flaw is answered.
-use Rattle.std.specs.Prelude.{◌≡◌, ℕ, ◌+◌, ◌≤◌, ◌<◌, Bool, true, Option, Some, None, IsSome}
+use Rattle.std.specs.Prelude.{◌≡◌, ◌==◌, ◌&&◌, nat_le, ℕ, ◌+◌, ◌≤◌, ◌<◌, Bool, true, Option, Some, None, IsSome}
 use Rattle.std.specs.Option.{option_map_or}
 use Rattle.twp_grid.specs.Blocks.{CanHalve, CanQuarter}
 use Rattle.twp_grid.specs.Cuts.{Cut}
 use Rattle.twp_grid.specs.Cuts.Cut.{half, quarter}
+use Rattle.twp_grid.specs.Places.{is_place}
 use Rattle.twp_grid.specs.Spans.{Span, Rectangle, in_rectangle}
 use Rattle.twp_grid.specs.Townships.{Designation}
 use Rattle.twp_land.specs.Lands.{union}
@@ -12,7 +13,7 @@ use Rattle.twp_land.specs.WholeLots.{lot_of_place}
 use Rattle.twp_text.specs.declared.item.Item.{Item}
 use Rattle.twp_text.specs.declared.item.Item.TheVariants as item
 use Rattle.twp_text.specs.declared.place_fault.PlaceFault.{PlaceFault}
-use Rattle.twp_text.specs.ItemPlaces.{ItemOfSection, item_places}
+use Rattle.twp_text.specs.ItemPlaces.{ItemOfSection, is_lot_from, item_places}
 use Rattle.twp_text.specs.PlaceFaults.{LiesOnPlat, SharePlace, Flaw, HasFlaw, turn_of, fault_of_flaw, offset_of_flaw}
 
 -- an item of a section
@@ -34,6 +35,22 @@ pub record HoldsLotPlace (g section : ℕ) (block : Rectangle) : Type 0 where
   pub row : ℕ
   pub inside : in_rectangle block column row ≡ true
   pub of_lot : IsSome (lot_of_place g section column row)
+
+-- all places of the sections from a first number to a last
+abbrev pub sections_from : ℕ → ℕ → ℕ → ℕ → ℕ → ℕ → Bool
+sections_from g first last section column row =
+    is_place g column row && (nat_le first section && nat_le section last)
+
+-- the places of a section's lots from a first number to a last
+abbrev pub lots_from : ℕ → ℕ → ℕ → ℕ → ℕ → ℕ → ℕ → Bool
+lots_from g section first last other column row =
+    is_place g column row
+    && ((section == other) && is_lot_from first last (lot_of_place g section column row))
+
+-- none of these places was held, and now they all are
+pub record AreAdded (places old new : ℕ → ℕ → ℕ → Bool) : Type 0 where
+  pub apart : ¬ SharePlace old places
+  pub added : new ≡ union old places
 
 -- the item lies on the plat, none of its places was held, and now they all are
 pub record IsTaken (g : ℕ) (township : Designation) (section : ℕ) (some : Item)

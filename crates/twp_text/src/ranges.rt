@@ -3,8 +3,8 @@ ghost use Rattle.std.specs.Option.{SomeIff};
 ghost use Rattle.twp_grid.specs.Places.{PLACE_DIGITS};
 ghost use Rattle.twp_grid.specs.Townships.{Designation};
 ghost use Rattle.twp_grid.specs.Winding.{IsSection};
-ghost use Rattle.twp_text.specs.PlaceFaults.{HasLot};
-ghost use Rattle.twp_text.specs.Taking.{IsTaken, IsFirstFlaw};
+ghost use Rattle.twp_text.specs.PlaceFaults.{HasLot, SharePlace};
+ghost use Rattle.twp_text.specs.Taking.{sections_from, lots_from, AreAdded, IsTaken, IsFirstFlaw};
 ghost use Rattle.twp_text.specs.declared.item.Item.TheVariants.{Sections, Lots};
 
 use crate::item::Numeral;
@@ -54,9 +54,30 @@ pub(crate) fn take_lots<L: Land>(
     check_order(first, last)?;
     let from = lot_of(section, first)?;
     let to = lot_of(section, last)?;
-    for lot in from..to + 1 {
+    add_lots(land, section, from, to, first.at)
+}
+
+/// Adds the section's lots from a first number to a last.
+fn add_lots<L: Land>(
+    land: &mut L,
+    section: Section,
+    first: u8,
+    last: u8,
+    at: u32,
+) -> Result<(), PlaceFault>
+    requires section { IsSection section }
+    requires first { HasLot section first }
+    requires last { HasLot section last }
+    requires order { first ≤ last }
+    ensures { MatchResult result
+        (λ _. AreAdded (lots_from PLACE_DIGITS section first last)
+        (L.places land.old) (L.places land.new))
+        (λ fault. (fault ≡ PlaceFault.Overlap at)
+        × SharePlace (L.places land.old) (lots_from PLACE_DIGITS section first last)) }
+{
+    for lot in first..last + 1 {
         let block = Block::of_lot(section, lot).unwrap();
-        add_block(land, section, block, first.at)?;
+        add_block(land, section, block, at)?;
     }
     Ok(())
 }
@@ -65,9 +86,9 @@ pub(crate) fn take_lots<L: Land>(
 fn add_sections<L: Land>(land: &mut L, first: u8, last: u8, at: u32) -> Result<(), PlaceFault>
     requires first { IsSection first }
     requires last { IsSection last }
+    requires order { first ≤ last }
     ensures { MatchResult result
-        (λ _. (¬ SharePlace (L.places land.old) (sections_from PLACE_DIGITS first last))
-        × (L.places land.new ≡ union (L.places land.old) (sections_from PLACE_DIGITS first last)))
+        (λ _. AreAdded (sections_from PLACE_DIGITS first last) (L.places land.old) (L.places land.new))
         (λ fault. (fault ≡ PlaceFault.Overlap at)
         × SharePlace (L.places land.old) (sections_from PLACE_DIGITS first last)) }
 {
@@ -101,11 +122,17 @@ fn section_of(number: Numeral) -> Result<Section, PlaceFault>
 }
 
 /// The lot of a number in a section.
+#[tactic(auto, using(crate::proofs::RangeFacts::has_lot, crate::proofs::RangeFacts::has_no_lot))]
 fn lot_of(section: Section, number: Numeral) -> Result<u8, PlaceFault>
-    ensures { MatchResult result (λ lot. (lot ≡ number.value) × HasLot section number.value)
+    ensures lot { MatchResult result (λ lot. (lot ≡ number.value) × HasLot section number.value)
         (λ fault. (fault ≡ PlaceFault.NoLot number.at) × ¬ HasLot section number.value) }
+    ensures section { IsSection section }
 {
-    if number.value < 1 || number.value > u16::from(lot_count(section)) {
+    let count = u16::from(lot_count(section));
+    if number.value < 1 {
+        return Err(PlaceFault::NoLot { at: number.at });
+    }
+    if number.value > count {
         return Err(PlaceFault::NoLot { at: number.at });
     }
     Ok(number.value as u8)
