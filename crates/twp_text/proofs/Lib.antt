@@ -16,3 +16,4 @@ pub mod BlockFacts
 pub mod ChainFacts
 pub mod ChainFlaws
 pub mod RangeFacts
+pub mod RangeFlaws

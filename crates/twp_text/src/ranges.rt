@@ -1,4 +1,4 @@
-ghost use Rattle.std.specs.Prelude.{◌≡◌, ◌≤◌, ◌<◌, IfOk, IfErr, MatchResult};
+ghost use Rattle.std.specs.Prelude.{◌≡◌, ℕ, ◌≤◌, ◌<◌, IfOk, IfErr, MatchResult};
 ghost use Rattle.std.specs.Option.{SomeIff};
 ghost use Rattle.twp_grid.specs.Places.{PLACE_DIGITS};
 ghost use Rattle.twp_grid.specs.Townships.{Designation};
@@ -32,9 +32,10 @@ pub(crate) fn take_sections<L: Land>(
     let from = section_of(first)?;
     let to = section_of(last)?;
     check_order(first, last)?;
-    if whole {
-        add_sections(land, from.number(), to.number(), first.at)?;
+    if !whole {
+        return Ok(from);
     }
+    add_sections(land, from.number(), to.number(), first.at)?;
     Ok(from)
 }
 
