@@ -17,3 +17,4 @@ pub mod ChainFacts
 pub mod ChainFlaws
 pub mod RangeFacts
 pub mod RangeFlaws
+pub mod ItemFlaws

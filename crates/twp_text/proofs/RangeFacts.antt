@@ -100,7 +100,7 @@ added_stuck places all old mid section block so_far meets new =
     }
 
 -- sections
-whole_is_place : (column row : ℕ) → in_rectangle (whole_block PLACE_DIGITS) column row ≡ is_place PLACE_DIGITS column row
+pub whole_is_place : (column row : ℕ) → in_rectangle (whole_block PLACE_DIGITS) column row ≡ is_place PLACE_DIGITS column row
 whole_is_place column row = rw (along column, along row) refl
   where
     along : (n : ℕ) → (nat_le 0 n && nat_lt n (0 + places_across PLACE_DIGITS)) ≡ nat_lt n (places_across PLACE_DIGITS)
