@@ -18,3 +18,5 @@ pub mod ChainFlaws
 pub mod RangeFacts
 pub mod RangeFlaws
 pub mod ItemFlaws
+pub mod PlaceAnswers
+pub mod ResolvingFacts

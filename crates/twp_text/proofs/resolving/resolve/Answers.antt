@@ -1,0 +1,2 @@
+use Rattle.twp_text.proofs.ResolvingFacts.{taken_none}
+use Rattle.twp_text.proofs.resolving.resolve.Goals as goal
