@@ -20,3 +20,4 @@ pub mod RangeFlaws
 pub mod ItemFlaws
 pub mod PlaceAnswers
 pub mod ResolvingFacts
+pub mod LandLots

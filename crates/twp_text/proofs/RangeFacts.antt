@@ -151,7 +151,7 @@ no_lots g s first last none = fun_ext (λ o. fun_ext (λ c. fun_ext (λ r.
     off false b = refl
 
 -- a place of a lot is a place
-lot_is_place : (s n c r : ℕ) → IsSection s → lot_of_place PLACE_DIGITS s c r ≡ Some n → is_place PLACE_DIGITS c r ≡ true
+pub lot_is_place : (s n c r : ℕ) → IsSection s → lot_of_place PLACE_DIGITS s c r ≡ Some n → is_place PLACE_DIGITS c r ≡ true
 lot_is_place s n c r range is =
     let there = fills s (position_along PLACE_DIGITS c) (position_along PLACE_DIGITS r) n range is in
     let in-column : position_along PLACE_DIGITS c < 4 = there.in_column in

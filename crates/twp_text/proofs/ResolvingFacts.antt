@@ -7,6 +7,8 @@ use Rattle.std.proofs.lemmas.List.{drop_more, take_all}
 use Rattle.std.proofs.lemmas.List.Folds.{list_any_more}
 use Rattle.std.proofs.lemmas.Option.{slice_get-get_or}
 use Rattle.twp_grid.specs.Townships.{Designation}
+use Rattle.twp_grid.specs.declared.township.NorthSouth.{NorthSouth}
+use Rattle.twp_grid.specs.declared.township.EastWest.{EastWest}
 use Rattle.twp_land.specs.Lands.{no_places, union}
 use Rattle.twp_text.specs.declared.item.Item.{Item}
 use Rattle.twp_text.specs.declared.item.Item.TheVariants as item
@@ -150,15 +152,25 @@ taken_all g township items index section places end taken =
 
 -- Until sections are named, the items left begin with them, or with a heading before them.
 pub SectionKnown : Option ℕ → List Item → Type 0
-SectionKnown section left = IsSome section ⊎ BeginWithSections left
+SectionKnown section left = (1 ≤ number_of_section section) ⊎ BeginWithSections left
 
+pub not_known : (left : List Item) → BeginWithSections left → SectionKnown None left
+unfolding SectionKnown
+not_known left begin = inr begin
+
+begins : (items : List Item) (index : ℕ) (it : Item) → index < length items → get_or items index it ≡ it → BeginWithSections (drop index items) → BeginWithSections (it ∷ drop (index + 1) items)
+begins items index it inside at begin = subst BeginWithSections (drop_more items index it inside ∙ ap (λ x. x ∷ drop (index + 1) items) at) begin
+
+-- a part stands behind sections
 pub may_be_taken : (section : Option ℕ) (items : List Item) (index : ℕ) (it : Item) → index < length items → get_or items index it ≡ it
     → SectionKnown section (drop index items) → IsSome section ⊎ IsBeforeParts it
 unfolding SectionKnown
-may_be_taken section items index it inside at (inl known) = inl known
-may_be_taken section items index it inside at (inr begin) =
-    let there : drop index items ≡ it ∷ drop (index + 1) items = drop_more items index it inside ∙ ap (λ x. x ∷ drop (index + 1) items) at in
-    inr (go it (drop (index + 1) items) (subst BeginWithSections there begin))
+may_be_taken section items index it inside at (inl known) = inl (some section known)
+  where
+    some : (o : Option ℕ) → 1 ≤ number_of_section o → IsSome o
+    some None least = absurd (omega arith)
+    some (Some n) least = refl
+may_be_taken section items index it inside at (inr begin) = inr (go it (drop (index + 1) items) (begins items index it inside at begin))
   where
     go : (it : Item) (more : List Item) → BeginWithSections (it ∷ more) → IsBeforeParts it
     go (item.Heading number north_south range east_west at) more begin = tt
@@ -166,3 +178,36 @@ may_be_taken section items index it inside at (inr begin) =
     go (item.Lots first last) more begin = begin
     go (item.Chain steps at) more begin = begin
     go (item.All at) more begin = begin
+
+-- and so does the next one
+pub known_next : (g : ℕ) (township : Designation) (section section' : Option ℕ) (items : List Item) (index : ℕ) (it : Item) → index < length items → get_or items index it ≡ it
+    → SectionKnown section (drop index items) → LiesOnPlat g township (number_of_section section) it → number_of_section section' ≡ section_behind (number_of_section section) it
+    → SectionKnown section' (drop (index + 1) items)
+unfolding SectionKnown
+known_next g township section section' items index it inside at known lies is = elim known [
+  | inl some ↦ inl (go it lies some is)
+  | inr begin ↦ rest it (drop (index + 1) items) lies (begins items index it inside at begin) is
+]
+  where
+    go : (it : Item) → LiesOnPlat g township (number_of_section section) it → 1 ≤ number_of_section section → number_of_section section' ≡ section_behind (number_of_section section) it → 1 ≤ number_of_section section'
+    go (item.Heading number north_south range east_west at) lies some is = omega arith
+    go (item.Sections first last whole) lies some is = omega (arith, lies.0.0)
+    go (item.Lots first last) lies some is = omega arith
+    go (item.Chain steps at) lies some is = omega arith
+    go (item.All at) lies some is = omega arith
+
+    behind : (number : ℕ) (north_south : NorthSouth) (range : ℕ) (east_west : EastWest) (at : ℕ) (more : List Item) → BeginWithSections (item.Heading number north_south range east_west at ∷ more) → BeginWithSections more
+    behind number north_south range east_west at (item.Sections first last whole ∷ more) begin = tt
+    behind number north_south range east_west at [] begin = begin
+    behind number north_south range east_west at (item.Heading n ns r ew a ∷ more) begin = absurd begin
+    behind number north_south range east_west at (item.Lots first last ∷ more) begin = absurd begin
+    behind number north_south range east_west at (item.Chain steps a ∷ more) begin = absurd begin
+    behind number north_south range east_west at (item.All a ∷ more) begin = absurd begin
+
+    rest : (it : Item) (more : List Item) → LiesOnPlat g township (number_of_section section) it → BeginWithSections (it ∷ more) → number_of_section section' ≡ section_behind (number_of_section section) it
+        → (1 ≤ number_of_section section') ⊎ BeginWithSections more
+    rest (item.Heading number north_south range east_west at) more lies begin is = inr (behind number north_south range east_west at more begin)
+    rest (item.Sections first last whole) more lies begin is = inl (omega (arith, lies.0.0))
+    rest (item.Lots first last) more lies begin is = absurd begin
+    rest (item.Chain steps at) more lies begin is = absurd begin
+    rest (item.All at) more lies begin is = absurd begin
