@@ -14,7 +14,7 @@ use Rattle.twp_text.specs.PlaceFaults as place_faults
 use Rattle.twp_text.specs.declared.item.Item.{Item}
 use Rattle.twp_text.specs.declared.place_fault.PlaceFault.{PlaceFault}
 use Rattle.twp_text.proofs.OneAnswer as texts
-use Rattle.twp_text.proofs.OneLand as lands
+use Rattle.twp_text.proofs.PlaceAnswers as lands
 use Rattle.twp_acres.specs.Answers.{ArePlatted, Describe, IsLandOnPlat, AreRefused, MakeNoPlat, DescribeNoLand, IsNoDescription, IsNoLandOnPlat, IsNoPlat, IsRefusal}
 use Rattle.twp_acres.specs.AcresAnswers.{AreHundredthsOf, HasAcres, IsAcresAnswer}
 use Rattle.twp_acres.specs.Laws.{OneAnswerOfLand}
@@ -49,7 +49,7 @@ pub one_land : (township : Designation) (description : List ℕ) (places places'
 one_land township description places places' is is' =
     let same : is.items ≡ is'.items = texts.one_reading description is.items is'.items is.read is'.read in
     let land : place_faults.IsLandOfItems PLACE_DIGITS township is'.items places = rw same at is.land in
-    let both : found places ≡ found places' = lands.one_place_answer PLACE_DIGITS township is'.items (Ok places) (Ok places') land is'.land in
+    let both : found places ≡ found places' = lands.one_answer PLACE_DIGITS township is'.items (Ok places) (Ok places') land is'.land in
     cc both
 
 -- the land of a plat is rounded to one number of hundredths
@@ -95,7 +95,7 @@ not_described township d refusal places (inl is) land = texts.no_fault d land.it
 not_described township d refusal places (inr is) land =
     let same : is.items ≡ land.items = texts.one_reading d is.items land.items is.read land.read in
     let both : found places ≡ unfound is.fault =
-    lands.one_place_answer PLACE_DIGITS township land.items (Ok places) (Err is.fault) land.land (subst (λ i. place_faults.IsFirstPlaceFault PLACE_DIGITS township i is.fault) same is.first) in
+    lands.one_answer PLACE_DIGITS township land.items (Ok places) (Err is.fault) land.land (subst (λ i. place_faults.IsFirstPlaceFault PLACE_DIGITS township i is.fault) same is.first) in
     cc both
 
 -- what is refused is no land
@@ -129,7 +129,7 @@ one_description_refusal township d r r' (inr is) (inl is') = absurd (texts.no_fa
 one_description_refusal township d r r' (inr is) (inr is') =
     let same : is.items ≡ is'.items = texts.one_reading d is.items is'.items is.read is'.read in
     let both : unfound is.fault ≡ unfound is'.fault =
-    lands.one_place_answer PLACE_DIGITS township is'.items (Err is.fault) (Err is'.fault) (subst (λ i. place_faults.IsFirstPlaceFault PLACE_DIGITS township i is.fault) same is.first) is'.first in
+    lands.one_answer PLACE_DIGITS township is'.items (Err is.fault) (Err is'.fault) (subst (λ i. place_faults.IsFirstPlaceFault PLACE_DIGITS township i is.fault) same is.first) is'.first in
     let fault : is.fault ≡ is'.fault = cc both in
     let refusals : Some r ≡ Some r' = sym is.refusal_is ∙ rw fault is'.refusal_is in
     cc refusals

@@ -1,5 +1,5 @@
 -- What runs read and write, over plain values.
-use Rattle.std.proofs.Common.{◌≡◌, ℕ, List, [], Option, Some, None, Result, Ok, Err, inl, inr, refl, subst, sym}
+use Rattle.std.proofs.Common.{◌≡◌, ◌≢◌, ℕ, List, [], Option, Some, None, Result, Ok, Err, inl, inr, refl, subst, sym}
 use Rattle.std.specs.Prelude.{IfOk, IfErr, OnOk, OnErr, unwrap_or}
 use Rattle.std.specs.Io.KnownBytes.{Appends}
 use Rattle.twp_grid.specs.Devices.{Tells}
@@ -61,6 +61,11 @@ pub stopped_by_places : (township : Designation) (d : List ℕ) (is : List Item)
     → IsFirstPlaceFault PLACE_DIGITS township is fault → IsStopOfPlaces fault stopped → IfRefused stopped (IsNoDescription township d)
 stopped_by_places township d is fault (stop.Refused refusal) read first by = inr (record { items = is; read = read; fault = fault; first = first; refusal_is = by })
 stopped_by_places township d is fault (stop.Failed failed) read first by = tt
+
+-- and by no failed writer
+pub places_never_write : (fault : PlaceFault) (stopped : Stop) → IsStopOfPlaces fault stopped → stopped ≢ stop.Failed Write
+places_never_write fault (stop.Refused refusal) by same = cc same
+places_never_write fault (stop.Failed failed) by same = absurd by
 
 -- an answer was written, or a front of it
 pub written : (Answers : AnswerRelation) (old new : Option (List ℕ)) (text : List ℕ) (verdict : Verdict) (r : Result Verdict RunFault) → Answers text verdict

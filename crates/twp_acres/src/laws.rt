@@ -33,7 +33,6 @@ pub fn one_answer()
 {}
 
 /// Two descriptions of one land have one answer over the same notes, however the land is spelled.
-#[tactic(auto, using(crate::proofs::OneAnswer::one_answer_of_land))]
 pub fn one_answer_of_land()
     ensures { OneAnswerOfLand }
 {}

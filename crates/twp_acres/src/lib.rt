@@ -14,5 +14,5 @@ mod verdict;
 mod writing;
 
 pub use area::area_of;
-pub use running::run_acres;
+pub use running::{run_acres, run_plat};
 pub use verdict::{RunFault, Verdict};

@@ -6,10 +6,12 @@ ghost use Rattle.twp_notes.specs.FieldNotes.{NOTES_MOST};
 ghost use Rattle.twp_text.specs.TextFaults.{TEXT_LIMIT};
 ghost use Rattle.twp_acres.specs.Answers.{MakePlat, IsRefusal, refusal_line};
 ghost use Rattle.twp_acres.specs.AcresAnswers.{HasAcres, IsAcresAnswer, acres_line};
-ghost use Rattle.twp_acres.specs.Runs.{AnyFailed, AppendsFront, IsAnswered, IsRun, ReadsTwo};
+ghost use Rattle.twp_acres.specs.PlatAnswers.{IsPlatAnswer};
+ghost use Rattle.twp_acres.specs.Runs.{AnyFailed, AppendsFront, IsAnswered, IsRun, Reads, ReadsTwo};
 
-use crate::acres_answer::answer_of;
+use crate::acres_answer;
 use crate::answer::Answer;
+use crate::plat_answer;
 use crate::verdict::{RunFault, Verdict};
 use crate::writing::write_whole;
 use std::alloc::Global;
@@ -72,7 +74,43 @@ pub fn run_acres<N: Source, D: Source, W: Sink>(
     ensures description_most { TakesAtMost (D.remaining description.old)
         (D.remaining description.new) (TEXT_LIMIT + 1) }
 {
-    let answer = answer_of(alloc, notes, description)?;
+    let answer = acres_answer::answer_of(alloc, notes, description)?;
+    write_answer(out, &answer)
+}
+
+/// Writes the plat that field notes make: of each section its lots' acres and its own, and then the
+/// township's. Each figure is an exact area, rounded once. Where the notes make no plat it writes the
+/// numbered refusal of the first fault, at its place.
+///
+/// The whole answer is made before its first byte is written.
+pub fn run_plat<N: Source, W: Sink>(
+    alloc: Global,
+    notes: &mut N,
+    out: &mut W,
+) -> Result<Verdict, RunFault>
+    requires notes { N.has_failed notes.old ≡ false }
+    requires out { W.has_failed out.old ≡ false }
+
+    // The printed plat of told notes, or the refusal; a verdict where no device fails and no memory is
+    // refused.
+    ensures told { (n : List ℕ) → N.remaining notes.old ≡ Some n
+        → IsRun (IsPlatAnswer n) (W.contents out.old) (W.contents out.new) result }
+    ensures answers { N.has_failed notes.new ≡ false → W.has_failed out.new ≡ false
+        → IsOkUnless result RunFault.Memory }
+
+    // The same whatever the devices tell of their bytes.
+    ensures ran { Reads (N.remaining notes.old) (λ n.
+        IsRun (IsPlatAnswer n) (W.contents out.old) (W.contents out.new) result) }
+
+    // A fault of a device is answered exactly where that device failed in this call.
+    ensures read { IsErrOf result RunFault.Read ↔ (N.has_failed notes.new ≡ true) }
+    ensures write { IsErrOf result RunFault.Write ↔ (W.has_failed out.new ≡ true) }
+
+    // Reading ends one byte past the limit, if not before.
+    ensures most { TakesAtMost (N.remaining notes.old)
+        (N.remaining notes.new) (NOTES_MOST + 1) }
+{
+    let answer = plat_answer::answer_of(alloc, notes)?;
     write_answer(out, &answer)
 }
 

@@ -5,7 +5,6 @@ ghost use Rattle.twp_grid.specs.Places.{PLACE_DIGITS};
 ghost use Rattle.twp_notes.specs.FieldNotes.{NOTES_MOST};
 ghost use Rattle.twp_land.specs.WholeLots.{HasWholeLots};
 ghost use Rattle.twp_text.specs.TextFaults.{TEXT_LIMIT};
-ghost use Rattle.twp_text.specs.PlaceFaults.{IsLandOfItems, IsFirstPlaceFault};
 ghost use Rattle.twp_acres.specs.Runs.{Reads};
 ghost use Rattle.twp_acres.specs.Stops.{IsPlatted, IsDescribed};
 ghost use Rattle.twp_acres.specs.declared.stop.Stop.TheVariants.{Failed};
@@ -17,7 +16,7 @@ use twp_grid::{Source, Township};
 use twp_land::Land;
 use twp_notes::{Notes, read_whole};
 use twp_plat::Plat;
-use twp_text::{Description, TEXT_LIMIT, TextFault, PlaceFault};
+use twp_text::{Description, TEXT_LIMIT, TextFault, resolve};
 
 /// The plat of the notes that a source gives.
 pub fn read_plat<N: Source>(alloc: Global, notes: &mut N) -> Result<Plat, Stop>
@@ -52,13 +51,4 @@ pub fn read_land<D: Source, L: Land>(
     };
     let description = Description::read(alloc, text.as_slice())?;
     Ok(resolve(&description, township)?)
-}
-
-fn resolve<L: Land>(description: &Description, township: Township) -> Result<L, PlaceFault>
-    requires { false ≡ true }
-    ensures land { IfOk result (λ land. IsLandOfItems PLACE_DIGITS township description.now (L.places land)) }
-    ensures whole_lots { IfOk result (λ land. HasWholeLots PLACE_DIGITS (L.places land)) }
-    ensures refused { IfErr result (IsFirstPlaceFault PLACE_DIGITS township description.now) }
-{
-    Ok(L::empty())
 }
