@@ -21,3 +21,6 @@ pub mod ItemFlaws
 pub mod PlaceAnswers
 pub mod ResolvingFacts
 pub mod LandLots
+pub mod SquareFacts
+pub mod SquarePlaces
+pub mod Listings
