@@ -23,4 +23,5 @@ pub mod ResolvingFacts
 pub mod LandLots
 pub mod SquareFacts
 pub mod SquarePlaces
+pub mod HalfPlaces
 pub mod Listings
