@@ -24,4 +24,6 @@ pub mod LandLots
 pub mod SquareFacts
 pub mod SquarePlaces
 pub mod HalfPlaces
+pub mod FullParts
+pub mod WrittenFacts
 pub mod Listings
