@@ -26,4 +26,6 @@ pub mod SquarePlaces
 pub mod HalfPlaces
 pub mod FullParts
 pub mod WrittenFacts
+pub mod PartOrder
+pub mod FinerParts
 pub mod Listings
