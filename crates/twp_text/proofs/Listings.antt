@@ -26,7 +26,7 @@ contains_among thing [] (k, within, is) = absurd (omega arith)
 contains_among thing (first ∷ list) (zero, within, is) = inl (sym is)
 contains_among thing (first ∷ list) (suc k, within, is) = inr (contains_among thing list (k, (omega arith), is))
 
-among_at : {T : Type 0} (list : List T) (k : ℕ) (d : T) → k < length list → Among (get_or list k d) list
+pub among_at : {T : Type 0} (list : List T) (k : ℕ) (d : T) → k < length list → Among (get_or list k d) list
 among_at [] k d within = absurd (omega arith)
 among_at (first ∷ list) zero d within = inl refl
 among_at (first ∷ list) (suc k) d within = inr (among_at list k d (omega arith))
@@ -207,3 +207,8 @@ has_listing has before through compare decide candidates complete =
       listed = λ x. ((λ it. among_contains x found.list (found.whole x (complete x it) it)), λ there. found.sound x (contains_among x found.list there));
       ordered = order_pairs before found.list found.order;
     })
+
+-- what follows from an order for things of a list
+pub other_pairs : {T : Type 0} (before after : T → T → Type 0) (list : List T) → AllPairs before list → ((x y : T) → Among x list → Among y list → before x y → after x y) → AllPairs after list
+other_pairs before after list pairs follows i j d less within =
+    follows (get_or list i d) (get_or list j d) (among_at list i d (omega arith)) (among_at list j d within) (pairs i j d less within)

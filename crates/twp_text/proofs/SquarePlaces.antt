@@ -214,7 +214,7 @@ turn_back NW = refl
 turn_back SW = refl
 turn_back SE = refl
 
-turn_small : (corner : Corner) → turn_of_quarter corner < 4
+pub turn_small : (corner : Corner) → turn_of_quarter corner < 4
 turn_small NE = omega arith
 turn_small NW = omega arith
 turn_small SW = omega arith

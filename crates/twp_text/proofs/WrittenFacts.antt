@@ -38,7 +38,7 @@ covers g held column row (square (corner ∷ parent)) written inside =
     record { fits = fits; below = λ j deeper within. full_below g held (length (corner ∷ parent)) j column row (omega arith) within full }
 
 -- the parent of a written square that holds a place, and the square's corner in it
-parent_of : (g : ℕ) (corner : Corner) (parent : List Corner) (column row : ℕ) → suc (length parent) ≤ g → up g (suc (length parent)) column row ≡ corner ∷ parent
+pub parent_of : (g : ℕ) (corner : Corner) (parent : List Corner) (column row : ℕ) → suc (length parent) ≤ g → up g (suc (length parent)) column row ≡ corner ∷ parent
     → (corner_at g (length parent) column row ≡ corner) × (up g (length parent) column row ≡ parent)
 parent_of g corner parent column row fits is =
     first_of (corner_at g (length parent) column row) corner (up g (length parent) column row) parent (sym (up_next g (length parent) column row fits) ∙ is)
