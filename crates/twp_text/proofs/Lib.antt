@@ -29,3 +29,4 @@ pub mod WrittenFacts
 pub mod PartOrder
 pub mod FinerParts
 pub mod Listings
+pub mod Lexemes
