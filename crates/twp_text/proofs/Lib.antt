@@ -30,3 +30,4 @@ pub mod PartOrder
 pub mod FinerParts
 pub mod Listings
 pub mod Lexemes
+pub mod SpelledTokens
