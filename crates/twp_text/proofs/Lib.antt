@@ -31,3 +31,4 @@ pub mod FinerParts
 pub mod Listings
 pub mod Lexemes
 pub mod SpelledTokens
+pub mod SpelledWords

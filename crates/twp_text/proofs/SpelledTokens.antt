@@ -58,7 +58,7 @@ a_stop_mark = mark stop tt [] (codes ".")
 abbrev a_comma_mark : Draft (one comma)
 a_comma_mark = mark comma tt [] (codes ",")
 
-abbrev number_mark : ℕ → Draft (one number)
+abbrev pub number_mark : ℕ → Draft (one number)
 number_mark n = mark number n space (decimal n)
 
 -- the steps of an aliquot part
