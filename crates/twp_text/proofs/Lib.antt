@@ -32,3 +32,4 @@ pub mod Listings
 pub mod Lexemes
 pub mod SpelledTokens
 pub mod SpelledWords
+pub mod SpelledItems
