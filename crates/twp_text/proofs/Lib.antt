@@ -33,3 +33,4 @@ pub mod Lexemes
 pub mod SpelledTokens
 pub mod SpelledWords
 pub mod SpelledItems
+pub mod SpelledParts

@@ -162,16 +162,16 @@ is_written g held (square (corner ∷ parent)) = elim (is_full g held (square (c
 ]
 
 -- all parts that are no finer than places
-among_left : {T : Type 0} (thing : T) (list more : List T) → Among thing list → Among thing (list ++ more)
+pub among_left : {T : Type 0} (thing : T) (list more : List T) → Among thing list → Among thing (list ++ more)
 among_left thing [] more there = absurd there
 among_left thing (first ∷ list) more (inl here) = inl here
 among_left thing (first ∷ list) more (inr later) = inr (among_left thing list more later)
 
-among_right : {T : Type 0} (thing : T) (list more : List T) → Among thing more → Among thing (list ++ more)
+pub among_right : {T : Type 0} (thing : T) (list more : List T) → Among thing more → Among thing (list ++ more)
 among_right thing [] more there = there
 among_right thing (first ∷ list) more there = inr (among_right thing list more there)
 
-among_map : {T U : Type 0} (f : T → U) (thing : T) (list : List T) → Among thing list → Among (f thing) (map f list)
+pub among_map : {T U : Type 0} (f : T → U) (thing : T) (list : List T) → Among thing list → Among (f thing) (map f list)
 among_map f thing [] there = absurd there
 among_map f thing (first ∷ list) (inl here) = inl (ap f here)
 among_map f thing (first ∷ list) (inr later) = inr (among_map f thing list later)
