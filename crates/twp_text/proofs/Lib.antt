@@ -34,3 +34,4 @@ pub mod SpelledTokens
 pub mod SpelledWords
 pub mod SpelledItems
 pub mod SpelledParts
+pub mod SpelledLists
