@@ -156,3 +156,97 @@ lies g township places section lots parts lists p there = elim (among_append p (
           off_some (lot_of_place g section of_lot.column of_lot.row) (part_off_lots g places section made.thing of_lot.column of_lot.row written here.inside).none of_lot.of_lot in
       subst (λ (q : ItemOfSection). LiesOnPlat g township q.section q.item) (sym made.is) (full.within, clear)
 ]
+
+some_is : (a b : ℕ) → Some a ≡ Some b → a ≡ b
+some_is a b e = cc e
+
+apart : (g : ℕ) (places : ℕ → ℕ → ℕ → Bool) (section : ℕ) (lots : List ℕ) (parts : List Part) → IsInLists g places section lots parts
+    → InOrder (AreApart g) (of_lists section lots parts)
+apart g places section lots parts lists =
+    order_append (AreApart g) (map (lot_part section) lots) (map (aliquot_part section) parts)
+    (order_map (lot_part section) (AreApart g) lots (order_weaker ◌<◌ (λ x y. AreApart g (lot_part section x) (lot_part section y)) lots lots_apart (pairs_order ◌<◌ lots lists.lots_are.ordered)))
+    (order_map (aliquot_part section) (AreApart g) parts (order_weaker (StandsAhead g) (λ x y. AreApart g (aliquot_part section x) (aliquot_part section y)) parts parts_apart (pairs_order (StandsAhead g) parts lists.parts_are.ordered)))
+    across
+  where
+    lots_apart : (x y : ℕ) → Among x lots → Among y lots → x < y → AreApart g (lot_part section x) (lot_part section y)
+    lots_apart x y there there' less share =
+        let first = in_lot g section x share.section share.column share.row share.in_first in
+        let second = in_lot g section y share.section share.column share.row share.in_second in
+        let same : x ≡ y = some_is x y (sym first.of_lot ∙ second.of_lot) in
+        absurd (omega arith)
+
+    parts_apart : (x y : Part) → Among x parts → Among y parts → StandsAhead g x y → AreApart g (aliquot_part section x) (aliquot_part section y)
+    parts_apart x y there there' ahead share =
+        let first = in_aliquot g section x share.section share.column share.row share.in_first in
+        let second = in_aliquot g section y share.section share.column share.row share.in_second in
+        let same : x ≡ y = one_part g (off_lots g section (places section)) share.column share.row x y
+            (part_written g places section lots parts lists x there) (part_written g places section lots parts lists y there') first.inside second.inside in
+        ahead_once g x y ahead (subst (λ z. StandsAhead g y z) (sym same) (subst (λ z. StandsAhead g z y) same ahead))
+
+    across : (p q : ItemOfSection) → Among p (map (lot_part section) lots) → Among q (map (aliquot_part section) parts) → AreApart g p q
+    across p q there there' share =
+        let lot = made_of (lot_part section) p lots there in
+        let part = made_of (aliquot_part section) q parts there' in
+        let s = share.section in
+        let c = share.column in
+        let r = share.row in
+        let first = in_lot g section lot.thing s c r (subst (λ (z : ItemOfSection). item_places g z s c r ≡ true) lot.is share.in_first) in
+        let second = in_aliquot g section part.thing s c r (subst (λ (z : ItemOfSection). item_places g z s c r ≡ true) part.is share.in_second) in
+        let off = part_off_lots g places section part.thing c r (part_written g places section lots parts lists part.thing part.there) second.inside in
+        off_lot (lot_of_place g section c r) lot.thing off.none first.of_lot
+
+held_there : (g : ℕ) (places : ℕ → ℕ → ℕ → Bool) (section : ℕ) (lots : List ℕ) (parts : List Part) → IsInLists g places section lots parts
+    → (p : ItemOfSection) → Among p (of_lists section lots parts) → (s c r : ℕ) → item_places g p s c r ≡ true → (section ≡ s) × (places section c r ≡ true)
+held_there g places section lots parts lists p there s c r inside = elim (among_append p (map (lot_part section) lots) (map (aliquot_part section) parts) there) [
+  | inl of_lots ↦
+      let made = made_of (lot_part section) p lots of_lots in
+      let here = in_lot g section made.thing s c r (subst (λ (z : ItemOfSection). item_places g z s c r ≡ true) made.is inside) in
+      let held = lot_held g places section lots parts lists made.thing made.there in
+      (here.same, (lists.whole section made.thing lists.range).alike c r held.column held.row here.of_lot held.of_lot ∙ held.is_held)
+  | inr of_parts ↦
+      let made = made_of (aliquot_part section) p parts of_parts in
+      let here = in_aliquot g section made.thing s c r (subst (λ (z : ItemOfSection). item_places g z s c r ≡ true) made.is inside) in
+      (here.same, (part_off_lots g places section made.thing c r (part_written g places section lots parts lists made.thing made.there) here.inside).held)
+]
+
+named_there : (g : ℕ) (places : ℕ → ℕ → ℕ → Bool) (section : ℕ) (lots : List ℕ) (parts : List Part) → IsInLists g places section lots parts
+    → (c r : ℕ) → IsPlace g c r → places section c r ≡ true → Passes (λ p. item_places g p section c r) (of_lists section lots parts)
+named_there g places section lots parts lists c r place held = by_lot (lot_of_place g section c r) refl
+  where
+    itself : (n : ℕ) → nat_le n n ≡ true
+    itself n = grind (arith, nat_tests)
+
+    by_lot : (found : Option ℕ) → lot_of_place g section c r ≡ found → Passes (λ p. item_places g p section c r) (of_lists section lots parts)
+    by_lot (Some lot) is =
+        let there = contains_among lot lots ((lists.lots_are.listed lot).0 (record { column = c; row = r; place = place; of_lot = is; is_held = held })) in
+        record {
+          thing = lot_part section lot;
+          there = among_left (lot_part section lot) (map (lot_part section) lots) (map (aliquot_part section) parts) (among_map (lot_part section) lot lots there);
+          passes = rw (test_of_place g c r place, eq-eqb section section refl, is, itself lot) refl;
+        }
+    by_lot None is =
+        let off : off_lots g section (places section) c r ≡ true = rw (held, is) refl in
+        let found = has_part g (off_lots g section (places section)) c r place off in
+        let there = contains_among found.part parts ((lists.parts_are.listed found.part).0 found.written) in
+        record {
+          thing = aliquot_part section found.part;
+          there = among_right (aliquot_part section found.part) (map (lot_part section) lots) (map (aliquot_part section) parts) (among_map (aliquot_part section) found.part parts there);
+          passes = rw (test_of_place g c r place, eq-eqb section section refl, found.inside.asked) refl;
+        }
+
+pub lists_named : (g : ℕ) (township : Designation) (places : ℕ → ℕ → ℕ → Bool) (section : ℕ) (lots : List ℕ) (parts : List Part) → IsInLists g places section lots parts
+    → NameHeld g township places section (of_lists section lots parts)
+lists_named g township places section lots parts lists = record {
+  each = lies g township places section lots parts lists;
+  apart = apart g places section lots parts lists;
+  held = held_there g places section lots parts lists;
+  named = named_there g places section lots parts lists;
+}
+
+-- the numbers of lots that are held are small
+pub small_lot : (g : ℕ) (places : ℕ → ℕ → ℕ → Bool) (section lot : ℕ) → IsSection section → IsLotHeld g section (places section) lot → lot < 10000
+small_lot g places section lot range held =
+    let there = fills section (position_along g held.column) (position_along g held.row) lot range held.of_lot in
+    let few = few_lots section range in
+    let most = there.most in
+    omega arith
