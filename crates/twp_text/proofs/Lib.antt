@@ -35,3 +35,4 @@ pub mod SpelledWords
 pub mod SpelledItems
 pub mod SpelledParts
 pub mod SpelledLists
+pub mod SpelledLines

@@ -119,7 +119,7 @@ lot_held : (g : ℕ) (places : ℕ → ℕ → ℕ → Bool) (section : ℕ) (lo
     → (lot : ℕ) → Among lot lots → IsLotHeld g section (places section) lot
 lot_held g places section lots parts lists lot there = (lists.lots_are.listed lot).1 (among_contains lot lots there)
 
-part_written : (g : ℕ) (places : ℕ → ℕ → ℕ → Bool) (section : ℕ) (lots : List ℕ) (parts : List Part) → IsInLists g places section lots parts
+pub part_written : (g : ℕ) (places : ℕ → ℕ → ℕ → Bool) (section : ℕ) (lots : List ℕ) (parts : List Part) → IsInLists g places section lots parts
     → (part : Part) → Among part parts → IsWritten g (off_lots g section (places section)) part
 part_written g places section lots parts lists part there = (lists.parts_are.listed part).1 (among_contains part parts there)
 
