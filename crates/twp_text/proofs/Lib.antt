@@ -36,3 +36,4 @@ pub mod SpelledItems
 pub mod SpelledParts
 pub mod SpelledLists
 pub mod SpelledLines
+pub mod SpelledLand
