@@ -37,3 +37,4 @@ pub mod SpelledParts
 pub mod SpelledLists
 pub mod SpelledLines
 pub mod SpelledLand
+pub mod ReadBack

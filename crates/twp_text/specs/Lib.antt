@@ -14,3 +14,4 @@ pub mod Taking
 pub mod Cutting
 pub mod Machine
 pub mod Laws
+pub mod ReadBack
