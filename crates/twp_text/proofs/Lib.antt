@@ -28,4 +28,6 @@ pub mod FullParts
 pub mod WrittenFacts
 pub mod PartOrder
 pub mod FinerParts
+pub mod PartLaws
+pub mod CanonicalFacts
 pub mod Listings
