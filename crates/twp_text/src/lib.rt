@@ -12,6 +12,7 @@ pub mod laws;
 mod lexeme;
 mod state;
 mod token;
+mod transition;
 mod word;
 
 pub use description::Description;
