@@ -92,7 +92,7 @@ impl Items {
             Kind::T => self.take_township(at),
             Kind::NorthSouth(side) => self.take_north_south(alloc, state, side, at),
             Kind::EastWest(side) => self.take_east_west(alloc, state, side, at),
-            Kind::Corner(corner) => self.take_corner(alloc, state, corner, at),
+            Kind::Corner(corner) => self.take_step(alloc, state, Step::Quarter(corner), at),
             Kind::Number(value) => self.take_number(state, Numeral { value, at }),
             Kind::Lot => self.before_parts(state),
             Kind::Colon => self.before_parts(state),
@@ -116,7 +116,7 @@ impl Items {
     }
 
     /// The side of a township, or a half.
-    #[inline(never)]
+    #[inline(always)]
     fn take_north_south(
         &mut self,
         alloc: Global,
@@ -127,13 +127,13 @@ impl Items {
         ensures { OnOk result (self.new ≡ take_north_south state side at self.old) }
     {
         match state {
-            State::Heading(_) => self.change(Change::TownshipSide(side)),
+            State::Heading(_) => self.change_heading(Change::TownshipSide(side)),
             _ => self.take_step(alloc, state, Step::Half(north_or_south(side)), at),
         }
     }
 
     /// The side of a range, or a half.
-    #[inline(never)]
+    #[inline(always)]
     fn take_east_west(
         &mut self,
         alloc: Global,
@@ -144,23 +144,17 @@ impl Items {
         ensures { OnOk result (self.new ≡ take_east_west state side at self.old) }
     {
         match state {
-            State::Heading(_) => self.change(Change::RangeSide(side)),
+            State::Heading(_) => self.change_heading(Change::RangeSide(side)),
             _ => self.take_step(alloc, state, Step::Half(east_or_west(side)), at),
         }
     }
 
-    /// A quarter.
+    /// What a token says of the heading. A text has one at most.
     #[inline(never)]
-    fn take_corner(
-        &mut self,
-        alloc: Global,
-        state: State,
-        corner: Corner,
-        at: u32,
-    ) -> Result<(), AllocError>
-        ensures { OnOk result (self.new ≡ take_step state (Step.Quarter corner) at self.old) }
+    fn change_heading(&mut self, change: Change) -> Result<(), AllocError>
+        ensures { OnOk result (self.new ≡ with_newest change self.old) }
     {
-        self.take_step(alloc, state, Step::Quarter(corner), at)
+        self.change(change)
     }
 
     /// A step: of the chain, where one stands before it, and else the first of a chain.
@@ -180,10 +174,18 @@ impl Items {
             }
             _ => {
                 self.before_parts(state)?;
-                let steps = Steps::one(alloc, step);
-                self.push(Item::Chain { steps, at })
+                self.push_chain(alloc, step, at)
             }
         }
+    }
+
+    /// A chain of one step.
+    #[inline(never)]
+    fn push_chain(&mut self, alloc: Global, step: Step, at: u32) -> Result<(), AllocError>
+        ensures { OnOk result (self.new ≡ Item.Chain (step ∷ []) at ∷ self.old) }
+    {
+        let steps = Steps::one(alloc, step);
+        self.push(Item::Chain { steps, at })
     }
 
     /// A number of the heading, the first or the last number of a range of sections or lots.

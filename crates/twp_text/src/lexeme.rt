@@ -84,7 +84,7 @@ fn word(bytes: &[u8], first: u8) -> Lexeme
 }
 
 /// A word of four letters or more.
-#[inline(never)]
+#[inline(always)]
 #[tactic(auto, using(crate::proofs::WordFacts::long_word_is))]
 fn long_word(bytes: &[u8]) -> Lexeme
     requires { 3 < prefix_len is_ascii_alphabetic bytes.now }
@@ -98,6 +98,7 @@ fn long_word(bytes: &[u8]) -> Lexeme
 }
 
 /// How many letters bytes begin with.
+#[inline(never)]
 fn count_letters(bytes: &[u8]) -> usize
     ensures value { result ≡ prefix_len is_ascii_alphabetic bytes.now }
     ensures range { result ≤ length bytes.now }
@@ -109,6 +110,7 @@ fn count_letters(bytes: &[u8]) -> usize
 }
 
 /// How many digits bytes begin with.
+#[inline(never)]
 fn count_digits(bytes: &[u8]) -> usize
     ensures value { result ≡ prefix_len is_ascii_digit bytes.now }
     ensures range { result ≤ length bytes.now }
@@ -146,7 +148,7 @@ fn digits(bytes: &[u8]) -> Lexeme
 }
 
 /// Digits: a number, or too many.
-#[inline(never)]
+#[inline(always)]
 #[tactic(auto, using(crate::proofs::Numerals::digits_in_front, crate::proofs::Numerals::few_digits, crate::proofs::Numerals::many_digits))]
 fn number(bytes: &[u8]) -> Lexeme
     ensures { result ≡ cut_number bytes.now }
@@ -165,6 +167,7 @@ fn number(bytes: &[u8]) -> Lexeme
 }
 
 /// The number that up to four digits spell.
+#[inline(never)]
 fn value(digits: &[u8]) -> u16
     requires digits { AllDigits 10 digits.now }
     requires few { length digits.now ≤ 4 }

@@ -53,6 +53,7 @@ pub fn three_letters(first: u8, second: u8, third: u8) -> Kind
 }
 
 /// What a word of four letters or more is, in any letters.
+#[inline(never)]
 pub fn long_word(text: &[u8]) -> Kind
     ensures { result ≡ kind_among (str_to_ascii_lowercase text.now) long_words }
 {
