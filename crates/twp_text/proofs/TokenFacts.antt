@@ -2,7 +2,7 @@
 -- bytes have one list of tokens.
 use Rattle.std.proofs.Common.{◌≡◌, ℕ, zero, suc, ◌+◌, ◌-◌, ◌<◌, ◌≤◌, false, List, [], ◌∷◌, ◌++◌, length, take, drop, refl, sym, ap, subst, ◌∙◌, arith, length-append, length-drop, length-take-le}
 use Rattle.std.specs.List.{prefix_len, AllPass}
-use Rattle.std.proofs.lemmas.List.{take-append-drop, append-nil, drop_all}
+use Rattle.std.proofs.lemmas.List.{take-append-drop, append-nil, drop_all, drop-drop}
 use Rattle.std.proofs.lemmas.List.Sums.{AllPass-from_list_all, list_all-from_AllPass}
 use Rattle.std.proofs.lemmas.List.Folds.{length-prefix_len}
 use Rattle.std.proofs.Math.Seq.{take-append_seam, drop-append_seam}
@@ -42,18 +42,27 @@ starts_with at bytes some =
       is = first.is;
     }
 
+-- what is left of a text further on
+pub further_on : (text left : List ℕ) (at n : ℕ) → left ≡ drop at text → drop n left ≡ drop (at + n) text
+further_on text left at n is = ap (λ b. drop n b) is ∙ drop-drop n at text
+
 -- what is left of a text, in front of it white space, and the token behind that
-pub record IsCutUp (s : Left) (at : ℕ) (bytes front left : List ℕ) : Type 0 where
+pub record IsCutUp (s : Left) (text : List ℕ) (at : ℕ) (bytes front left : List ℕ) : Type 0 where
   pub view : let here : Left = record { at = at; bytes = bytes } in here ≡ s
   pub front_is : front ≡ take (spaces bytes) bytes
   pub left_is : left ≡ drop (spaces bytes) bytes
+  pub further : left ≡ drop (at + length front) text
 
-pub cut_up : (s : Left) (at : ℕ) (bytes front left : List ℕ) (n : ℕ) → (let here : Left = record { at = at; bytes = bytes } in here ≡ s) → n ≡ spaces bytes → front ≡ take n bytes → left ≡ drop n bytes → IsCutUp s at bytes front left
-cut_up s at bytes front left n view is front_is left_is = record {
-  view = view;
+pub cut_up : (s : Left) (text : List ℕ) (at : ℕ) (bytes front left : List ℕ) (n : ℕ) → (let here : Left = record { at = at; bytes = drop at text } in here ≡ s) → bytes ≡ drop at text → n ≡ spaces bytes → front ≡ take n bytes → left ≡ drop n bytes → length front ≡ n → IsCutUp s text at bytes front left
+cut_up s text at bytes front left n view rest is front_is left_is size = record {
+  view = ap (left_at at) rest ∙ view;
   front_is = front_is ∙ ap (λ m. take m bytes) is;
   left_is = left_is ∙ ap (λ m. drop m bytes) is;
+  further = left_is ∙ ap (λ m. drop m bytes) (sym size) ∙ further_on text bytes at (length front) rest;
 }
+  where
+    left_at : ℕ → List ℕ → Left
+    left_at place b = record { at = place; bytes = b }
 
 nothing : (bytes : List ℕ) → length bytes ≡ 0 → bytes ≡ []
 nothing [] h = refl
@@ -62,32 +71,35 @@ nothing (byte ∷ bytes) h = absurd (omega arith)
 abbrev GivesNone : Left → Left → Type 0
 GivesNone left after = AllPass is_white left.bytes × (after ≡ record { at = left.at + length left.bytes; bytes = [] })
 
-pub gives_none : (s : Left) (at : ℕ) (bytes front left : List ℕ) → IsCutUp s at bytes front left → length left ≡ 0 → GivesNone s (record { at = at + length front; bytes = left })
-gives_none s at bytes front left cuts empty =
+pub gives_none : (s : Left) (text : List ℕ) (at : ℕ) (bytes front left : List ℕ) → IsCutUp s text at bytes front left → length left ≡ 0 → GivesNone s (record { at = at + length front; bytes = drop (at + length front) text })
+gives_none s text at bytes front left cuts empty =
     let no_left : left ≡ [] = nothing left empty in
     let rest : drop (spaces bytes) bytes ≡ [] = sym cuts.left_is ∙ no_left in
     let whole : front ≡ bytes = cuts.front_is ∙ sym (append-nil (take (spaces bytes) bytes)) ∙ ap (λ t. take (spaces bytes) bytes ++ t) (sym rest) ∙ take-append-drop (spaces bytes) bytes in
     let white : AllPass is_white bytes = subst (λ (t : List ℕ). AllPass is_white t) (sym cuts.front_is ∙ whole) (all_white bytes) in
     let here : GivesNone (record { at = at; bytes = bytes }) (record { at = at + length front; bytes = left }) = (white, rw (no_left, whole) refl) in
-    subst (λ (t : Left). GivesNone t (record { at = at + length front; bytes = left })) cuts.view here
+    subst (λ (b : List ℕ). GivesNone s (record { at = at + length front; bytes = b })) cuts.further
+    (subst (λ (t : Left). GivesNone t (record { at = at + length front; bytes = left })) cuts.view here)
 
-pub gives_fits : (s : Left) (at : ℕ) (bytes front left : List ℕ) → IsCutUp s at bytes front left → 0 < length left → IsFirstToken left (cut left)
-gives_fits s at bytes front left cuts some =
+pub gives_fits : (s : Left) (text : List ℕ) (at : ℕ) (bytes front left : List ℕ) → IsCutUp s text at bytes front left → 0 < length left → IsFirstToken left (cut left)
+gives_fits s text at bytes front left cuts some =
     subst (λ (t : List ℕ). IsFirstToken t (cut t)) (sym cuts.left_is) (first_behind bytes (rw cuts.left_is at some))
 
 abbrev GivesSome : Left → Token → Left → Type 0
 GivesSome left token after = StartsWith left.at left.bytes token after.bytes × (after.at ≡ token.at + length token.text)
 
-pub gives_some : (s : Left) (at : ℕ) (bytes front left : List ℕ) (l : Lexeme) (text rest : List ℕ) → IsCutUp s at bytes front left → 0 < length left → l ≡ cut left → text ≡ take l.size left → rest ≡ drop l.size left → GivesSome s (record { kind = l.kind; text = text; at = at + length front }) (record { at = at + length front + l.size; bytes = rest })
-gives_some s at bytes front left l text rest cuts some l_is text_is rest_is =
-    let first : IsFirstToken left l = subst (λ (m : Lexeme). IsFirstToken left m) (sym l_is) (gives_fits s at bytes front left cuts some) in
-    let size : length text ≡ l.size = rw text_is (length-take-le l.size left first.fits) in
+pub gives_some : (s : Left) (text : List ℕ) (at : ℕ) (bytes front left : List ℕ) (l : Lexeme) (token : List ℕ) → IsCutUp s text at bytes front left → 0 < length left → l ≡ cut left → token ≡ take l.size left → GivesSome s (record { kind = l.kind; text = token; at = at + length front }) (record { at = at + length front + l.size; bytes = drop (at + length front + l.size) text })
+gives_some s text at bytes front left l token cuts some l_is token_is =
+    let rest : List ℕ = drop l.size left in
+    let first : IsFirstToken left l = subst (λ (m : Lexeme). IsFirstToken left m) (sym l_is) (gives_fits s text at bytes front left cuts some) in
+    let size : length token ≡ l.size = rw token_is (length-take-le l.size left first.fits) in
     let white : AllPass is_white front = subst (λ (t : List ℕ). AllPass is_white t) (sym cuts.front_is) (all_white bytes) in
-    let spelt : bytes ≡ front ++ (text ++ rest) = sym (rw (cuts.front_is, text_is, rest_is, take-append-drop l.size left, cuts.left_is) (take-append-drop (spaces bytes) bytes)) in
-    let is : IsToken text rest l.kind = rw (text_is, rest_is) first.is in
-    let here : GivesSome (record { at = at; bytes = bytes }) (record { kind = l.kind; text = text; at = at + length front }) (record { at = at + length front + l.size; bytes = rest }) =
+    let spelt : bytes ≡ front ++ (token ++ rest) = sym (rw (cuts.front_is, token_is, take-append-drop l.size left, cuts.left_is) (take-append-drop (spaces bytes) bytes)) in
+    let is : IsToken token rest l.kind = rw token_is first.is in
+    let here : GivesSome (record { at = at; bytes = bytes }) (record { kind = l.kind; text = token; at = at + length front }) (record { at = at + length front + l.size; bytes = rest }) =
     (record { space = front; white = white; spelt = spelt; place = refl; is = is }, rw size refl) in
-    subst (λ (t : Left). GivesSome t (record { kind = l.kind; text = text; at = at + length front }) (record { at = at + length front + l.size; bytes = rest })) cuts.view here
+    subst (λ (b : List ℕ). GivesSome s (record { kind = l.kind; text = token; at = at + length front }) (record { at = at + length front + l.size; bytes = b })) (further_on text left (at + length front) l.size cuts.further)
+    (subst (λ (t : Left). GivesSome t (record { kind = l.kind; text = token; at = at + length front }) (record { at = at + length front + l.size; bytes = rest })) cuts.view here)
 
 -- what the bytes say of a token that they begin with
 record IsStart (at : ℕ) (bytes : List ℕ) (token : Token) (rest : List ℕ) : Type 0 where

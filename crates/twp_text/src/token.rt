@@ -21,19 +21,20 @@ pub struct Token<'a> {
 /// begins no token is one of kind `BadByte`, and more than four digits are one of kind `BadNumber`.
 #[derive(Debug, Drop)]
 pub struct Tokens<'a> {
-    rest: &'a [u8],
+    text: &'a [u8],
+    /// Where the bytes begin that are left.
     at: usize,
 }
 
 impl<'a> Model for Tokens<'a> {
-    ghost use Rattle.std.specs.Prelude.{ℕ, ◌+◌, ◌<◌, ◌^◌, length};
+    ghost use Rattle.std.specs.Prelude.{◌≤◌, drop, length};
     ghost use Rattle.twp_text.specs.Tokens.{Left};
 
     ghost Value = { Left };
 
-    ghost view = { λ s. record { at = s.at; bytes = s.rest.now } };
+    ghost view = { λ s. record { at = s.at; bytes = drop s.at s.text.now } };
 
-    ghost invariant = { λ s. s.at + length s.rest.now < 2 ^ 64 };
+    ghost invariant = { λ s. s.at ≤ length s.text.now };
 }
 
 impl<'a> Tokens<'a> {
@@ -43,7 +44,7 @@ impl<'a> Tokens<'a> {
     pub fn new(text: &'a [u8]) -> Tokens<'a>
         ensures { result ≡ record { at = 0; bytes = text.now } }
     {
-        Tokens { rest: text, at: 0 }
+        Tokens { text, at: 0 }
     }
 
     /// What `next` gives.
@@ -51,17 +52,16 @@ impl<'a> Tokens<'a> {
     pub(crate) fn advance(&mut self) -> Option<Token<'a>>
         ensures { GivesToken self.old result self.new }
     {
-        let (space, bytes) = self.rest.split_at(count_white(self.rest));
+        let (_, left) = self.text.split_at(self.at);
+        let (space, bytes) = left.split_at(count_white(left));
         let at = self.at + space.len();
         self.at = at;
-        self.rest = bytes;
         if bytes.is_empty() {
             return None;
         }
         let Lexeme { kind, size } = Lexeme::first(bytes);
-        let (text, rest) = bytes.split_at(size);
+        let (text, _) = bytes.split_at(size);
         self.at = at + size;
-        self.rest = rest;
         Some(Token { kind, text, at })
     }
 }

@@ -2,8 +2,13 @@
 use Rattle.std.proofs.Common.{sym, subst, reverse}
 use Rattle.twp_text.specs.Tokens.{seen}
 use Rattle.twp_text.specs.TextFaults.{IsReadAs}
-use Rattle.twp_text.proofs.ReaderFacts.{Front, front_next, wrong_here, wrong_at_end, read_whole, begins}
+use Rattle.twp_text.proofs.ReaderFacts.{Front, front_next, token_within, wrong_here, wrong_at_end, read_whole, begins}
 use Rattle.twp_text.proofs.description.Description.read_within.Goals as goal
+
+pub fault_of-requires-clause-within : goal.fault_of-requires-clause-within
+fault_of-requires-clause-within c =
+    let left = c.loop-token.tokens in
+    token_within c.args.text.now left.at left.bytes (seen c.in-Some.token) c.advance.new.self.bytes c.loop-token.invariant.within c.in-Some.ensures.0
 
 pub fault_of-requires-clause-wrong : goal.fault_of-requires-clause-wrong
 fault_of-requires-clause-wrong c =
