@@ -12,3 +12,4 @@ pub mod ReaderFacts
 pub mod OneAnswer
 pub mod StepFacts
 pub mod LetterFacts
+pub mod PlaceFacts

@@ -1,4 +1,4 @@
-ghost use Rattle.std.specs.Prelude.{◌≡◌, ◌<◌, ◌≤◌, Some, length, slice_index};
+ghost use Rattle.std.specs.Prelude.{◌≡◌, ◌<◌, ◌≤◌, Some, length, drop, slice_index};
 ghost use Rattle.std.specs.Char.{is_ascii_alphabetic, is_ascii_digit};
 ghost use Rattle.std.specs.List.{prefix_len};
 ghost use Rattle.std.specs.Str.Parse.{AllDigits, digits_value};
@@ -7,7 +7,7 @@ ghost use Rattle.twp_text.specs.Cutting.{small_letter, cut_word, cut_number, cut
 use crate::kind::Kind;
 use crate::word::{self, one_letter, three_letters, two_letters};
 
-/// The first token of some bytes: its kind, and how many bytes it has.
+/// A token that begins at a place: its kind, and how many bytes it has.
 #[derive(Clone, Copy, Debug, PartialEq, Eq)]
 pub struct Lexeme {
     pub kind: Kind,
@@ -15,30 +15,46 @@ pub struct Lexeme {
 }
 
 impl Lexeme {
-    /// The token that bytes begin with.
+    /// The token that begins at a place of a text.
     #[inline(always)]
     #[tactic(auto, unfolding(crate::specs::Cutting::cut))]
-    pub fn first(bytes: &[u8]) -> Lexeme
-        requires { 0 < length bytes.now }
-        ensures { result ≡ cut bytes.now }
+    pub fn at(text: &[u8], at: usize) -> Lexeme
+        requires { at < length text.now }
+        ensures { result ≡ cut (drop at text.now) }
     {
-        let byte = byte_at(bytes, 0);
+        let byte = byte_at(text, at, 0);
         if let Some(letter) = small_letter(byte) {
-            return word(bytes, letter);
+            return word(text, at, letter);
         }
         if byte.is_ascii_digit() {
-            return digits(bytes);
+            return digits(text, at);
         }
-        mark(byte, byte_at(bytes, 1))
+        mark(byte, byte_at(text, at, 1))
     }
 }
 
-/// A byte, or 0 past the end.
+/// So many bytes on from a place, a byte, or 0 past the end.
 #[inline(always)]
-fn byte_at(bytes: &[u8], index: usize) -> u8
-    ensures { result ≡ slice_index bytes.now index }
+#[tactic(auto, using(crate::proofs::PlaceFacts::byte_ahead, crate::proofs::PlaceFacts::past_end))]
+fn byte_at(text: &[u8], at: usize, ahead: usize) -> u8
+    requires { at ≤ length text.now }
+    ensures { result ≡ slice_index (drop at text.now) ahead }
 {
-    if index < bytes.len() { bytes[index] } else { 0 }
+    if ahead < text.len() - at {
+        text[at + ahead]
+    } else {
+        0
+    }
+}
+
+/// The bytes from a place on.
+#[inline(always)]
+fn bytes_from(text: &[u8], at: usize) -> &[u8]
+    requires { at ≤ length text.now }
+    ensures { result.now ≡ drop at text.now }
+{
+    let (_, bytes) = text.split_at(at);
+    bytes
 }
 
 /// A letter as a small one. In ASCII the two differ in one bit.
@@ -58,29 +74,30 @@ fn small_letter(byte: u8) -> Option<u8>
 /// A word, whose first letter is known.
 #[inline(always)]
 #[tactic(auto, using(crate::proofs::WordFacts::one_letter, crate::proofs::WordFacts::two_letters, crate::proofs::WordFacts::three_letters, crate::proofs::WordFacts::long))]
-fn word(bytes: &[u8], first: u8) -> Lexeme
-    requires { small_letter (slice_index bytes.now 0) ≡ Some first }
-    ensures { result ≡ cut_word bytes.now }
+fn word(text: &[u8], at: usize, first: u8) -> Lexeme
+    requires place { at ≤ length text.now }
+    requires letter { small_letter (slice_index (drop at text.now) 0) ≡ Some first }
+    ensures { result ≡ cut_word (drop at text.now) }
 {
-    let Some(second) = small_letter(byte_at(bytes, 1)) else {
+    let Some(second) = small_letter(byte_at(text, at, 1)) else {
         return Lexeme {
             kind: one_letter(first),
             size: 1,
         };
     };
-    let Some(third) = small_letter(byte_at(bytes, 2)) else {
+    let Some(third) = small_letter(byte_at(text, at, 2)) else {
         return Lexeme {
             kind: two_letters(first, second),
             size: 2,
         };
     };
-    let Some(_) = small_letter(byte_at(bytes, 3)) else {
+    let Some(_) = small_letter(byte_at(text, at, 3)) else {
         return Lexeme {
             kind: three_letters(first, second, third),
             size: 3,
         };
     };
-    long_word(bytes)
+    long_word(bytes_from(text, at))
 }
 
 /// A word of four letters or more.
@@ -124,11 +141,12 @@ fn count_digits(bytes: &[u8]) -> usize
 /// A half, a quarter or a number.
 #[inline(always)]
 #[tactic(auto, unfolding(crate::specs::Cutting::cut_digits))]
-fn digits(bytes: &[u8]) -> Lexeme
-    ensures { result ≡ cut_digits bytes.now }
+fn digits(text: &[u8], at: usize) -> Lexeme
+    requires { at ≤ length text.now }
+    ensures { result ≡ cut_digits (drop at text.now) }
 {
-    if byte_at(bytes, 0) == b'1' && byte_at(bytes, 1) == b'/' {
-        match byte_at(bytes, 2) {
+    if byte_at(text, at, 0) == b'1' && byte_at(text, at, 1) == b'/' {
+        match byte_at(text, at, 2) {
             b'2' => {
                 return Lexeme {
                     kind: Kind::Half,
@@ -144,7 +162,7 @@ fn digits(bytes: &[u8]) -> Lexeme
             _ => {}
         }
     }
-    number(bytes)
+    number(bytes_from(text, at))
 }
 
 /// Digits: a number, or too many.

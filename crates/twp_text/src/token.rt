@@ -1,5 +1,6 @@
-ghost use Rattle.std.specs.Prelude.{◌≡◌, ◌≤◌, length};
+ghost use Rattle.std.specs.Prelude.{◌≡◌, ◌≤◌, ◌+◌, drop, length};
 ghost use Rattle.twp_text.specs.Tokens.{is_white};
+ghost use Rattle.twp_text.specs.Cutting.{GivesFirst};
 ghost use Rattle.std.specs.Iterator.{at_most};
 ghost use Rattle.std.specs.List.{prefix_len};
 
@@ -15,6 +16,24 @@ pub struct Token<'a> {
     pub text: &'a [u8],
     /// The offset of its first byte in the text.
     pub at: usize,
+}
+
+impl<'a> Token<'a> {
+    /// The first token of a text at a place or behind it.
+    #[inline(always)]
+    pub(crate) fn first(text: &'a [u8], from: usize) -> Option<Token<'a>>
+        requires { from ≤ length text.now }
+        ensures { GivesFirst text.now from result }
+    {
+        let at = behind_white(text, from);
+        if at == text.len() {
+            return None;
+        }
+        let Lexeme { kind, size } = Lexeme::at(text, at);
+        let (_, left) = text.split_at(at);
+        let (text, _) = left.split_at(size);
+        Some(Token { kind, text, at })
+    }
 }
 
 /// The tokens of a description, from left to right. White space between them is left out. A byte that
@@ -38,31 +57,13 @@ impl<'a> Model for Tokens<'a> {
 }
 
 impl<'a> Tokens<'a> {
-    ghost use Rattle.twp_text.specs.Tokens.{Left, GivesToken};
+    ghost use Rattle.twp_text.specs.Tokens.{Left};
 
     /// The tokens of a text, which stands at 0.
     pub fn new(text: &'a [u8]) -> Tokens<'a>
         ensures { result ≡ record { at = 0; bytes = text.now } }
     {
         Tokens { text, at: 0 }
-    }
-
-    /// What `next` gives.
-    #[inline(always)]
-    pub(crate) fn advance(&mut self) -> Option<Token<'a>>
-        ensures { GivesToken self.old result self.new }
-    {
-        let (_, left) = self.text.split_at(self.at);
-        let (space, bytes) = left.split_at(count_white(left));
-        let at = self.at + space.len();
-        self.at = at;
-        if bytes.is_empty() {
-            return None;
-        }
-        let Lexeme { kind, size } = Lexeme::first(bytes);
-        let (text, _) = bytes.split_at(size);
-        self.at = at + size;
-        Some(Token { kind, text, at })
     }
 }
 
@@ -77,17 +78,27 @@ impl<'a> Iterator for Tokens<'a> {
     ghost remaining = { λ s. at_most (length s.bytes) };
 
     fn next(&mut self) -> Option<Token<'a>> {
-        self.advance()
+        let token = Token::first(self.text, self.at);
+        self.at = match token {
+            Some(token) => token.at + token.text.len(),
+            None => self.text.len(),
+        };
+        token
     }
 }
 
-/// How many bytes of white space bytes begin with.
+/// The place behind the white space at a place.
 #[inline(always)]
-fn count_white(bytes: &[u8]) -> usize
-    ensures value { result ≡ prefix_len is_white bytes.now }
-    ensures range { result ≤ length bytes.now }
+fn behind_white(text: &[u8], from: usize) -> usize
+    requires { from ≤ length text.now }
+    ensures value { result ≡ from + prefix_len is_white (drop from text.now) }
+    ensures range { result ≤ length text.now }
 {
-    bytes.iter().take_while(|byte| is_white(**byte)).count()
+    let mut at = from;
+    while at < text.len() && is_white(text[at]) {
+        at += 1;
+    }
+    at
 }
 
 /// Whether a byte is a space, a tabulator, a line feed or a carriage return.
