@@ -127,7 +127,7 @@ impl Items {
         ensures { OnOk result (self.new ≡ take_north_south state side at self.old) }
     {
         match state {
-            State::Heading(_) => self.change_heading(Change::TownshipSide(side)),
+            State::Heading(_) => self.change_once(Change::TownshipSide(side)),
             _ => self.take_step(alloc, state, Step::Half(north_or_south(side)), at),
         }
     }
@@ -144,14 +144,14 @@ impl Items {
         ensures { OnOk result (self.new ≡ take_east_west state side at self.old) }
     {
         match state {
-            State::Heading(_) => self.change_heading(Change::RangeSide(side)),
+            State::Heading(_) => self.change_once(Change::RangeSide(side)),
             _ => self.take_step(alloc, state, Step::Half(east_or_west(side)), at),
         }
     }
 
-    /// What a token says of the heading. A text has one at most.
+    /// What a token says of the newest item that only one token says of it.
     #[inline(never)]
-    fn change_heading(&mut self, change: Change) -> Result<(), AllocError>
+    fn change_once(&mut self, change: Change) -> Result<(), AllocError>
         ensures { OnOk result (self.new ≡ with_newest change self.old) }
     {
         self.change(change)
@@ -228,12 +228,12 @@ impl Items {
     }
 
     /// The first part of a section makes it one that isn't whole.
-    #[inline(never)]
+    #[inline(always)]
     fn before_parts(&mut self, state: State) -> Result<(), AllocError>
         ensures { OnOk result (self.new ≡ before_parts state self.old) }
     {
         match state {
-            State::Section(_) => self.change(Change::Parted),
+            State::Section(_) => self.change_once(Change::Parted),
             _ => Ok(()),
         }
     }

@@ -29,7 +29,7 @@ impl Lexeme {
         if byte.is_ascii_digit() {
             return digits(text, at);
         }
-        mark(byte, byte_at(text, at, 1))
+        mark(text, at)
     }
 }
 
@@ -199,17 +199,22 @@ fn value(digits: &[u8]) -> u16
 }
 
 /// A mark, or a byte that begins no token.
+#[inline(always)]
 #[tactic(auto, unfolding(crate::specs::Cutting::cut_mark))]
-fn mark(byte: u8, behind: u8) -> Lexeme
-    ensures { result ≡ cut_mark byte behind }
+fn mark(text: &[u8], at: usize) -> Lexeme
+    requires { at ≤ length text.now }
+    ensures { result ≡ cut_mark (slice_index (drop at text.now) 0) (slice_index (drop at text.now) 1) }
 {
-    let (kind, size) = match (byte, behind) {
-        (b',', _) => (Kind::Comma, 1),
-        (b'.', _) => (Kind::Stop, 1),
-        (b';', _) => (Kind::Semicolon, 1),
-        (b':', _) => (Kind::Colon, 1),
-        (0xC2, 0xBD) => (Kind::Half, 2),
-        (0xC2, 0xBC) => (Kind::Quarter, 2),
+    let (kind, size) = match byte_at(text, at, 0) {
+        b',' => (Kind::Comma, 1),
+        b'.' => (Kind::Stop, 1),
+        b';' => (Kind::Semicolon, 1),
+        b':' => (Kind::Colon, 1),
+        0xC2 => match byte_at(text, at, 1) {
+            0xBD => (Kind::Half, 2),
+            0xBC => (Kind::Quarter, 2),
+            _ => (Kind::BadByte, 1),
+        },
         _ => (Kind::BadByte, 1),
     };
     Lexeme { kind, size }

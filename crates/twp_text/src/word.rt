@@ -26,13 +26,13 @@ pub fn one_letter(first: u8) -> Kind
 pub fn two_letters(first: u8, second: u8) -> Kind
     ensures { result ≡ kind_among (first ∷ second ∷ []) words }
 {
-    match (first, second) {
-        (b'n', b'e') => Kind::Corner(Corner::NE),
-        (b'n', b'w') => Kind::Corner(Corner::NW),
-        (b's', b'w') => Kind::Corner(Corner::SW),
-        (b's', b'e') => Kind::Corner(Corner::SE),
-        (b'o', b'f') => Kind::Of,
-        (b't', b'o') => Kind::To,
+    match (second, first) {
+        (b'e', b'n') => Kind::Corner(Corner::NE),
+        (b'e', b's') => Kind::Corner(Corner::SE),
+        (b'w', b'n') => Kind::Corner(Corner::NW),
+        (b'w', b's') => Kind::Corner(Corner::SW),
+        (b'f', b'o') => Kind::Of,
+        (b'o', b't') => Kind::To,
         _ => Kind::Other,
     }
 }
