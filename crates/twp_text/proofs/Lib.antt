@@ -13,3 +13,4 @@ pub mod OneAnswer
 pub mod StepFacts
 pub mod LetterFacts
 pub mod PlaceFacts
+pub mod StateFacts

@@ -3,7 +3,7 @@ ghost use Rattle.twp_text.specs.Items.{north_or_south, east_or_west};
 
 use crate::item::{Item, Numeral, Step, Steps};
 use crate::kind::Kind;
-use crate::state::{HeadingState, ListState, PartState, State};
+use crate::state::State;
 use std::alloc::{AllocError, Global};
 use std::marker::Model;
 use twp_grid::{Corner, EastWest, NorthSouth, Side};
@@ -127,7 +127,7 @@ impl Items {
         ensures { OnOk result (self.new ≡ take_north_south state side at self.old) }
     {
         match state {
-            State::Heading(_) => self.change_once(Change::TownshipSide(side)),
+            State::TownshipNumber => self.change_once(Change::TownshipSide(side)),
             _ => self.take_step(alloc, state, Step::Half(north_or_south(side)), at),
         }
     }
@@ -144,7 +144,7 @@ impl Items {
         ensures { OnOk result (self.new ≡ take_east_west state side at self.old) }
     {
         match state {
-            State::Heading(_) => self.change_once(Change::RangeSide(side)),
+            State::RangeNumber => self.change_once(Change::RangeSide(side)),
             _ => self.take_step(alloc, state, Step::Half(east_or_west(side)), at),
         }
     }
@@ -168,14 +168,11 @@ impl Items {
     ) -> Result<(), AllocError>
         ensures { OnOk result (self.new ≡ take_step state step at self.old) }
     {
-        match state {
-            State::Parts(PartState::Step | PartState::Of | PartState::OfThe) => {
-                self.change(Change::Grown(step))
-            }
-            _ => {
-                self.before_parts(state)?;
-                self.push_chain(alloc, step, at)
-            }
+        if state.is_in_chain() {
+            self.change(Change::Grown(step))
+        } else {
+            self.before_parts(state)?;
+            self.push_chain(alloc, step, at)
         }
     }
 
@@ -194,17 +191,17 @@ impl Items {
         ensures { OnOk result (self.new ≡ take_number state number self.old) }
     {
         match state {
-            State::Heading(HeadingState::Range | HeadingState::RangeStop) => {
-                self.change(Change::RangeNumber(number.value))
+            State::Township | State::TownshipStop => {
+                self.change(Change::TownshipNumber(number.value))
             }
-            State::Heading(_) => self.change(Change::TownshipNumber(number.value)),
-            State::Sections(ListState::To) | State::Lots(ListState::To) => {
-                self.change(Change::Last(number))
+            State::Range | State::RangeStop => self.change(Change::RangeNumber(number.value)),
+            State::ListTo | State::LotTo => self.change(Change::Last(number)),
+            State::Lot | State::LotComma | State::LotLastComma | State::LotAnd => {
+                self.push(Item::Lots {
+                    first: number,
+                    last: number,
+                })
             }
-            State::Lots(_) | State::Lot => self.push(Item::Lots {
-                first: number,
-                last: number,
-            }),
             _ => self.push(Item::Sections {
                 first: number,
                 last: number,
@@ -219,7 +216,12 @@ impl Items {
         ensures { OnOk result (self.new ≡ take_all state at self.old) }
     {
         match state {
-            State::Sections(_) | State::SectionsColon => Ok(()),
+            State::ListNumber
+            | State::ListLast
+            | State::ListInclusive
+            | State::ListComma
+            | State::ListLastComma
+            | State::ListColon => Ok(()),
             _ => {
                 self.before_parts(state)?;
                 self.push(Item::All { at })
@@ -233,7 +235,7 @@ impl Items {
         ensures { OnOk result (self.new ≡ before_parts state self.old) }
     {
         match state {
-            State::Section(_) => self.change_once(Change::Parted),
+            State::SectionNumber | State::SectionComma => self.change_once(Change::Parted),
             _ => Ok(()),
         }
     }

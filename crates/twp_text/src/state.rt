@@ -1,5 +1,5 @@
 ghost use Rattle.std.specs.Prelude.{◌≡◌};
-ghost use Rattle.twp_text.specs.Machine.{is_final};
+ghost use Rattle.twp_text.specs.Machine.{is_final, is_in_chain};
 ghost use Rattle.twp_text.specs.Expected.{expected_of};
 
 use crate::expected::Expected;
@@ -10,29 +10,7 @@ use crate::expected::Expected;
 pub enum State {
     /// Before the first token.
     Start,
-    Heading(HeadingState),
-    /// Behind a heading's comma, or behind `and` between two groups: sections must follow.
-    BeforeGroup,
-    /// Behind the semicolon between two groups.
-    Semicolon,
-    Section(SectionState),
-    /// Behind the number of a second entry of sections, and on.
-    Sections(ListState),
-    /// Behind the colon after several sections.
-    SectionsColon,
-    /// Behind the `all` after several sections.
-    SectionsAll,
-    /// Behind the word `lot`.
-    Lot,
-    Lots(ListState),
-    Parts(PartState),
-    /// Behind the last full stop.
-    End,
-}
-
-/// In a heading, as `T. 2 N., R. 3 W.,`.
-#[derive(Clone, Copy, Debug, PartialEq, Eq)]
-pub enum HeadingState {
+    /// In a heading, as `T. 2 N., R. 3 W.,`.
     Township,
     TownshipStop,
     TownshipNumber,
@@ -44,41 +22,50 @@ pub enum HeadingState {
     RangeNumber,
     RangeSide,
     RangeSideStop,
-}
-
-/// In a group that has one section so far.
-#[derive(Clone, Copy, Debug, PartialEq, Eq)]
-pub enum SectionState {
-    Word,
-    Stop,
-    Number,
-    Comma,
-}
-
-/// In a list of numbers and ranges of numbers.
-#[derive(Clone, Copy, Debug, PartialEq, Eq)]
-pub enum ListState {
-    Number,
-    To,
-    Last,
-    Inclusive,
-    Comma,
-    LastComma,
-    And,
-}
-
-/// Among the parts of one section.
-#[derive(Clone, Copy, Debug, PartialEq, Eq)]
-pub enum PartState {
-    /// Behind a colon, or behind `and`: a part must follow.
-    Before,
-    Comma,
+    /// Behind a heading's comma, or behind `and` between two groups: sections must follow.
+    BeforeGroup,
+    /// Behind the semicolon between two groups.
+    Semicolon,
+    /// In a group that has one section so far.
+    SectionWord,
+    SectionStop,
+    SectionNumber,
+    SectionComma,
+    /// In a list of sections, behind its first `to` or `and` or the number of its second entry, and on.
+    ListNumber,
+    ListTo,
+    ListLast,
+    ListInclusive,
+    ListComma,
+    ListLastComma,
+    ListAnd,
+    /// Behind the colon after several sections.
+    ListColon,
+    /// Behind the `all` after several sections.
+    ListAll,
+    /// In a list of lots, behind the word `lot`, and on.
+    Lot,
+    LotNumber,
+    LotTo,
+    LotLast,
+    LotInclusive,
+    LotComma,
+    LotLastComma,
+    LotAnd,
+    /// Among the parts of one section, behind a colon or behind `and`: a part must follow.
+    BeforePart,
+    PartComma,
+    /// Behind the letter of a half.
     Side,
+    /// Behind the letters of a quarter.
     Corner,
+    /// Behind a whole step of an aliquot part.
     Step,
     Of,
     OfThe,
     All,
+    /// Behind the last full stop.
+    End,
 }
 
 impl State {
@@ -88,24 +75,30 @@ impl State {
     {
         match self {
             State::Start => Expected::Beginning,
-            State::Heading(state) => expected_in_heading(state),
+            State::Township | State::TownshipStop => Expected::TownshipNumber,
+            State::TownshipNumber => Expected::TownshipSide,
+            State::TownshipSide | State::TownshipSideStop | State::TownshipComma => Expected::Range,
+            State::Range | State::RangeStop => Expected::RangeNumber,
+            State::RangeNumber => Expected::RangeSide,
+            State::RangeSide | State::RangeSideStop => Expected::Sections,
             State::BeforeGroup | State::Semicolon => Expected::Sections,
-            State::Section(SectionState::Word | SectionState::Stop) => Expected::SectionNumber,
-            State::Section(SectionState::Number) => Expected::PartsOrSections,
-            State::Section(SectionState::Comma) => Expected::PartOrSection,
-            State::Sections(ListState::To) => Expected::LastSection,
-            State::Sections(ListState::Comma | ListState::LastComma) => Expected::SectionOrAll,
-            State::Sections(ListState::And) => Expected::SectionNumber,
-            State::Sections(_) => Expected::MoreSections,
-            State::SectionsColon => Expected::All,
-            State::SectionsAll => Expected::GroupEnd,
+            State::SectionWord | State::SectionStop | State::ListAnd => Expected::SectionNumber,
+            State::SectionNumber => Expected::PartsOrSections,
+            State::SectionComma => Expected::PartOrSection,
+            State::ListNumber | State::ListLast | State::ListInclusive => Expected::MoreSections,
+            State::ListTo => Expected::LastSection,
+            State::ListComma | State::ListLastComma => Expected::SectionOrAll,
+            State::ListColon => Expected::All,
+            State::ListAll => Expected::GroupEnd,
             State::Lot => Expected::LotNumber,
-            State::Lots(ListState::To) => Expected::LastLot,
-            State::Lots(ListState::Comma | ListState::LastComma | ListState::And) => {
-                Expected::LotOrPart
-            }
-            State::Lots(_) => Expected::MoreLots,
-            State::Parts(state) => expected_in_parts(state),
+            State::LotNumber | State::LotLast | State::LotInclusive => Expected::MoreLots,
+            State::LotTo => Expected::LastLot,
+            State::LotComma | State::LotLastComma | State::LotAnd => Expected::LotOrPart,
+            State::BeforePart | State::PartComma => Expected::Part,
+            State::Side => Expected::Half,
+            State::Corner => Expected::Quarter,
+            State::Step | State::All => Expected::MoreParts,
+            State::Of | State::OfThe => Expected::Step,
             State::End => Expected::Nothing,
         }
     }
@@ -115,42 +108,27 @@ impl State {
     pub fn is_final(self) -> bool
         ensures { result ≡ is_final self }
     {
-        match self {
-            State::Section(SectionState::Number)
-            | State::Sections(ListState::Number | ListState::Last | ListState::Inclusive)
-            | State::SectionsAll
-            | State::Lots(ListState::Number | ListState::Last | ListState::Inclusive)
-            | State::Parts(PartState::Step | PartState::All)
-            | State::End => true,
-            _ => false,
-        }
+        matches!(
+            self,
+            State::SectionNumber
+                | State::ListNumber
+                | State::ListLast
+                | State::ListInclusive
+                | State::ListAll
+                | State::LotNumber
+                | State::LotLast
+                | State::LotInclusive
+                | State::Step
+                | State::All
+                | State::End
+        )
     }
-}
 
-/// What could stand in a heading.
-fn expected_in_heading(state: HeadingState) -> Expected
-    ensures { result ≡ expected_of (State.Heading state) }
-{
-    match state {
-        HeadingState::Township | HeadingState::TownshipStop => Expected::TownshipNumber,
-        HeadingState::TownshipNumber => Expected::TownshipSide,
-        HeadingState::TownshipSide | HeadingState::TownshipSideStop | HeadingState::TownshipComma =>
-            Expected::Range,
-        HeadingState::Range | HeadingState::RangeStop => Expected::RangeNumber,
-        HeadingState::RangeNumber => Expected::RangeSide,
-        HeadingState::RangeSide | HeadingState::RangeSideStop => Expected::Sections,
-    }
-}
-
-/// What could stand among the parts of one section.
-fn expected_in_parts(state: PartState) -> Expected
-    ensures { result ≡ expected_of (State.Parts state) }
-{
-    match state {
-        PartState::Before | PartState::Comma => Expected::Part,
-        PartState::Side => Expected::Half,
-        PartState::Corner => Expected::Quarter,
-        PartState::Step | PartState::All => Expected::MoreParts,
-        PartState::Of | PartState::OfThe => Expected::Step,
+    /// Whether a chain of steps goes on with one more.
+    #[inline(always)]
+    pub fn is_in_chain(self) -> bool
+        ensures { result ≡ is_in_chain self }
+    {
+        matches!(self, State::Step | State::Of | State::OfThe)
     }
 }

@@ -2,12 +2,12 @@
 //! states take.
 
 ghost use Rattle.std.specs.Prelude.{◌≡◌};
-ghost use Rattle.std.specs.Option.{option_map};
+ghost use Rattle.std.specs.Option.{option_map, is_some};
 ghost use Rattle.twp_text.specs.Grammar.{class_of, sec, lot, all, and, to, inclusive, north_south, east_west, corner, number, comma, semicolon, colon, stop, r};
 ghost use Rattle.twp_text.specs.Machine.{next};
 
 use crate::kind::Kind;
-use crate::state::{HeadingState, ListState, PartState, SectionState, State};
+use crate::state::State;
 
 impl State {
     /// What the tokens are the beginning of with one more, or None where they are of nothing.
@@ -17,7 +17,7 @@ impl State {
     {
         match kind {
             Kind::T => match self {
-                State::Start => Some(State::Heading(HeadingState::Township)),
+                State::Start => Some(State::Township),
                 _ => None,
             },
             Kind::R => self.with_range(),
@@ -26,21 +26,21 @@ impl State {
             Kind::All => self.with_all(),
             Kind::NorthSouth(_) => self.with_north_south(),
             Kind::EastWest(_) => self.with_east_west(),
-            Kind::Corner(_) => self.with_step(PartState::Corner),
+            Kind::Corner(_) => self.with_step(State::Corner),
             Kind::Half => match self {
-                State::Parts(PartState::Side) => Some(State::Parts(PartState::Step)),
+                State::Side => Some(State::Step),
                 _ => None,
             },
             Kind::Quarter => match self {
-                State::Parts(PartState::Corner) => Some(State::Parts(PartState::Step)),
+                State::Corner => Some(State::Step),
                 _ => None,
             },
             Kind::Of => match self {
-                State::Parts(PartState::Step) => Some(State::Parts(PartState::Of)),
+                State::Step => Some(State::Of),
                 _ => None,
             },
             Kind::The => match self {
-                State::Parts(PartState::Of) => Some(State::Parts(PartState::OfThe)),
+                State::Of => Some(State::OfThe),
                 _ => None,
             },
             Kind::Number(_) => self.with_number(),
@@ -61,11 +61,7 @@ impl State {
         ensures { result ≡ next self r }
     {
         match self {
-            State::Heading(
-                HeadingState::TownshipSide
-                | HeadingState::TownshipSideStop
-                | HeadingState::TownshipComma,
-            ) => Some(State::Heading(HeadingState::Range)),
+            State::TownshipSide | State::TownshipSideStop | State::TownshipComma => Some(State::Range),
             _ => None,
         }
     }
@@ -77,36 +73,73 @@ impl State {
     {
         match self {
             State::Start
-            | State::Heading(HeadingState::RangeSide | HeadingState::RangeSideStop)
+            | State::RangeSide | State::RangeSideStop
             | State::BeforeGroup
-            | State::Semicolon => Some(State::Section(SectionState::Word)),
+            | State::Semicolon => Some(State::SectionWord),
             _ => None,
         }
+    }
+
+    /// Whether a part of one section may begin here.
+    #[inline(always)]
+    fn begins_part(self) -> bool
+        ensures { result ≡ is_some (next self lot) }
+    {
+        matches!(
+            self,
+            State::SectionNumber
+                | State::SectionComma
+                | State::LotComma
+                | State::LotLastComma
+                | State::LotAnd
+                | State::BeforePart
+                | State::PartComma
+        )
     }
 
     /// The first token of a part of one section, which leads to the state that is given.
     #[inline(always)]
+    #[tactic(auto, using(crate::proofs::StateFacts::leads_on, crate::proofs::StateFacts::leads_nowhere))]
     fn with_part(self, behind: State) -> Option<State>
         ensures { result ≡ option_map (λ _. behind) (next self lot) }
     {
-        match self {
-            State::Section(SectionState::Number | SectionState::Comma)
-            | State::Lots(ListState::Comma | ListState::LastComma | ListState::And)
-            | State::Parts(PartState::Before | PartState::Comma) => Some(behind),
-            _ => None,
+        if self.begins_part() {
+            Some(behind)
+        } else {
+            None
         }
     }
 
-    /// The first token of a step, which may be the first of a part.
+    /// Whether a step may begin here, which may be the first of a part.
     #[inline(always)]
-    fn with_step(self, behind: PartState) -> Option<State>
-        ensures { result ≡ option_map (λ _. State.Parts behind) (next self corner) }
+    fn begins_step(self) -> bool
+        ensures { result ≡ is_some (next self corner) }
     {
-        match self {
-            State::Parts(PartState::Step | PartState::Of | PartState::OfThe) => {
-                Some(State::Parts(behind))
-            }
-            _ => self.with_part(State::Parts(behind)),
+        matches!(
+            self,
+            State::SectionNumber
+                | State::SectionComma
+                | State::LotComma
+                | State::LotLastComma
+                | State::LotAnd
+                | State::BeforePart
+                | State::PartComma
+                | State::Step
+                | State::Of
+                | State::OfThe
+        )
+    }
+
+    /// The first token of a step, which leads to the state that is given.
+    #[inline(always)]
+    #[tactic(auto, using(crate::proofs::StateFacts::leads_on, crate::proofs::StateFacts::leads_nowhere))]
+    fn with_step(self, behind: State) -> Option<State>
+        ensures { result ≡ option_map (λ _. behind) (next self corner) }
+    {
+        if self.begins_step() {
+            Some(behind)
+        } else {
+            None
         }
     }
 
@@ -116,10 +149,10 @@ impl State {
         ensures { result ≡ next self north_south }
     {
         match self {
-            State::Heading(HeadingState::TownshipNumber) => {
-                Some(State::Heading(HeadingState::TownshipSide))
+            State::TownshipNumber => {
+                Some(State::TownshipSide)
             }
-            _ => self.with_step(PartState::Side),
+            _ => self.with_step(State::Side),
         }
     }
 
@@ -129,10 +162,10 @@ impl State {
         ensures { result ≡ next self east_west }
     {
         match self {
-            State::Heading(HeadingState::RangeNumber) => {
-                Some(State::Heading(HeadingState::RangeSide))
+            State::RangeNumber => {
+                Some(State::RangeSide)
             }
-            _ => self.with_step(PartState::Side),
+            _ => self.with_step(State::Side),
         }
     }
 
@@ -142,9 +175,13 @@ impl State {
         ensures { result ≡ next self all }
     {
         match self {
-            State::Sections(ListState::To | ListState::And) => None,
-            State::Sections(_) | State::SectionsColon => Some(State::SectionsAll),
-            _ => self.with_part(State::Parts(PartState::All)),
+            State::ListNumber
+            | State::ListLast
+            | State::ListInclusive
+            | State::ListComma
+            | State::ListLastComma
+            | State::ListColon => Some(State::ListAll),
+            _ => self.with_part(State::All),
         }
     }
 
@@ -154,24 +191,24 @@ impl State {
         ensures { result ≡ next self number }
     {
         match self {
-            State::Heading(HeadingState::Township | HeadingState::TownshipStop) => {
-                Some(State::Heading(HeadingState::TownshipNumber))
+            State::Township | State::TownshipStop => {
+                Some(State::TownshipNumber)
             }
-            State::Heading(HeadingState::Range | HeadingState::RangeStop) => {
-                Some(State::Heading(HeadingState::RangeNumber))
+            State::Range | State::RangeStop => {
+                Some(State::RangeNumber)
             }
-            State::Section(SectionState::Word | SectionState::Stop) => {
-                Some(State::Section(SectionState::Number))
+            State::SectionWord | State::SectionStop => {
+                Some(State::SectionNumber)
             }
-            State::Section(SectionState::Comma)
-            | State::Sections(ListState::Comma | ListState::LastComma | ListState::And) => {
-                Some(State::Sections(ListState::Number))
+            State::SectionComma
+            | State::ListComma | State::ListLastComma | State::ListAnd => {
+                Some(State::ListNumber)
             }
-            State::Sections(ListState::To) => Some(State::Sections(ListState::Last)),
-            State::Lot | State::Lots(ListState::Comma | ListState::LastComma | ListState::And) => {
-                Some(State::Lots(ListState::Number))
+            State::ListTo => Some(State::ListLast),
+            State::Lot | State::LotComma | State::LotLastComma | State::LotAnd => {
+                Some(State::LotNumber)
             }
-            State::Lots(ListState::To) => Some(State::Lots(ListState::Last)),
+            State::LotTo => Some(State::LotLast),
             _ => None,
         }
     }
@@ -182,10 +219,10 @@ impl State {
         ensures { result ≡ next self to }
     {
         match self {
-            State::Section(SectionState::Number) | State::Sections(ListState::Number) => {
-                Some(State::Sections(ListState::To))
+            State::SectionNumber | State::ListNumber => {
+                Some(State::ListTo)
             }
-            State::Lots(ListState::Number) => Some(State::Lots(ListState::To)),
+            State::LotNumber => Some(State::LotTo),
             _ => None,
         }
     }
@@ -196,11 +233,11 @@ impl State {
         ensures { result ≡ next self inclusive }
     {
         match self {
-            State::Sections(ListState::Last | ListState::LastComma) => {
-                Some(State::Sections(ListState::Inclusive))
+            State::ListLast | State::ListLastComma => {
+                Some(State::ListInclusive)
             }
-            State::Lots(ListState::Last | ListState::LastComma) => {
-                Some(State::Lots(ListState::Inclusive))
+            State::LotLast | State::LotLastComma => {
+                Some(State::LotInclusive)
             }
             _ => None,
         }
@@ -212,22 +249,22 @@ impl State {
         ensures { result ≡ next self comma }
     {
         match self {
-            State::Heading(HeadingState::TownshipSide | HeadingState::TownshipSideStop) => {
-                Some(State::Heading(HeadingState::TownshipComma))
+            State::TownshipSide | State::TownshipSideStop => {
+                Some(State::TownshipComma)
             }
-            State::Heading(HeadingState::RangeSide | HeadingState::RangeSideStop) => {
+            State::RangeSide | State::RangeSideStop => {
                 Some(State::BeforeGroup)
             }
-            State::Section(SectionState::Number) => Some(State::Section(SectionState::Comma)),
-            State::Sections(ListState::Number | ListState::Inclusive) => {
-                Some(State::Sections(ListState::Comma))
+            State::SectionNumber => Some(State::SectionComma),
+            State::ListNumber | State::ListInclusive => {
+                Some(State::ListComma)
             }
-            State::Sections(ListState::Last) => Some(State::Sections(ListState::LastComma)),
-            State::Lots(ListState::Number | ListState::Inclusive) => {
-                Some(State::Lots(ListState::Comma))
+            State::ListLast => Some(State::ListLastComma),
+            State::LotNumber | State::LotInclusive => {
+                Some(State::LotComma)
             }
-            State::Lots(ListState::Last) => Some(State::Lots(ListState::LastComma)),
-            State::Parts(PartState::Step | PartState::All) => Some(State::Parts(PartState::Comma)),
+            State::LotLast => Some(State::LotLastComma),
+            State::Step | State::All => Some(State::PartComma),
             _ => None,
         }
     }
@@ -239,15 +276,20 @@ impl State {
     {
         match self {
             State::Semicolon => Some(State::BeforeGroup),
-            State::Section(SectionState::Number | SectionState::Comma) => {
-                Some(State::Sections(ListState::And))
-            }
-            State::Sections(ListState::To | ListState::And) => None,
-            State::Sections(_) => Some(State::Sections(ListState::And)),
-            State::Lots(ListState::To | ListState::And) => None,
-            State::Lots(_) => Some(State::Lots(ListState::And)),
-            State::Parts(PartState::Comma | PartState::Step | PartState::All) => {
-                Some(State::Parts(PartState::Before))
+            State::SectionNumber
+            | State::SectionComma
+            | State::ListNumber
+            | State::ListLast
+            | State::ListInclusive
+            | State::ListComma
+            | State::ListLastComma => Some(State::ListAnd),
+            State::LotNumber
+            | State::LotLast
+            | State::LotInclusive
+            | State::LotComma
+            | State::LotLastComma => Some(State::LotAnd),
+            State::PartComma | State::Step | State::All => {
+                Some(State::BeforePart)
             }
             _ => None,
         }
@@ -259,9 +301,9 @@ impl State {
         ensures { result ≡ next self colon }
     {
         match self {
-            State::Section(SectionState::Number) => Some(State::Parts(PartState::Before)),
-            State::Sections(ListState::Number | ListState::Last | ListState::Inclusive) => {
-                Some(State::SectionsColon)
+            State::SectionNumber => Some(State::BeforePart),
+            State::ListNumber | State::ListLast | State::ListInclusive => {
+                Some(State::ListColon)
             }
             _ => None,
         }
@@ -273,17 +315,17 @@ impl State {
         ensures { result ≡ next self stop }
     {
         match self {
-            State::Heading(HeadingState::Township) => {
-                Some(State::Heading(HeadingState::TownshipStop))
+            State::Township => {
+                Some(State::TownshipStop)
             }
-            State::Heading(HeadingState::TownshipSide) => {
-                Some(State::Heading(HeadingState::TownshipSideStop))
+            State::TownshipSide => {
+                Some(State::TownshipSideStop)
             }
-            State::Heading(HeadingState::Range) => Some(State::Heading(HeadingState::RangeStop)),
-            State::Heading(HeadingState::RangeSide) => {
-                Some(State::Heading(HeadingState::RangeSideStop))
+            State::Range => Some(State::RangeStop),
+            State::RangeSide => {
+                Some(State::RangeSideStop)
             }
-            State::Section(SectionState::Word) => Some(State::Section(SectionState::Stop)),
+            State::SectionWord => Some(State::SectionStop),
             _ => self.with_end(State::End),
         }
     }
@@ -294,11 +336,11 @@ impl State {
         ensures { result ≡ option_map (λ _. behind) (next self semicolon) }
     {
         match self {
-            State::Section(SectionState::Number)
-            | State::Sections(ListState::Number | ListState::Last | ListState::Inclusive)
-            | State::SectionsAll
-            | State::Lots(ListState::Number | ListState::Last | ListState::Inclusive)
-            | State::Parts(PartState::Step | PartState::All) => Some(behind),
+            State::SectionNumber
+            | State::ListNumber | State::ListLast | State::ListInclusive
+            | State::ListAll
+            | State::LotNumber | State::LotLast | State::LotInclusive
+            | State::Step | State::All => Some(behind),
             _ => None,
         }
     }
