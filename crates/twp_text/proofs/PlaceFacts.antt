@@ -8,8 +8,8 @@ use Rattle.std.specs.List.{prefix_len}
 pub byte_ahead : (text : List ℕ) (at ahead : ℕ) → slice_index_or text (at + ahead) 0 ≡ slice_index (drop at text) ahead
 byte_ahead text at ahead = sym (get_or-drop at text ahead 0)
 
-pub past_end : (text : List ℕ) (at ahead : ℕ) → length text - at ≤ ahead → 0 ≡ slice_index (drop at text) ahead
-past_end text at ahead past = sym (get_or-eq_default (drop at text) 0 (rw (length-drop at text) past))
+pub past_end : (text : List ℕ) (at ahead : ℕ) → length text ≤ at + ahead → 0 ≡ slice_index (drop at text) ahead
+past_end text at ahead past = sym (get_or-eq_default (drop at text) 0 (rw (length-drop at text) (omega arith)))
 
 -- a run that goes on at a place, and one that ends there
 pub one_further : (p : ℕ → Bool) (text : List ℕ) (at end : ℕ) → at < length text → p (slice_index text at) ≡ true → at + prefix_len p (drop at text) ≡ end → (at + 1) + prefix_len p (drop (at + 1) text) ≡ end

@@ -1,4 +1,4 @@
-ghost use Rattle.std.specs.Prelude.{◌≡◌, ◌<◌, ◌≤◌, Some, length, drop, slice_index};
+ghost use Rattle.std.specs.Prelude.{◌≡◌, ◌+◌, ◌<◌, ◌≤◌, Some, IfSome, length, drop, slice_index};
 ghost use Rattle.std.specs.Char.{is_ascii_alphabetic, is_ascii_digit};
 ghost use Rattle.std.specs.List.{prefix_len};
 ghost use Rattle.std.specs.Str.Parse.{AllDigits, digits_value};
@@ -33,18 +33,27 @@ impl Lexeme {
     }
 }
 
-/// So many bytes on from a place, a byte, or 0 past the end.
+/// The byte that stands so many bytes ahead of a place, or 0 past the end.
 #[inline(always)]
 #[tactic(auto, using(crate::proofs::PlaceFacts::byte_ahead, crate::proofs::PlaceFacts::past_end))]
 fn byte_at(text: &[u8], at: usize, ahead: usize) -> u8
-    requires { at ≤ length text.now }
-    ensures { result ≡ slice_index (drop at text.now) ahead }
+    requires { at + ahead ≤ length text.now }
+    ensures value { result ≡ slice_index (drop at text.now) ahead }
+    ensures inside { 0 < result → at + ahead < length text.now }
 {
-    if ahead < text.len() - at {
-        text[at + ahead]
-    } else {
-        0
-    }
+    let index = at + ahead;
+    if index < text.len() { text[index] } else { 0 }
+}
+
+/// The letter that stands so many bytes ahead of a place, as a small one.
+#[inline(always)]
+#[tactic(auto, using(crate::proofs::LetterFacts::letter_counts))]
+fn letter_at(text: &[u8], at: usize, ahead: usize) -> Option<u8>
+    requires { at + ahead ≤ length text.now }
+    ensures letter { result ≡ small_letter (slice_index (drop at text.now) ahead) }
+    ensures inside { IfSome result (λ _. at + ahead < length text.now) }
+{
+    small_letter(byte_at(text, at, ahead))
 }
 
 /// The bytes from a place on.
@@ -75,23 +84,23 @@ fn small_letter(byte: u8) -> Option<u8>
 #[inline(always)]
 #[tactic(auto, using(crate::proofs::WordFacts::one_letter, crate::proofs::WordFacts::two_letters, crate::proofs::WordFacts::three_letters, crate::proofs::WordFacts::long))]
 fn word(text: &[u8], at: usize, first: u8) -> Lexeme
-    requires place { at ≤ length text.now }
+    requires place { at < length text.now }
     requires letter { small_letter (slice_index (drop at text.now) 0) ≡ Some first }
     ensures { result ≡ cut_word (drop at text.now) }
 {
-    let Some(second) = small_letter(byte_at(text, at, 1)) else {
+    let Some(second) = letter_at(text, at, 1) else {
         return Lexeme {
             kind: one_letter(first),
             size: 1,
         };
     };
-    let Some(third) = small_letter(byte_at(text, at, 2)) else {
+    let Some(third) = letter_at(text, at, 2) else {
         return Lexeme {
             kind: two_letters(first, second),
             size: 2,
         };
     };
-    let Some(_) = small_letter(byte_at(text, at, 3)) else {
+    let Some(_) = letter_at(text, at, 3) else {
         return Lexeme {
             kind: three_letters(first, second, third),
             size: 3,
@@ -142,7 +151,7 @@ fn count_digits(bytes: &[u8]) -> usize
 #[inline(always)]
 #[tactic(auto, unfolding(crate::specs::Cutting::cut_digits))]
 fn digits(text: &[u8], at: usize) -> Lexeme
-    requires { at ≤ length text.now }
+    requires { at < length text.now }
     ensures { result ≡ cut_digits (drop at text.now) }
 {
     if byte_at(text, at, 0) == b'1' && byte_at(text, at, 1) == b'/' {
@@ -202,7 +211,7 @@ fn value(digits: &[u8]) -> u16
 #[inline(always)]
 #[tactic(auto, unfolding(crate::specs::Cutting::cut_mark))]
 fn mark(text: &[u8], at: usize) -> Lexeme
-    requires { at ≤ length text.now }
+    requires { at < length text.now }
     ensures { result ≡ cut_mark (slice_index (drop at text.now) 0) (slice_index (drop at text.now) 1) }
 {
     let (kind, size) = match byte_at(text, at, 0) {

@@ -1,4 +1,4 @@
-ghost use Rattle.std.specs.Prelude.{◌≡◌, ◌<◌, ◌≤◌, ◌+◌, MatchOption, drop, length};
+ghost use Rattle.std.specs.Prelude.{◌≡◌, ◌≤◌, ◌+◌, drop, length};
 ghost use Rattle.twp_text.specs.Tokens.{is_white};
 ghost use Rattle.twp_text.specs.Cutting.{GivesFirst};
 ghost use Rattle.std.specs.Iterator.{at_most};
@@ -25,9 +25,10 @@ impl<'a> Token<'a> {
         requires { from ≤ length text.now }
         ensures { GivesFirst text.now from result }
     {
-        let Some(at) = behind_white(text, from) else {
+        let at = behind_white(text, from);
+        if at >= text.len() {
             return None;
-        };
+        }
         let Lexeme { kind, size } = Lexeme::at(text, at);
         let (_, left) = text.split_at(at);
         let (text, _) = left.split_at(size);
@@ -86,21 +87,18 @@ impl<'a> Iterator for Tokens<'a> {
     }
 }
 
-/// The first place from a place on that has no white space, or None where the text ends before.
+/// The first place from a place on that has no white space, or the text's length.
 #[inline(always)]
-fn behind_white(text: &[u8], from: usize) -> Option<usize>
+fn behind_white(text: &[u8], from: usize) -> usize
     requires { from ≤ length text.now }
-    ensures { MatchOption result (length text.now ≡ from + prefix_len is_white (drop from text.now))
-        (λ at. (at ≡ from + prefix_len is_white (drop from text.now)) × (at < length text.now)) }
+    ensures value { result ≡ from + prefix_len is_white (drop from text.now) }
+    ensures range { result ≤ length text.now }
 {
     let mut at = from;
-    while at < text.len() {
-        if !is_white(text[at]) {
-            return Some(at);
-        }
+    while at < text.len() && is_white(text[at]) {
         at += 1;
     }
-    None
+    at
 }
 
 /// Whether a byte is a space, a tabulator, a line feed or a carriage return.

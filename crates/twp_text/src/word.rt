@@ -26,13 +26,13 @@ pub fn one_letter(first: u8) -> Kind
 pub fn two_letters(first: u8, second: u8) -> Kind
     ensures { result ≡ kind_among (first ∷ second ∷ []) words }
 {
-    match (second, first) {
-        (b'e', b'n') => Kind::Corner(Corner::NE),
-        (b'e', b's') => Kind::Corner(Corner::SE),
-        (b'w', b'n') => Kind::Corner(Corner::NW),
-        (b'w', b's') => Kind::Corner(Corner::SW),
-        (b'f', b'o') => Kind::Of,
-        (b'o', b't') => Kind::To,
+    match second {
+        b'e' if first == b'n' => Kind::Corner(Corner::NE),
+        b'e' if first == b's' => Kind::Corner(Corner::SE),
+        b'w' if first == b'n' => Kind::Corner(Corner::NW),
+        b'w' if first == b's' => Kind::Corner(Corner::SW),
+        _ if first == b'o' && second == b'f' => Kind::Of,
+        _ if first == b't' && second == b'o' => Kind::To,
         _ => Kind::Other,
     }
 }
