@@ -1,7 +1,9 @@
-ghost use Rattle.std.specs.Prelude.{◌≡◌, ◌+◌, ◌<◌, ◌≤◌, Some, IfSome, length, drop, slice_index};
+ghost use Rattle.std.specs.Prelude.{◌≡◌, ◌+◌, ◌<◌, ◌≤◌, Some, IfSome, length, take, drop, slice_index};
 ghost use Rattle.std.specs.Char.{is_ascii_alphabetic, is_ascii_digit};
 ghost use Rattle.std.specs.List.{prefix_len};
 ghost use Rattle.std.specs.Str.Parse.{AllDigits, digits_value};
+ghost use Rattle.std.specs.Str.{str_to_ascii_lowercase};
+ghost use Rattle.twp_text.specs.Tokens.{kind_among, long_words};
 ghost use Rattle.twp_text.specs.Cutting.{small_letter, cut_word, cut_number, cut_digits, cut_mark, cut};
 
 use crate::kind::Kind;
@@ -106,42 +108,55 @@ fn word(text: &[u8], at: usize, first: u8) -> Lexeme
             size: 3,
         };
     };
-    long_word(bytes_from(text, at))
+    long_word(text, at)
 }
 
 /// A word of four letters or more.
 #[inline(always)]
 #[tactic(auto, using(crate::proofs::WordFacts::long_word_is))]
-fn long_word(bytes: &[u8]) -> Lexeme
-    requires { 3 < prefix_len is_ascii_alphabetic bytes.now }
-    ensures { result ≡ cut_word bytes.now }
+fn long_word(text: &[u8], at: usize) -> Lexeme
+    requires place { at < length text.now }
+    requires long { 3 < prefix_len is_ascii_alphabetic (drop at text.now) }
+    ensures { result ≡ cut_word (drop at text.now) }
 {
-    let size = count_letters(bytes);
+    let size = count_letters(text, at);
     Lexeme {
-        kind: word::long_word(&bytes[..size]),
+        kind: kind_of_long(text, at, size),
         size,
     }
 }
 
-/// How many letters bytes begin with.
+/// How many letters stand at a place.
 #[inline(never)]
-fn count_letters(bytes: &[u8]) -> usize
-    ensures value { result ≡ prefix_len is_ascii_alphabetic bytes.now }
-    ensures range { result ≤ length bytes.now }
+fn count_letters(text: &[u8], at: usize) -> usize
+    requires { at ≤ length text.now }
+    ensures value { result ≡ prefix_len is_ascii_alphabetic (drop at text.now) }
+    ensures range { result ≤ length (drop at text.now) }
 {
-    bytes
+    bytes_from(text, at)
         .iter()
         .take_while(|byte| byte.is_ascii_alphabetic())
         .count()
 }
 
-/// How many digits bytes begin with.
+/// What the word of so many letters at a place is, which are four or more.
 #[inline(never)]
-fn count_digits(bytes: &[u8]) -> usize
-    ensures value { result ≡ prefix_len is_ascii_digit bytes.now }
-    ensures range { result ≤ length bytes.now }
+fn kind_of_long(text: &[u8], at: usize, size: usize) -> Kind
+    requires place { at ≤ length text.now }
+    requires size { size ≤ length (drop at text.now) }
+    ensures { result ≡ kind_among (str_to_ascii_lowercase (take size (drop at text.now))) long_words }
 {
-    bytes
+    word::long_word(&bytes_from(text, at)[..size])
+}
+
+/// How many digits stand at a place.
+#[inline(never)]
+fn count_digits(text: &[u8], at: usize) -> usize
+    requires { at ≤ length text.now }
+    ensures value { result ≡ prefix_len is_ascii_digit (drop at text.now) }
+    ensures range { result ≤ length (drop at text.now) }
+{
+    bytes_from(text, at)
         .iter()
         .take_while(|byte| byte.is_ascii_digit())
         .count()
@@ -171,16 +186,17 @@ fn digits(text: &[u8], at: usize) -> Lexeme
             _ => {}
         }
     }
-    number(bytes_from(text, at))
+    number(text, at)
 }
 
 /// Digits: a number, or too many.
 #[inline(always)]
 #[tactic(auto, using(crate::proofs::Numerals::digits_in_front, crate::proofs::Numerals::few_digits, crate::proofs::Numerals::many_digits))]
-fn number(bytes: &[u8]) -> Lexeme
-    ensures { result ≡ cut_number bytes.now }
+fn number(text: &[u8], at: usize) -> Lexeme
+    requires { at ≤ length text.now }
+    ensures { result ≡ cut_number (drop at text.now) }
 {
-    let size = count_digits(bytes);
+    let size = count_digits(text, at);
     if size > 4 {
         return Lexeme {
             kind: Kind::BadNumber,
@@ -188,13 +204,24 @@ fn number(bytes: &[u8]) -> Lexeme
         };
     }
     Lexeme {
-        kind: Kind::Number(value(&bytes[..size])),
+        kind: Kind::Number(value_at(text, at, size)),
         size,
     }
 }
 
-/// The number that up to four digits spell.
+/// The number that so many digits at a place spell, up to four.
 #[inline(never)]
+fn value_at(text: &[u8], at: usize, size: usize) -> u16
+    requires place { at ≤ length text.now }
+    requires size { size ≤ length (drop at text.now) }
+    requires digits { AllDigits 10 (take size (drop at text.now)) }
+    requires few { size ≤ 4 }
+    ensures { result ≡ digits_value 10 (take size (drop at text.now)) }
+{
+    value(&bytes_from(text, at)[..size])
+}
+
+/// The number that up to four digits spell.
 fn value(digits: &[u8]) -> u16
     requires digits { AllDigits 10 digits.now }
     requires few { length digits.now ≤ 4 }
