@@ -49,6 +49,7 @@ impl Description {
     }
 
     /// Reads a description within the limit.
+    #[inline(never)]
     fn read_within(alloc: Global, text: &[u8]) -> Result<Description, TextFault>
         requires { length text.now ≤ TEXT_LIMIT }
         ensures read { IfOk result (IsReadAs text.now) }
