@@ -177,7 +177,7 @@ impl Items {
     }
 
     /// A chain of one step.
-    #[inline(never)]
+    #[inline(always)]
     fn push_chain(&mut self, alloc: Global, step: Step, at: u32) -> Result<(), AllocError>
         ensures { OnOk result (self.new ≡ Item.Chain (step ∷ []) at ∷ self.old) }
     {
