@@ -42,13 +42,15 @@ pub fn two_letters(first: u8, second: u8) -> Kind
 pub fn three_letters(first: u8, second: u8, third: u8) -> Kind
     ensures { result ≡ kind_among (first ∷ second ∷ third ∷ []) words }
 {
-    match (first, second, third) {
-        (b's', b'e', b'c') => Kind::Sec,
-        (b'l', b'o', b't') => Kind::Lot,
-        (b'a', b'l', b'l') => Kind::All,
-        (b'a', b'n', b'd') => Kind::And,
-        (b't', b'h', b'e') => Kind::The,
-        _ => Kind::Other,
+    match third {
+        b'e' if first == b't' && second == b'h' => Kind::The,
+        b'd' if first == b'a' && second == b'n' => Kind::And,
+        _ => match (first, second, third) {
+            (b's', b'e', b'c') => Kind::Sec,
+            (b'l', b'o', b't') => Kind::Lot,
+            (b'a', b'l', b'l') => Kind::All,
+            _ => Kind::Other,
+        },
     }
 }
 
