@@ -2,6 +2,9 @@
 use Rattle.std.proofs.Common.{◌≡◌, true, false, Option, Some, None, refl}
 use Rattle.std.specs.Option.{option_map, is_some}
 use Rattle.twp_text.specs.declared.state.State.{State}
+use Rattle.twp_text.specs.declared.state.State.TheVariants as past
+use Rattle.twp_text.specs.Grammar.{lot, corner}
+use Rattle.twp_text.specs.Machine.{next, is_in_chain}
 
 pub leads_on : (o : Option State) (behind : State) → is_some o ≡ true → Some behind ≡ option_map (λ _. behind) o
 leads_on None behind h = cc h
@@ -10,3 +13,16 @@ leads_on (Some s) behind h = refl
 pub leads_nowhere : (o : Option State) (behind : State) → is_some o ≡ false → None ≡ option_map (λ _. behind) o
 leads_nowhere None behind h = refl
 leads_nowhere (Some s) behind h = cc h
+
+-- a step goes on with a chain, or begins a part
+pub chain_goes_on : (s : State) → is_in_chain s ≡ true → true ≡ is_some (next s corner)
+chain_goes_on past.Step h = refl
+chain_goes_on past.Of h = refl
+chain_goes_on past.OfThe h = refl
+chain_goes_on _ h = cc h
+
+pub part_begins : (s : State) → is_in_chain s ≡ false → is_some (next s lot) ≡ is_some (next s corner)
+part_begins past.Step h = cc h
+part_begins past.Of h = cc h
+part_begins past.OfThe h = cc h
+part_begins _ h = refl

@@ -112,22 +112,11 @@ impl State {
 
     /// Whether a step may begin here, which may be the first of a part.
     #[inline(always)]
+    #[tactic(auto, using(crate::proofs::StateFacts::chain_goes_on, crate::proofs::StateFacts::part_begins))]
     fn begins_step(self) -> bool
         ensures { result ≡ is_some (next self corner) }
     {
-        matches!(
-            self,
-            State::SectionNumber
-                | State::SectionComma
-                | State::LotComma
-                | State::LotLastComma
-                | State::LotAnd
-                | State::BeforePart
-                | State::PartComma
-                | State::Step
-                | State::Of
-                | State::OfThe
-        )
+        self.is_in_chain() || self.begins_part()
     }
 
     /// The first token of a step, which leads to the state that is given.
