@@ -42,15 +42,15 @@ pub fn two_letters(first: u8, second: u8) -> Kind
 pub fn three_letters(first: u8, second: u8, third: u8) -> Kind
     ensures { result ≡ kind_among (first ∷ second ∷ third ∷ []) words }
 {
-    match third {
-        b'e' if first == b't' && second == b'h' => Kind::The,
-        b'd' if first == b'a' && second == b'n' => Kind::And,
-        _ => match (first, second, third) {
-            (b's', b'e', b'c') => Kind::Sec,
-            (b'l', b'o', b't') => Kind::Lot,
-            (b'a', b'l', b'l') => Kind::All,
-            _ => Kind::Other,
-        },
+    if third == b'e' && first == b't' && second == b'h' {
+        return Kind::The;
+    }
+    match (first, second, third) {
+        (b'a', b'n', b'd') => Kind::And,
+        (b's', b'e', b'c') => Kind::Sec,
+        (b'l', b'o', b't') => Kind::Lot,
+        (b'a', b'l', b'l') => Kind::All,
+        _ => Kind::Other,
     }
 }
 
