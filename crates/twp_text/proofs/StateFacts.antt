@@ -3,7 +3,7 @@ use Rattle.std.proofs.Common.{◌≡◌, true, false, Option, Some, None, refl}
 use Rattle.std.specs.Option.{option_map, is_some}
 use Rattle.twp_text.specs.declared.state.State.{State}
 use Rattle.twp_text.specs.declared.state.State.TheVariants as past
-use Rattle.twp_text.specs.Grammar.{lot, corner}
+use Rattle.twp_text.specs.Grammar.{lot, north_south, east_west, corner}
 use Rattle.twp_text.specs.Machine.{next, is_in_chain}
 
 pub leads_on : (o : Option State) (behind : State) → is_some o ≡ true → Some behind ≡ option_map (λ _. behind) o
@@ -26,3 +26,30 @@ part_begins past.Step h = cc h
 part_begins past.Of h = cc h
 part_begins past.OfThe h = cc h
 part_begins _ h = refl
+
+-- a side that a step may begin with
+pub north_south_of_step : (s : State) → is_some (next s corner) ≡ true → Some past.Side ≡ next s north_south
+north_south_of_step past.SectionNumber h = refl
+north_south_of_step past.SectionComma h = refl
+north_south_of_step past.LotComma h = refl
+north_south_of_step past.LotLastComma h = refl
+north_south_of_step past.LotAnd h = refl
+north_south_of_step past.BeforePart h = refl
+north_south_of_step past.PartComma h = refl
+north_south_of_step past.Step h = refl
+north_south_of_step past.Of h = refl
+north_south_of_step past.OfThe h = refl
+north_south_of_step _ h = cc h
+
+pub east_west_of_step : (s : State) → is_some (next s corner) ≡ true → Some past.Side ≡ next s east_west
+east_west_of_step past.SectionNumber h = refl
+east_west_of_step past.SectionComma h = refl
+east_west_of_step past.LotComma h = refl
+east_west_of_step past.LotLastComma h = refl
+east_west_of_step past.LotAnd h = refl
+east_west_of_step past.BeforePart h = refl
+east_west_of_step past.PartComma h = refl
+east_west_of_step past.Step h = refl
+east_west_of_step past.Of h = refl
+east_west_of_step past.OfThe h = refl
+east_west_of_step _ h = cc h

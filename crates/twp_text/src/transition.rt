@@ -134,27 +134,31 @@ impl State {
 
     /// `N` or `S`.
     #[inline(always)]
+    #[tactic(auto, using(crate::proofs::StateFacts::north_south_of_step))]
     fn with_north_south(self) -> Option<State>
         ensures { result ≡ next self north_south }
     {
+        if self.begins_step() {
+            return Some(State::Side);
+        }
         match self {
-            State::TownshipNumber => {
-                Some(State::TownshipSide)
-            }
-            _ => self.with_step(State::Side),
+            State::TownshipNumber => Some(State::TownshipSide),
+            _ => None,
         }
     }
 
     /// `E` or `W`.
     #[inline(always)]
+    #[tactic(auto, using(crate::proofs::StateFacts::east_west_of_step))]
     fn with_east_west(self) -> Option<State>
         ensures { result ≡ next self east_west }
     {
+        if self.begins_step() {
+            return Some(State::Side);
+        }
         match self {
-            State::RangeNumber => {
-                Some(State::RangeSide)
-            }
-            _ => self.with_step(State::Side),
+            State::RangeNumber => Some(State::RangeSide),
+            _ => None,
         }
     }
 
