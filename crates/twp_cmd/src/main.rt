@@ -7,21 +7,12 @@ ghost use Rattle.twp_cmd.specs.Statuses.{status_of};
 
 use std::io;
 use std::process::ExitCode;
+use twp_acres::{RunFault, Verdict};
 use twp_grid::Device;
 
-mod answer;
 mod joined;
-pub mod laws;
-mod running;
-mod stop;
-mod text;
-mod thin;
-mod verdict;
-mod writing;
 
 pub use joined::run_joined;
-pub use running::run_acres;
-pub use verdict::{RunFault, Verdict};
 
 fn main(rt: HostRuntime) -> ExitCode {
     ExitCode::from(run(&rt))

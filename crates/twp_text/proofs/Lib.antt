@@ -14,3 +14,12 @@ pub mod StepFacts
 pub mod LetterFacts
 pub mod PlaceFacts
 pub mod StateFacts
+pub mod BlockFacts
+pub mod ChainFacts
+pub mod ChainFlaws
+pub mod RangeFacts
+pub mod RangeFlaws
+pub mod ItemFlaws
+pub mod PlaceAnswers
+pub mod ResolvingFacts
+pub mod LandLots

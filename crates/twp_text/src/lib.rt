@@ -2,6 +2,7 @@
 //! of it names, and why a text is no sentence.
 #![tactic(auto)]
 
+mod chain;
 mod description;
 mod expected;
 mod fault;
@@ -10,7 +11,11 @@ mod items;
 mod kind;
 pub mod laws;
 mod lexeme;
+mod place_fault;
+mod ranges;
+mod resolving;
 mod state;
+mod taking;
 mod token;
 mod transition;
 mod word;
@@ -20,4 +25,6 @@ pub use expected::Expected;
 pub use fault::{TEXT_LIMIT, TextFault};
 pub use item::{Item, Numeral, Step, Steps};
 pub use kind::Kind;
+pub use place_fault::PlaceFault;
+pub use resolving::resolve;
 pub use token::{Token, Tokens};
