@@ -12,8 +12,8 @@ use Rattle.twp_text.specs.declared.item.Step.{Step}
 use Rattle.twp_text.specs.declared.item.Step.TheVariants.{Half, Quarter}
 use Rattle.twp_text.specs.declared.item.Item.{Item}
 use Rattle.twp_text.specs.declared.item.Item.TheVariants as item
-use Rattle.twp_text.specs.declared.items.Change.{Change}
-use Rattle.twp_text.specs.declared.items.Change.TheVariants as change
+use Rattle.twp_text.specs.declared.change.Change.{Change}
+use Rattle.twp_text.specs.declared.change.Change.TheVariants as change
 use Rattle.twp_text.specs.Items.{north_or_south, east_or_west}
 use Rattle.twp_text.specs.declared.state.State.{State}
 use Rattle.twp_text.specs.declared.state.State.TheVariants as past
