@@ -161,9 +161,9 @@ impl State {
         ensures { result ≡ next self number }
     {
         match self {
-            State::Township | State::TownshipStop => { Some(State::TownshipNumber) }
-            State::Range | State::RangeStop => { Some(State::RangeNumber) }
-            State::SectionWord | State::SectionStop => { Some(State::SectionNumber) }
+            State::Township | State::TownshipStop => Some(State::TownshipNumber),
+            State::Range | State::RangeStop => Some(State::RangeNumber),
+            State::SectionWord | State::SectionStop => Some(State::SectionNumber),
             State::SectionComma | State::ListComma | State::ListLastComma | State::ListAnd => {
                 Some(State::ListNumber)
             }
@@ -182,7 +182,7 @@ impl State {
         ensures { result ≡ next self to }
     {
         match self {
-            State::SectionNumber | State::ListNumber => { Some(State::ListTo) }
+            State::SectionNumber | State::ListNumber => Some(State::ListTo),
             State::LotNumber => Some(State::LotTo),
             _ => None,
         }
@@ -194,8 +194,8 @@ impl State {
         ensures { result ≡ next self inclusive }
     {
         match self {
-            State::ListLast | State::ListLastComma => { Some(State::ListInclusive) }
-            State::LotLast | State::LotLastComma => { Some(State::LotInclusive) }
+            State::ListLast | State::ListLastComma => Some(State::ListInclusive),
+            State::LotLast | State::LotLastComma => Some(State::LotInclusive),
             _ => None,
         }
     }
@@ -206,12 +206,12 @@ impl State {
         ensures { result ≡ next self comma }
     {
         match self {
-            State::TownshipSide | State::TownshipSideStop => { Some(State::TownshipComma) }
-            State::RangeSide | State::RangeSideStop => { Some(State::BeforeGroup) }
+            State::TownshipSide | State::TownshipSideStop => Some(State::TownshipComma),
+            State::RangeSide | State::RangeSideStop => Some(State::BeforeGroup),
             State::SectionNumber => Some(State::SectionComma),
-            State::ListNumber | State::ListInclusive => { Some(State::ListComma) }
+            State::ListNumber | State::ListInclusive => Some(State::ListComma),
             State::ListLast => Some(State::ListLastComma),
-            State::LotNumber | State::LotInclusive => { Some(State::LotComma) }
+            State::LotNumber | State::LotInclusive => Some(State::LotComma),
             State::LotLast => Some(State::LotLastComma),
             State::Step | State::All => Some(State::PartComma),
             _ => None,
@@ -237,7 +237,7 @@ impl State {
             | State::LotInclusive
             | State::LotComma
             | State::LotLastComma => Some(State::LotAnd),
-            State::PartComma | State::Step | State::All => { Some(State::BeforePart) }
+            State::PartComma | State::Step | State::All => Some(State::BeforePart),
             _ => None,
         }
     }
@@ -249,7 +249,7 @@ impl State {
     {
         match self {
             State::SectionNumber => Some(State::BeforePart),
-            State::ListNumber | State::ListLast | State::ListInclusive => { Some(State::ListColon) }
+            State::ListNumber | State::ListLast | State::ListInclusive => Some(State::ListColon),
             _ => None,
         }
     }
@@ -260,10 +260,10 @@ impl State {
         ensures { result ≡ next self stop }
     {
         match self {
-            State::Township => { Some(State::TownshipStop) }
-            State::TownshipSide => { Some(State::TownshipSideStop) }
+            State::Township => Some(State::TownshipStop),
+            State::TownshipSide => Some(State::TownshipSideStop),
             State::Range => Some(State::RangeStop),
-            State::RangeSide => { Some(State::RangeSideStop) }
+            State::RangeSide => Some(State::RangeSideStop),
             State::SectionWord => Some(State::SectionStop),
             _ => self.with_end(State::End),
         }
