@@ -4,3 +4,8 @@ pub mod PieceFacts
 pub mod SectionSums
 pub mod AreaLaws
 pub mod AreaFacts
+pub mod DeviceFacts
+pub mod TextFacts
+pub mod RunFacts
+pub mod PositionFacts
+pub mod OneAnswer

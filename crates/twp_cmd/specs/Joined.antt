@@ -3,7 +3,7 @@ use Rattle.std.specs.Prelude.{ℕ, ◌+◌, ◌==◌, List, take}
 use Rattle.std.specs.List.{before_first, after_first}
 use Rattle.twp_notes.specs.FieldNotes.{NOTES_MOST}
 use Rattle.twp_notes.specs.NotesTexts.{line_feed}
-use Rattle.twp_cmd.specs.Answers.{DESCRIPTION_MOST}
+use Rattle.twp_acres.specs.Answers.{DESCRIPTION_MOST}
 
 -- the most bytes that are read: a description, a line feed, and one byte more than notes may have
 abbrev pub JOINED_MOST : ℕ

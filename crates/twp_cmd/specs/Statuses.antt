@@ -1,7 +1,7 @@
 -- How the program ends, and with what status.
 use Rattle.std.specs.Prelude.{ℕ, Result, Ok, Err}
-use Rattle.twp_cmd.specs.declared.verdict.Verdict.{Verdict}
-use Rattle.twp_cmd.specs.declared.verdict.Verdict.TheVariants.{Accepted, Refused, TractRefused}
+use Rattle.twp_acres.specs.declared.verdict.Verdict.{Verdict}
+use Rattle.twp_acres.specs.declared.verdict.Verdict.TheVariants.{Accepted, Refused, TractRefused}
 use Rattle.twp_cmd.specs.declared.ending.Ending.{Ending}
 use Rattle.twp_cmd.specs.declared.ending.Ending.TheVariants.{Answered, Helped, Misused, Failed}
 use Rattle.twp_cmd.specs.declared.ending.Failure.{Failure}

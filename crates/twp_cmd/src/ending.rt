@@ -2,8 +2,8 @@ ghost use Rattle.std.specs.Prelude.{◌≡◌};
 ghost use Rattle.twp_cmd.specs.Statuses.{ending_of, status_of};
 
 use crate::name::Name;
-use crate::verdict::{RunFault, Verdict};
 use thiserror::Error;
+use twp_acres::{RunFault, Verdict};
 
 /// How the program ends.
 #[derive(Debug, Drop)]

@@ -1,13 +1,12 @@
 ghost use Rattle.std.specs.Prelude.{◌≡◌, ◌==◌, ◌≤◌, ◌↔◌, ℕ, List, length, Some, true, false, IsErrOf, IsOkUnless};
 ghost use Rattle.std.specs.List.{before_first, after_first, position_or_len};
 ghost use Rattle.twp_grid.specs.Devices.{TakesAtMost};
-ghost use Rattle.twp_cmd.specs.Answers.{IsAnswer};
+ghost use Rattle.twp_acres.specs.Answers.{IsAnswer};
 ghost use Rattle.twp_cmd.specs.Joined.{JOINED_MOST, joined_notes, joined_description};
-ghost use Rattle.twp_cmd.specs.Runs.{IsRun, Reads};
+ghost use Rattle.twp_acres.specs.Runs.{IsRun, Reads};
 
-use crate::running::run_acres;
-use crate::verdict::{RunFault, Verdict};
 use std::alloc::Global;
+use twp_acres::{RunFault, Verdict, run_acres};
 use twp_grid::{Bytes, Sink, Source};
 use twp_notes::read_up_to;
 
@@ -77,3 +76,6 @@ fn line_feed_place(bytes: &[u8]) -> usize
 {
     bytes.iter().take_while(|byte| **byte != LINE_FEED).count()
 }
+
+#[cfg(test)]
+mod tests;

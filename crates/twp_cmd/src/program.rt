@@ -7,13 +7,12 @@ ghost use Rattle.twp_cmd.specs.Statuses.{status_of};
 use crate::ending::{Ending, Failure};
 use crate::joined::run_joined;
 use crate::name::Name;
-use crate::running::run_acres;
 use crate::task::{Task, TaskFault, read_task};
-use crate::verdict::{RunFault, Verdict};
 use std::env::Env;
 use std::io::ErrorKind;
 use std::rt::Files;
 use std::{env, fs, io};
+use twp_acres::{RunFault, Verdict, run_acres};
 use twp_grid::Device;
 
 /// Runs the program, tells on standard error why there is no answer, and gives the status.

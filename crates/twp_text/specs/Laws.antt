@@ -1,5 +1,5 @@
 -- Laws over the definitions.
-use Rattle.std.specs.Prelude.{◌≡◌, ℕ, ◌↔◌, List, [], ◌∷◌, ◌++◌}
+use Rattle.std.specs.Prelude.{◌≡◌, ℕ, ◌↔◌, Bool, List, [], ◌∷◌, ◌++◌, Result}
 use Rattle.twp_text.specs.declared.item.Item.{Item}
 use Rattle.twp_text.specs.Tokens.{Token, HasTokens}
 use Rattle.twp_text.specs.Grammar.{entries, several, number}
@@ -7,6 +7,9 @@ use Rattle.twp_text.specs.Items.{Leaf, Tree, token_of, tokens}
 use Rattle.twp_grid.specs.declared.refusal.Refusal.{Refusal}
 use Rattle.twp_text.specs.Sentences.{HasItems, IsSentence, IsFront}
 use Rattle.twp_text.specs.TextFaults.{IsReadAs, IsFirstTextFault}
+use Rattle.twp_grid.specs.Townships.{Designation}
+use Rattle.twp_text.specs.declared.place_fault.PlaceFault.{PlaceFault}
+use Rattle.twp_text.specs.PlaceFaults.{AreOnPlat, IsFirstPlaceFault, AnswersPlaces}
 
 -- each list of bytes is cut into tokens
 abbrev pub HasTokenList : Type 0
@@ -44,3 +47,15 @@ ReadHasNoFault = (text : List ℕ) (items : List Item) (r : Refusal) → IsReadA
 -- a text has one first fault
 abbrev pub OneTextFault : Type 0
 OneTextFault = (text : List ℕ) (r r' : Refusal) → IsFirstTextFault text r → IsFirstTextFault text r' → r ≡ r'
+
+-- what lies on the plat without overlap has no fault
+abbrev pub OnPlatHasNoFault : Type 0
+OnPlatHasNoFault = (g : ℕ) (township : Designation) (items : List Item) (fault : PlaceFault)
+    → AreOnPlat g township items → ¬ IsFirstPlaceFault g township items fault
+
+-- items have one land, or one first fault
+abbrev pub OnePlaceAnswer : Type 0
+OnePlaceAnswer = (g : ℕ) (township : Designation) (items : List Item)
+    (answer answer' : Result (ℕ → ℕ → ℕ → Bool) PlaceFault)
+    → AnswersPlaces g township items answer → AnswersPlaces g township items answer'
+    → answer ≡ answer'

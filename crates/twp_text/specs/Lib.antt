@@ -4,6 +4,8 @@ pub mod Items
 pub mod Sentences
 pub mod Expected
 pub mod TextFaults
+pub mod ItemPlaces
+pub mod PlaceFaults
 pub mod Cutting
 pub mod Machine
 pub mod Laws
