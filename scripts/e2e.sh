@@ -7,7 +7,7 @@ set -u
 ulimit -f 2000
 ulimit -t 20
 program=$(readlink -f "${1:-./township}")
-samples=$(readlink -f "$(dirname "$0")/../samples")
+root=$(readlink -f "$(dirname "$0")/..")
 work=$(mktemp -d)
 trap 'rm -rf "$work"' EXIT
 cd "$work" || exit 1
@@ -36,7 +36,7 @@ text() { [ -z "$1" ] || printf '%s\n' "$1"; }
 # Runs the program with these words, and keeps what it writes.
 run() { "$program" "$@" > out 2> err; }
 
-cp "$samples/b1.csv" n.csv
+cp "$root/samples/b1.csv" n.csv
 printf 'sec. 5, lot 1.' > d.txt
 printf 'sec. 5, lot 1.\n' | cat - n.csv > joined
 : > empty
@@ -58,6 +58,24 @@ run acres empty d.txt; ended 'refused notes' $? 1 'refused 2 at 1' ''
 run acres /dev/null d.txt; ended 'no notes' $? 1 'refused 2 at 1' ''
 run acres /dev/zero d.txt; ended 'endless notes' $? 1 'refused 1 at 65536' ''
 run acres empty folder; ended 'no description is read after refused notes' $? 1 'refused 2 at 1' ''
+
+# The examples of docs/REFUSALS.md on field notes and their plat: each edits the sample.
+refuses() {
+    sed "$1" "$root/samples/b0.csv" > edited
+    run acres edited d.txt; ended "refused: $1" $? 1 "refused $2" ''
+}
+refuses '1s/line/Line/' '3 at 1'
+refuses '3s/.*/N,1,,40.00/' '4 at 3'
+refuses '2s/2/0/' '5 at 2'
+refuses '3s/N/X/' '6 at 3'
+refuses '3s/1/37/' '7 at 3'
+refuses '3s/.*/N,1,3,40.00,80.00/' '8 at 3'
+refuses '3s/40.00/40.0000/' '9 at 3'
+refuses '4s/.*/N,1,,40.00,80.00/' '10 at 4'
+refuses '/^W,6,7,/d' '11 at 53'
+refuses '/^W,8,17,/s/40.00/40.251/' '21 at 58'
+refuses '/^W,6,,/s/80.00/64.99/' '22 at 47'
+refuses '/^W,6,7,/s/80.00/85.01/' '23 at 53'
 
 # Without a word: standard input.
 run < joined; ended 'joined input' $? 0 '40.45 acres' ''
@@ -184,6 +202,14 @@ while [ "$limit" -lt 20000 ]; do
     limit=$((limit + 50))
 done 2> lost
 ended 'little memory' "$status" 3 '' 'township: out of memory'
+
+# The table of docs/REFUSALS.md has the numbers and names of the code, and no other.
+find "$root/crates" -path '*/src/*' -name '*.rt' -exec \
+    sed -n 's/^ *[A-Za-z]*Fault::\([A-Za-z]*\).* => (\([0-9][0-9]*\), .*/\2 \1/p' {} + |
+    sort > in_code
+sed -n 's/^| \([0-9][0-9]*\) | \([A-Za-z]*\) |.*/\1 \2/p' "$root/docs/REFUSALS.md" | sort > out
+: > err
+[ -s in_code ]; ended 'the table of refusals' $? 0 "$(cat in_code)" ''
 
 echo "$passed passed, $failed failed"
 [ "$failed" = 0 ]
