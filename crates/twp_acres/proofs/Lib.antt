@@ -3,9 +3,9 @@ pub mod RegularFacts
 pub mod PieceFacts
 pub mod SectionSums
 pub mod AreaLaws
+pub mod WholeAreas
 pub mod AreaFacts
 pub mod DeviceFacts
-pub mod TextFacts
 pub mod RunFacts
-pub mod PositionFacts
 pub mod OneAnswer
+pub mod FigureFacts

@@ -1,24 +1,20 @@
--- The answer of two texts, the field notes and the description.
-use Rattle.std.specs.Prelude.{◌≡◌, ◌⊎◌, ℕ, ◌≤◌, List, [], ◌∷◌, ◌++◌, length, Some, codes, decimal}
-use Rattle.twp_measure.specs.Areas.{Fraction, IsRounded}
-use Rattle.twp_measure.specs.Acres.{acres_text}
-use Rattle.twp_grid.specs.Lots.{position_of_lot}
+-- What the answer of a run stands on: the plat that field notes make, the land of a description on it,
+-- and the first fault of all other bytes.
+use Rattle.std.specs.Prelude.{◌≡◌, ◌⊎◌, ℕ, List, [], ◌∷◌, ◌++◌, Bool, Some, codes, decimal}
+use Rattle.twp_grid.specs.Places.{PLACE_DIGITS}
+use Rattle.twp_grid.specs.Townships.{Designation}
 use Rattle.twp_grid.specs.declared.refusal.Refusal.{Refusal}
 use Rattle.twp_notes.specs.FieldNotes.{FieldNotes, AreNotes}
 use Rattle.twp_notes.specs.NotesTexts.{line_feed}
 use Rattle.twp_notes.specs.NotesFaults as notes_faults
 use Rattle.twp_notes.specs.declared.fault.NotesFault.{NotesFault}
 use Rattle.twp_plat.specs.Plats.{TownshipPlat, IsPlatOf}
-use Rattle.twp_plat.specs.Pieces.{IsPieceArea, over_of}
 use Rattle.twp_plat.specs.PlatFaults as plat_faults
 use Rattle.twp_plat.specs.declared.fault.PlatFault.{PlatFault}
-use Rattle.twp_acres.specs.LotTexts.{IsLotText}
-use Rattle.twp_acres.specs.declared.verdict.Verdict.{Verdict}
-use Rattle.twp_acres.specs.declared.verdict.Verdict.TheVariants.{Accepted, Refused, TractRefused}
-
--- the most bytes of a description
-abbrev pub DESCRIPTION_MOST : ℕ
-DESCRIPTION_MOST = 65536
+use Rattle.twp_text.specs.TextFaults.{IsReadAs, IsFirstTextFault}
+use Rattle.twp_text.specs.PlaceFaults as place_faults
+use Rattle.twp_text.specs.declared.item.Item.{Item}
+use Rattle.twp_text.specs.declared.place_fault.PlaceFault.{PlaceFault}
 
 -- the bytes are field notes that make this plat
 pub record ArePlatted (bytes : List ℕ) (plat : TownshipPlat) : Type 0 where
@@ -30,25 +26,19 @@ pub record ArePlatted (bytes : List ℕ) (plat : TownshipPlat) : Type 0 where
 abbrev pub MakePlat : List ℕ → Type 0
 MakePlat bytes = (plat : TownshipPlat) × ArePlatted bytes plat
 
--- the description is of a lot of the plat, whose area is rounded to so many hundredths of an acre
-pub record IsDescribed (plat : TownshipPlat) (description : List ℕ) (hundredths : ℕ) : Type 0 where
-  pub size : length description ≤ DESCRIPTION_MOST
-  pub section : ℕ
-  pub lot : ℕ
-  pub column : ℕ
-  pub row : ℕ
-  pub area : Fraction
-  pub text_is : IsLotText description section lot
-  pub position_is : position_of_lot section lot ≡ Some (column, row)
-  pub piece_is : IsPieceArea plat section column row area
-  pub over_is : area.over ≡ over_of plat
-  pub rounded : IsRounded area hundredths
+-- The bytes are a description of this land: they are read as items that lie on the plat of the township
+-- without overlap, and the land is the set of all places that they name.
+pub record Describe (township : Designation) (bytes : List ℕ) (places : ℕ → ℕ → ℕ → Bool)
+    : Type 0 where
+  pub items : List Item
+  pub read : IsReadAs bytes items
+  pub land : place_faults.IsLandOfItems PLACE_DIGITS township items places
 
--- the notes make a plat, and the description is of land on it with these acres
-pub record IsLandOf (notes description : List ℕ) (hundredths : ℕ) : Type 0 where
-  pub plat : TownshipPlat
+-- the notes make the plat, and the description is of the land on it
+pub record IsLandOnPlat (notes description : List ℕ) (plat : TownshipPlat)
+    (places : ℕ → ℕ → ℕ → Bool) : Type 0 where
   pub platted : ArePlatted notes plat
-  pub described : IsDescribed plat description hundredths
+  pub described : Describe plat.township description places
 
 -- the bytes are refused as notes, for their first fault
 pub record AreRefused (bytes : List ℕ) (refusal : Refusal) : Type 0 where
@@ -64,36 +54,35 @@ pub record MakeNoPlat (bytes : List ℕ) (refusal : Refusal) : Type 0 where
   pub first : plat_faults.IsFirstFault notes fault
   pub refusal_is : plat_faults.refusal_of fault ≡ Some refusal
 
--- the refusal of whatever is not taken yet
-abbrev pub not_yet : Refusal
-not_yet = record { number = 99; at = 0 }
+-- the bytes are read as items that don't lie on the plat without overlap, for their first fault
+pub record DescribeNoLand (township : Designation) (bytes : List ℕ) (refusal : Refusal) : Type 0 where
+  pub items : List Item
+  pub read : IsReadAs bytes items
+  pub fault : PlaceFault
+  pub first : place_faults.IsFirstPlaceFault PLACE_DIGITS township items fault
+  pub refusal_is : place_faults.refusal_of fault ≡ Some refusal
 
--- the notes make a plat, and the description is of no land that is taken yet
-pub record IsNotDescribed (notes description : List ℕ) (refusal : Refusal) : Type 0 where
+-- the bytes are no description of land on the plat: for the first fault of the text, or else of its items
+abbrev pub IsNoDescription : Designation → List ℕ → Refusal → Type 0
+IsNoDescription township bytes refusal =
+    IsFirstTextFault bytes refusal ⊎ DescribeNoLand township bytes refusal
+
+-- the notes make a plat, and the description is of no land on it
+pub record IsNoLandOnPlat (notes description : List ℕ) (refusal : Refusal) : Type 0 where
   pub plat : TownshipPlat
   pub platted : ArePlatted notes plat
-  pub none : (hundredths : ℕ) → IsDescribed plat description hundredths → ⊥
-  pub refusal_is : refusal ≡ not_yet
+  pub refused : IsNoDescription plat.township description refusal
 
--- the refusal of the first stage that has one: notes, plat, description
+-- the notes are refused, or make no plat
+abbrev pub IsNoPlat : List ℕ → Refusal → Type 0
+IsNoPlat notes refusal = AreRefused notes refusal ⊎ MakeNoPlat notes refusal
+
+-- the refusal of the first stage that has one: notes, plat, the description's text, its items
 abbrev pub IsRefusal : List ℕ → List ℕ → Refusal → Type 0
 IsRefusal notes description refusal =
-    AreRefused notes refusal ⊎ MakeNoPlat notes refusal ⊎ IsNotDescribed notes description refusal
-
--- as `40.45 acres`
-abbrev pub acres_line : ℕ → List ℕ
-acres_line hundredths = acres_text hundredths ++ codes " acres" ++ line_feed ∷ []
+    IsNoPlat notes refusal ⊎ IsNoLandOnPlat notes description refusal
 
 -- as `refused 67 at 19`
 abbrev pub refusal_line : Refusal → List ℕ
 refusal_line refusal =
     codes "refused " ++ decimal refusal.number ++ codes " at " ++ decimal refusal.at ++ line_feed ∷ []
-
--- The acres of the land, where the notes make a plat and the description is of land on it. Else the
--- refusal.
-abbrev pub IsAnswer : List ℕ → List ℕ → List ℕ → Verdict → Type 0
-IsAnswer notes description answer Accepted =
-    (hundredths : ℕ) × IsLandOf notes description hundredths × (answer ≡ acres_line hundredths)
-IsAnswer notes description answer (Refused refusal) =
-    IsRefusal notes description refusal × (answer ≡ refusal_line refusal)
-IsAnswer notes description answer (TractRefused at inner) = ⊥

@@ -7,6 +7,11 @@ use Rattle.twp_notes.specs.declared.reading.ReadFault.{ReadFault}
 use Rattle.twp_notes.specs.declared.reading.ReadFault.TheVariants as reading
 use Rattle.twp_plat.specs.PlatFaults as plat_faults
 use Rattle.twp_plat.specs.declared.fault.PlatFault.{PlatFault}
+use Rattle.twp_text.specs.TextFaults as text_faults
+use Rattle.twp_text.specs.declared.fault.TextFault.{TextFault}
+use Rattle.twp_text.specs.declared.fault.TextFault.TheVariants as text_fault
+use Rattle.twp_text.specs.PlaceFaults as place_faults
+use Rattle.twp_text.specs.declared.place_fault.PlaceFault.{PlaceFault}
 use Rattle.twp_acres.specs.declared.verdict.RunFault.{RunFault}
 use Rattle.twp_acres.specs.declared.verdict.RunFault.TheVariants as run
 use Rattle.twp_acres.specs.declared.stop.Stop.{Stop}
@@ -34,3 +39,15 @@ IsStopOfNotes fault (stop.Failed run.Write) = ⊥
 abbrev pub IsStopOfPlat : PlatFault → Stop → Type 0
 IsStopOfPlat fault (stop.Refused refusal) = plat_faults.refusal_of fault ≡ Some refusal
 IsStopOfPlat fault (stop.Failed answered) = ⊥
+
+-- a text stops a run by its refusal, or by want of memory
+abbrev pub IsStopOfText : TextFault → Stop → Type 0
+IsStopOfText fault (stop.Refused refusal) = text_faults.refusal_of fault ≡ Some refusal
+IsStopOfText fault (stop.Failed run.Memory) = fault ≡ text_fault.Memory
+IsStopOfText fault (stop.Failed run.Read) = ⊥
+IsStopOfText fault (stop.Failed run.Write) = ⊥
+
+-- items that don't lie on the plat stop a run by their refusal
+abbrev pub IsStopOfPlaces : PlaceFault → Stop → Type 0
+IsStopOfPlaces fault (stop.Refused refusal) = place_faults.refusal_of fault ≡ Some refusal
+IsStopOfPlaces fault (stop.Failed answered) = ⊥

@@ -1,5 +1,5 @@
 -- What a run reads, and what it does to its writer.
-use Rattle.std.specs.Prelude.{◌≡◌, ◌⊎◌, ℕ, ◌≤◌, Bool, true, List, length, take, Option, Result, Ok, Err}
+use Rattle.std.specs.Prelude.{◌≡◌, ◌⊎◌, ℕ, ◌≤◌, Bool, true, List, length, take, Option, Result, Ok, Err, IfOk}
 use Rattle.std.specs.Io.KnownBytes.{Appends, Keeps}
 use Rattle.twp_grid.specs.Devices.{Tells}
 use Rattle.twp_acres.specs.declared.verdict.Verdict.{Verdict}
@@ -38,6 +38,12 @@ IsRun Answers old new (Ok verdict) = Writes Answers old new verdict
 IsRun Answers old new (Err Write) = WritesFront Answers old new
 IsRun Answers old new (Err Read) = Keeps old new
 IsRun Answers old new (Err Memory) = Keeps old new
+
+-- the run gave this verdict and wrote this answer, unless it ended by a fault
+abbrev pub IsAnswered : Option (List ℕ) → Option (List ℕ) → List ℕ → Verdict
+    → Result Verdict RunFault → Type 0
+IsAnswered old new answer verdict result =
+    IfOk result (λ given. (given ≡ verdict) × Appends old new answer)
 
 -- Of what a source had to give, these are the bytes: the told ones, where it tells them.
 pub record Reads (told : Option (List ℕ)) (Holds : List ℕ → Type 0) : Type 0 where

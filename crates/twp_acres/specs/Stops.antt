@@ -1,25 +1,31 @@
 -- What the stages of a run come to.
-use Rattle.std.specs.Prelude.{◌≡◌, ◌⊎◌, ℕ, List, Result, Ok, Err, ⊤}
+use Rattle.std.specs.Prelude.{◌≡◌, ℕ, Bool, List, Result, Ok, Err, ⊤}
+use Rattle.twp_grid.specs.Townships.{Designation}
+use Rattle.twp_grid.specs.declared.refusal.Refusal.{Refusal}
 use Rattle.twp_plat.specs.Plats.{TownshipPlat}
-use Rattle.twp_acres.specs.Answers.{ArePlatted, AreRefused, MakeNoPlat, IsDescribed, IsLandOf, IsRefusal, not_yet}
+use Rattle.twp_acres.specs.Answers.{ArePlatted, IsNoPlat, Describe, IsNoDescription, IsRefusal}
+use Rattle.twp_acres.specs.AcresAnswers.{HasAcres}
 use Rattle.twp_acres.specs.declared.stop.Stop.{Stop}
 use Rattle.twp_acres.specs.declared.stop.Stop.TheVariants as stop
+
+-- the stop is no refusal, or this one's
+abbrev pub IfRefused : Stop → (Refusal → Type 0) → Type 0
+IfRefused (stop.Refused refusal) Holds = Holds refusal
+IfRefused (stop.Failed fault) Holds = ⊤
 
 -- the plat that the bytes make as notes, or their refusal
 abbrev pub IsPlatted : List ℕ → Result TownshipPlat Stop → Type 0
 IsPlatted notes (Ok plat) = ArePlatted notes plat
-IsPlatted notes (Err (stop.Refused refusal)) = AreRefused notes refusal ⊎ MakeNoPlat notes refusal
-IsPlatted notes (Err (stop.Failed fault)) = ⊤
+IsPlatted notes (Err stopped) = IfRefused stopped (IsNoPlat notes)
 
--- the acres of a description on a plat, or its refusal
-abbrev pub IsMeasured : TownshipPlat → List ℕ → Result ℕ Stop → Type 0
-IsMeasured plat description (Ok hundredths) = IsDescribed plat description hundredths
-IsMeasured plat description (Err (stop.Refused refusal)) =
-    ((hundredths : ℕ) → IsDescribed plat description hundredths → ⊥) × (refusal ≡ not_yet)
-IsMeasured plat description (Err (stop.Failed fault)) = ⊤
+-- the land that the bytes describe, or their refusal
+abbrev pub IsDescribed : {L : Type 0} → (L → ℕ → ℕ → ℕ → Bool) → Designation → List ℕ
+    → Result L Stop → Type 0
+IsDescribed places township description (Ok land) = Describe township description (places land)
+IsDescribed places township description (Err stopped) =
+    IfRefused stopped (IsNoDescription township description)
 
--- the acres of two texts, or the refusal that stops the run
+-- the hundredths of an acre of two texts, or the refusal that stops the run
 abbrev pub Settles : List ℕ → List ℕ → Result ℕ Stop → Type 0
-Settles notes description (Ok hundredths) = IsLandOf notes description hundredths
-Settles notes description (Err (stop.Refused refusal)) = IsRefusal notes description refusal
-Settles notes description (Err (stop.Failed fault)) = ⊤
+Settles notes description (Ok hundredths) = HasAcres notes description hundredths
+Settles notes description (Err stopped) = IfRefused stopped (IsRefusal notes description)

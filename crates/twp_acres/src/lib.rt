@@ -2,16 +2,17 @@
 //! with them, and writes one answer.
 #![tactic(auto)]
 
+mod acres_answer;
 mod answer;
 mod area;
 pub mod laws;
+mod plat_answer;
 mod running;
+mod stages;
 mod stop;
-mod text;
-mod thin;
 mod verdict;
 mod writing;
 
 pub use area::area_of;
-pub use running::run_acres;
+pub use running::{run_acres, run_plat};
 pub use verdict::{RunFault, Verdict};

@@ -2,6 +2,7 @@ use crate::verdict::RunFault;
 use twp_grid::Refusal;
 use twp_notes::{NotesFault, ReadFault};
 use twp_plat::PlatFault;
+use twp_text::{PlaceFault, TextFault};
 
 /// Why a run stops before its last stage.
 #[derive(Clone, Copy, Debug, PartialEq, Eq, Hash)]
@@ -42,6 +43,32 @@ impl From<PlatFault> for Stop {
     ghost from_gives = { IsStopOfPlat };
 
     fn from(fault: PlatFault) -> Stop {
+        match fault.refusal() {
+            Some(refusal) => Stop::Refused(refusal),
+            None => unreachable!(),
+        }
+    }
+}
+
+impl From<TextFault> for Stop {
+    ghost use Rattle.twp_acres.specs.Passing.{IsStopOfText};
+
+    ghost from_gives = { IsStopOfText };
+
+    fn from(fault: TextFault) -> Stop {
+        match fault.refusal() {
+            Some(refusal) => Stop::Refused(refusal),
+            None => Stop::Failed(RunFault::Memory),
+        }
+    }
+}
+
+impl From<PlaceFault> for Stop {
+    ghost use Rattle.twp_acres.specs.Passing.{IsStopOfPlaces};
+
+    ghost from_gives = { IsStopOfPlaces };
+
+    fn from(fault: PlaceFault) -> Stop {
         match fault.refusal() {
             Some(refusal) => Stop::Refused(refusal),
             None => unreachable!(),

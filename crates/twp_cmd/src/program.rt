@@ -12,7 +12,7 @@ use std::env::Env;
 use std::io::ErrorKind;
 use std::rt::Files;
 use std::{env, fs, io};
-use twp_acres::{RunFault, Verdict, run_acres};
+use twp_acres::{RunFault, Verdict, run_acres, run_plat};
 use twp_grid::Device;
 
 /// Runs the program, tells on standard error why there is no answer, and gives the status.
@@ -70,10 +70,9 @@ fn run_task<R: Files + Print + AllocGlobal>(rt: &R, task: Task) -> Result<Verdic
 {
     let mut out = Device::new(io::writer(rt));
     match task {
-        // The run of the plat comes here.
         Task::Plat { notes } => {
-            let _notes = open(rt, notes)?;
-            Err(Failure::Run(RunFault::Read))
+            let mut notes = open(rt, notes)?;
+            Ok(run_plat(rt.alloc(), &mut notes, &mut out)?)
         }
         Task::Acres { notes, description } => {
             let mut notes = open(rt, notes)?;

@@ -38,7 +38,7 @@ len_span_of (suc g) (d ∷ asked) fits =
     let e : g - length asked ≡ suc g - suc (length asked) = omega arith in
     len_span_of g asked less ∙ ap (λ k. 2 ^ k) e
 
-within_span_of : (g : ℕ) (asked : List ℕ) → AreDigits asked → length asked ≤ g → (span_of g asked).start + (span_of g asked).len ≤ 2 ^ g
+pub within_span_of : (g : ℕ) (asked : List ℕ) → AreDigits asked → length asked ≤ g → (span_of g asked).start + (span_of g asked).len ≤ 2 ^ g
 within_span_of g [] digits fits = omega arith
 within_span_of zero (d ∷ asked) digits fits = absurd (omega arith)
 within_span_of (suc g) (zero ∷ asked) digits fits =

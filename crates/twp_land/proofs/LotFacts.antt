@@ -131,7 +131,7 @@ abbrev pub block_of : Option (ℕ × ℕ) → Option Rectangle
 block_of position = option_map (λ (column, row). position_block PLACE_DIGITS column row) position
 
 -- a place of a lot lies in the lot's block
-in_lot : (s n column row : ℕ) (block : Rectangle) → IsSection s → block_of (position_of_lot s n) ≡ Some block
+pub in_lot : (s n column row : ℕ) (block : Rectangle) → IsSection s → block_of (position_of_lot s n) ≡ Some block
     → lot_of_place PLACE_DIGITS s column row ≡ Some n → in_rectangle block column row ≡ true
 in_lot s n column row block range is lot =
     let there = fills s (position_along PLACE_DIGITS column) (position_along PLACE_DIGITS row) n range lot in
@@ -154,7 +154,7 @@ whole_of_block s n held block range is whole = record { alike = λ column row co
     go column row column' row' lot lot' (inr not) (inr not') = not ∙ sym not'
 
 -- the lot of a place in its block
-lot_inside : (s n c r column row : ℕ) → IsSection s → n ≤ number_of_lots s → position_of_lot s n ≡ Some (c, r)
+pub lot_inside : (s n c r column row : ℕ) → IsSection s → n ≤ number_of_lots s → position_of_lot s n ≡ Some (c, r)
     → in_rectangle (position_block PLACE_DIGITS c r) column row ≡ true → lot_of_place PLACE_DIGITS s column row ≡ Some n
 lot_inside s n c r column row range most position inside =
     let at = position_of_inside c r column row inside in

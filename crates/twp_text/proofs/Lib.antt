@@ -12,3 +12,12 @@ pub mod ReaderFacts
 pub mod OneAnswer
 pub mod StepFacts
 pub mod LetterFacts
+pub mod BlockFacts
+pub mod ChainFacts
+pub mod ChainFlaws
+pub mod RangeFacts
+pub mod RangeFlaws
+pub mod ItemFlaws
+pub mod PlaceAnswers
+pub mod ResolvingFacts
+pub mod LandLots

@@ -6,6 +6,7 @@ pub mod Expected
 pub mod TextFaults
 pub mod ItemPlaces
 pub mod PlaceFaults
+pub mod Taking
 pub mod Cutting
 pub mod Machine
 pub mod Laws

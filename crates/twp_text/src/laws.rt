@@ -1,6 +1,7 @@
 //! What holds of descriptions as they are defined: each law is a contract, and its function has nothing
 //! to do.
 ghost use Rattle.twp_text.specs.Laws.{HasTokenList, OneTokenList, OneItemList, ShortCompletion, SeveralAreEntries, OneReading, ReadHasNoFault, OneTextFault};
+ghost use Rattle.twp_text.specs.Laws.{OnPlatHasNoFault, OnePlaceAnswer};
 
 /// Every list of bytes is cut into tokens.
 pub fn has_token_list()
@@ -40,4 +41,14 @@ pub fn read_has_no_fault()
 /// A text has one first fault.
 pub fn one_text_fault()
     ensures { OneTextFault }
+{}
+
+/// Items that lie on the plat without overlap have no fault.
+pub fn on_plat_has_no_fault()
+    ensures { OnPlatHasNoFault }
+{}
+
+/// Items have one land, or one first fault, and not both.
+pub fn one_place_answer()
+    ensures { OnePlaceAnswer }
 {}

@@ -2,6 +2,7 @@
 //! of it names, and why a text is no sentence.
 #![tactic(auto)]
 
+mod chain;
 mod description;
 mod expected;
 mod fault;
@@ -11,7 +12,10 @@ mod kind;
 pub mod laws;
 mod lexeme;
 mod place_fault;
+mod ranges;
+mod resolving;
 mod state;
+mod taking;
 mod token;
 mod word;
 
@@ -21,4 +25,5 @@ pub use fault::{TEXT_LIMIT, TextFault};
 pub use item::{Item, Numeral, Step, Steps};
 pub use kind::Kind;
 pub use place_fault::PlaceFault;
+pub use resolving::resolve;
 pub use token::{Token, Tokens};

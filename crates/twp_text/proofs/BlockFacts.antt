@@ -1,0 +1,95 @@
+-- Blocks that share a place, and the blocks of lots.
+use Rattle.std.proofs.Common.{◌≡◌, ◌==◌, ℕ, ◌+◌, ◌<◌, ◌≤◌, ◌&&◌, ◌↔◌, Bool, true, false, Option, Some, None, refl, sym, ap, ◌∙◌, inl, inr, arith, nat_le, nat_lt, IsSome}
+use Rattle.std.proofs.lemmas.Bool.{cases_lt, and_parts, eqb-true}
+use Rattle.std.proofs.lemmas.Bool.Decides.{nat_tests}
+use Rattle.twp_grid.specs.Winding.{IsSection}
+use Rattle.twp_grid.specs.Lots.{position_of_lot, number_of_lots}
+use Rattle.twp_grid.specs.Places.{PLACE_DIGITS, position_along}
+use Rattle.twp_grid.specs.Spans.{Span, in_span, Rectangle, in_rectangle, position_block}
+use Rattle.twp_land.specs.Lands.{Meets, block_places}
+use Rattle.twp_land.specs.WholeLots.{lot_of_place}
+use Rattle.twp_land.proofs.LotFacts.{Fills, fills, block_of, in_lot, lot_inside}
+use Rattle.twp_text.specs.PlaceFaults.{SharePlace}
+use Rattle.twp_text.specs.Taking.{Cross, HoldsLotPlace}
+
+-- a column or row of both spans
+record Common (a b : Span) : Type 0 where
+  at : ℕ
+  in_first : in_span a at ≡ true
+  in_second : in_span b at ≡ true
+
+common : (a b : Span) → 0 < a.len → 0 < b.len → Cross a b → Common a b
+common a b some some' over = elim (cases_lt a.start b.start) [
+  | inl before ↦ record { at = b.start; in_first = grind (arith, nat_tests); in_second = grind (arith, nat_tests) }
+  | inr behind ↦ record { at = a.start; in_first = grind (arith, nat_tests); in_second = grind (arith, nat_tests) }
+]
+
+crossing : (a b : Span) (n : ℕ) → in_span a n ≡ true → in_span b n ≡ true → Cross a b
+crossing a b n in-a in-b =
+    let x = and_parts (nat_le a.start n) (nat_lt n (a.start + a.len)) in-a in
+    let y = and_parts (nat_le b.start n) (nat_lt n (b.start + b.len)) in-b in
+    (grind (arith, nat_tests), grind (arith, nat_tests))
+
+-- blocks share a place where their columns and their rows cross
+pub share_place : (a b : Rectangle) → 0 < a.columns.len → 0 < b.columns.len → 0 < a.rows.len → 0 < b.rows.len
+    → Cross a.columns b.columns → Cross a.rows b.rows → Meets (in_rectangle a) b
+share_place a b h h' k k' across upward =
+    let column = common a.columns b.columns h h' across in
+    let row = common a.rows b.rows k k' upward in
+    record { column = column.at; row = row.at; inside = rw (column.in_second, row.in_second) refl; is_held = rw (column.in_first, row.in_first) refl }
+
+pub sharing : (a b : Rectangle) → Meets (in_rectangle a) b → Cross a.columns b.columns × Cross a.rows b.rows
+sharing a b meets =
+    let x = and_parts (in_span a.columns meets.column) (in_span a.rows meets.row) meets.is_held in
+    let y = and_parts (in_span b.columns meets.column) (in_span b.rows meets.row) meets.inside in
+    (crossing a.columns b.columns meets.column x.0 y.0, crossing a.rows b.rows meets.row x.1 y.1)
+
+-- a lot's block holds the places of the lot
+pub in_lot_block : (s n : ℕ) (block : Rectangle) → IsSection s → n ≤ number_of_lots s → block_of (position_of_lot s n) ≡ Some block
+    → (column row : ℕ) → (in_rectangle block column row ≡ true) ↔ (lot_of_place PLACE_DIGITS s column row ≡ Some n)
+in_lot_block s n block range most is column row = (forth (position_of_lot s n) refl is, in_lot s n column row block range is)
+  where
+    forth : (position : Option (ℕ × ℕ)) → position_of_lot s n ≡ position → block_of position ≡ Some block → in_rectangle block column row ≡ true → lot_of_place PLACE_DIGITS s column row ≡ Some n
+    forth None is there inside = cc there
+    forth (Some (c, r)) is there inside =
+        let same : position_block PLACE_DIGITS c r ≡ block = cc there in
+        lot_inside s n c r column row range most is (ap (λ b. in_rectangle b column row) same ∙ inside)
+
+-- a section's block is met where its places are shared
+pub same_section : (n : ℕ) → (n == n) ≡ true
+same_section n = grind (arith, nat_tests)
+
+pub share_of_meets : (places : ℕ → ℕ → ℕ → Bool) (section : ℕ) (block : Rectangle) → Meets (places section) block → SharePlace places (block_places section block)
+share_of_meets places section block meets = record {
+  section = section;
+  column = meets.column;
+  row = meets.row;
+  in_first = meets.is_held;
+  in_second = rw (same_section section, meets.inside) refl;
+}
+
+pub meets_of_share : (places : ℕ → ℕ → ℕ → Bool) (section : ℕ) (block : Rectangle) → SharePlace places (block_places section block) → Meets (places section) block
+meets_of_share places section block shared =
+    let parts = and_parts (section == shared.section) (in_rectangle block shared.column shared.row) shared.in_second in
+    let same : section ≡ shared.section = eqb-true section shared.section parts.0 in
+    record { column = shared.column; row = shared.row; inside = parts.1; is_held = ap (λ s. places s shared.column shared.row) same ∙ shared.in_first }
+
+-- a block that shares a place with a lot's block holds a place of the lot
+pub lot_place_of : (s n : ℕ) (lot_block block : Rectangle) → IsSection s → n ≤ number_of_lots s → block_of (position_of_lot s n) ≡ Some lot_block
+    → Meets (in_rectangle lot_block) block → HoldsLotPlace PLACE_DIGITS s block
+lot_place_of s n lot_block block range most is meets =
+    let lot = (in_lot_block s n lot_block range most is meets.column meets.row).0 meets.is_held in
+    record { column = meets.column; row = meets.row; inside = meets.inside; of_lot = rw lot refl }
+
+-- each lot of a section is looked at
+pub lot_is_below : (s end : ℕ) (block : Rectangle) → IsSection s → number_of_lots s < end
+    → ((lot column row : ℕ) → 1 ≤ lot → lot < end → in_rectangle block column row ≡ true → lot_of_place PLACE_DIGITS s column row ≡ Some lot → ⊥)
+    → HoldsLotPlace PLACE_DIGITS s block → ⊥
+lot_is_below s end block range all none held = go (lot_of_place PLACE_DIGITS s held.column held.row) refl held.of_lot
+  where
+    go : (lot : Option ℕ) → lot_of_place PLACE_DIGITS s held.column held.row ≡ lot → IsSome lot → ⊥
+    go None is some = cc some
+    go (Some n) is some =
+        let there = fills s (position_along PLACE_DIGITS held.column) (position_along PLACE_DIGITS held.row) n range is in
+        let most : n ≤ number_of_lots s = there.most in
+        none n held.column held.row there.least (omega arith) held.inside is

@@ -1,0 +1,193 @@
+use super::*;
+use std::alloc::Global;
+use std::process::Abort;
+use std::test::Fail;
+use twp_grid::{EastWest, NorthSouth};
+use twp_land::Grid;
+
+/// What a text names in township 2 north, range 3 west.
+fn answer(alloc: Global, text: &[u8]) -> Result<Result<Grid, PlaceFault>, Fail> {
+    let township = Township::new(2, NorthSouth::N, 3, EastWest::W).ok_or("a township")?;
+    let description = Description::read(alloc, text)?;
+    Ok(resolve(&description, township))
+}
+
+/// How many places a land has.
+fn count(land: &Grid) -> u32 {
+    let mut count = 0u32;
+    for number in 1..37u8 {
+        if let Some(section) = Section::new(number) {
+            count = count.saturating_add(land.count(section, Block::whole()));
+        }
+    }
+    count
+}
+
+/// Texts with the number of their refusal and its place.
+fn check_refused(alloc: Global, rt: &impl Abort, rows: &[(&[u8], u8, u32)]) -> Result<(), Fail> {
+    for (text, number, at) in rows {
+        let Err(fault) = answer(alloc, text)? else {
+            return Err(Fail::from("a land, where there is none"));
+        };
+        let refusal = fault.refusal().ok_or("a refusal")?;
+        assert_eq!(rt; (refusal.number, refusal.at), (*number, *at), "at {text:?}");
+    }
+    Ok(())
+}
+
+/// Another number or side of the township or of the range. 258 is 2, and 259 is 3, modulo 256.
+#[test]
+fn refuses_another_township(rt: HostRuntime) -> Result<(), Fail> {
+    check_refused(rt.alloc(), &rt, &[
+        (b"T. 2 N., R. 3 E., sec. 14.", 61, 0),
+        (b"  T. 3 N., R. 3 W., sec. 14.", 61, 2),
+        (b"T2S R3W sec 14", 61, 0),
+        (b"T2N R4W sec 14", 61, 0),
+        (b"T258N R3W sec 14", 61, 0),
+        (b"T2N R259W sec 14", 61, 0),
+        (b"T3N R3W sec 37", 61, 0),
+    ])
+}
+
+/// Sections are 1 to 36; 257 is 1 modulo 256. The section is judged before its parts.
+#[test]
+fn refuses_what_is_no_section(rt: HostRuntime) -> Result<(), Fail> {
+    check_refused(rt.alloc(), &rt, &[
+        (b"sec. 37.", 62, 5),
+        (b"sec. 0.", 62, 5),
+        (b"sec. 257.", 62, 5),
+        (b"sec. 37, lot 1", 62, 5),
+        (b"secs. 37 to 38.", 62, 6),
+        (b"secs. 1 to 37.", 62, 11),
+        (b"secs. 3 to 0.", 62, 11),
+        (b"secs. 40 to 3.", 62, 6),
+        (b"sec. 14; sec. 40, lot 1", 62, 14),
+        (b"sec. 1; secs. 1 to 40", 62, 19),
+    ])
+}
+
+/// A range that runs backward is refused at its second number, also where that is no lot.
+#[test]
+fn refuses_what_runs_backward(rt: HostRuntime) -> Result<(), Fail> {
+    check_refused(rt.alloc(), &rt, &[
+        (b"secs. 9 to 4.", 63, 11),
+        (b"sec. 5, lots 3 to 1.", 63, 18),
+        (b"sec. 5, lots 9 to 1.", 63, 18),
+        (b"sec. 5, lots 9 to 0.", 63, 18),
+        (b"sec. 1; secs. 9 to 1", 63, 19),
+    ])
+}
+
+/// Section 5 has lots 1 to 4, section 6 lots 1 to 7, section 14 none; 260 is 4 modulo 256.
+#[test]
+fn refuses_what_is_no_lot(rt: HostRuntime) -> Result<(), Fail> {
+    check_refused(rt.alloc(), &rt, &[
+        (b"sec. 5, lot 5.", 64, 12),
+        (b"sec. 5, lot 0.", 64, 12),
+        (b"sec. 5, lot 260.", 64, 12),
+        (b"sec. 6, lot 8.", 64, 12),
+        (b"sec. 14, lot 1.", 64, 13),
+        (b"sec. 5, lots 1 to 5.", 64, 18),
+        (b"sec. 5, lots 0 to 5.", 64, 13),
+        (b"sec. 5, lot 9, N1/2.", 64, 12),
+        (b"sec. 5, lot 1, lots 1 to 5.", 64, 25),
+    ])
+}
+
+/// A side of a section is halved four times at most. In section 5 the part would lie in lot 1.
+#[test]
+fn refuses_what_is_too_fine(rt: HostRuntime) -> Result<(), Fail> {
+    check_refused(rt.alloc(), &rt, &[
+        (b"sec. 14, N1/2NE1/4NE1/4NE1/4NE1/4.", 65, 9),
+        (b"sec. 14, W1/2NE1/4NE1/4NE1/4NE1/4.", 65, 9),
+        (b"sec. 14, SE1/4NE1/4NE1/4NE1/4NE1/4.", 65, 9),
+        (b"sec. 14, N1/2N1/2N1/2N1/2N1/2.", 65, 9),
+        (b"sec. 14, NE1/4NE1/4N1/2N1/2N1/2.", 65, 9),
+        (b"sec. 5, N1/2NE1/4NE1/4NE1/4NE1/4.", 65, 8),
+    ])
+}
+
+/// Lots fill the north of section 5, the west of section 7, and both in section 6. The north-east quarter
+/// of the north-east quarter of section 5 is lot 1 itself.
+#[test]
+fn refuses_what_holds_of_a_lot(rt: HostRuntime) -> Result<(), Fail> {
+    check_refused(rt.alloc(), &rt, &[
+        (b"sec. 5, N1/2.", 66, 8),
+        (b"sec. 5, NE1/4NE1/4.", 66, 8),
+        (b"sec. 5, NE1/4NE1/4NE1/4NE1/4.", 66, 8),
+        (b"sec. 5, W1/2W1/2.", 66, 8),
+        (b"sec. 7, W1/2.", 66, 8),
+        (b"sec. 6, NE1/4.", 66, 8),
+        (b"sec. 6, SW1/4.", 66, 8),
+        (b"sec. 5, N1/2, lot 9.", 66, 8),
+        (b"sec. 5, lot 1, NE1/4NE1/4.", 66, 15),
+    ])
+}
+
+/// Inside a list, inside a section, between sections named twice, and between parts of all kinds.
+#[test]
+fn refuses_overlaps(rt: HostRuntime) -> Result<(), Fail> {
+    check_refused(rt.alloc(), &rt, &[
+        (b"secs. 1, 1.", 67, 9),
+        (b"secs. 1, 3 to 5, 4 to 6.", 67, 17),
+        (b"secs. 13 to 15; sec. 14.", 67, 21),
+        (b"sec. 5, lots 1, 2 and 1.", 67, 22),
+        (b"sec. 5, lots 1 to 3, 2.", 67, 21),
+        (b"sec. 14, NE1/4 and N1/2.", 67, 19),
+        (b"sec. 14, NE1/4, NE1/4, lot 1", 67, 16),
+        (b"sec. 14, NE1/4, all.", 67, 16),
+        (b"sec. 14, all, NE1/4.", 67, 14),
+        (b"sec. 5, all, lot 1.", 67, 17),
+        (b"sec. 14, NE1/4; sec. 15; sec. 14, N1/2.", 67, 34),
+        (b"secs. 1 thru 36; sec. 36, NE1/4NE1/4NE1/4NE1/4.", 67, 26),
+    ])
+}
+
+/// A section has 16 by 16 places, a quarter 8 by 8, a lot 4 by 4.
+#[test]
+fn names_land(rt: HostRuntime) -> Result<(), Fail> {
+    let rows: [(&[u8], u32); 15] = [
+        (b"sec. 14.", 256),
+        (b"T. 2 N., R. 3 W., sec. 14.", 256),
+        (b"sec. 14: all", 256),
+        (b"secs. 1 thru 36.", 9216),
+        (b"secs. 1, 3 to 5.", 1024),
+        (b"sec. 5, lot 1.", 16),
+        (b"sec. 6, lots 1 to 7.", 112),
+        (b"sec. 6, lots 1 thru 7, SE1/4, S1/2NE1/4, E1/2SW1/4, SE1/4NW1/4.", 256),
+        (b"sec. 6, SE1/4, S1/2NE1/4, E1/2SW1/4, SE1/4NW1/4.", 144),
+        (b"sec. 14, S1/2N1/2, N1/2N1/2, and S1/2.", 256),
+        (b"sec. 14, NE1/4NE1/4NE1/4NE1/4.", 1),
+        (b"sec. 14, N1/2N1/2N1/2N1/2.", 16),
+        (b"sec. 14, N1/2E1/2N1/2E1/2N1/2E1/2N1/2E1/2.", 1),
+        (b"sec. 5, S1/2; sec. 5, S1/2N1/2.", 192),
+        (b"sec. 5, SW1/4NE1/4; sec. 7, SE1/4NW1/4.", 32),
+    ];
+    for (text, places) in rows {
+        let land = answer(rt.alloc(), text)??;
+        assert_eq!(rt; count(&land), places, "of {text:?}");
+    }
+    Ok(())
+}
+
+/// The south half of the north-east quarter: columns 0 to 7 from the east, rows 8 to 11 from the south.
+/// The west half of the south-east quarter: columns 4 to 7, rows 0 to 7.
+#[test]
+fn takes_the_last_step_first(rt: HostRuntime) -> Result<(), Fail> {
+    let section = Section::new(14).ok_or("a section")?;
+    let land = answer(rt.alloc(), b"sec. 14, S1/2NE1/4, W1/2SE1/4.")??;
+    assert_eq!(rt; count(&land), 64);
+    for (column, row, held) in [
+        (0, 8, true),
+        (7, 11, true),
+        (0, 12, false),
+        (8, 8, false),
+        (4, 0, true),
+        (7, 7, true),
+        (3, 0, false),
+        (0, 7, false),
+    ] {
+        assert_eq!(rt; land.holds(section, column, row), held, "at {column}, {row}");
+    }
+    Ok(())
+}
