@@ -139,19 +139,3 @@ sections_overlap section first last earlier low high order shared township = rec
   first = sections_least township earlier section first last true 8 (λ out. absurd (out low)) (λ out. absurd (out high)) (λ back. absurd (omega arith)) (omega arith);
   fault_is = refl;
 }
-
-pub sections_taken : (section : ℕ) (first last : Numeral) (old new : ℕ → ℕ → ℕ → Bool) → IsSection first.value → IsSection last.value → first.value ≤ last.value
-    → AreAdded (sections_from PLACE_DIGITS first.value last.value) old new
-    → (township : Designation) → IsTaken PLACE_DIGITS township section (Sections first last true) old new
-sections_taken section first last old new low high order adds township = record { lies = (low, high, order); apart = adds.apart; added = adds.added }
-
--- a section of which parts follow names nothing by itself
-pub section_taken : (section : ℕ) (first last : Numeral) (old : ℕ → ℕ → ℕ → Bool) → IsSection first.value → IsSection last.value → first.value ≤ last.value
-    → (township : Designation) → IsTaken PLACE_DIGITS township section (Sections first last false) old old
-section_taken section first last old low high order township =
-    let none : AreAdded (λ s c r. is_place PLACE_DIGITS c r && false) old old = added_none (λ s c r. is_place PLACE_DIGITS c r && false) old (fun_ext (λ s. fun_ext (λ c. fun_ext (λ r. off (is_place PLACE_DIGITS c r))))) in
-    record { lies = (low, high, order); apart = none.apart; added = none.added }
-  where
-    off : (b : Bool) → (b && false) ≡ false
-    off true = refl
-    off false = refl
