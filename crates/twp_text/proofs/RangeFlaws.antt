@@ -1,7 +1,6 @@
 -- What is answered of a range of sections or of lots: the first of its flaws, or its places are taken.
-use Rattle.std.proofs.Common.{◌≡◌, ℕ, ◌≤◌, ◌<◌, ◌&&◌, Bool, true, false, refl, sym, ap, ◌∙◌, arith, Result, Ok, Err, IfOk, IfErr, MatchResult}
-use Rattle.std.proofs.Math.Path.{fun_ext}
-use Rattle.twp_grid.specs.Places.{PLACE_DIGITS, is_place}
+use Rattle.std.proofs.Common.{◌≡◌, ℕ, ◌≤◌, ◌<◌, Bool, true, refl, arith, Result, Ok, Err, IfOk, IfErr, MatchResult}
+use Rattle.twp_grid.specs.Places.{PLACE_DIGITS}
 use Rattle.twp_grid.specs.Winding.{IsSection}
 use Rattle.twp_grid.specs.Townships.{Designation}
 use Rattle.twp_text.specs.declared.item.Item.TheVariants.{Sections, Lots}
@@ -11,7 +10,7 @@ use Rattle.twp_text.specs.declared.place_fault.PlaceFault.TheVariants as fault
 use Rattle.twp_text.specs.PlaceFaults.{HasLot, SharePlace, Flaw, HasFlaw, turn_of}
 use Rattle.twp_text.specs.PlaceFaults.Flaw.{other_township, no_first_section, no_last_section, backward, no_first_lot, no_last_lot, too_fine, on_lot, overlap}
 use Rattle.twp_text.specs.Taking.{sections_from, lots_from, AreAdded, IsTaken, IsFirstFlaw}
-use Rattle.twp_text.proofs.RangeFacts.{has_lot_between, added_none}
+use Rattle.twp_text.proofs.RangeFacts.{has_lot_between}
 
 -- the flaws of lots are four
 lots_least : (township : Designation) (earlier : ℕ → ℕ → ℕ → Bool) (section : ℕ) (first last : Numeral) (turn : ℕ)
