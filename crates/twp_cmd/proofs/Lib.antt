@@ -1,0 +1,3 @@
+pub mod CommandWalk
+pub mod TaskFacts
+pub mod TownshipWords
