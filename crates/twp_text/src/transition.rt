@@ -61,9 +61,8 @@ impl State {
         ensures { result ≡ next self r }
     {
         match self {
-            State::TownshipSide | State::TownshipSideStop | State::TownshipComma => Some(
-                State::Range,
-            ),
+            State::TownshipSide | State::TownshipSideStop => Some(State::Range),
+            State::TownshipComma => Some(State::Range),
             _ => None,
         }
     }
