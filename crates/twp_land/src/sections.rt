@@ -21,14 +21,6 @@ impl<P: Plot> Sections<P> {
     {
         &self.plots[usize::from(section.number() - 1)]
     }
-
-    /// Exchanges the set of a section's places.
-    fn exchange(&mut self, section: Section, plot: P)
-        ensures { held_by_section P.held self.new.plots
-            ≡ exchanged (held_by_section P.held self.old.plots) section (P.held plot) }
-    {
-        self.plots[usize::from(section.number() - 1)] = plot;
-    }
 }
 
 impl<P: Plot> Land for Sections<P> {
@@ -62,8 +54,7 @@ impl<P: Plot> Land for Sections<P> {
     }
 
     fn add(&mut self, section: Section, block: Block) {
-        let mut plot = *self.plot(section);
+        let plot = &mut self.plots[usize::from(section.number() - 1)];
         plot.add(block);
-        self.exchange(section, plot);
     }
 }

@@ -18,13 +18,19 @@ fn measures_the_even_township(rt: HostRuntime) -> Result<(), Fail> {
         ("T2N R3W sec 14", Acres("640.00")),
         ("T. 2 N., R. 3 W., sec. 14.", Acres("640.00")),
         // 160, 80, 80 and 40 acres.
-        ("sec. 6, SE1/4, S1/2NE1/4, E1/2SW1/4, SE1/4NW1/4.", Acres("360.00")),
+        (
+            "sec. 6, SE1/4, S1/2NE1/4, E1/2SW1/4, SE1/4NW1/4.",
+            Acres("360.00"),
+        ),
         // Seven lots of 40 acres, and those 360.
         (
             "sec. 6, lots 1 thru 7, SE1/4, S1/2NE1/4, E1/2SW1/4, SE1/4NW1/4.",
             Acres("640.00"),
         ),
-        ("sec. 14, NE1/4; sec. 15, NW1/4; and sec. 16.", Acres("960.00")),
+        (
+            "sec. 14, NE1/4; sec. 15, NW1/4; and sec. 16.",
+            Acres("960.00"),
+        ),
         ("SECTIONS 1, 3 TO 5 INCLUSIVE AND 9: ALL", Acres("3200.00")),
     ] {
         let answer = answer_to(alloc, notes.as_slice(), description.as_bytes())?;

@@ -76,9 +76,15 @@ fn refuses_what_makes_no_plat(rt: HostRuntime) -> Result<(), Fail> {
             shorter.extend_from_slice(line)?;
         }
     }
-    assert_eq!(rt; plat_of(alloc, shorter.as_slice())?, expected(alloc, Refused(11, 53))?);
+    assert_eq!(rt;
+        plat_of(alloc, shorter.as_slice())?,
+        expected(alloc, Refused(11, 53))?
+    );
     let short = notes_of(alloc, &[(47, "40", "64.99")])?;
-    assert_eq!(rt; plat_of(alloc, short.as_slice())?, expected(alloc, Refused(22, 47))?);
+    assert_eq!(rt;
+        plat_of(alloc, short.as_slice())?,
+        expected(alloc, Refused(22, 47))?
+    );
     assert_eq!(rt; plat_of(alloc, b"")?, expected(alloc, Refused(2, 1))?);
     Ok(())
 }

@@ -20,7 +20,11 @@ fn refuses_notes(rt: HostRuntime) -> Result<(), Fail> {
     let alloc = rt.alloc();
     let notes = even(alloc)?;
     for (number, record, said) in [
-        (1, b"Line,between,and,quarter,corner\n".as_slice(), Refused(3, 1)),
+        (
+            1,
+            b"Line,between,and,quarter,corner\n".as_slice(),
+            Refused(3, 1),
+        ),
         (2, b"T,0,N,3,W\n", Refused(5, 2)),
         (3, b"N,1,,40.00\n", Refused(4, 3)),
         (3, b"X,1,,40.00,80.00\n", Refused(6, 3)),
@@ -43,7 +47,10 @@ fn refuses_notes(rt: HostRuntime) -> Result<(), Fail> {
         (b"", Refused(2, 1)),
         (b"\0\xFF garbage,\"\n", Refused(3, 1)),
     ] {
-        assert_eq!(rt; answer_to(alloc, bytes, b"sec. 14.")?, expected(alloc, said)?);
+        assert_eq!(rt;
+            answer_to(alloc, bytes, b"sec. 14.")?,
+            expected(alloc, said)?
+        );
     }
     Ok(())
 }
@@ -150,7 +157,10 @@ fn refuses_items(rt: HostRuntime) -> Result<(), Fail> {
         ("sec. 14, all, SE1/4.", Refused(67, 14)),
         ("sec. 14, SE1/4, all.", Refused(67, 16)),
         ("sec. 5, lots 1, 2 to 4, 3.", Refused(67, 24)),
-        ("secs. 1 thru 36; sec. 36, NE1/4NE1/4NE1/4NE1/4.", Refused(67, 26)),
+        (
+            "secs. 1 thru 36; sec. 36, NE1/4NE1/4NE1/4NE1/4.",
+            Refused(67, 26),
+        ),
     ] {
         let answer = answer_to(alloc, notes.as_slice(), description.as_bytes())?;
         assert_eq!(rt; answer, expected(alloc, said)?, "{description}");

@@ -20,7 +20,11 @@ fn each_place(alloc: Global) -> Result<(Vec<u8>, usize), Fail> {
     let mut text = Vec::new(alloc);
     let mut last = 0;
     for number in REGULAR {
-        text.extend_from_slice(if text.is_empty() { b"sec. ".as_slice() } else { b"; sec. " })?;
+        text.extend_from_slice(if text.is_empty() {
+            b"sec. ".as_slice()
+        } else {
+            b"; sec. "
+        })?;
         text.extend_from_slice(number.as_bytes())?;
         for place in 0..256usize {
             text.extend_from_slice(b", ")?;
