@@ -249,7 +249,7 @@ fn a_fault_shows_its_text(rt: HostRuntime) -> Result<(), Fail> {
         (TaskFault::Memory, "out of memory"),
     ] {
         let shown = fault.to_string(alloc)?;
-        assert!(rt; shown == text, "{shown}");
+        assert!(rt; shown.as_str() == text, "{shown}");
     }
     Ok(())
 }
