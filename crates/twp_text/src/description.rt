@@ -39,7 +39,8 @@ impl Description {
         ensures read { IfOk result (IsReadAs text.now) }
         ensures taken { (items : List Item) → IsReadAs text.now items
             → MatchResult result (λ d. d ≡ items) (λ fault. fault ≡ TextFault.Memory) }
-        ensures refused { IfErr result (λ fault. IfSome (refusal_of fault) (IsFirstTextFault text.now)) }
+        ensures refused { IfErr result
+            (λ fault. IfSome (refusal_of fault) (IsFirstTextFault text.now)) }
         ensures helps { IfErr result (Helps text.now) }
     {
         if text.len() > TEXT_LIMIT {
@@ -53,7 +54,8 @@ impl Description {
     fn read_within(alloc: Global, text: &[u8]) -> Result<Description, TextFault>
         requires { length text.now ≤ TEXT_LIMIT }
         ensures read { IfOk result (IsReadAs text.now) }
-        ensures refused { IfErr result (λ fault. IfSome (refusal_of fault) (IsFirstTextFault text.now)) }
+        ensures refused { IfErr result
+            (λ fault. IfSome (refusal_of fault) (IsFirstTextFault text.now)) }
         ensures helps { IfErr result (Helps text.now) }
     {
         let mut items = Items::new(alloc);
