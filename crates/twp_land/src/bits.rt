@@ -16,7 +16,7 @@ const ONES: [u16; PLACES_ACROSS + 1] = [
     0, 1, 3, 7, 15, 31, 63, 127, 255, 511, 1023, 2047, 4095, 8191, 16383, 32767, 65535,
 ];
 
-/// A lane for each row.
+/// The lanes of a section's rows as a vector.
 #[inline(always)]
 pub(crate) fn vector(lanes: &[u16]) -> u16x16
     requires { length lanes.now ≡ places_across PLACE_DIGITS }
