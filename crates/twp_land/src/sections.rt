@@ -1,5 +1,5 @@
 ghost use Rattle.std.specs.Prelude.{◌≡◌};
-ghost use Rattle.twp_land.specs.Storage.{held_by_section, exchanged};
+ghost use Rattle.twp_land.specs.Storage.{held_by_section};
 
 use crate::land::Land;
 use crate::plot::Plot;
@@ -54,7 +54,6 @@ impl<P: Plot> Land for Sections<P> {
     }
 
     fn add(&mut self, section: Section, block: Block) {
-        let plot = &mut self.plots[usize::from(section.number() - 1)];
-        plot.add(block);
+        self.plots[usize::from(section.number() - 1)].add(block);
     }
 }
