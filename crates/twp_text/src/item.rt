@@ -75,6 +75,20 @@ impl Steps {
     {
         let first = self.first.as_slice();
         if index < first.len() {
+            return Some(first[index]);
+        }
+        self.get_any(index)
+    }
+
+    /// The same, apart from the loops that ask for a few steps.
+    #[cold]
+    #[inline(never)]
+    #[tactic(auto, using(crate::proofs::StepFacts::in_first, crate::proofs::StepFacts::in_more))]
+    fn get_any(&self, index: usize) -> Option<Step>
+        ensures { result ≡ slice_get self.now index }
+    {
+        let first = self.first.as_slice();
+        if index < first.len() {
             Some(first[index])
         } else {
             self.more.get(index - first.len()).copied()
