@@ -5,9 +5,12 @@ set -eu
 echo 'township is proved before it is built: some minutes the first time, seconds after that.'
 log=$(mktemp)
 trap 'rm -f "$log"' EXIT
-(cd crates/twp_cmd && rt run < stdin 2>&1 > /dev/null || echo 'rt failed') | tee "$log" | awk '
-    /^rt: chose .* for / { crate = $NF }
-    /^so far: [0-9]+ of [0-9]+ functions/ { print crate ": " $3 " of " $5 " functions"; fflush() }'
+(cd crates/twp_cmd && rt run < stdin 2>&1 > /dev/null || echo 'rt failed') | tee "$log" | while read -r line; do
+    case $line in
+        'rt: chose '*) crate=${line##* } ;;
+        'so far: '*' functions'*) echo "$crate: ${line#so far: }" ;;
+    esac
+done
 if tail -n 1 "$log" | grep -q '^rt failed$'; then
     cat "$log" >&2
     exit 1

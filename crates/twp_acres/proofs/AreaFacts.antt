@@ -9,8 +9,9 @@ use Rattle.twp_grid.specs.Totals.{total}
 use Rattle.twp_grid.proofs.TotalFacts.{total-next}
 use Rattle.twp_plat.specs.Plats.{TownshipPlat, IsPlat}
 use Rattle.twp_plat.specs.Pieces.{over_of}
-use Rattle.twp_acres.specs.LandAreas.{ArePieces, section_sum, township_sum, IsLandArea}
-use Rattle.twp_acres.proofs.PieceFacts.{pieces_of}
+use Rattle.twp_plat.specs.PlatAreas.{ArePieces}
+use Rattle.twp_acres.specs.LandAreas.{section_sum, township_sum, IsLandArea}
+use Rattle.twp_plat.proofs.SectionPieces.{pieces_of}
 
 -- where a lot is
 pub record LotAt (section lot column row : ℕ) : Type 0 where

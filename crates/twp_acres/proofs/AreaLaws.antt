@@ -12,9 +12,10 @@ use Rattle.twp_grid.proofs.TilingFacts.{one_position}
 use Rattle.twp_land.specs.Lands.{union}
 use Rattle.twp_plat.specs.Plats.{TownshipPlat}
 use Rattle.twp_plat.proofs.RatioFacts.{cancelled}
-use Rattle.twp_acres.specs.LandAreas.{places_of_position, ArePieces, piece_where_held, township_sum}
+use Rattle.twp_plat.specs.PlatAreas.{ArePieces}
+use Rattle.twp_acres.specs.LandAreas.{places_of_position, piece_where_held, township_sum}
 use Rattle.twp_acres.specs.Laws.{OneLandArea, DisjointAreasAdd}
-use Rattle.twp_acres.proofs.PieceFacts.{same_pieces}
+use Rattle.twp_plat.proofs.SectionPieces.{same_pieces}
 
 -- sums over the places of a township of functions that agree there
 township-ext : (g : ℕ) (f f' : ℕ → ℕ → ℕ → ℕ) → ((section column row : ℕ) → IsSection section → column < places_across g → row < places_across g → f section column row ≡ f' section column row)

@@ -3,4 +3,10 @@ pub mod RegularFacts
 pub mod PieceFacts
 pub mod SectionSums
 pub mod AreaLaws
+pub mod WholeAreas
 pub mod AreaFacts
+pub mod DeviceFacts
+pub mod RunFacts
+pub mod OneAnswer
+pub mod FigureFacts
+pub mod OnePlat

@@ -3,12 +3,8 @@ use Rattle.std.proofs.Common.{◌≡◌, ◌≢◌, ℕ, zero, suc, ◌+◌, ◌
 use Rattle.std.proofs.lemmas.Bool.{cases_eq}
 use Rattle.twp_grid.specs.Places.{PLACE_DIGITS}
 use Rattle.twp_grid.specs.Spans.{whole_block, position_block}
-use Rattle.twp_grid.specs.Totals.{total, total_over}
+use Rattle.twp_grid.specs.Totals.{total, total_over, over_positions}
 use Rattle.twp_grid.proofs.TotalFacts.{total-ext, total-add, total-both, total-scale, total-swap, total-all_zero, total-le}
-
--- the sum of what a function gives for the column and row of each position
-abbrev pub over_positions : (ℕ → ℕ → ℕ) → ℕ
-over_positions f = total 4 (λ row. total 4 (λ column. f column row))
 
 pub positions-ext : (f g : ℕ → ℕ → ℕ) → ((column row : ℕ) → column < 4 → row < 4 → f column row ≡ g column row) → over_positions f ≡ over_positions g
 positions-ext f g same =
@@ -37,7 +33,7 @@ positions-scale c f =
     ∙ total-scale 4 c (λ row. total 4 (λ column. f column row))
 
 -- two sums that differ at one number
-total_differs : (n at : ℕ) (f g : ℕ → ℕ) → at < n → ((k : ℕ) → k < n → k ≢ at → g k ≡ f k) → total n g + f at ≡ total n f + g at
+pub total_differs : (n at : ℕ) (f g : ℕ → ℕ) → at < n → ((k : ℕ) → k < n → k ≢ at → g k ≡ f k) → total n g + f at ≡ total n f + g at
 unfolding total
 total_differs zero at f g below same = absurd (omega arith)
 total_differs (suc n) at f g below same = elim (cases_eq n at) [

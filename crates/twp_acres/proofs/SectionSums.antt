@@ -5,15 +5,16 @@ use Rattle.twp_grid.specs.Winding.{IsSection}
 use Rattle.twp_grid.specs.Lots.{IsPosition, lot_at_position, position_of_lot, number_of_lots}
 use Rattle.twp_grid.specs.Places.{PLACE_DIGITS, position_along}
 use Rattle.twp_grid.specs.Spans.{whole_block, position_block}
-use Rattle.twp_grid.specs.Totals.{total, total_over, one_where}
+use Rattle.twp_grid.specs.Totals.{total, total_over, one_where, over_positions}
 use Rattle.twp_grid.proofs.TotalFacts.{total-ext, total-same, total-scale, total-le}
 use Rattle.twp_land.specs.Lands.{count_held}
 use Rattle.twp_land.specs.WholeLots.{lot_of_place, IsWholeOrNot}
 use Rattle.twp_land.proofs.LotFacts.{fills, has_lot}
 use Rattle.twp_plat.specs.Plats.{TownshipPlat, IsPlat}
 use Rattle.twp_plat.specs.Pieces.{over_of}
-use Rattle.twp_acres.specs.LandAreas.{ArePieces, piece_where_held, section_sum}
-use Rattle.twp_acres.proofs.PositionSums.{over_positions, positions-ext, positions-le, positions-zero, positions-both, positions-scale, positions_differ, by_position}
+use Rattle.twp_plat.specs.PlatAreas.{ArePieces}
+use Rattle.twp_acres.specs.LandAreas.{piece_where_held, section_sum}
+use Rattle.twp_acres.proofs.PositionSums.{positions-ext, positions-le, positions-zero, positions-both, positions-scale, positions_differ, by_position}
 use Rattle.twp_acres.proofs.PieceFacts.{regular_units}
 
 -- the lot is numbered below n

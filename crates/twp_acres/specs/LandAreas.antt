@@ -2,23 +2,17 @@
 -- position, so its share of the area is the position's piece divided by the places of a position.
 use Rattle.std.specs.Prelude.{◌≡◌, ℕ, ◌+◌, ◌*◌, Bool, if◌then◌else◌}
 use Rattle.twp_measure.specs.Areas.{Fraction}
-use Rattle.twp_grid.specs.Winding.{SECTION_COUNT, IsSection}
-use Rattle.twp_grid.specs.Lots.{IsPosition}
+use Rattle.twp_grid.specs.Winding.{SECTION_COUNT}
 use Rattle.twp_grid.specs.Places.{places_to_position, position_along}
 use Rattle.twp_grid.specs.Spans.{whole_block}
 use Rattle.twp_grid.specs.Totals.{total, total_over}
 use Rattle.twp_plat.specs.Plats.{TownshipPlat}
-use Rattle.twp_plat.specs.Pieces.{IsPieceArea, over_of}
+use Rattle.twp_plat.specs.Pieces.{over_of}
+use Rattle.twp_plat.specs.PlatAreas.{ArePieces}
 
 -- the places of a position
 abbrev pub places_of_position : ℕ → ℕ
 places_of_position g = places_to_position g * places_to_position g
-
--- the units of each section's pieces over the plat's denominator, by the position's column and row
-pub record ArePieces (plat : TownshipPlat) (pieces : ℕ → ℕ → ℕ → ℕ) : Type 0 where
-  pub is_piece : (section column row : ℕ) → IsSection section → IsPosition column row
-      → IsPieceArea plat section column row
-      (record { units = pieces section column row; over = over_of plat })
 
 -- the units of the piece that a place lies in, where the place is held, and else 0
 abbrev pub piece_where_held : ℕ → (ℕ → ℕ → ℕ) → (ℕ → ℕ → Bool) → ℕ → ℕ → ℕ

@@ -1,11 +1,18 @@
 -- Laws over the definitions.
-use Rattle.std.specs.Prelude.{◌≡◌, ℕ, ◌+◌, ◌≤◌, Bool, true}
+use Rattle.std.specs.Prelude.{◌≡◌, ◌==◌, ◌&&◌, ℕ, ◌+◌, ◌≤◌, List, Bool, true}
 use Rattle.twp_measure.specs.Areas.{Fraction}
 use Rattle.twp_grid.specs.Lots.{POSITIONS_ACROSS}
-use Rattle.twp_grid.specs.Places.{places_across}
+use Rattle.twp_grid.specs.Winding.{IsSection}
+use Rattle.twp_grid.specs.Places.{PLACE_DIGITS, places_across, is_place}
 use Rattle.twp_land.specs.Lands.{union}
+use Rattle.twp_land.specs.Storage.{is_section}
 use Rattle.twp_plat.specs.Plats.{TownshipPlat}
+use Rattle.twp_plat.specs.PlatAreas.{IsSectionArea, IsTownshipArea}
 use Rattle.twp_acres.specs.LandAreas.{IsLandArea}
+use Rattle.twp_acres.specs.Answers.{IsLandOnPlat}
+use Rattle.twp_acres.specs.AcresAnswers.{IsAcresAnswer}
+use Rattle.twp_acres.specs.PlatAnswers.{IsPlatAnswer}
+use Rattle.twp_acres.specs.declared.verdict.Verdict.{Verdict}
 
 -- no place is held by both
 abbrev pub AreDisjoint : (ℕ → ℕ → ℕ → Bool) → (ℕ → ℕ → ℕ → Bool) → Type 0
@@ -25,3 +32,44 @@ DisjointAreasAdd = (g : ℕ) → POSITIONS_ACROSS ≤ places_across g → (plat 
     → IsLandArea g plat places area → IsLandArea g plat more other
     → IsLandArea g plat (union places more)
     (record { units = area.units + other.units; over = area.over })
+
+-- all places of a section
+abbrev pub section_places : ℕ → ℕ → ℕ → ℕ → ℕ → Bool
+section_places g section other column row = (section == other) && is_place g column row
+
+-- the area of a section on the plat is that of its land
+abbrev pub SectionAreaIsOfLand : Type 0
+SectionAreaIsOfLand = (plat : TownshipPlat) (section : ℕ) (area : Fraction) → IsSection section
+    → IsSectionArea plat section area
+    → IsLandArea PLACE_DIGITS plat (section_places PLACE_DIGITS section) area
+
+-- all places of a township
+abbrev pub township_places : ℕ → ℕ → ℕ → ℕ → Bool
+township_places g section column row = is_section section && is_place g column row
+
+-- the area of the township on the plat is that of its land
+abbrev pub TownshipAreaIsOfLand : Type 0
+TownshipAreaIsOfLand = (plat : TownshipPlat) (area : Fraction) → IsTownshipArea plat area
+    → IsLandArea PLACE_DIGITS plat (township_places PLACE_DIGITS) area
+
+-- field notes and a description have one answer and one verdict
+abbrev pub OneAnswer : Type 0
+OneAnswer = (notes description answer answer' : List ℕ) (verdict verdict' : Verdict)
+    → IsAcresAnswer notes description answer verdict
+    → IsAcresAnswer notes description answer' verdict'
+    → (answer ≡ answer') × (verdict ≡ verdict')
+
+-- however a land is spelled, over the same notes it has one answer
+abbrev pub OneAnswerOfLand : Type 0
+OneAnswerOfLand = (notes description description' answer answer' : List ℕ)
+    (verdict verdict' : Verdict) (plat : TownshipPlat) (places : ℕ → ℕ → ℕ → Bool)
+    → IsLandOnPlat notes description plat places → IsLandOnPlat notes description' plat places
+    → IsAcresAnswer notes description answer verdict
+    → IsAcresAnswer notes description' answer' verdict'
+    → (answer ≡ answer') × (verdict ≡ verdict')
+
+-- field notes have one printed plat, or one refusal
+abbrev pub OnePlatAnswer : Type 0
+OnePlatAnswer = (notes answer answer' : List ℕ) (verdict verdict' : Verdict)
+    → IsPlatAnswer notes answer verdict → IsPlatAnswer notes answer' verdict'
+    → (answer ≡ answer') × (verdict ≡ verdict')

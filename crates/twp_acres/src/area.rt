@@ -2,7 +2,8 @@ ghost use Rattle.std.specs.Prelude.{◌≡◌, ℕ, ◌*◌, ◌≤◌};
 ghost use Rattle.twp_grid.specs.Places.{PLACE_DIGITS};
 ghost use Rattle.twp_land.specs.WholeLots.{HasWholeLots};
 ghost use Rattle.twp_plat.specs.Pieces.{over_of, OVER_MOST};
-ghost use Rattle.twp_acres.specs.LandAreas.{places_of_position, ArePieces, section_sum, IsLandArea};
+ghost use Rattle.twp_plat.specs.PlatAreas.{ArePieces};
+ghost use Rattle.twp_acres.specs.LandAreas.{places_of_position, section_sum, IsLandArea};
 ghost use Rattle.twp_acres.specs.Bounds.{SECTION_PLACES_MOST, SECTION_UNITS_MOST};
 
 use twp_grid::{Block, Section, lot_count, lot_place};

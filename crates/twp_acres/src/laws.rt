@@ -1,6 +1,8 @@
-//! What holds of areas as they are defined: each law is a contract, and its function has nothing to
-//! do.
+//! What holds of areas and answers as they are defined: each law is a contract, and its function has
+//! nothing to do.
 ghost use Rattle.twp_acres.specs.Laws.{OneLandArea, DisjointAreasAdd};
+ghost use Rattle.twp_acres.specs.Laws.{SectionAreaIsOfLand, TownshipAreaIsOfLand};
+ghost use Rattle.twp_acres.specs.Laws.{OneAnswer, OneAnswerOfLand, OnePlatAnswer};
 
 /// A set of places has one area on a plat.
 pub fn one_land_area()
@@ -11,4 +13,31 @@ pub fn one_land_area()
 #[tactic(auto, using(crate::proofs::AreaLaws::disjoint_areas_add))]
 pub fn disjoint_areas_add()
     ensures { DisjointAreasAdd }
+{}
+
+/// A section's area on the plat is the area of all its places.
+#[tactic(auto, using(crate::proofs::WholeAreas::section_area_is_of_land))]
+pub fn section_area_is_of_land()
+    ensures { SectionAreaIsOfLand }
+{}
+
+/// The township's area on the plat is the area of all its places.
+#[tactic(auto, using(crate::proofs::WholeAreas::township_area_is_of_land))]
+pub fn township_area_is_of_land()
+    ensures { TownshipAreaIsOfLand }
+{}
+
+/// Two texts, the field notes and the description, have one answer and one verdict.
+pub fn one_answer()
+    ensures { OneAnswer }
+{}
+
+/// Two descriptions of one land have one answer over the same notes, however the land is spelled.
+pub fn one_answer_of_land()
+    ensures { OneAnswerOfLand }
+{}
+
+/// Field notes have one printed plat and one verdict.
+pub fn one_plat_answer()
+    ensures { OnePlatAnswer }
 {}

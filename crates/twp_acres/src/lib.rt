@@ -1,7 +1,18 @@
-//! The areas of lands on a plat, as exact fractions.
+//! The areas of lands on a plat, as exact fractions, and the runs: each reads field notes and what goes
+//! with them, and writes one answer.
 #![tactic(auto)]
 
+mod acres_answer;
+mod answer;
 mod area;
 pub mod laws;
+mod plat_answer;
+mod running;
+mod stages;
+mod stop;
+mod verdict;
+mod writing;
 
 pub use area::area_of;
+pub use running::{run_acres, run_plat};
+pub use verdict::{RunFault, Verdict};

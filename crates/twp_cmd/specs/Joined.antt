@@ -3,11 +3,11 @@ use Rattle.std.specs.Prelude.{ℕ, ◌+◌, ◌==◌, List, take}
 use Rattle.std.specs.List.{before_first, after_first}
 use Rattle.twp_notes.specs.FieldNotes.{NOTES_MOST}
 use Rattle.twp_notes.specs.NotesTexts.{line_feed}
-use Rattle.twp_cmd.specs.Answers.{DESCRIPTION_MOST}
+use Rattle.twp_text.specs.TextFaults.{TEXT_LIMIT}
 
 -- the most bytes that are read: a description, a line feed, and one byte more than notes may have
 abbrev pub JOINED_MOST : ℕ
-JOINED_MOST = DESCRIPTION_MOST + 1 + (NOTES_MOST + 1)
+JOINED_MOST = TEXT_LIMIT + 1 + (NOTES_MOST + 1)
 
 -- what is read of joined input
 unfoldable pub joined_bytes : List ℕ → List ℕ

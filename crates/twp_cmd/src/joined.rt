@@ -1,13 +1,12 @@
 ghost use Rattle.std.specs.Prelude.{◌≡◌, ◌==◌, ◌≤◌, ◌↔◌, ℕ, List, length, Some, true, false, IsErrOf, IsOkUnless};
 ghost use Rattle.std.specs.List.{before_first, after_first, position_or_len};
 ghost use Rattle.twp_grid.specs.Devices.{TakesAtMost};
-ghost use Rattle.twp_cmd.specs.Answers.{IsAnswer};
+ghost use Rattle.twp_acres.specs.AcresAnswers.{IsAcresAnswer};
 ghost use Rattle.twp_cmd.specs.Joined.{JOINED_MOST, joined_notes, joined_description};
-ghost use Rattle.twp_cmd.specs.Runs.{IsRun, Reads};
+ghost use Rattle.twp_acres.specs.Runs.{IsRun, Reads};
 
-use crate::running::run_acres;
-use crate::verdict::{RunFault, Verdict};
 use std::alloc::Global;
+use twp_acres::{RunFault, Verdict, run_acres};
 use twp_grid::{Bytes, Sink, Source};
 use twp_notes::read_up_to;
 
@@ -37,14 +36,14 @@ pub fn run_joined<R: Source, W: Sink>(
 
     // What was written is the answer to what was read, whatever the devices tell of it.
     ensures ran { Reads (R.remaining input.old) (λ bytes.
-        IsRun (IsAnswer (joined_notes bytes) (joined_description bytes))
+        IsRun (IsAcresAnswer (joined_notes bytes) (joined_description bytes))
         (W.contents out.old) (W.contents out.new) result) }
 
     // The same for a source that tells its bytes, in single facts.
     ensures answers { R.has_failed input.new ≡ false → W.has_failed out.new ≡ false
         → IsOkUnless result RunFault.Memory }
     ensures told { (bytes : List ℕ) → R.remaining input.old ≡ Some bytes
-        → IsRun (IsAnswer (joined_notes bytes) (joined_description bytes))
+        → IsRun (IsAcresAnswer (joined_notes bytes) (joined_description bytes))
         (W.contents out.old) (W.contents out.new) result }
 {
     let bytes = read_up_to(alloc, input, MOST_BYTES)?;
@@ -77,3 +76,6 @@ fn line_feed_place(bytes: &[u8]) -> usize
 {
     bytes.iter().take_while(|byte| **byte != LINE_FEED).count()
 }
+
+#[cfg(test)]
+mod tests;

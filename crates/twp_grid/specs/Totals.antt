@@ -1,5 +1,6 @@
 -- Sums over numbers from 0 on, and over the places of a block.
 use Rattle.std.specs.Prelude.{ℕ, zero, suc, ◌+◌, Bool, if◌then◌else◌}
+use Rattle.twp_grid.specs.Lots.{POSITIONS_ACROSS}
 use Rattle.twp_grid.specs.Spans.{Rectangle}
 
 -- the sum of what a function gives for each number below n
@@ -12,6 +13,11 @@ abbrev pub total_over : Rectangle → (ℕ → ℕ → ℕ) → ℕ
 total_over block f =
     total block.rows.len (λ up. total block.columns.len (λ along.
     f (block.columns.start + along) (block.rows.start + up)))
+
+-- the sum of what a function gives for the column and row of each position of a section
+abbrev pub over_positions : (ℕ → ℕ → ℕ) → ℕ
+over_positions f =
+    total POSITIONS_ACROSS (λ row. total POSITIONS_ACROSS (λ column. f column row))
 
 -- 1 where a test holds, and else 0
 abbrev pub one_where : Bool → ℕ

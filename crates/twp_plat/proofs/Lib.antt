@@ -8,3 +8,5 @@ pub mod FaultFacts
 pub mod OneAnswer
 pub mod PlatPieces
 mod WorkedPieces
+pub mod SectionPieces
+pub mod AreaSums

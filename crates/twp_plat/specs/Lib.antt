@@ -5,4 +5,5 @@ pub mod LineFaults
 pub mod Ratios
 pub mod Pieces
 pub mod Formula
+pub mod PlatAreas
 pub mod Laws

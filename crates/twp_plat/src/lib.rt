@@ -2,11 +2,14 @@
 //! areas of its sections' positions as exact fractions.
 #![tactic(auto)]
 
+mod area;
 mod closing;
 mod fault;
 pub mod laws;
 mod piece;
 mod plat;
+#[cfg(test)]
+mod sample;
 
 pub use fault::{HalfMile, PlatFault};
 pub use plat::Plat;

@@ -1,13 +1,14 @@
 -- How the reader cuts the first token off bytes that begin with no white space. No public promise speaks of it;
 -- proofs/Cuts shows that it is the one token that the bytes begin with. Past the end a byte is read as 0.
-use Rattle.std.specs.Prelude.{◌==◌, ◌&&◌, ℕ, nat_le, List, take, Option, Some, None, slice_index, if◌then◌else◌}
+use Rattle.std.specs.Prelude.{◌==◌, ◌&&◌, ℕ, ◌+◌, ◌<◌, ◌≤◌, nat_le, List, length, take, drop, Option, Some, None, slice_index, if◌then◌else◌}
 use Rattle.std.specs.Char.{is_ascii_alphabetic, is_ascii_digit, to_ascii_lowercase}
-use Rattle.std.specs.List.{prefix_len}
+use Rattle.std.specs.List.{prefix_len, AllPass}
 use Rattle.std.specs.Str.Parse.{digits_value}
 use Rattle.twp_text.specs.declared.kind.Kind.{Kind}
 use Rattle.twp_text.specs.declared.kind.Kind.TheVariants.{Half, Quarter, Number, Comma, Semicolon, Colon, Stop, BadNumber, BadByte}
 use Rattle.twp_text.specs.declared.lexeme.Lexeme.{Lexeme}
-use Rattle.twp_text.specs.Tokens.{kind_of_word}
+use Rattle.twp_text.specs.declared.token.Token.{Token as Piece}
+use Rattle.twp_text.specs.Tokens.{Token, is_white, kind_of_word, seen, StartsWith}
 
 abbrev pub lexeme : Kind → ℕ → Lexeme
 lexeme kind size = record { kind = kind; size = size }
@@ -49,3 +50,14 @@ cut bytes =
     if is_ascii_alphabetic (slice_index bytes 0) then cut_word bytes
     else if is_ascii_digit (slice_index bytes 0) then cut_digits bytes
     else cut_mark (slice_index bytes 0) (slice_index bytes 1)
+
+-- the token, behind a place of a text and white space there
+pub record IsFirstIn (text : List ℕ) (from : ℕ) (token : Token) : Type 0 where
+  pub starts : StartsWith from (drop from text) token (drop (token.at + length token.text) text)
+  pub further : from < token.at + length token.text
+  pub within : token.at + length token.text ≤ length text
+
+-- the first token of a text from a place on, or None where that is white space
+abbrev pub GivesFirst : List ℕ → ℕ → Option Piece → Type 0
+GivesFirst text from None = AllPass is_white (drop from text)
+GivesFirst text from (Some token) = IsFirstIn text from (seen token)

@@ -17,6 +17,7 @@ mod resolving;
 mod state;
 mod taking;
 mod token;
+mod transition;
 mod word;
 
 pub use description::Description;

@@ -3,7 +3,7 @@ use Rattle.std.proofs.Common.{◌≡◌, ℕ, ◌+◌, ◌-◌, ◌≤◌, sym, 
 use Rattle.twp_land.proofs.LotFacts.{few_lots}
 use Rattle.twp_plat.specs.Pieces.{over_of}
 use Rattle.twp_acres.proofs.SectionSums.{places_where, piece_where, places_held, places_not_held, piece_held, piece_not_held, of_lots-none, of_lots-next, lots_within, few_places, sum_of_section}
-use Rattle.twp_acres.proofs.PieceFacts.{piece_at}
+use Rattle.twp_plat.proofs.SectionPieces.{piece_at}
 use Rattle.twp_acres.proofs.AreaFacts.{lot_at_is, grows, bounded}
 use Rattle.twp_acres.proofs.area.units_in_section.Goals as goal
 use Rattle.twp_acres.proofs.area.units_in_section.Goals.{then-holds, else-holds}

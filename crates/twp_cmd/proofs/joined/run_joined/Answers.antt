@@ -4,7 +4,7 @@ use Rattle.std.specs.Prelude.{unwrap_or}
 use Rattle.std.specs.List.{before_first, after_first}
 use Rattle.std.proofs.lemmas.Result.{err_from_is_err_and}
 use Rattle.twp_cmd.specs.Joined.{joined_bytes, joined_notes, joined_description}
-use Rattle.twp_cmd.proofs.RunFacts.{some_bytes, told_one, keeps_nothing}
+use Rattle.twp_acres.proofs.RunFacts.{some_bytes, told_one, keeps_nothing}
 use Rattle.twp_cmd.proofs.joined.run_joined.Goals as goal
 
 pub returns-in_err-bytes-clause-ran : goal.returns-in_err-bytes-clause-ran

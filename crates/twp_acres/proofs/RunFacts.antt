@@ -1,0 +1,89 @@
+-- What runs read and write, over plain values.
+use Rattle.std.proofs.Common.{◌≡◌, ◌≢◌, ℕ, List, [], Option, Some, None, Result, Ok, Err, inl, inr, refl, subst, sym}
+use Rattle.std.specs.Prelude.{IfOk, IfErr, OnOk, OnErr, unwrap_or}
+use Rattle.std.specs.Io.KnownBytes.{Appends}
+use Rattle.twp_grid.specs.Devices.{Tells}
+use Rattle.twp_notes.specs.declared.reading.ReadFault.{ReadFault}
+use Rattle.twp_notes.specs.declared.reading.ReadFault.TheVariants as reading
+use Rattle.twp_acres.specs.Passing.{run_fault_of, IsStopOfPlaces}
+use Rattle.twp_acres.specs.Runs.{AnswerRelation, AppendsFront, IsAnswered, IsRun, Reads, ReadsTwo}
+use Rattle.twp_grid.specs.Places.{PLACE_DIGITS}
+use Rattle.twp_grid.specs.Townships.{Designation}
+use Rattle.twp_plat.specs.Plats.{TownshipPlat}
+use Rattle.twp_text.specs.TextFaults.{IsReadAs}
+use Rattle.twp_text.specs.PlaceFaults.{IsFirstPlaceFault}
+use Rattle.twp_text.specs.declared.item.Item.{Item}
+use Rattle.twp_text.specs.declared.place_fault.PlaceFault.{PlaceFault}
+use Rattle.twp_acres.specs.Answers.{ArePlatted, IsNoDescription}
+use Rattle.twp_acres.specs.Stops.{IfRefused, IsPlatted, Settles}
+use Rattle.twp_acres.specs.declared.stop.Stop.{Stop}
+use Rattle.twp_acres.specs.declared.stop.Stop.TheVariants as stop
+use Rattle.twp_acres.specs.declared.verdict.RunFault.{RunFault}
+use Rattle.twp_acres.specs.declared.verdict.RunFault.TheVariants.{Write}
+use Rattle.twp_acres.specs.declared.verdict.Verdict.{Verdict}
+
+-- the bytes that a device tells, or some where it tells none
+pub some_bytes : (told : Option (List ℕ)) → Tells told (unwrap_or told [])
+some_bytes None = tt
+some_bytes (Some bytes) = refl
+
+-- the bytes that are told are the only ones
+pub told_are : (told : Option (List ℕ)) (bytes other : List ℕ) → told ≡ Some bytes → Tells told other → other ≡ bytes
+told_are told bytes other is tells = sym (rw is at tells)
+
+-- what holds of the bytes that were read holds of the told ones
+pub told_one : (told : Option (List ℕ)) (bytes : List ℕ) (Holds : List ℕ → Type 0) → Reads told Holds → told ≡ Some bytes → Holds bytes
+told_one told bytes Holds read is = subst Holds (told_are told bytes read.bytes is read.tells) read.holds
+
+pub told_two : (first second : Option (List ℕ)) (a b : List ℕ) (GoesOn : List ℕ → Type 0) (unread : Type 0) (Holds : List ℕ → List ℕ → Type 0)
+    → ReadsTwo first second GoesOn unread Holds → first ≡ Some a → second ≡ Some b → Holds a b
+told_two first second a b GoesOn unread Holds read is-a is-b =
+    let same-a : read.first_bytes ≡ a = told_are first a read.first_bytes is-a read.first_tells in
+    let same-b : read.second_bytes ≡ b = told_are second b read.second_bytes is-b read.second_tells in
+    subst (λ x. Holds x b) same-a (subst (λ y. Holds read.first_bytes y) same-b read.holds)
+
+pub if_ok : {T E : Type 0} (r : Result T E) (P Q : T → Type 0) → IfOk r P → ((x : T) → P x → Q x) → IfOk r Q
+if_ok (Ok x) P Q h f = f x h
+if_ok (Err e) P Q h f = tt
+
+-- notes that make no plat settle the run
+pub settles_platted : (n d : List ℕ) (is : Stop) → IsPlatted n (Err is) → Settles n d (Err is)
+settles_platted n d (stop.Refused refusal) none = inl none
+settles_platted n d (stop.Failed fault) platted = tt
+
+-- on a plat, what is no description of land settles the run
+pub settles_described : (n d : List ℕ) (plat : TownshipPlat) (is : Stop) → ArePlatted n plat → IfRefused is (IsNoDescription plat.township d) → Settles n d (Err is)
+settles_described n d plat (stop.Refused refusal) platted none = inr (record { plat = plat; platted = platted; refused = none })
+settles_described n d plat (stop.Failed fault) platted none = tt
+
+-- items that don't lie on the plat stop the run by their refusal
+pub stopped_by_places : (township : Designation) (d : List ℕ) (is : List Item) (fault : PlaceFault) (stopped : Stop) → IsReadAs d is
+    → IsFirstPlaceFault PLACE_DIGITS township is fault → IsStopOfPlaces fault stopped → IfRefused stopped (IsNoDescription township d)
+stopped_by_places township d is fault (stop.Refused refusal) read first by = inr (record { items = is; read = read; fault = fault; first = first; refusal_is = by })
+stopped_by_places township d is fault (stop.Failed failed) read first by = tt
+
+-- and by no failed writer
+pub places_never_write : (fault : PlaceFault) (stopped : Stop) → IsStopOfPlaces fault stopped → stopped ≢ stop.Failed Write
+places_never_write fault (stop.Refused refusal) by same = cc same
+places_never_write fault (stop.Failed failed) by same = absurd by
+
+-- an answer was written, or a front of it
+pub written : (Answers : AnswerRelation) (old new : Option (List ℕ)) (text : List ℕ) (verdict : Verdict) (r : Result Verdict RunFault) → Answers text verdict
+    → IfOk r (λ v. v ≡ verdict) → OnOk r (Appends old new text) → OnErr r (AppendsFront old new text) → IfErr r (λ fault. fault ≡ Write) → IsRun Answers old new r
+written Answers old new text verdict (Ok v) answer is whole front fault = record { answer = text; answers = rw is answer; appended = whole }
+written Answers old new text verdict (Err e) answer is whole front fault =
+    rw fault (record { answer = text; verdict = verdict; answers = answer; front = front })
+
+-- what was answered is the one answer that there is
+pub answered : (Answers : AnswerRelation) (old new : Option (List ℕ)) (answer : List ℕ) (verdict : Verdict) (r : Result Verdict RunFault) → IsRun Answers old new r
+    → ((a : List ℕ) (v : Verdict) → Answers a v → (a ≡ answer) × (v ≡ verdict)) → IsAnswered old new answer verdict r
+answered Answers old new answer verdict (Ok v) is one =
+    let same = one is.answer v is.answers in (same.1, subst (λ a. Appends old new a) same.0 is.appended)
+answered Answers old new answer verdict (Err e) is one = tt
+
+-- where reading failed nothing was written
+pub keeps_nothing : (Answers : AnswerRelation) (old : Option (List ℕ)) (fault : ReadFault) → IsRun Answers old old (Err (run_fault_of fault))
+keeps_nothing Answers None reading.Read = tt
+keeps_nothing Answers (Some bytes) reading.Read = refl
+keeps_nothing Answers None reading.Memory = tt
+keeps_nothing Answers (Some bytes) reading.Memory = refl

@@ -1,0 +1,88 @@
+-- What the answer of a run stands on: the plat that field notes make, the land of a description on it,
+-- and the first fault of all other bytes.
+use Rattle.std.specs.Prelude.{◌≡◌, ◌⊎◌, ℕ, List, [], ◌∷◌, ◌++◌, Bool, Some, codes, decimal}
+use Rattle.twp_grid.specs.Places.{PLACE_DIGITS}
+use Rattle.twp_grid.specs.Townships.{Designation}
+use Rattle.twp_grid.specs.declared.refusal.Refusal.{Refusal}
+use Rattle.twp_notes.specs.FieldNotes.{FieldNotes, AreNotes}
+use Rattle.twp_notes.specs.NotesTexts.{line_feed}
+use Rattle.twp_notes.specs.NotesFaults as notes_faults
+use Rattle.twp_notes.specs.declared.fault.NotesFault.{NotesFault}
+use Rattle.twp_plat.specs.Plats.{TownshipPlat, IsPlatOf}
+use Rattle.twp_plat.specs.PlatFaults as plat_faults
+use Rattle.twp_plat.specs.declared.fault.PlatFault.{PlatFault}
+use Rattle.twp_text.specs.TextFaults.{IsReadAs, IsFirstTextFault}
+use Rattle.twp_text.specs.PlaceFaults as place_faults
+use Rattle.twp_text.specs.declared.item.Item.{Item}
+use Rattle.twp_text.specs.declared.place_fault.PlaceFault.{PlaceFault}
+
+-- the bytes are field notes that make this plat
+pub record ArePlatted (bytes : List ℕ) (plat : TownshipPlat) : Type 0 where
+  pub notes : FieldNotes
+  pub notes_are : AreNotes bytes notes
+  pub plat_is : IsPlatOf notes plat
+
+-- the bytes are field notes that make a plat
+abbrev pub MakePlat : List ℕ → Type 0
+MakePlat bytes = (plat : TownshipPlat) × ArePlatted bytes plat
+
+-- The bytes are a description of this land: they are read as items that lie on the plat of the township
+-- without overlap, and the land is the set of all places that they name.
+pub record Describe (township : Designation) (bytes : List ℕ) (places : ℕ → ℕ → ℕ → Bool)
+    : Type 0 where
+  pub items : List Item
+  pub read : IsReadAs bytes items
+  pub land : place_faults.IsLandOfItems PLACE_DIGITS township items places
+
+-- the notes make the plat, and the description is of the land on it
+pub record IsLandOnPlat (notes description : List ℕ) (plat : TownshipPlat)
+    (places : ℕ → ℕ → ℕ → Bool) : Type 0 where
+  pub platted : ArePlatted notes plat
+  pub described : Describe plat.township description places
+
+-- the bytes are refused as notes, for their first fault
+pub record AreRefused (bytes : List ℕ) (refusal : Refusal) : Type 0 where
+  pub fault : NotesFault
+  pub first : notes_faults.IsFirstFault bytes fault
+  pub refusal_is : notes_faults.refusal_of fault ≡ Some refusal
+
+-- the bytes are notes that make no plat, for their first fault
+pub record MakeNoPlat (bytes : List ℕ) (refusal : Refusal) : Type 0 where
+  pub notes : FieldNotes
+  pub notes_are : AreNotes bytes notes
+  pub fault : PlatFault
+  pub first : plat_faults.IsFirstFault notes fault
+  pub refusal_is : plat_faults.refusal_of fault ≡ Some refusal
+
+-- the bytes are read as items that don't lie on the plat without overlap, for their first fault
+pub record DescribeNoLand (township : Designation) (bytes : List ℕ) (refusal : Refusal) : Type 0 where
+  pub items : List Item
+  pub read : IsReadAs bytes items
+  pub fault : PlaceFault
+  pub first : place_faults.IsFirstPlaceFault PLACE_DIGITS township items fault
+  pub refusal_is : place_faults.refusal_of fault ≡ Some refusal
+
+-- the bytes are no description of land on the plat: for the first fault of the text, or else of its items
+abbrev pub IsNoDescription : Designation → List ℕ → Refusal → Type 0
+IsNoDescription township bytes refusal =
+    IsFirstTextFault bytes refusal ⊎ DescribeNoLand township bytes refusal
+
+-- the notes make a plat, and the description is of no land on it
+pub record IsNoLandOnPlat (notes description : List ℕ) (refusal : Refusal) : Type 0 where
+  pub plat : TownshipPlat
+  pub platted : ArePlatted notes plat
+  pub refused : IsNoDescription plat.township description refusal
+
+-- the notes are refused, or make no plat
+abbrev pub IsNoPlat : List ℕ → Refusal → Type 0
+IsNoPlat notes refusal = AreRefused notes refusal ⊎ MakeNoPlat notes refusal
+
+-- the refusal of the first stage that has one: notes, plat, the description's text, its items
+abbrev pub IsRefusal : List ℕ → List ℕ → Refusal → Type 0
+IsRefusal notes description refusal =
+    IsNoPlat notes refusal ⊎ IsNoLandOnPlat notes description refusal
+
+-- as `refused 67 at 19`
+abbrev pub refusal_line : Refusal → List ℕ
+refusal_line refusal =
+    codes "refused " ++ decimal refusal.number ++ codes " at " ++ decimal refusal.at ++ line_feed ∷ []

@@ -1,0 +1,31 @@
+-- What the stages of a run come to.
+use Rattle.std.specs.Prelude.{ℕ, Bool, List, Result, Ok, Err, ⊤}
+use Rattle.twp_grid.specs.Townships.{Designation}
+use Rattle.twp_grid.specs.declared.refusal.Refusal.{Refusal}
+use Rattle.twp_plat.specs.Plats.{TownshipPlat}
+use Rattle.twp_acres.specs.Answers.{ArePlatted, IsNoPlat, Describe, IsNoDescription, IsRefusal}
+use Rattle.twp_acres.specs.AcresAnswers.{HasAcres}
+use Rattle.twp_acres.specs.declared.stop.Stop.{Stop}
+use Rattle.twp_acres.specs.declared.stop.Stop.TheVariants as stop
+
+-- the stop is no refusal, or this one's
+abbrev pub IfRefused : Stop → (Refusal → Type 0) → Type 0
+IfRefused (stop.Refused refusal) Holds = Holds refusal
+IfRefused (stop.Failed fault) Holds = ⊤
+
+-- the plat that the bytes make as notes, or their refusal
+abbrev pub IsPlatted : List ℕ → Result TownshipPlat Stop → Type 0
+IsPlatted notes (Ok plat) = ArePlatted notes plat
+IsPlatted notes (Err stopped) = IfRefused stopped (IsNoPlat notes)
+
+-- the land that the bytes describe, or their refusal
+abbrev pub IsDescribed : {L : Type 0} → (L → ℕ → ℕ → ℕ → Bool) → Designation → List ℕ
+    → Result L Stop → Type 0
+IsDescribed places township description (Ok land) = Describe township description (places land)
+IsDescribed places township description (Err stopped) =
+    IfRefused stopped (IsNoDescription township description)
+
+-- the hundredths of an acre of two texts, or the refusal that stops the run
+abbrev pub Settles : List ℕ → List ℕ → Result ℕ Stop → Type 0
+Settles notes description (Ok hundredths) = HasAcres notes description hundredths
+Settles notes description (Err stopped) = IfRefused stopped (IsRefusal notes description)

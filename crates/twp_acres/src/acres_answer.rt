@@ -1,0 +1,86 @@
+//! The answer of the acreage run.
+ghost use Rattle.std.specs.Prelude.{◌≡◌, ◌≢◌, ◌+◌, ◌↔◌, true, false, IfOk, IfErr, IsErrOf};
+ghost use Rattle.twp_grid.specs.Devices.{TakesAtMost};
+ghost use Rattle.twp_notes.specs.FieldNotes.{NOTES_MOST};
+ghost use Rattle.twp_text.specs.TextFaults.{TEXT_LIMIT};
+ghost use Rattle.twp_acres.specs.Answers.{MakePlat};
+ghost use Rattle.twp_acres.specs.AcresAnswers.{IsAcresAnswer, acres_line};
+ghost use Rattle.twp_acres.specs.Runs.{AnyFailed, ReadsTwo};
+ghost use Rattle.twp_acres.specs.Stops.{Settles};
+ghost use Rattle.twp_acres.specs.declared.stop.Stop.TheVariants.{Failed};
+
+use crate::answer::{Answer, refuse};
+use crate::area::area_of;
+use crate::stages::{read_land, read_plat};
+use crate::stop::Stop;
+use crate::verdict::{RunFault, Verdict};
+use std::alloc::Global;
+use twp_grid::Source;
+use twp_land::Grid;
+use twp_measure::write_acres;
+
+/// The answer of field notes and a description. The description is read only where the notes make a
+/// plat.
+pub fn answer_of<N: Source, D: Source>(
+    alloc: Global,
+    notes: &mut N,
+    description: &mut D,
+) -> Result<Answer, RunFault>
+    requires notes { N.has_failed notes.old ≡ false }
+    requires description { D.has_failed description.old ≡ false }
+    ensures read { IsErrOf result RunFault.Read
+        ↔ AnyFailed (N.has_failed notes.new) (D.has_failed description.new) }
+    ensures no_write { IfErr result (λ fault. fault ≢ RunFault.Write) }
+    ensures notes_most { TakesAtMost (N.remaining notes.old)
+        (N.remaining notes.new) (NOTES_MOST + 1) }
+    ensures description_most { TakesAtMost (D.remaining description.old)
+        (D.remaining description.new) (TEXT_LIMIT + 1) }
+    ensures answer { ReadsTwo (N.remaining notes.old) (D.remaining description.old)
+        MakePlat (description.new ≡ description.old)
+        (λ n d. IfOk result (λ answer. IsAcresAnswer n d answer.text.items answer.verdict)) }
+{
+    match hundredths_of(alloc, notes, description) {
+        Ok(hundredths) => accept(alloc, hundredths),
+        Err(Stop::Refused(refusal)) => refuse(alloc, refusal),
+        Err(Stop::Failed(fault)) => Err(fault),
+    }
+}
+
+/// The hundredths of an acre of the land described: exact, and rounded once.
+fn hundredths_of<N: Source, D: Source>(
+    alloc: Global,
+    notes: &mut N,
+    description: &mut D,
+) -> Result<u64, Stop>
+    requires notes { N.has_failed notes.old ≡ false }
+    requires description { D.has_failed description.old ≡ false }
+    ensures read { IsErrOf result (Failed RunFault.Read)
+        ↔ AnyFailed (N.has_failed notes.new) (D.has_failed description.new) }
+    ensures no_write { IfErr result (λ stop. stop ≢ Failed RunFault.Write) }
+    ensures notes_most { TakesAtMost (N.remaining notes.old)
+        (N.remaining notes.new) (NOTES_MOST + 1) }
+    ensures description_most { TakesAtMost (D.remaining description.old)
+        (D.remaining description.new) (TEXT_LIMIT + 1) }
+    ensures settles { ReadsTwo (N.remaining notes.old) (D.remaining description.old)
+        MakePlat (description.new ≡ description.old)
+        (λ n d. Settles n d result) }
+{
+    let plat = read_plat(alloc, notes)?;
+    let land: Grid = read_land(alloc, plat.township(), description)?;
+    Ok(area_of(&plat, &land).hundredths())
+}
+
+/// The answer of so many hundredths of an acre.
+fn accept(alloc: Global, hundredths: u64) -> Result<Answer, RunFault>
+    ensures answer { IfOk result (λ answer.
+        (answer.text.items ≡ acres_line hundredths) × (answer.verdict ≡ Verdict.Accepted)) }
+    ensures memory { IfErr result (λ fault. fault ≡ RunFault.Memory) }
+{
+    let mut text = Vec::new(alloc);
+    write_acres(hundredths, &mut text)?;
+    text.extend_from_slice(b" acres\n")?;
+    Ok(Answer {
+        text,
+        verdict: Verdict::Accepted,
+    })
+}

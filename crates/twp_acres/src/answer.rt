@@ -1,0 +1,32 @@
+ghost use Rattle.std.specs.Prelude.{◌≡◌, IfOk, IfErr};
+ghost use Rattle.twp_acres.specs.Answers.{refusal_line};
+
+use crate::verdict::{RunFault, Verdict};
+use itoa::Buffer;
+use std::alloc::Global;
+use twp_grid::Refusal;
+
+/// What a run answers.
+#[derive(Drop)]
+pub struct Answer {
+    pub text: Vec<u8>,
+    pub verdict: Verdict,
+}
+
+/// The answer of a refusal.
+pub fn refuse(alloc: Global, refusal: Refusal) -> Result<Answer, RunFault>
+    ensures answer { IfOk result (λ answer.
+        (answer.text.items ≡ refusal_line refusal) × (answer.verdict ≡ Verdict.Refused refusal)) }
+    ensures memory { IfErr result (λ fault. fault ≡ RunFault.Memory) }
+{
+    let mut buffer = Buffer::new();
+    let mut text = Vec::from_slice(alloc, b"refused ")?;
+    text.extend_from_slice(buffer.format(refusal.number).as_bytes())?;
+    text.extend_from_slice(b" at ")?;
+    text.extend_from_slice(buffer.format(refusal.at).as_bytes())?;
+    text.push(b'\n')?;
+    Ok(Answer {
+        text,
+        verdict: Verdict::Refused(refusal),
+    })
+}

@@ -1,0 +1,129 @@
+//! The answer of the plat run.
+ghost use Rattle.std.specs.Prelude.{◌≡◌, ◌≢◌, ◌≤◌, ◌+◌, ◌++◌, ◌↔◌, true, false, OnOk, IfOk, IfErr, IsErrOf};
+ghost use Rattle.twp_grid.specs.Devices.{TakesAtMost};
+ghost use Rattle.twp_grid.specs.Winding.{IsSection};
+ghost use Rattle.twp_grid.specs.Lots.{number_of_lots};
+ghost use Rattle.twp_notes.specs.FieldNotes.{NOTES_MOST};
+ghost use Rattle.twp_acres.specs.PlatAnswers.{PlatFigures, AreFigures, IsPlatAnswer};
+ghost use Rattle.twp_acres.specs.PlatAnswers.{lot_text, total_text, section_name, section_line, plat_text};
+ghost use Rattle.twp_acres.specs.Runs.{Reads};
+
+use crate::answer::{Answer, refuse};
+use crate::stages::read_plat;
+use crate::stop::Stop;
+use crate::verdict::{RunFault, Verdict};
+use itoa::Buffer;
+use std::alloc::{AllocError, Global};
+use twp_grid::{Section, Source, lot_count, lot_place};
+use twp_measure::write_acres;
+use twp_plat::Plat;
+
+/// How many sections a township has.
+const SECTIONS: u8 = 36;
+
+/// The answer of field notes: the printed plat, or the refusal.
+pub fn answer_of<N: Source>(alloc: Global, notes: &mut N) -> Result<Answer, RunFault>
+    requires { N.has_failed notes.old ≡ false }
+    ensures read { IsErrOf result RunFault.Read ↔ (N.has_failed notes.new ≡ true) }
+    ensures no_write { IfErr result (λ fault. fault ≢ RunFault.Write) }
+    ensures most { TakesAtMost (N.remaining notes.old)
+        (N.remaining notes.new) (NOTES_MOST + 1) }
+    ensures answer { Reads (N.remaining notes.old) (λ n.
+        IfOk result (λ answer. IsPlatAnswer n answer.text.items answer.verdict)) }
+{
+    match read_plat(alloc, notes) {
+        Ok(plat) => print(alloc, &plat),
+        Err(Stop::Refused(refusal)) => refuse(alloc, refusal),
+        Err(Stop::Failed(fault)) => Err(fault),
+    }
+}
+
+/// The answer of a plat: its text.
+fn print(alloc: Global, plat: &Plat) -> Result<Answer, RunFault>
+    ensures answer { IfOk result (λ answer. (answer.verdict ≡ Verdict.Accepted)
+        × ((figures : PlatFigures) × AreFigures plat.now figures
+        × (answer.text.items ≡ plat_text figures))) }
+    ensures memory { IfErr result (λ fault. fault ≡ RunFault.Memory) }
+{
+    let mut text = Vec::new(alloc);
+    for number in 1..SECTIONS + 1 {
+        let section = Section::new(number).unwrap();
+        write_section(plat, section, &mut text)?;
+    }
+    text.extend_from_slice(b"township ")?;
+    write_total(township_figure(plat), &mut text)?;
+    Ok(Answer {
+        text,
+        verdict: Verdict::Accepted,
+    })
+}
+
+/// Appends the line of a section.
+fn write_section(plat: &Plat, section: Section, text: &mut Vec<u8>) -> Result<(), AllocError>
+    ensures ok { (figures : PlatFigures) → AreFigures plat.now figures
+        → OnOk result (text.new.items ≡ text.old.items ++ section_line figures section) }
+{
+    write_section_name(section, text)?;
+    for lots_before in 0..lot_count(section) {
+        let lot = lots_before + 1;
+        write_lot(lot, lot_figure(plat, section, lot), text)?;
+    }
+    write_total(section_figure(plat, section), text)
+}
+
+/// Appends a section's number, as `sec. 5: `.
+fn write_section_name(section: Section, text: &mut Vec<u8>) -> Result<(), AllocError>
+    ensures ok { OnOk result (text.new.items ≡ text.old.items ++ section_name section) }
+{
+    text.extend_from_slice(b"sec. ")?;
+    text.extend_from_slice(Buffer::new().format(section.number()).as_bytes())?;
+    text.extend_from_slice(b": ")
+}
+
+/// Appends a lot's number and its hundredths of an acre, as `lot 1 40.45, `.
+fn write_lot(lot: u8, hundredths: u64, text: &mut Vec<u8>) -> Result<(), AllocError>
+    ensures ok { OnOk result (text.new.items ≡ text.old.items ++ lot_text lot hundredths) }
+{
+    text.extend_from_slice(b"lot ")?;
+    text.extend_from_slice(Buffer::new().format(lot).as_bytes())?;
+    text.extend_from_slice(b" ")?;
+    write_acres(hundredths, text)?;
+    text.extend_from_slice(b", ")
+}
+
+/// Appends the hundredths of an acre of a whole, as `total 642.40`, and a line feed.
+fn write_total(hundredths: u64, text: &mut Vec<u8>) -> Result<(), AllocError>
+    ensures ok { OnOk result (text.new.items ≡ text.old.items ++ total_text hundredths) }
+{
+    text.extend_from_slice(b"total ")?;
+    write_acres(hundredths, text)?;
+    text.extend_from_slice(b"\n")
+}
+
+/// A lot's hundredths of an acre.
+fn lot_figure(plat: &Plat, section: Section, lot: u8) -> u64
+    requires least { 1 ≤ lot }
+    requires most { lot ≤ number_of_lots section }
+    ensures { (figures : PlatFigures) → AreFigures plat.now figures
+        → result ≡ figures.lots section lot }
+{
+    let (column, row) = lot_place(section, lot).unwrap();
+    plat.piece_area(section, column, row).hundredths()
+}
+
+/// A section's hundredths of an acre.
+fn section_figure(plat: &Plat, section: Section) -> u64
+    ensures { (figures : PlatFigures) → AreFigures plat.now figures → IsSection section
+        → result ≡ figures.sections section }
+{
+    plat.section_area(section).hundredths()
+}
+
+/// The township's hundredths of an acre.
+fn township_figure(plat: &Plat) -> u64
+    ensures figure { (figures : PlatFigures) → AreFigures plat.now figures
+        → result ≡ figures.township }
+    ensures has { (figures : PlatFigures) × AreFigures plat.now figures }
+{
+    plat.township_area().hundredths()
+}

@@ -1,0 +1,134 @@
+ghost use Rattle.std.specs.Prelude.{◌≡◌, ◌+◌, ◌↔◌, ℕ, List, Some, true, false, OnOk, OnErr, IfOk, IfErr, IsErrOf, IsOkUnless, is_err};
+ghost use Rattle.std.specs.Io.KnownBytes.{Appends};
+ghost use Rattle.twp_grid.specs.Devices.{TakesAtMost};
+ghost use Rattle.twp_grid.specs.declared.refusal.Refusal.{Refusal};
+ghost use Rattle.twp_notes.specs.FieldNotes.{NOTES_MOST};
+ghost use Rattle.twp_text.specs.TextFaults.{TEXT_LIMIT};
+ghost use Rattle.twp_acres.specs.Answers.{MakePlat, IsRefusal, refusal_line};
+ghost use Rattle.twp_acres.specs.AcresAnswers.{HasAcres, IsAcresAnswer, acres_line};
+ghost use Rattle.twp_acres.specs.PlatAnswers.{IsPlatAnswer};
+ghost use Rattle.twp_acres.specs.Runs.{AnyFailed, AppendsFront, IsAnswered, IsRun, Reads, ReadsTwo};
+
+use crate::answer::Answer;
+use crate::verdict::{RunFault, Verdict};
+use crate::writing::write_whole;
+use crate::{acres_answer, plat_answer};
+use std::alloc::Global;
+use twp_grid::{Sink, Source};
+
+/// Writes the acres of the land described, where the field notes make a plat and the parts of the
+/// description lie on it without overlap: the exact sum of interpolated areas over the land's places,
+/// rounded once to hundredths, half up, however the land is spelled. Otherwise it writes the numbered
+/// refusal of the first fault, at its place.
+///
+/// The whole answer is made before its first byte is written.
+pub fn run_acres<N: Source, D: Source, W: Sink>(
+    alloc: Global,
+    notes: &mut N,
+    description: &mut D,
+    out: &mut W,
+) -> Result<Verdict, RunFault>
+    requires notes { N.has_failed notes.old ≡ false }
+    requires description { D.has_failed description.old ≡ false }
+    requires out { W.has_failed out.old ≡ false }
+
+    // Of every two texts: the acres of the land described, where there is such a land ..
+    ensures acres { (n d : List ℕ)
+        → N.remaining notes.old ≡ Some n → D.remaining description.old ≡ Some d
+        → (hundredths : ℕ) → HasAcres n d hundredths
+        → IsAnswered (W.contents out.old) (W.contents out.new)
+        (acres_line hundredths) Verdict.Accepted result }
+
+    // .. and the numbered refusal of the first fault, at its place, where there is none.
+    ensures refusals { (n d : List ℕ)
+        → N.remaining notes.old ≡ Some n → D.remaining description.old ≡ Some d
+        → (refusal : Refusal) → IsRefusal n d refusal
+        → IsAnswered (W.contents out.old) (W.contents out.new)
+        (refusal_line refusal) (Verdict.Refused refusal) result }
+
+    // The run gives one of the two: where no device fails, and no memory is refused, there is a verdict,
+    // and every verdict is that of one of these answers, which was written.
+    ensures answers { N.has_failed notes.new ≡ false → D.has_failed description.new ≡ false
+        → W.has_failed out.new ≡ false → IsOkUnless result RunFault.Memory }
+    ensures told { (n d : List ℕ)
+        → N.remaining notes.old ≡ Some n → D.remaining description.old ≡ Some d
+        → IsRun (IsAcresAnswer n d) (W.contents out.old) (W.contents out.new) result }
+
+    // The same whatever the devices tell of their bytes. The description is read only where the notes
+    // make a plat.
+    ensures ran { ReadsTwo (N.remaining notes.old) (D.remaining description.old)
+        MakePlat (description.new ≡ description.old)
+        (λ n d. IsRun (IsAcresAnswer n d) (W.contents out.old) (W.contents out.new) result) }
+    ensures unread { (n : List ℕ) → N.remaining notes.old ≡ Some n → (MakePlat n → ⊥)
+        → description.new ≡ description.old }
+
+    // A fault of a device is answered exactly where that device failed in this call.
+    ensures read { IsErrOf result RunFault.Read
+        ↔ AnyFailed (N.has_failed notes.new) (D.has_failed description.new) }
+    ensures write { IsErrOf result RunFault.Write ↔ (W.has_failed out.new ≡ true) }
+
+    // Reading ends one byte past the limit, if not before.
+    ensures notes_most { TakesAtMost (N.remaining notes.old)
+        (N.remaining notes.new) (NOTES_MOST + 1) }
+    ensures description_most { TakesAtMost (D.remaining description.old)
+        (D.remaining description.new) (TEXT_LIMIT + 1) }
+{
+    let answer = acres_answer::answer_of(alloc, notes, description)?;
+    write_answer(out, &answer)
+}
+
+/// Writes the plat that field notes make: of each section its lots' acres and its own, and then the
+/// township's. Each figure is an exact area, rounded once. Where the notes make no plat it writes the
+/// numbered refusal of the first fault, at its place.
+///
+/// The whole answer is made before its first byte is written.
+pub fn run_plat<N: Source, W: Sink>(
+    alloc: Global,
+    notes: &mut N,
+    out: &mut W,
+) -> Result<Verdict, RunFault>
+    requires notes { N.has_failed notes.old ≡ false }
+    requires out { W.has_failed out.old ≡ false }
+
+    // The printed plat of told notes, or the refusal; a verdict where no device fails and no memory is
+    // refused.
+    ensures told { (n : List ℕ) → N.remaining notes.old ≡ Some n
+        → IsRun (IsPlatAnswer n) (W.contents out.old) (W.contents out.new) result }
+    ensures answers { N.has_failed notes.new ≡ false → W.has_failed out.new ≡ false
+        → IsOkUnless result RunFault.Memory }
+
+    // The same whatever the devices tell of their bytes.
+    ensures ran { Reads (N.remaining notes.old) (λ n.
+        IsRun (IsPlatAnswer n) (W.contents out.old) (W.contents out.new) result) }
+
+    // A fault of a device is answered exactly where that device failed in this call.
+    ensures read { IsErrOf result RunFault.Read ↔ (N.has_failed notes.new ≡ true) }
+    ensures write { IsErrOf result RunFault.Write ↔ (W.has_failed out.new ≡ true) }
+
+    // Reading ends one byte past the limit, if not before.
+    ensures most { TakesAtMost (N.remaining notes.old)
+        (N.remaining notes.new) (NOTES_MOST + 1) }
+{
+    let answer = plat_answer::answer_of(alloc, notes)?;
+    write_answer(out, &answer)
+}
+
+/// Writes an answer, and gives its verdict.
+fn write_answer<W: Sink>(out: &mut W, answer: &Answer) -> Result<Verdict, RunFault>
+    requires { W.has_failed out.old ≡ false }
+    ensures verdict { IfOk result (λ verdict. verdict ≡ answer.now.verdict) }
+    ensures whole { OnOk result
+        (Appends (W.contents out.old) (W.contents out.new) answer.now.text.items) }
+    ensures front { OnErr result
+        (AppendsFront (W.contents out.old) (W.contents out.new) answer.now.text.items) }
+    ensures write { IfErr result (λ fault. fault ≡ RunFault.Write) }
+    ensures failed { W.has_failed out.new ≡ is_err result }
+{
+    match write_whole(out, answer.text.as_slice()) {
+        Ok(()) => Ok(answer.verdict),
+        Err(_) => Err(RunFault::Write),
+    }
+}
+
+#[cfg(test)]
+mod tests;

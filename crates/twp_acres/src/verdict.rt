@@ -1,0 +1,64 @@
+use std::alloc::{AllocError, AllocFailed};
+use thiserror::Error;
+use twp_grid::Refusal;
+use twp_notes::ReadFault;
+
+/// What a run answered, beside the text that it wrote.
+#[derive(Clone, Copy, Debug, PartialEq, Eq, Hash)]
+pub enum Verdict {
+    /// The input was accepted.
+    Accepted,
+    /// The input was refused, for its first fault.
+    Refused(Refusal),
+    /// An account was refused for a tract at a record, whose description was refused itself.
+    TractRefused { at: u32, inner: Refusal },
+}
+
+/// Why a run gave no verdict.
+#[derive(Clone, Copy, Debug, PartialEq, Eq, Hash, Error)]
+pub enum RunFault {
+    /// A reader failed.
+    #[error("cannot read")]
+    Read,
+    /// The writer failed.
+    #[error("cannot write")]
+    Write,
+    /// There was no memory.
+    #[error("out of memory")]
+    Memory,
+}
+
+impl From<AllocError> for RunFault {
+    ghost use Rattle.std.specs.Prelude.{◌≡◌};
+    ghost use Rattle.twp_acres.specs.declared.verdict.RunFault.TheVariants.{Memory};
+
+    ghost from_gives = { λ _ fault. fault ≡ Memory };
+
+    fn from(_fault: AllocError) -> RunFault {
+        RunFault::Memory
+    }
+}
+
+impl<T: Drop> From<AllocFailed<T>> for RunFault {
+    ghost use Rattle.std.specs.Prelude.{◌≡◌};
+    ghost use Rattle.twp_acres.specs.declared.verdict.RunFault.TheVariants.{Memory};
+
+    ghost from_gives = { λ _ fault. fault ≡ Memory };
+
+    fn from(_fault: AllocFailed<T>) -> RunFault {
+        RunFault::Memory
+    }
+}
+
+impl From<ReadFault> for RunFault {
+    ghost use Rattle.twp_acres.specs.Passing.{IsRunFaultOf};
+
+    ghost from_gives = { IsRunFaultOf };
+
+    fn from(fault: ReadFault) -> RunFault {
+        match fault {
+            ReadFault::Read => RunFault::Read,
+            ReadFault::Memory => RunFault::Memory,
+        }
+    }
+}

@@ -1,7 +1,0 @@
-use Rattle.std.proofs.Common.{ℕ, ◌<◌}
-use Rattle.twp_cmd.specs.LotTexts.{IsLotOf}
-use Rattle.twp_cmd.proofs.thin.read_lot.Given as goal
-
--- no section so far has a lot of this text
-abbrev pub invariant-loop-number : goal.invariant-loop-number
-invariant-loop-number l = (section lot : ℕ) → section < l.number → IsLotOf l.rest section lot → ⊥

@@ -1,0 +1,61 @@
+ghost use Rattle.std.specs.Prelude.{◌≡◌, ℕ, ◌*◌, ◌<◌, ◌≤◌};
+ghost use Rattle.twp_grid.specs.Totals.{total, over_positions};
+ghost use Rattle.twp_plat.specs.Closing.{CLOSING_MOST};
+ghost use Rattle.twp_plat.specs.Pieces.{over_of, OVER_MOST};
+ghost use Rattle.twp_plat.specs.PlatAreas.{ArePieces, IsSectionArea, IsTownshipArea};
+
+use crate::plat::Plat;
+use twp_grid::Section;
+use twp_measure::Area;
+
+/// How many sections a township has.
+const SECTIONS: u8 = 36;
+
+/// How many positions stand beside each other in a section, and how many one above the other.
+const POSITIONS_ACROSS: u8 = 4;
+
+impl Plat {
+    /// The area of a section: the sum of its 16 positions' areas, exact.
+    pub fn section_area(&self, section: Section) -> Area
+        ensures sum { IsSectionArea self.now section result }
+        ensures units { (pieces : ℕ → ℕ → ℕ → ℕ) → ArePieces self.now pieces
+            → result.units ≡ over_positions (pieces section) }
+        ensures most { result.units ≤ 16 * (CLOSING_MOST * CLOSING_MOST * OVER_MOST) }
+    {
+        let mut area = Area::zero(self.over());
+        for row in 0..POSITIONS_ACROSS {
+            area = area.plus(&self.row_area(section, row));
+        }
+        area
+    }
+
+    /// The area of the township: the sum of its 36 sections' areas, exact.
+    pub fn township_area(&self) -> Area
+        ensures sum { IsTownshipArea self.now result }
+    {
+        let mut area = Area::zero(self.over());
+        for number in 1..SECTIONS + 1 {
+            let section = Section::new(number).unwrap();
+            area = area.plus(&self.section_area(section));
+        }
+        area
+    }
+
+    /// The area of a section's positions of one row.
+    fn row_area(&self, section: Section, row: u8) -> Area
+        requires { row < 4 }
+        ensures over { result.over ≡ over_of self.now }
+        ensures units { (pieces : ℕ → ℕ → ℕ → ℕ) → ArePieces self.now pieces
+            → result.units ≡ total 4 (λ column. pieces section column row) }
+        ensures most { result.units ≤ 4 * (CLOSING_MOST * CLOSING_MOST * OVER_MOST) }
+    {
+        let mut area = Area::zero(self.over());
+        for column in 0..POSITIONS_ACROSS {
+            area = area.plus(&self.piece_area(section, column, row));
+        }
+        area
+    }
+}
+
+#[cfg(test)]
+mod tests;
