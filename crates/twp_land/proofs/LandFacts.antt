@@ -1,5 +1,5 @@
 -- Sets of places as they are kept by section.
-use Rattle.std.proofs.Common.{◌≡◌, ◌≢◌, ◌==◌, ℕ, zero, suc, ◌-◌, ◌<◌, ◌&&◌, ◌||◌, Bool, true, false, List, [], ◌∷◌, length, get_or, Some, ap, refl, sym, ◌∙◌, inl, inr, arith, replicate}
+use Rattle.std.proofs.Common.{◌≡◌, ◌≢◌, ◌==◌, ℕ, zero, suc, ◌-◌, ◌<◌, ◌&&◌, ◌||◌, Bool, true, false, List, [], ◌∷◌, length, get_or, Some, ap, refl, sym, ◌∙◌, inl, inr, arith, replicate, if◌then◌else◌}
 use Rattle.std.proofs.Math.Path.{fun_ext}
 use Rattle.std.proofs.Math.ListN.{set}
 use Rattle.std.specs.List.{slice_get}
@@ -10,7 +10,7 @@ use Rattle.std.proofs.lemmas.Option.{slice_get_read}
 use Rattle.twp_grid.specs.Winding.{SECTION_COUNT, IsSection}
 use Rattle.twp_grid.specs.Spans.{Rectangle}
 use Rattle.twp_land.specs.Lands.{no_places, union, block_places}
-use Rattle.twp_land.specs.Storage.{is_section, held_by_section, exchanged, with_block, nothing_held}
+use Rattle.twp_land.specs.Storage.{is_section, held_by_section, with_block, nothing_held}
 
 number_is : (section : ℕ) → IsSection section → is_section section ≡ true
 number_is section range = grind (arith, nat_tests)
@@ -26,6 +26,11 @@ slice_get-set_other (p ∷ plots) zero zero plot other = absurd (other refl)
 slice_get-set_other (p ∷ plots) zero (suc j) plot other = refl
 slice_get-set_other (p ∷ plots) (suc i) zero plot other = refl
 slice_get-set_other (p ∷ plots) (suc i) (suc j) plot other = slice_get-set_other plots i j plot (λ e. other (ap (λ k. suc k) e))
+
+-- the set with one section's part exchanged
+abbrev exchanged : (ℕ → ℕ → ℕ → Bool) → ℕ → (ℕ → ℕ → Bool) → ℕ → ℕ → ℕ → Bool
+exchanged places section held other column row =
+    if section == other then held column row else places other column row
 
 -- an exchange in the list is an exchange in the set
 pub held_after : {P : Type 0} (held : P → ℕ → ℕ → Bool) (plots : List P) (section : ℕ) (plot : P) → IsSection section

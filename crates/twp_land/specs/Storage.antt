@@ -1,6 +1,6 @@
 -- How the sets are kept: a township's as one set for each section, by number; a section's as rows of
 -- tests, from the south, each by columns from the east.
-use Rattle.std.specs.Prelude.{◌≡◌, ℕ, ◌+◌, ◌<◌, ◌-◌, ◌==◌, ◌&&◌, ◌||◌, Bool, true, false, if◌then◌else◌, List, [], length, nat_le, slice_index_or}
+use Rattle.std.specs.Prelude.{◌≡◌, ℕ, ◌+◌, ◌<◌, ◌-◌, ◌&&◌, ◌||◌, Bool, true, false, List, [], length, nat_le, slice_index_or}
 use Rattle.std.specs.List.{slice_get}
 use Rattle.std.specs.Option.{option_map_or}
 use Rattle.twp_grid.specs.Winding.{SECTION_COUNT}
@@ -25,11 +25,6 @@ abbrev pub held_by_section : {P : Type 0} → (P → ℕ → ℕ → Bool) → L
 held_by_section held plots section column row =
     is_section section
     && option_map_or (λ plot. held plot column row) (slice_get plots (section - 1)) false
-
--- the set with one section's part exchanged
-abbrev pub exchanged : (ℕ → ℕ → ℕ → Bool) → ℕ → (ℕ → ℕ → Bool) → ℕ → ℕ → ℕ → Bool
-exchanged places section held other column row =
-    if section == other then held column row else places other column row
 
 -- the set that is kept as rows
 abbrev pub held_by_row : List (List Bool) → ℕ → ℕ → Bool

@@ -1,5 +1,5 @@
 ghost use Rattle.std.specs.Prelude.{◌≡◌};
-ghost use Rattle.twp_land.specs.Storage.{held_by_section, exchanged};
+ghost use Rattle.twp_land.specs.Storage.{held_by_section};
 
 use crate::land::Land;
 use crate::plot::Plot;
