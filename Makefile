@@ -24,7 +24,7 @@ check:
 	rt all check
 
 bench: township
-	@cd crates/twp_bench && rt run -- count 10 > /dev/null
+	@cd crates/twp_bench && rt run -- lanes count 10 > /dev/null
 	@sh bench/instructions.sh
 	@sh bench/lands.sh
 	@sh bench/descriptions.sh

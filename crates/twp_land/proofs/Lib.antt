@@ -1,3 +1,6 @@
+pub mod BitFacts
+pub mod BlockLaneFacts
 pub mod LandFacts
+pub mod LaneFacts
 pub mod LotFacts
 pub mod RowFacts

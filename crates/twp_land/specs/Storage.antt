@@ -1,7 +1,8 @@
 -- How the sets are kept: a township's as one set for each section, by number; a section's as rows of
 -- tests, from the south, each by columns from the east.
-use Rattle.std.specs.Prelude.{◌≡◌, ℕ, ◌+◌, ◌<◌, ◌-◌, ◌&&◌, ◌||◌, Bool, true, false, List, [], length, nat_le, slice_index_or}
+use Rattle.std.specs.Prelude.{◌≡◌, ℕ, ◌+◌, ◌<◌, ◌-◌, ◌^◌, ◌==◌, ◌&&◌, ◌||◌, Bool, true, false, List, [], length, nat_le, slice_index_or}
 use Rattle.std.specs.List.{slice_get}
+use Rattle.std.specs.Int.{bit_at}
 use Rattle.std.specs.Option.{option_map_or}
 use Rattle.twp_grid.specs.Winding.{SECTION_COUNT}
 use Rattle.twp_grid.specs.Places.{PLACE_DIGITS, places_across, is_place}
@@ -30,6 +31,19 @@ held_by_section held plots section column row =
 abbrev pub held_by_row : List (List Bool) → ℕ → ℕ → Bool
 held_by_row rows column row =
     is_place PLACE_DIGITS column row && slice_index_or (slice_index_or rows row []) column false
+
+-- the set that is kept as lanes of bits
+abbrev pub held_by_lane : List ℕ → ℕ → ℕ → Bool
+held_by_lane lanes column row =
+    is_place PLACE_DIGITS column row && (bit_at (slice_index_or lanes row 0) column == 1)
+
+-- a lane of so many bits for each row, and in it the bits of the columns that the block has there
+pub record AreBlockLanes (block : Rectangle) (lanes : List ℕ) : Type 0 where
+  pub count : length lanes ≡ places_across PLACE_DIGITS
+  pub below : (row : ℕ) → row < places_across PLACE_DIGITS
+      → slice_index_or lanes row 0 < 2 ^ places_across PLACE_DIGITS
+  pub bits : (column row : ℕ) → row < places_across PLACE_DIGITS
+      → bit_at (slice_index_or lanes row 0) column ≡ one_where (in_rectangle block column row)
 
 -- of a row's tests from a start, some holds; each holds
 abbrev pub SomeHeld : List Bool → ℕ → ℕ → Type 0

@@ -54,11 +54,6 @@ pub(crate) fn filled(row: &Row, start: usize, len: usize) -> Row
     ensures { IsFilled row.now (record { start = start; len = len }) result }
 {
     let mut filled = *row;
-    // A single place, as most fine parts are.
-    if len == 1 {
-        filled[start] = true;
-        return filled;
-    }
     for along in 0..len {
         filled[start + along] = true;
     }
