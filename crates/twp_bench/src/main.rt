@@ -9,8 +9,8 @@ mod work;
 use std::env::Env;
 use std::process::ExitCode;
 use std::{env, io};
-use twp_land::{Grid, Lanes};
 use task::{Kind, Task};
+use twp_land::{Grid, Lanes};
 use work::measure;
 
 /// The words after the program's name, as a task.
@@ -31,7 +31,7 @@ fn asked(rt: &(impl Env + Alloc)) -> io::Result<Option<Task>> {
 
 fn main(rt: HostRuntime) -> io::Result<ExitCode> {
     let Some(Task { kind, work, times }) = asked(&rt)? else {
-        eprintln!(rt; "twp_bench grid|lanes blocks|add|meets|full|count TIMES")?;
+        eprintln!(rt; "twp_bench grid|lanes blocks|add|meets|full|count|take TIMES")?;
         return Ok(ExitCode::from(2));
     };
     let tally = match kind {

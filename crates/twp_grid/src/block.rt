@@ -112,13 +112,13 @@ impl Block {
         ensures { SomeIff result (CanQuarter self) (quarter_of self corner) }
     {
         let Block { columns, rows } = self;
+        let rows = match corner {
+            Corner::NE | Corner::NW => rows.upper()?,
+            Corner::SW | Corner::SE => rows.lower()?,
+        };
         let columns = match corner {
             Corner::NE | Corner::SE => columns.lower()?,
             Corner::NW | Corner::SW => columns.upper()?,
-        };
-        let rows = match corner {
-            Corner::SW | Corner::SE => rows.lower()?,
-            Corner::NE | Corner::NW => rows.upper()?,
         };
         Some(Block { columns, rows })
     }

@@ -5,14 +5,15 @@ use Rattle.std.specs.Int.Bits.{bit_or, or_zero_l}
 use Rattle.std.specs.Int.RustNames.{count_ones}
 use Rattle.std.specs.Int.Count.{ones_step}
 use Rattle.std.specs.Simd.Lanes.{fold_l, sum_l}
-use Rattle.std.proofs.lemmas.Nat.{le_or_l, le_or_r, ones_le_self}
+use Rattle.std.proofs.lemmas.Nat.{pow-add, pow_pos, le_or_l, le_or_r, ones_le_self}
 use Rattle.std.proofs.lemmas.Nat.Bits.{bit_at_lowest, bit_at-suc, bit_at-zero, bit_at_mask_inside, bit_at_mask_below, bit_at_mask_above}
-use Rattle.std.proofs.lemmas.Bool.{cases_eq, cases_Bool, cases_lt}
+use Rattle.std.proofs.lemmas.Bool.{cases_eq, cases_Bool, cases_lt, eqb-true}
 use Rattle.std.proofs.lemmas.Bool.Decides.{nat_tests}
-use Rattle.std.proofs.Math.Nat.{two-pow-succ, mod-eq_of_lt}
+use Rattle.std.proofs.Math.Nat.{two-pow-succ, mod-eq_of_lt, mul_comm, mul-sub}
 use Rattle.std.proofs.Math.Pow.{pow_mono}
 use Rattle.twp_grid.specs.Spans.{Span, in_span}
 use Rattle.twp_grid.specs.Totals.{total, one_where}
+use Rattle.twp_grid.proofs.LotFacts.{each, each_of_three}
 use Rattle.twp_grid.proofs.TotalFacts.{total-zero, total-ext, total-front}
 
 -- a run of ones is a span
@@ -91,12 +92,28 @@ some_or_none (suc n) test = elim (cases_Bool (test n)) [
   ]
 ]
 
--- a power of two that fits
-pub power_fits : (k : ℕ) → k ≤ 16 → 1 * 2 ^ k % 4294967296 ≡ 2 ^ k
-power_fits k small =
-    let most : 2 ^ k ≤ 2 ^ 16 = pow_mono {i = k} {j = 16} small in
-    let e : 1 * 2 ^ k ≡ 2 ^ k = omega arith in
-    ap (λ n. n % 4294967296) e ∙ mod-eq_of_lt (omega arith)
+-- so many ones, at their number
+abbrev ones_table : List ℕ
+ones_table = 0 ∷ 1 ∷ 3 ∷ 7 ∷ 15 ∷ 31 ∷ 63 ∷ 127 ∷ 255 ∷ 511 ∷ 1023 ∷ 2047 ∷ 4095 ∷ 8191 ∷ 16383 ∷ 32767 ∷ 65535 ∷ []
+
+ones_test : each 1 (λ a. each 1 (λ b. each 17 (λ len. get_or ones_table len 0 == 2 ^ len - 1))) ≡ true
+unfolding each
+ones_test = refl
+
+-- ones from the bit of a start on
+pub shifted_ones : (start len : ℕ) → start + len ≤ 16 → get_or ones_table len 0 * 2 ^ start % 4294967296 ≡ 2 ^ (start + len) - 2 ^ start
+shifted_ones start len within =
+    let ones : get_or ones_table len 0 ≡ 2 ^ len - 1 =
+    eqb-true _ _ (each_of_three 1 1 17 (λ a b len. get_or ones_table len 0 == 2 ^ len - 1) 0 0 len ones_test (omega arith) (omega arith) (omega arith)) in
+    let product : get_or ones_table len 0 * 2 ^ start ≡ 2 ^ (start + len) - 2 ^ start =
+    ap (λ n. n * 2 ^ start) ones ∙ mul_comm (2 ^ len - 1) (2 ^ start) ∙ mul-sub (2 ^ start) (2 ^ len) 1 ∙ omega (arith, pow-add 2 start len) in
+    let most : 2 ^ (start + len) ≤ 2 ^ 16 = pow_mono {i = start + len} {j = 16} within in
+    ap (λ n. n % 4294967296) product ∙ mod-eq_of_lt (omega arith)
+
+pub ones_fit_a_lane : (start len : ℕ) → start + len ≤ 16 → get_or ones_table len 0 * 2 ^ start % 4294967296 < 65536
+ones_fit_a_lane start len within =
+    let most : 2 ^ (start + len) ≤ 2 ^ 16 = pow_mono {i = start + len} {j = 16} within in
+    omega (arith, shifted_ones start len within, pow_pos start, pow_pos (start + len))
 
 -- lanes of no bits
 pub no_bit : (n column row : ℕ) → (bit_at (get_or (replicate n 0) row 0) column == 1) ≡ false

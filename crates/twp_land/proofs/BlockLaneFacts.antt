@@ -14,7 +14,7 @@ use Rattle.twp_grid.specs.Totals.{one_where}
 use Rattle.twp_grid.proofs.LotFacts.{each, each_of_three}
 use Rattle.twp_land.specs.Storage.{AreBlockLanes}
 use Rattle.twp_land.proofs.BitFacts.{bit_of_ones}
-use Rattle.twp_land.proofs.LaneFacts.{InSection}
+use Rattle.twp_land.proofs.BlockFacts.{InSection}
 
 -- in each lane the bit of its row
 abbrev pub row_bits : List ℕ

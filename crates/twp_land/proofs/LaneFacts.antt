@@ -1,5 +1,5 @@
 -- A section's places as they are kept in lanes of bits.
-use Rattle.std.proofs.Common.{◌≡◌, ◌↔◌, IsTrue, ◌≢◌, ◌==◌, ℕ, zero, suc, ◌+◌, ◌-◌, ◌*◌, ◌%◌, ◌^◌, ◌<◌, ◌≤◌, ◌||◌, ◌⊎◌, Bool, true, false, not, List, [], ◌∷◌, length, get_or, nat_le, nat_lt, ap, refl, sym, ◌∙◌, inl, inr, arith, replicate, min, max, map, Fits, w16}
+use Rattle.std.proofs.Common.{◌≡◌, ◌↔◌, IsTrue, ◌≢◌, ◌==◌, ℕ, zero, suc, ◌+◌, ◌*◌, ◌%◌, ◌^◌, ◌<◌, ◌≤◌, ◌||◌, ◌⊎◌, Bool, true, false, not, List, [], ◌∷◌, length, get_or, nat_lt, ap, refl, sym, ◌∙◌, inl, inr, arith, replicate, min, max, map, Fits, w16}
 use Rattle.std.proofs.Math.Path.{fun_ext}
 use Rattle.std.proofs.Math.Nat.{min-zero}
 use Rattle.std.specs.Int.{bit_at}
@@ -13,11 +13,12 @@ use Rattle.std.proofs.lemmas.Nat.Bits.{bit_at_and, bit_at_or, bit_at_xor, bit_at
 use Rattle.std.proofs.lemmas.Bool.{cases_Bool, and_parts, and_right, eqb-true, eq-eqb, ne_eqb, not-false}
 use Rattle.std.proofs.lemmas.Bool.Decides.{nat_tests}
 use Rattle.twp_grid.specs.Places.{PLACE_DIGITS, places_across, is_place}
-use Rattle.twp_grid.specs.Spans.{Span, in_span, IsDyadic, Rectangle, in_rectangle}
+use Rattle.twp_grid.specs.Spans.{Rectangle, in_rectangle}
 use Rattle.twp_grid.specs.Totals.{total, one_where}
-use Rattle.twp_grid.proofs.TotalFacts.{total-ext, total-le, total-add, total-same, total-all_zero}
+use Rattle.twp_grid.proofs.TotalFacts.{total-ext, total-le, total-same}
 use Rattle.twp_land.specs.Lands.{Meets, HoldsAll, count_held}
 use Rattle.twp_land.specs.Storage.{held_by_lane, nothing_held, with_block, AreBlockLanes}
+use Rattle.twp_land.proofs.BlockFacts.{InSection, place_inside, total_of_block}
 use Rattle.twp_land.proofs.BitFacts.{or_of_zeros, zeros_of_or, sum_is_total, ones_are_total, some_or_none, no_bit}
 
 -- of a place of the section the set has the lane's bit
@@ -45,109 +46,50 @@ bit_as_test lanes column row in-column in-row =
     test (suc zero) below = refl
     test (suc (suc bit)) below = absurd (omega arith)
 
--- where a block's places lie
-pub record InSection (block : Rectangle) : Type 0 where
-  pub rows : block.rows.start + block.rows.len ≤ places_across PLACE_DIGITS
-  pub columns : block.columns.start + block.columns.len ≤ places_across PLACE_DIGITS
-
-pub dyadic_in_section : (block : Rectangle) → IsDyadic PLACE_DIGITS block.rows → IsDyadic PLACE_DIGITS block.columns → InSection block
-dyadic_in_section block rows columns = record { rows = rows.within; columns = columns.within }
-
-place_inside : (block : Rectangle) (column row : ℕ) → InSection block → in_rectangle block column row ≡ true
-    → (column < places_across PLACE_DIGITS) × (row < places_across PLACE_DIGITS)
-place_inside block column row lies inside =
-    let parts = and_parts (in_span block.columns column) (in_span block.rows row) inside in
-    (below block.columns column parts.0 lies.columns, below block.rows row parts.1 lies.rows)
-  where
-    below : (span : Span) (n : ℕ) → in_span span n ≡ true → span.start + span.len ≤ places_across PLACE_DIGITS → n < places_across PLACE_DIGITS
-    below span n inside within =
-        let parts = and_parts (nat_le span.start n) (nat_lt n (span.start + span.len)) inside in
-        let under : n < span.start + span.len = grind (arith, nat_tests) in
-        omega arith
-
 map_same : (xs : List ℕ) → map (λ n. n) xs ≡ xs
 map_same [] = refl
 map_same (x ∷ xs) = ap (λ rest. x ∷ rest) (map_same xs)
 
--- a sum of which only a span's terms count
-total_of_span : (n : ℕ) (span : Span) (f g : ℕ → ℕ) → span.start + span.len ≤ n → ((k : ℕ) → k < span.len → f (span.start + k) ≡ g k)
-    → ((k : ℕ) → in_span span k ≡ false → f k ≡ 0) → total n f ≡ total span.len g
-total_of_span n span f g within same none =
-    let rest = n - (span.start + span.len) in
-    let all : n ≡ span.start + (span.len + rest) = omega arith in
-    let first = total-add span.start (span.len + rest) f in
-    let second = total-add span.len rest (λ k. f (span.start + k)) in
-    let before = total-all_zero span.start f (λ k below. none k (out_below k below)) in
-    let there = total-ext span.len (λ k. f (span.start + k)) g same in
-    let after = total-all_zero rest (λ k. f (span.start + (span.len + k))) (λ k below. none (span.start + (span.len + k)) (out_above k)) in
-    ap (λ n. total n f) all ∙ omega arith
-  where
-    out_below : (k : ℕ) → k < span.start → in_span span k ≡ false
-    out_below k below = grind (arith, nat_tests)
-
-    out_above : (k : ℕ) → in_span span (span.start + (span.len + k)) ≡ false
-    out_above k = grind (arith, nat_tests)
-
--- the places of a block among all places of a section
-total_of_block : (held : ℕ → ℕ → Bool) (block : Rectangle) → InSection block
-    → total (places_across PLACE_DIGITS) (λ row. total (places_across PLACE_DIGITS) (λ column. min (one_where (held column row)) (one_where (in_rectangle block column row))))
-    ≡ count_held held block
-total_of_block held block lies =
-    total_of_span (places_across PLACE_DIGITS) block.rows _ _ lies.rows
-    (λ up below. total_of_span (places_across PLACE_DIGITS) block.columns _ _ lies.columns
-    (λ along within. inside (block.columns.start + along) (block.rows.start + up) (at_offset block.columns along within) (at_offset block.rows up below))
-    (λ column out. out_of_columns column (block.rows.start + up) out))
-    (λ row out. total-all_zero (places_across PLACE_DIGITS) _ (λ column _. out_of_rows column row out))
-  where
-    at_offset : (span : Span) (k : ℕ) → k < span.len → in_span span (span.start + k) ≡ true
-    at_offset span k below = grind (arith, nat_tests)
-
-    inside : (column row : ℕ) → in_span block.columns column ≡ true → in_span block.rows row ≡ true
-        → min (one_where (held column row)) (one_where (in_rectangle block column row)) ≡ one_where (held column row)
-    inside column row in-columns in-rows = rw (in-columns, in-rows) (one (held column row))
-      where
-        one : (test : Bool) → min (one_where test) 1 ≡ one_where test
-        one true = refl
-        one false = refl
-
-    out_of_columns : (column row : ℕ) → in_span block.columns column ≡ false → min (one_where (held column row)) (one_where (in_rectangle block column row)) ≡ 0
-    out_of_columns column row out = rw out (min-zero (one_where (held column row)))
-
-    out_of_rows : (column row : ℕ) → in_span block.rows row ≡ false → min (one_where (held column row)) (one_where (in_rectangle block column row)) ≡ 0
-    out_of_rows column row out = rw (out, and_right (in_span block.columns column) false refl) (min-zero (one_where (held column row)))
-
 -- The lanes of a set and of a block, of the same length.
 module _ (lanes block_lanes : List ℕ) (block : Rectangle) (count : length lanes ≡ places_across PLACE_DIGITS) (are : AreBlockLanes block block_lanes) (lies : InSection block) where
-  both : List ℕ
+  abbrev both : List ℕ
   both = zip2 bit_and lanes block_lanes
+
+  -- the block's bits that the set lacks
+  abbrev lacking : List ℕ
+  lacking = zip2 bit_xor both block_lanes
+
+  -- how many bits of both each lane has
+  abbrev ones : List ℕ
+  ones = map (λ n. count_ones n) both
 
   same_count : length lanes ≡ length block_lanes
   same_count = count ∙ sym are.count
 
-  length_both : length (zip2 bit_and lanes block_lanes) ≡ places_across PLACE_DIGITS
+  length_both : length both ≡ places_across PLACE_DIGITS
   length_both = length-zip2 bit_and lanes block_lanes same_count ∙ count
 
-  lane_of_both : (row : ℕ) → row < places_across PLACE_DIGITS → get_or (zip2 bit_and lanes block_lanes) row 0 ≡ bit_and (get_or lanes row 0) (get_or block_lanes row 0)
+  lane_of_both : (row : ℕ) → row < places_across PLACE_DIGITS → get_or both row 0 ≡ bit_and (get_or lanes row 0) (get_or block_lanes row 0)
   lane_of_both row below = get_or-zip2 bit_and lanes block_lanes row 0 0 0 (omega (arith, count)) (omega (arith, are.count))
 
   bit_of_both : (column row : ℕ) → row < places_across PLACE_DIGITS
-      → bit_at (get_or (zip2 bit_and lanes block_lanes) row 0) column ≡ min (bit_at (get_or lanes row 0) column) (one_where (in_rectangle block column row))
+      → bit_at (get_or both row 0) column ≡ min (bit_at (get_or lanes row 0) column) (one_where (in_rectangle block column row))
   bit_of_both column row below =
       ap (λ n. bit_at n column) (lane_of_both row below) ∙ bit_at_and (get_or lanes row 0) (get_or block_lanes row 0) column
       ∙ ap (λ bit. min (bit_at (get_or lanes row 0) column) bit) (are.bits column row below)
 
-  both_below : (row : ℕ) → row < places_across PLACE_DIGITS → get_or (zip2 bit_and lanes block_lanes) row 0 < 2 ^ places_across PLACE_DIGITS
+  both_below : (row : ℕ) → row < places_across PLACE_DIGITS → get_or both row 0 < 2 ^ places_across PLACE_DIGITS
   both_below row below =
       let least = and_le_r (get_or lanes row 0) (get_or block_lanes row 0) in
       omega (arith, lane_of_both row below, are.below row below)
 
   -- a lane of both in which no bit stands
   empty_lane : (row : ℕ) → row < places_across PLACE_DIGITS
-      → ((column : ℕ) → column < places_across PLACE_DIGITS → (bit_at (get_or (zip2 bit_and lanes block_lanes) row 0) column == 1) ≡ false)
-      → get_or (zip2 bit_and lanes block_lanes) row 0 ≡ 0
+      → ((column : ℕ) → column < places_across PLACE_DIGITS → (bit_at (get_or both row 0) column == 1) ≡ false)
+      → get_or both row 0 ≡ 0
   empty_lane row below none =
-      same_from_bits_below (places_across PLACE_DIGITS) (get_or (zip2 bit_and lanes block_lanes) row 0) 0 (both_below row below) (omega arith) (λ column within.
-      zero_bit (bit_at (get_or (zip2 bit_and lanes block_lanes) row 0) column) (bit_at-lt (get_or (zip2 bit_and lanes block_lanes) row 0) column) (none column within)
+      same_from_bits_below (places_across PLACE_DIGITS) (get_or both row 0) 0 (both_below row below) (omega arith) (λ column within.
+      zero_bit (bit_at (get_or both row 0) column) (bit_at-lt (get_or both row 0) column) (none column within)
       ∙ sym (bit_at-zero column))
     where
       zero_bit : (bit : ℕ) → bit < 2 → (bit == 1) ≡ false → bit ≡ 0
@@ -155,7 +97,7 @@ module _ (lanes block_lanes : List ℕ) (block : Rectangle) (count : length lane
       zero_bit (suc zero) below no_one = cc no_one
       zero_bit (suc (suc bit)) below no_one = absurd (omega arith)
 
-  place_of_bit : (column row : ℕ) → row < places_across PLACE_DIGITS → bit_at (get_or (zip2 bit_and lanes block_lanes) row 0) column ≡ 1 → Meets (held_by_lane lanes) block
+  place_of_bit : (column row : ℕ) → row < places_across PLACE_DIGITS → bit_at (get_or both row 0) column ≡ 1 → Meets (held_by_lane lanes) block
   place_of_bit column row below is =
       let least = both_set (bit_at (get_or lanes row 0) column) (in_rectangle block column row) (sym (bit_of_both column row below) ∙ is) (bit_at-lt (get_or lanes row 0) column) in
       let inside = least.1 in
@@ -174,53 +116,52 @@ module _ (lanes block_lanes : List ℕ) (block : Rectangle) (count : length lane
       both_set (suc (suc bit)) test is small = absurd (omega arith)
 
   -- some lane of both isn't empty
-  meets_of_some : fold_l bit_or 0 (zip2 bit_and lanes block_lanes) ≢ 0 → Meets (held_by_lane lanes) block
-  meets_of_some some = elim (some_or_none (places_across PLACE_DIGITS) (λ row. not (get_or (zip2 bit_and lanes block_lanes) row 0 == 0))) [
+  meets_of_some : fold_l bit_or 0 both ≢ 0 → Meets (held_by_lane lanes) block
+  meets_of_some some = elim (some_or_none (places_across PLACE_DIGITS) (λ row. not (get_or both row 0 == 0))) [
     | inl found ↦ in_row found.0 found.1 found.2
-    | inr none ↦ absurd (some (or_of_zeros 0 (zip2 bit_and lanes block_lanes) refl (λ row below. is_empty row (none row (omega (arith, length_both))))))
+    | inr none ↦ absurd (some (or_of_zeros 0 both refl (λ row below. is_empty row (none row (omega (arith, length_both))))))
   ]
     where
-      is_empty : (row : ℕ) → not (get_or (zip2 bit_and lanes block_lanes) row 0 == 0) ≡ false → get_or (zip2 bit_and lanes block_lanes) row 0 ≡ 0
-      is_empty row not_some = eqb-true (get_or (zip2 bit_and lanes block_lanes) row 0) 0 (not-false _ not_some)
+      is_empty : (row : ℕ) → not (get_or both row 0 == 0) ≡ false → get_or both row 0 ≡ 0
+      is_empty row not_some = eqb-true (get_or both row 0) 0 (not-false _ not_some)
 
-      in_row : (row : ℕ) → row < places_across PLACE_DIGITS → not (get_or (zip2 bit_and lanes block_lanes) row 0 == 0) ≡ true → Meets (held_by_lane lanes) block
-      in_row row below some_there = elim (some_or_none (places_across PLACE_DIGITS) (λ column. bit_at (get_or (zip2 bit_and lanes block_lanes) row 0) column == 1)) [
+      in_row : (row : ℕ) → row < places_across PLACE_DIGITS → not (get_or both row 0 == 0) ≡ true → Meets (held_by_lane lanes) block
+      in_row row below some_there = elim (some_or_none (places_across PLACE_DIGITS) (λ column. bit_at (get_or both row 0) column == 1)) [
         | inl found ↦ place_of_bit found.0 row below (eqb-true _ 1 found.2)
         | inr none ↦ cc (sym some_there ∙ ap (λ n. not (n == 0)) (empty_lane row below none))
       ]
 
-  some_of_meets : Meets (held_by_lane lanes) block → fold_l bit_or 0 (zip2 bit_and lanes block_lanes) ≡ 0 → ⊥
+  some_of_meets : Meets (held_by_lane lanes) block → fold_l bit_or 0 both ≡ 0 → ⊥
   some_of_meets meets none =
       let in-row = (place_inside block meets.column meets.row lies meets.inside).1 in
-      let lane = (zeros_of_or 0 (zip2 bit_and lanes block_lanes) none).1 meets.row (omega (arith, length_both)) in
-      let bit : bit_at (get_or (zip2 bit_and lanes block_lanes) meets.row 0) meets.column ≡ 1 =
+      let lane = (zeros_of_or 0 both none).1 meets.row (omega (arith, length_both)) in
+      let bit : bit_at (get_or both meets.row 0) meets.column ≡ 1 =
       bit_of_both meets.column meets.row in-row ∙ rw (meets.inside, bit_of_held lanes meets.column meets.row meets.is_held) refl in
-      let empty : bit_at (get_or (zip2 bit_and lanes block_lanes) meets.row 0) meets.column ≡ 0 = ap (λ n. bit_at n meets.column) lane ∙ bit_at-zero meets.column in
+      let empty : bit_at (get_or both meets.row 0) meets.column ≡ 0 = ap (λ n. bit_at n meets.column) lane ∙ bit_at-zero meets.column in
       omega arith
 
-  pub lanes_meet : IsTrue (not (fold_l bit_or 0 (zip2 bit_and lanes block_lanes) == 0)) ↔ Meets (held_by_lane lanes) block
+  pub lanes_meet : IsTrue (not (fold_l bit_or 0 both == 0)) ↔ Meets (held_by_lane lanes) block
   lanes_meet = (
     λ some. meets_of_some (λ none. cc (sym some ∙ ap (λ n. not (n == 0)) none)),
     λ meets. ap (λ t. not t) (ne_eqb _ 0 (some_of_meets meets)),
   )
 
-  -- the block's bits that the set lacks
   lacks : (column row : ℕ) → row < places_across PLACE_DIGITS
-      → bit_at (get_or (zip2 bit_xor (zip2 bit_and lanes block_lanes) block_lanes) row 0) column
+      → bit_at (get_or lacking row 0) column
       ≡ (min (bit_at (get_or lanes row 0) column) (one_where (in_rectangle block column row)) + one_where (in_rectangle block column row)) % 2
   lacks column row below =
-      let lane = get_or-zip2 bit_xor (zip2 bit_and lanes block_lanes) block_lanes row 0 0 0 (omega (arith, length_both)) (omega (arith, are.count)) in
-      ap (λ n. bit_at n column) lane ∙ bit_at_xor (get_or (zip2 bit_and lanes block_lanes) row 0) (get_or block_lanes row 0) column
+      let lane = get_or-zip2 bit_xor both block_lanes row 0 0 0 (omega (arith, length_both)) (omega (arith, are.count)) in
+      ap (λ n. bit_at n column) lane ∙ bit_at_xor (get_or both row 0) (get_or block_lanes row 0) column
       ∙ (λ i. (bit_of_both column row below i + are.bits column row below i) % 2)
 
-  length_lacks : length (zip2 bit_xor (zip2 bit_and lanes block_lanes) block_lanes) ≡ places_across PLACE_DIGITS
-  length_lacks = length-zip2 bit_xor (zip2 bit_and lanes block_lanes) block_lanes (length_both ∙ sym are.count) ∙ length_both
+  length_lacks : length lacking ≡ places_across PLACE_DIGITS
+  length_lacks = length-zip2 bit_xor both block_lanes (length_both ∙ sym are.count) ∙ length_both
 
-  full_of_none : fold_l bit_or 0 (zip2 bit_xor (zip2 bit_and lanes block_lanes) block_lanes) ≡ 0 → HoldsAll (held_by_lane lanes) block
+  full_of_none : fold_l bit_or 0 lacking ≡ 0 → HoldsAll (held_by_lane lanes) block
   full_of_none none column row inside =
       let place = place_inside block column row lies inside in
-      let lane = (zeros_of_or 0 (zip2 bit_xor (zip2 bit_and lanes block_lanes) block_lanes) none).1 row (omega (arith, length_lacks, place.1)) in
-      let empty : bit_at (get_or (zip2 bit_xor (zip2 bit_and lanes block_lanes) block_lanes) row 0) column ≡ 0 = ap (λ n. bit_at n column) lane ∙ bit_at-zero column in
+      let lane = (zeros_of_or 0 lacking none).1 row (omega (arith, length_lacks, place.1)) in
+      let empty : bit_at (get_or lacking row 0) column ≡ 0 = ap (λ n. bit_at n column) lane ∙ bit_at-zero column in
       let there : (min (bit_at (get_or lanes row 0) column) 1 + 1) % 2 ≡ 0 = rw inside at (sym (lacks column row place.1) ∙ empty) in
       held_of_bit lanes column row place.0 place.1 (is_set (bit_at (get_or lanes row 0) column) there (bit_at-lt (get_or lanes row 0) column))
     where
@@ -229,10 +170,10 @@ module _ (lanes block_lanes : List ℕ) (block : Rectangle) (count : length lane
       is_set (suc zero) is small = refl
       is_set (suc (suc bit)) is small = absurd (omega arith)
 
-  none_of_full : HoldsAll (held_by_lane lanes) block → fold_l bit_or 0 (zip2 bit_xor (zip2 bit_and lanes block_lanes) block_lanes) ≡ 0
+  none_of_full : HoldsAll (held_by_lane lanes) block → fold_l bit_or 0 lacking ≡ 0
   none_of_full full =
-      or_of_zeros 0 (zip2 bit_xor (zip2 bit_and lanes block_lanes) block_lanes) refl (λ row below.
-      same_from_bits (get_or (zip2 bit_xor (zip2 bit_and lanes block_lanes) block_lanes) row 0) 0 (λ column. none column row (omega (arith, length_lacks)) (cases_Bool (in_rectangle block column row)) ∙ sym (bit_at-zero column)))
+      or_of_zeros 0 lacking refl (λ row below.
+      same_from_bits (get_or lacking row 0) 0 (λ column. none column row (omega (arith, length_lacks)) (cases_Bool (in_rectangle block column row)) ∙ sym (bit_at-zero column)))
     where
       none_inside : (column row : ℕ) → row < places_across PLACE_DIGITS → in_rectangle block column row ≡ true
           → (min (bit_at (get_or lanes row 0) column) (one_where (in_rectangle block column row)) + one_where (in_rectangle block column row)) % 2 ≡ 0
@@ -242,11 +183,11 @@ module _ (lanes block_lanes : List ℕ) (block : Rectangle) (count : length lane
       none_outside bit = rw (min-zero bit) refl
 
       none : (column row : ℕ) → row < places_across PLACE_DIGITS → (in_rectangle block column row ≡ true) ⊎ (in_rectangle block column row ≡ false)
-          → bit_at (get_or (zip2 bit_xor (zip2 bit_and lanes block_lanes) block_lanes) row 0) column ≡ 0
+          → bit_at (get_or lacking row 0) column ≡ 0
       none column row below (inl inside) = lacks column row below ∙ none_inside column row below inside
       none column row below (inr outside) = lacks column row below ∙ rw outside (none_outside (bit_at (get_or lanes row 0) column))
 
-  pub lanes_are_full : IsTrue (fold_l bit_or 0 (zip2 bit_xor (zip2 bit_and lanes block_lanes) block_lanes) == 0) ↔ HoldsAll (held_by_lane lanes) block
+  pub lanes_are_full : IsTrue (fold_l bit_or 0 lacking == 0) ↔ HoldsAll (held_by_lane lanes) block
   lanes_are_full = (
     λ none. full_of_none (eqb-true _ 0 none),
     λ full. eq-eqb _ 0 (none_of_full full),
@@ -291,25 +232,25 @@ module _ (lanes block_lanes : List ℕ) (block : Rectangle) (count : length lane
 
   -- the ones of a row's lane
   ones_of_row : (row : ℕ) → row < places_across PLACE_DIGITS
-      → get_or (map (λ n. count_ones n) (zip2 bit_and lanes block_lanes)) row 0
+      → get_or ones row 0
       ≡ total (places_across PLACE_DIGITS) (λ column. min (one_where (held_by_lane lanes column row)) (one_where (in_rectangle block column row)))
   ones_of_row row below =
-      get_or-map (λ n. count_ones n) (zip2 bit_and lanes block_lanes) row 0 0 (omega (arith, length_both))
-      ∙ ones_are_total (places_across PLACE_DIGITS) (get_or (zip2 bit_and lanes block_lanes) row 0) (both_below row below)
+      get_or-map (λ n. count_ones n) both row 0 0 (omega (arith, length_both))
+      ∙ ones_are_total (places_across PLACE_DIGITS) (get_or both row 0) (both_below row below)
       ∙ total-ext (places_across PLACE_DIGITS) _ _ (λ column within.
       bit_of_both column row below ∙ ap (λ bit. min bit (one_where (in_rectangle block column row))) (bit_as_test lanes column row within below))
 
-  count_of_lanes : sum_l (map (λ n. count_ones n) (zip2 bit_and lanes block_lanes)) ≡ count_held (held_by_lane lanes) block
+  count_of_lanes : sum_l ones ≡ count_held (held_by_lane lanes) block
   count_of_lanes =
-      let length_ones : length (map (λ n. count_ones n) (zip2 bit_and lanes block_lanes)) ≡ places_across PLACE_DIGITS = length-map (zip2 bit_and lanes block_lanes) (λ n. count_ones n) ∙ length_both in
-      sum_is_total (map (λ n. count_ones n) (zip2 bit_and lanes block_lanes))
-      ∙ ap (λ n. total n (λ row. get_or (map (λ n. count_ones n) (zip2 bit_and lanes block_lanes)) row 0)) length_ones
+      let length_ones : length ones ≡ places_across PLACE_DIGITS = length-map both (λ n. count_ones n) ∙ length_both in
+      sum_is_total ones
+      ∙ ap (λ n. total n (λ row. get_or ones row 0)) length_ones
       ∙ total-ext (places_across PLACE_DIGITS) _ _ ones_of_row
       ∙ total_of_block (held_by_lane lanes) block lies
 
-  ones_below : Each1 (λ n. n ≤ places_across PLACE_DIGITS) (map (λ n. count_ones n) (zip2 bit_and lanes block_lanes))
-  ones_below = Each1-from_get_or (λ n. n ≤ places_across PLACE_DIGITS) (map (λ n. count_ones n) (zip2 bit_and lanes block_lanes)) 0 (λ row below.
-      small row (omega (arith, length-map (zip2 bit_and lanes block_lanes) (λ n. count_ones n), length_both)))
+  ones_below : Each1 (λ n. n ≤ places_across PLACE_DIGITS) ones
+  ones_below = Each1-from_get_or (λ n. n ≤ places_across PLACE_DIGITS) ones 0 (λ row below.
+      small row (omega (arith, length-map both (λ n. count_ones n), length_both)))
     where
       at_most_one : (test test' : Bool) → min (one_where test) (one_where test') ≤ 1
       at_most_one true true = omega arith
@@ -317,24 +258,23 @@ module _ (lanes block_lanes : List ℕ) (block : Rectangle) (count : length lane
       at_most_one false true = omega arith
       at_most_one false false = omega arith
 
-      small : (row : ℕ) → row < places_across PLACE_DIGITS → get_or (map (λ n. count_ones n) (zip2 bit_and lanes block_lanes)) row 0 ≤ places_across PLACE_DIGITS
+      small : (row : ℕ) → row < places_across PLACE_DIGITS → get_or ones row 0 ≤ places_across PLACE_DIGITS
       small row below =
           let most = total-le (places_across PLACE_DIGITS) (λ column. min (one_where (held_by_lane lanes column row)) (one_where (in_rectangle block column row))) (λ column. 1) (λ column _. at_most_one (held_by_lane lanes column row) (in_rectangle block column row)) in
           omega (arith, ones_of_row row below, most, total-same (places_across PLACE_DIGITS) 1)
 
-  pub count_in_lanes : fold_l (λ s n. s + n) 0 (map (λ n. n) (map (λ n. count_ones n) (zip2 bit_and lanes block_lanes))) ≡ count_held (held_by_lane lanes) block
+  pub count_in_lanes : fold_l (λ s n. s + n) 0 (map (λ n. n) ones) ≡ count_held (held_by_lane lanes) block
   count_in_lanes =
-      ap (λ ones. fold_l (λ s n. s + n) 0 ones) (map_same (map (λ n. count_ones n) (zip2 bit_and lanes block_lanes)))
-      ∙ fold-sum 0 (map (λ n. count_ones n) (zip2 bit_and lanes block_lanes)) ∙ omega (arith, count_of_lanes)
+      ap (λ ones. fold_l (λ s n. s + n) 0 ones) (map_same ones)
+      ∙ fold-sum 0 ones ∙ omega (arith, count_of_lanes)
 
-  pub ones_fit : Each1 (Fits w16) (map (λ n. count_ones n) (zip2 bit_and lanes block_lanes))
-  ones_fit = Each1-weaker (λ n. n ≤ places_across PLACE_DIGITS) (Fits w16) (λ n most. record { fits = omega arith }) (map (λ n. count_ones n) (zip2 bit_and lanes block_lanes)) ones_below
+  pub ones_fit : Each1 (Fits w16) ones
+  ones_fit = Each1-weaker (λ n. n ≤ places_across PLACE_DIGITS) (Fits w16) (λ n most. record { fits = omega arith }) ones ones_below
 
-  pub sums_fit : Steps (λ s n. Fits w16 (s + n)) (λ s n. s + n) 0 (map (λ n. n) (map (λ n. count_ones n) (zip2 bit_and lanes block_lanes)))
+  pub sums_fit : Steps (λ s n. Fits w16 (s + n)) (λ s n. s + n) 0 (map (λ n. n) ones)
   sums_fit =
-      let ones = map (λ n. count_ones n) (zip2 bit_and lanes block_lanes) in
       let most = sum_bound (places_across PLACE_DIGITS) ones ones_below in
-      let few : length ones ≡ places_across PLACE_DIGITS = length-map (zip2 bit_and lanes block_lanes) (λ n. count_ones n) ∙ length_both in
+      let few : length ones ≡ places_across PLACE_DIGITS = length-map both (λ n. count_ones n) ∙ length_both in
       let least : sum_l ones ≤ places_across PLACE_DIGITS * places_across PLACE_DIGITS = rw few at most in
       rw (map_same ones) (sum_fits w16 0 ones (omega arith))
 

@@ -1,4 +1,5 @@
 pub mod BitFacts
+pub mod BlockFacts
 pub mod BlockLaneFacts
 pub mod LandFacts
 pub mod LaneFacts

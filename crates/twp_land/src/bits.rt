@@ -11,7 +11,12 @@ const ROW_BITS: [u16; PLACES_ACROSS] = [
     1, 2, 4, 8, 16, 32, 64, 128, 256, 512, 1024, 2048, 4096, 8192, 16384, 32768,
 ];
 
-/// A lane for each row.
+/// So many ones, from none to one for each column.
+const ONES: [u16; PLACES_ACROSS + 1] = [
+    0, 1, 3, 7, 15, 31, 63, 127, 255, 511, 1023, 2047, 4095, 8191, 16383, 32767, 65535,
+];
+
+/// The lanes of a section's rows as a vector.
 #[inline(always)]
 pub(crate) fn vector(lanes: &[u16]) -> u16x16
     requires { length lanes.now ≡ places_across PLACE_DIGITS }
@@ -26,7 +31,7 @@ pub(crate) fn ones(start: u8, len: u8) -> u16
     requires { start + len ≤ places_across PLACE_DIGITS }
     ensures { result ≡ 2 ^ (start + len) - 2 ^ start }
 {
-    ((1u32 << u32::from(start + len)) - (1u32 << u32::from(start))) as u16
+    (u32::from(ONES[usize::from(len)]) << u32::from(start)) as u16
 }
 
 /// In the lane of each row of a block, the bits of its columns.

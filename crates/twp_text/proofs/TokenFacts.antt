@@ -9,7 +9,7 @@ use Rattle.std.proofs.Math.Seq.{take-append_seam, drop-append_seam}
 use Rattle.twp_text.specs.declared.kind.Kind.{Kind}
 use Rattle.twp_text.specs.declared.lexeme.Lexeme.{Lexeme}
 use Rattle.twp_text.specs.Cutting.{lexeme, cut, IsFirstIn}
-use Rattle.twp_text.specs.Tokens.{is_white, begins_with, IsToken, StartsWith, HasTokens, Token}
+use Rattle.twp_text.specs.Tokens.{is_white, begins_with, StartsWith, HasTokens, Token}
 use Rattle.twp_text.proofs.Cuts.{run_len, front_passes, front_ends, IsTheCut, the_cut, IsFirstToken, cut_is_token, kind_of_cut, size_of_cut}
 
 abbrev spaces : List ℕ → ℕ

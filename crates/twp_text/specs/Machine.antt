@@ -1,5 +1,6 @@
--- The machine that the reader runs: what may follow a beginning of a sentence, and what each token does to the
--- items. No public promise speaks of it; proofs/Table and proofs/Walk show that it is the grammar's.
+-- The machine that the reader runs: what may follow a beginning of a sentence, and what each token does
+-- to the items. No public promise speaks of it; proofs/Table and proofs/Walk show that it is the
+-- grammar's.
 use Rattle.std.specs.Prelude.{ℕ, if◌then◌else◌, Bool, true, false, List, [], ◌∷◌, ◌++◌, Option, Some, None}
 use Rattle.twp_grid.specs.declared.township.NorthSouth.{NorthSouth as NorthOrSouth}
 use Rattle.twp_grid.specs.declared.township.NorthSouth.TheVariants as ns
@@ -12,8 +13,8 @@ use Rattle.twp_text.specs.declared.item.Step.{Step}
 use Rattle.twp_text.specs.declared.item.Step.TheVariants.{Half, Quarter}
 use Rattle.twp_text.specs.declared.item.Item.{Item}
 use Rattle.twp_text.specs.declared.item.Item.TheVariants as item
-use Rattle.twp_text.specs.declared.items.Change.{Change}
-use Rattle.twp_text.specs.declared.items.Change.TheVariants as change
+use Rattle.twp_text.specs.declared.change.Change.{Change}
+use Rattle.twp_text.specs.declared.change.Change.TheVariants as change
 use Rattle.twp_text.specs.Items.{north_or_south, east_or_west}
 use Rattle.twp_text.specs.declared.state.State.{State}
 use Rattle.twp_text.specs.declared.state.State.TheVariants as past
@@ -164,10 +165,14 @@ is_final _ = false
 
 -- an item with what a token says of it
 abbrev pub changed : Change → Item → Item
-changed (change.TownshipNumber n) (item.Heading _ side range way at) = item.Heading n side range way at
-changed (change.TownshipSide side) (item.Heading n _ range way at) = item.Heading n side range way at
-changed (change.RangeNumber range) (item.Heading n side _ way at) = item.Heading n side range way at
-changed (change.RangeSide way) (item.Heading n side range _ at) = item.Heading n side range way at
+changed (change.TownshipNumber n) (item.Heading _ side range way at) =
+    item.Heading n side range way at
+changed (change.TownshipSide side) (item.Heading n _ range way at) =
+    item.Heading n side range way at
+changed (change.RangeNumber range) (item.Heading n side _ way at) =
+    item.Heading n side range way at
+changed (change.RangeSide way) (item.Heading n side range _ at) =
+    item.Heading n side range way at
 changed (change.Last last) (item.Sections first _ whole) = item.Sections first last whole
 changed (change.Last last) (item.Lots first _) = item.Lots first last
 changed change.Parted (item.Sections first last _) = item.Sections first last false
@@ -237,7 +242,8 @@ take_token state kind.T at items = take_township at items
 take_token state (kind.NorthSouth side) at items = take_north_south state side at items
 take_token state (kind.EastWest side) at items = take_east_west state side at items
 take_token state (kind.Corner which) at items = take_step state (Quarter which) at items
-take_token state (kind.Number value) at items = take_number state (record { value = value; at = at }) items
+take_token state (kind.Number value) at items =
+    take_number state (record { value = value; at = at }) items
 take_token state kind.Lot at items = before_parts state items
 take_token state kind.Colon at items = before_parts state items
 take_token state kind.All at items = take_all state at items

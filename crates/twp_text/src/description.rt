@@ -11,6 +11,9 @@ use crate::token::{Token, Tokens};
 use std::alloc::Global;
 use std::marker::Model;
 
+/// There is room from the start for an item for each so many bytes: fine aliquot parts take some twenty.
+const BYTES_TO_ITEM: usize = 16;
+
 /// A description of land, as the items that it names, from left to right.
 #[derive(Debug, Drop)]
 pub struct Description {
@@ -39,7 +42,8 @@ impl Description {
         ensures read { IfOk result (IsReadAs text.now) }
         ensures taken { (items : List Item) → IsReadAs text.now items
             → MatchResult result (λ d. d ≡ items) (λ fault. fault ≡ TextFault.Memory) }
-        ensures refused { IfErr result (λ fault. IfSome (refusal_of fault) (IsFirstTextFault text.now)) }
+        ensures refused { IfErr result
+            (λ fault. IfSome (refusal_of fault) (IsFirstTextFault text.now)) }
         ensures helps { IfErr result (Helps text.now) }
     {
         if text.len() > TEXT_LIMIT {
@@ -53,10 +57,11 @@ impl Description {
     fn read_within(alloc: Global, text: &[u8]) -> Result<Description, TextFault>
         requires { length text.now ≤ TEXT_LIMIT }
         ensures read { IfOk result (IsReadAs text.now) }
-        ensures refused { IfErr result (λ fault. IfSome (refusal_of fault) (IsFirstTextFault text.now)) }
+        ensures refused { IfErr result
+            (λ fault. IfSome (refusal_of fault) (IsFirstTextFault text.now)) }
         ensures helps { IfErr result (Helps text.now) }
     {
-        let mut items = Items::new(alloc);
+        let mut items = Items::with_room(alloc, text.len() / BYTES_TO_ITEM)?;
         let mut state = State::Start;
         let mut at = 0;
         while let Some(token) = Token::first(text, at) {

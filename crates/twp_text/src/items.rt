@@ -1,6 +1,7 @@
-ghost use Rattle.std.specs.Prelude.{◌≡◌, ◌∷◌, [], OnOk};
+ghost use Rattle.std.specs.Prelude.{◌≡◌, ◌∷◌, [], IfOk, OnOk};
 ghost use Rattle.twp_text.specs.Items.{north_or_south, east_or_west};
 
+use crate::change::Change;
 use crate::item::{Item, Numeral, Step, Steps};
 use crate::kind::Kind;
 use crate::state::State;
@@ -23,32 +24,17 @@ impl Model for Items {
     ghost view = { λ s. reverse s.items.items };
 }
 
-/// What a token says of the newest item.
-#[derive(Clone, Copy, Debug, PartialEq, Eq)]
-pub enum Change {
-    TownshipNumber(u16),
-    TownshipSide(NorthSouth),
-    RangeNumber(u16),
-    RangeSide(EastWest),
-    /// The last number of a range.
-    Last(Numeral),
-    /// Parts of the section follow.
-    Parted,
-    /// One step more, of which the last one is a part.
-    Grown(Step),
-}
-
 impl Items {
     ghost use Rattle.std.specs.Prelude.{reverse};
     ghost use Rattle.twp_text.specs.Machine.{with_newest, before_parts, take_step, take_number, take_all, take_township, take_north_south, take_east_west, take_token};
 
-    /// No items.
-    pub fn new(alloc: Global) -> Items
-        ensures { result ≡ [] }
+    /// No items yet, with room for so many.
+    pub fn with_room(alloc: Global, room: usize) -> Result<Items, AllocError>
+        ensures { IfOk result (λ items. items ≡ []) }
     {
-        Items {
-            items: Vec::new(alloc),
-        }
+        Ok(Items {
+            items: Vec::with_capacity(alloc, room)?,
+        })
     }
 
     /// The items, the oldest first.
@@ -258,53 +244,5 @@ fn east_or_west(side: EastWest) -> Side
     match side {
         EastWest::E => Side::E,
         EastWest::W => Side::W,
-    }
-}
-
-impl Item {
-    ghost use Rattle.twp_text.specs.Machine.{changed};
-
-    #[inline(always)]
-    fn change(&mut self, change: Change) -> Result<(), AllocError>
-        ensures { OnOk result (self.new ≡ changed change self.old) }
-    {
-        match change {
-            Change::TownshipNumber(value) => {
-                if let Item::Heading { number, .. } = self {
-                    *number = value;
-                }
-            }
-            Change::TownshipSide(side) => {
-                if let Item::Heading { north_south, .. } = self {
-                    *north_south = side;
-                }
-            }
-            Change::RangeNumber(value) => {
-                if let Item::Heading { range, .. } = self {
-                    *range = value;
-                }
-            }
-            Change::RangeSide(side) => {
-                if let Item::Heading { east_west, .. } = self {
-                    *east_west = side;
-                }
-            }
-            Change::Last(number) => match self {
-                Item::Sections { last, .. } => *last = number,
-                Item::Lots { last, .. } => *last = number,
-                _ => {}
-            },
-            Change::Parted => {
-                if let Item::Sections { whole, .. } = self {
-                    *whole = false;
-                }
-            }
-            Change::Grown(step) => {
-                if let Item::Chain { steps, .. } = self {
-                    steps.push(step)?;
-                }
-            }
-        }
-        Ok(())
     }
 }

@@ -144,7 +144,8 @@ fn count_letters(text: &[u8], at: usize) -> usize
 fn kind_of_long(text: &[u8], at: usize, size: usize) -> Kind
     requires place { at ≤ length text.now }
     requires size { size ≤ length (drop at text.now) }
-    ensures { result ≡ kind_among (str_to_ascii_lowercase (take size (drop at text.now))) long_words }
+    ensures { result ≡ kind_among
+        (str_to_ascii_lowercase (take size (drop at text.now))) long_words }
 {
     word::long_word(&bytes_from(text, at)[..size])
 }
@@ -239,7 +240,8 @@ fn value(digits: &[u8]) -> u16
 #[tactic(auto, unfolding(crate::specs::Cutting::cut_mark))]
 fn mark(text: &[u8], at: usize) -> Lexeme
     requires { at < length text.now }
-    ensures { result ≡ cut_mark (slice_index (drop at text.now) 0) (slice_index (drop at text.now) 1) }
+    ensures { result ≡ cut_mark
+        (slice_index (drop at text.now) 0) (slice_index (drop at text.now) 1) }
 {
     let (kind, size) = match byte_at(text, at, 0) {
         b',' => (Kind::Comma, 1),

@@ -3,6 +3,7 @@
 #![tactic(auto)]
 
 mod chain;
+mod change;
 mod description;
 mod expected;
 mod fault;

@@ -1,5 +1,7 @@
 ghost use Rattle.std.specs.Prelude.{◌≡◌};
-ghost use Rattle.twp_text.specs.Machine.{is_final, is_in_chain};
+ghost use Rattle.std.specs.Option.{is_some};
+ghost use Rattle.twp_text.specs.Grammar.{lot, corner};
+ghost use Rattle.twp_text.specs.Machine.{next, is_final, is_in_chain};
 ghost use Rattle.twp_text.specs.Expected.{expected_of};
 
 use crate::expected::Expected;
@@ -130,5 +132,31 @@ impl State {
         ensures { result ≡ is_in_chain self }
     {
         matches!(self, State::Step | State::Of | State::OfThe)
+    }
+
+    /// Whether a part of one section may begin here.
+    #[inline(always)]
+    pub fn begins_part(self) -> bool
+        ensures { result ≡ is_some (next self lot) }
+    {
+        matches!(
+            self,
+            State::SectionNumber
+                | State::SectionComma
+                | State::LotComma
+                | State::LotLastComma
+                | State::LotAnd
+                | State::BeforePart
+                | State::PartComma
+        )
+    }
+
+    /// Whether a step may begin here, which may be the first of a part.
+    #[inline(always)]
+    #[tactic(auto, using(crate::proofs::StateFacts::chain_goes_on, crate::proofs::StateFacts::part_begins))]
+    pub fn begins_step(self) -> bool
+        ensures { result ≡ is_some (next self corner) }
+    {
+        self.is_in_chain() || self.begins_part()
     }
 }

@@ -2,7 +2,7 @@
 //! states take.
 
 ghost use Rattle.std.specs.Prelude.{◌≡◌};
-ghost use Rattle.std.specs.Option.{option_map, is_some};
+ghost use Rattle.std.specs.Option.{option_map};
 ghost use Rattle.twp_text.specs.Grammar.{class_of, sec, lot, all, and, to, inclusive, north_south, east_west, corner, number, comma, semicolon, colon, stop, r};
 ghost use Rattle.twp_text.specs.Machine.{next};
 
@@ -61,7 +61,8 @@ impl State {
         ensures { result ≡ next self r }
     {
         match self {
-            State::TownshipSide | State::TownshipSideStop | State::TownshipComma => Some(State::Range),
+            State::TownshipSide | State::TownshipSideStop => Some(State::Range),
+            State::TownshipComma => Some(State::Range),
             _ => None,
         }
     }
@@ -73,28 +74,12 @@ impl State {
     {
         match self {
             State::Start
-            | State::RangeSide | State::RangeSideStop
+            | State::RangeSide
+            | State::RangeSideStop
             | State::BeforeGroup
             | State::Semicolon => Some(State::SectionWord),
             _ => None,
         }
-    }
-
-    /// Whether a part of one section may begin here.
-    #[inline(always)]
-    fn begins_part(self) -> bool
-        ensures { result ≡ is_some (next self lot) }
-    {
-        matches!(
-            self,
-            State::SectionNumber
-                | State::SectionComma
-                | State::LotComma
-                | State::LotLastComma
-                | State::LotAnd
-                | State::BeforePart
-                | State::PartComma
-        )
     }
 
     /// The first token of a part of one section, which leads to the state that is given.
@@ -108,15 +93,6 @@ impl State {
         } else {
             None
         }
-    }
-
-    /// Whether a step may begin here, which may be the first of a part.
-    #[inline(always)]
-    #[tactic(auto, using(crate::proofs::StateFacts::chain_goes_on, crate::proofs::StateFacts::part_begins))]
-    fn begins_step(self) -> bool
-        ensures { result ≡ is_some (next self corner) }
-    {
-        self.is_in_chain() || self.begins_part()
     }
 
     /// The first token of a step, which leads to the state that is given.
@@ -184,17 +160,10 @@ impl State {
         ensures { result ≡ next self number }
     {
         match self {
-            State::Township | State::TownshipStop => {
-                Some(State::TownshipNumber)
-            }
-            State::Range | State::RangeStop => {
-                Some(State::RangeNumber)
-            }
-            State::SectionWord | State::SectionStop => {
-                Some(State::SectionNumber)
-            }
-            State::SectionComma
-            | State::ListComma | State::ListLastComma | State::ListAnd => {
+            State::Township | State::TownshipStop => Some(State::TownshipNumber),
+            State::Range | State::RangeStop => Some(State::RangeNumber),
+            State::SectionWord | State::SectionStop => Some(State::SectionNumber),
+            State::SectionComma | State::ListComma | State::ListLastComma | State::ListAnd => {
                 Some(State::ListNumber)
             }
             State::ListTo => Some(State::ListLast),
@@ -212,9 +181,7 @@ impl State {
         ensures { result ≡ next self to }
     {
         match self {
-            State::SectionNumber | State::ListNumber => {
-                Some(State::ListTo)
-            }
+            State::SectionNumber | State::ListNumber => Some(State::ListTo),
             State::LotNumber => Some(State::LotTo),
             _ => None,
         }
@@ -226,12 +193,8 @@ impl State {
         ensures { result ≡ next self inclusive }
     {
         match self {
-            State::ListLast | State::ListLastComma => {
-                Some(State::ListInclusive)
-            }
-            State::LotLast | State::LotLastComma => {
-                Some(State::LotInclusive)
-            }
+            State::ListLast | State::ListLastComma => Some(State::ListInclusive),
+            State::LotLast | State::LotLastComma => Some(State::LotInclusive),
             _ => None,
         }
     }
@@ -242,20 +205,12 @@ impl State {
         ensures { result ≡ next self comma }
     {
         match self {
-            State::TownshipSide | State::TownshipSideStop => {
-                Some(State::TownshipComma)
-            }
-            State::RangeSide | State::RangeSideStop => {
-                Some(State::BeforeGroup)
-            }
+            State::TownshipSide | State::TownshipSideStop => Some(State::TownshipComma),
+            State::RangeSide | State::RangeSideStop => Some(State::BeforeGroup),
             State::SectionNumber => Some(State::SectionComma),
-            State::ListNumber | State::ListInclusive => {
-                Some(State::ListComma)
-            }
+            State::ListNumber | State::ListInclusive => Some(State::ListComma),
             State::ListLast => Some(State::ListLastComma),
-            State::LotNumber | State::LotInclusive => {
-                Some(State::LotComma)
-            }
+            State::LotNumber | State::LotInclusive => Some(State::LotComma),
             State::LotLast => Some(State::LotLastComma),
             State::Step | State::All => Some(State::PartComma),
             _ => None,
@@ -281,9 +236,7 @@ impl State {
             | State::LotInclusive
             | State::LotComma
             | State::LotLastComma => Some(State::LotAnd),
-            State::PartComma | State::Step | State::All => {
-                Some(State::BeforePart)
-            }
+            State::PartComma | State::Step | State::All => Some(State::BeforePart),
             _ => None,
         }
     }
@@ -295,9 +248,7 @@ impl State {
     {
         match self {
             State::SectionNumber => Some(State::BeforePart),
-            State::ListNumber | State::ListLast | State::ListInclusive => {
-                Some(State::ListColon)
-            }
+            State::ListNumber | State::ListLast | State::ListInclusive => Some(State::ListColon),
             _ => None,
         }
     }
@@ -308,16 +259,10 @@ impl State {
         ensures { result ≡ next self stop }
     {
         match self {
-            State::Township => {
-                Some(State::TownshipStop)
-            }
-            State::TownshipSide => {
-                Some(State::TownshipSideStop)
-            }
+            State::Township => Some(State::TownshipStop),
+            State::TownshipSide => Some(State::TownshipSideStop),
             State::Range => Some(State::RangeStop),
-            State::RangeSide => {
-                Some(State::RangeSideStop)
-            }
+            State::RangeSide => Some(State::RangeSideStop),
             State::SectionWord => Some(State::SectionStop),
             _ => self.with_end(State::End),
         }
@@ -330,10 +275,15 @@ impl State {
     {
         match self {
             State::SectionNumber
-            | State::ListNumber | State::ListLast | State::ListInclusive
+            | State::ListNumber
+            | State::ListLast
+            | State::ListInclusive
             | State::ListAll
-            | State::LotNumber | State::LotLast | State::LotInclusive
-            | State::Step | State::All => Some(behind),
+            | State::LotNumber
+            | State::LotLast
+            | State::LotInclusive
+            | State::Step
+            | State::All => Some(behind),
             _ => None,
         }
     }

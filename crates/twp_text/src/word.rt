@@ -21,7 +21,7 @@ pub fn one_letter(first: u8) -> Kind
     }
 }
 
-/// What a word of two small letters is.
+/// What a word of two small letters is. Quarters are the commonest, and `e` and `w` are tested first.
 #[inline(always)]
 pub fn two_letters(first: u8, second: u8) -> Kind
     ensures { result ≡ kind_among (first ∷ second ∷ []) words }
@@ -37,7 +37,7 @@ pub fn two_letters(first: u8, second: u8) -> Kind
     }
 }
 
-/// What a word of three small letters is.
+/// What a word of three small letters is. `the` is the commonest, and tested first.
 #[inline(always)]
 pub fn three_letters(first: u8, second: u8, third: u8) -> Kind
     ensures { result ≡ kind_among (first ∷ second ∷ third ∷ []) words }

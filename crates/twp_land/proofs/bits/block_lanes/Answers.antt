@@ -1,6 +1,6 @@
 use Rattle.std.proofs.Common.{◌≡◌, ◌+◌, ◌-◌, ◌^◌}
 use Rattle.twp_land.proofs.BlockLaneFacts.{are_block_lanes}
-use Rattle.twp_land.proofs.LaneFacts.{dyadic_in_section}
+use Rattle.twp_land.proofs.BlockFacts.{dyadic_in_section}
 use Rattle.twp_land.proofs.bits.block_lanes.Goals as goal
 
 pub returns-clause-lanes : goal.returns-clause-lanes

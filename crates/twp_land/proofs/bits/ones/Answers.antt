@@ -1,16 +1,9 @@
-use Rattle.std.proofs.Common.{◌≤◌, refl, arith}
-use Rattle.std.proofs.Math.Pow.{pow_mono}
-use Rattle.twp_land.proofs.BitFacts.{power_fits}
+use Rattle.twp_land.proofs.BitFacts.{shifted_ones, ones_fit_a_lane}
 use Rattle.twp_land.proofs.bits.ones.Goals as goal
 
-pub overflow_sub-result : goal.overflow_sub-result
-overflow_sub-result c =
-    let end : c.from.result ≤ 16 = omega (arith, c.from.ensures, c.requires) in
-    let start : c.from-2.result ≤ 16 = omega (arith, c.from-2.ensures, c.requires) in
-    rw (power_fits c.from.result end, power_fits c.from-2.result start) (pow_mono {i = c.from-2.result} {j = c.from.result} (omega (arith, c.from.ensures, c.from-2.ensures)))
+pub overflow_cast-result : goal.overflow_cast-result
+overflow_cast-result c =
+    record { fits = rw (c.from-2.ensures, c.from-3.ensures, c.from.ensures) (ones_fit_a_lane c.args.start c.args.len c.requires) }
 
 pub returns : goal.returns
-returns c =
-    let end : c.from.result ≤ 16 = omega (arith, c.from.ensures, c.requires) in
-    let start : c.from-2.result ≤ 16 = omega (arith, c.from-2.ensures, c.requires) in
-    rw (power_fits c.from.result end, power_fits c.from-2.result start, c.from.ensures, c.from-2.ensures) refl
+returns c = rw (c.from-2.ensures, c.from-3.ensures, c.from.ensures) (shifted_ones c.args.start c.args.len c.requires)

@@ -1,5 +1,6 @@
 use Rattle.std.proofs.Common.{◌∙◌, arith}
-use Rattle.twp_land.proofs.LaneFacts.{dyadic_in_section, count_in_lanes, ones_fit, sums_fit}
+use Rattle.twp_land.proofs.BlockFacts.{dyadic_in_section}
+use Rattle.twp_land.proofs.LaneFacts.{count_in_lanes, ones_fit, sums_fit}
 use Rattle.twp_land.proofs.lanes.LaneRowsPlot.count.Goals as goal
 
 pub overflow_cast-held : goal.overflow_cast-held

@@ -1,5 +1,6 @@
 use Rattle.std.proofs.Common.{arith}
-use Rattle.twp_land.proofs.LaneFacts.{dyadic_in_section, lanes_are_full}
+use Rattle.twp_land.proofs.BlockFacts.{dyadic_in_section}
+use Rattle.twp_land.proofs.LaneFacts.{lanes_are_full}
 use Rattle.twp_land.proofs.lanes.LaneRowsPlot.full.Goals as goal
 
 pub returns : goal.returns

@@ -1,7 +1,10 @@
 use super::*;
-use crate::land::Land;
+use crate::lanes::Lanes;
+use crate::rows::Grid;
+use std::alloc::Global;
+use std::process::Abort;
 use std::test::Fail;
-use twp_grid::{Section, Side};
+use twp_grid::Side;
 
 // The lengths of the sides that halving 16 places gives, and how many such sides there are: 31 in all, and
 // 31 times 31 blocks.
@@ -66,10 +69,20 @@ fn is_inside(block: Block, column: u8, row: u8) -> bool {
 }
 
 #[test]
-fn holds_what_was_added(rt: HostRuntime) -> Result<(), Fail> {
+fn grid_holds_what_was_added(rt: HostRuntime) -> Result<(), Fail> {
+    check_added::<Grid>(rt.alloc(), &rt)
+}
+
+#[test]
+fn lanes_hold_what_was_added(rt: HostRuntime) -> Result<(), Fail> {
+    check_added::<Lanes>(rt.alloc(), &rt)
+}
+
+// A land of 200 blocks holds their places and no others.
+fn check_added<L: Land>(alloc: Global, rt: &impl Abort) -> Result<(), Fail> {
     let mut random = Random { state: 1796 };
-    let mut land = Grid::empty();
-    let mut added = Vec::new(rt.alloc());
+    let mut land = L::empty();
+    let mut added = Vec::new(alloc);
     for _ in 0..200u8 {
         let section = Section::new(random.below(36).wrapping_add(1)).ok_or("a section")?;
         let block = random.block();
@@ -97,9 +110,55 @@ fn holds_what_was_added(rt: HostRuntime) -> Result<(), Fail> {
 }
 
 #[test]
-fn tells_961_blocks_apart(rt: HostRuntime) -> Result<(), Fail> {
+fn grid_tells_961_blocks_apart(rt: HostRuntime) -> Result<(), Fail> {
     let section = Section::new(14).ok_or("a section")?;
-    let mut blocks = 0u32;
+    for block in blocks(rt.alloc(), &rt)? {
+        check_alone::<Grid>(&rt, section, block);
+    }
+    Ok(())
+}
+
+#[test]
+fn lanes_tell_961_blocks_apart(rt: HostRuntime) -> Result<(), Fail> {
+    let section = Section::new(14).ok_or("a section")?;
+    for block in blocks(rt.alloc(), &rt)? {
+        check_alone::<Lanes>(&rt, section, block);
+    }
+    Ok(())
+}
+
+#[test]
+fn lanes_answer_as_a_grid_does(rt: HostRuntime) -> Result<(), Fail> {
+    let section = Section::new(29).ok_or("a section")?;
+    let mut random = Random { state: 1796 };
+    for block in blocks(rt.alloc(), &rt)? {
+        let mut grid = Grid::empty();
+        let mut lanes = Lanes::empty();
+        for _ in 0..3u8 {
+            let more = random.block();
+            grid.add(section, more);
+            lanes.add(section, more);
+        }
+        assert_eq!(&rt; lanes.meets(section, block), grid.meets(section, block));
+        assert_eq!(&rt; lanes.full(section, block), grid.full(section, block));
+        assert_eq!(&rt; lanes.count(section, block), grid.count(section, block));
+        grid.add(section, block);
+        lanes.add(section, block);
+        for column in 0..16u8 {
+            for row in 0..16u8 {
+                assert_eq!(&rt;
+                    lanes.holds(section, column, row),
+                    grid.holds(section, column, row)
+                );
+            }
+        }
+    }
+    Ok(())
+}
+
+// All blocks that halving gives.
+fn blocks(alloc: Global, rt: &impl Abort) -> Result<Vec<Block>, Fail> {
+    let mut blocks = Vec::new(alloc);
     for (width, across) in SIDES {
         for i in 0..across {
             for (height, upward) in SIDES {
@@ -109,19 +168,18 @@ fn tells_961_blocks_apart(rt: HostRuntime) -> Result<(), Fail> {
                     let block = reach(column, width, row, height).ok_or("a block")?;
                     assert_eq!(rt; (block.column(), block.width()), (column, width));
                     assert_eq!(rt; (block.row(), block.height()), (row, height));
-                    check_alone(&rt, section, block);
-                    blocks = blocks.wrapping_add(1);
+                    blocks.push(block)?;
                 }
             }
         }
     }
-    assert_eq!(rt; blocks, 961);
-    Ok(())
+    assert_eq!(rt; blocks.len(), 961);
+    Ok(blocks)
 }
 
 // A land of one block holds its places and no others.
-fn check_alone(rt: &impl std::process::Abort, section: Section, block: Block) {
-    let mut land = Grid::empty();
+fn check_alone<L: Land>(rt: &impl Abort, section: Section, block: Block) {
+    let mut land = L::empty();
     assert!(rt; !land.meets(section, block));
     land.add(section, block);
     assert!(rt; land.full(section, block));
