@@ -1,8 +1,8 @@
 -- The figures of a plat: there are some, and they are one.
-use Rattle.std.proofs.Common.{◌≡◌, ℕ, zero, suc, ◌+◌, ◌-◌, ◌*◌, ◌/◌, ◌%◌, ◌<◌, ◌≤◌, ◌⊎◌, List, [], ◌++◌, Option, Some, None, IfSome, ap, refl, sym, ◌∙◌, inl, inr, arith, append_assoc}
+use Rattle.std.proofs.Common.{◌≡◌, ℕ, suc, ◌+◌, ◌-◌, ◌*◌, ◌/◌, ◌<◌, ◌≤◌, List, [], ◌++◌, Option, Some, ap, refl, sym, ◌∙◌, arith, append_assoc}
 use Rattle.std.specs.Prelude.{OnOk, Result, Ok, Err, unwrap_or}
 use Rattle.std.proofs.lemmas.List.{append-nil}
-use Rattle.twp_measure.specs.Areas.{Fraction, hundredth_of, IsRounded}
+use Rattle.twp_measure.specs.Areas.{Fraction, IsRounded}
 use Rattle.twp_measure.proofs.RoundingFacts.{one_rounding, rounded}
 use Rattle.twp_grid.specs.Winding.{SECTION_COUNT, IsSection}
 use Rattle.twp_grid.specs.Lots.{IsPosition, position_of_lot}
@@ -58,29 +58,31 @@ pub figures_of : (plat : TownshipPlat) (area : Fraction) → IsTownshipArea plat
 figures_of plat area is some =
     let pieces : ℕ → ℕ → ℕ → ℕ = is.pieces in
     let over : ℕ = over_of plat in
-    let of_place : ℕ → Option (ℕ × ℕ) → ℕ = λ section place. pieces section (unwrap_or place (0, 0)).0 (unwrap_or place (0, 0)).1 in
-    (record {
-      lots = λ section lot. hundredths_of plat (of_place section (position_of_lot section lot));
-      sections = λ section. hundredths_of plat (over_positions (pieces section));
-      township = hundredths_of plat (total SECTION_COUNT (λ before. over_positions (pieces (before + 1))));
-    }, record {
-      lots = λ section lot column row range there. rw there (record {
-        area = record { units = pieces section column row; over = over };
-        piece_is = is.are.is_piece section column row range (in_position section lot column row range there);
-        over_is = refl;
-        rounded = rounded (pieces section column row) over some;
-      });
-      sections = λ section range. record {
-        area = record { units = over_positions (pieces section); over = over };
-        area_is = record { pieces = pieces; are = is.are; over_is = refl; sum_is = refl };
-        rounded = rounded (over_positions (pieces section)) over some;
-      };
-      township = record {
-        area = record { units = total SECTION_COUNT (λ before. over_positions (pieces (before + 1))); over = over };
-        area_is = record { pieces = pieces; are = is.are; over_is = refl; sum_is = refl };
-        rounded = rounded (total SECTION_COUNT (λ before. over_positions (pieces (before + 1)))) over some;
-      };
-    })
+    let of_place : ℕ → Option (ℕ × ℕ) → ℕ = λ section place. pieces section (unwrap_or place (0, 0)).0 (unwrap_or place (0, 0)).1 in (
+      record {
+        lots = λ section lot. hundredths_of plat (of_place section (position_of_lot section lot));
+        sections = λ section. hundredths_of plat (over_positions (pieces section));
+        township = hundredths_of plat (total SECTION_COUNT (λ before. over_positions (pieces (before + 1))));
+      },
+      record {
+        lots = λ section lot column row range there. rw there (record {
+          area = record { units = pieces section column row; over = over };
+          piece_is = is.are.is_piece section column row range (in_position section lot column row range there);
+          over_is = refl;
+          rounded = rounded (pieces section column row) over some;
+        });
+        sections = λ section range. record {
+          area = record { units = over_positions (pieces section); over = over };
+          area_is = record { pieces = pieces; are = is.are; over_is = refl; sum_is = refl };
+          rounded = rounded (over_positions (pieces section)) over some;
+        };
+        township = record {
+          area = record { units = total SECTION_COUNT (λ before. over_positions (pieces (before + 1))); over = over };
+          area_is = record { pieces = pieces; are = is.are; over_is = refl; sum_is = refl };
+          rounded = rounded (total SECTION_COUNT (λ before. over_positions (pieces (before + 1)))) over some;
+        };
+      },
+    )
 
 pub no_texts : (text : ℕ → List ℕ) → texts_to 0 text ≡ []
 unfolding texts_to

@@ -9,3 +9,4 @@ pub mod DeviceFacts
 pub mod RunFacts
 pub mod OneAnswer
 pub mod FigureFacts
+pub mod OnePlat

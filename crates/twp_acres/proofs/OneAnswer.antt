@@ -11,11 +11,10 @@ use Rattle.twp_plat.specs.PlatFaults as plat_faults
 use Rattle.twp_plat.specs.declared.fault.PlatFault.{PlatFault}
 use Rattle.twp_plat.proofs.OneAnswer as plats
 use Rattle.twp_text.specs.PlaceFaults as place_faults
-use Rattle.twp_text.specs.declared.item.Item.{Item}
 use Rattle.twp_text.specs.declared.place_fault.PlaceFault.{PlaceFault}
 use Rattle.twp_text.proofs.OneAnswer as texts
 use Rattle.twp_text.proofs.PlaceAnswers as lands
-use Rattle.twp_acres.specs.Answers.{ArePlatted, Describe, IsLandOnPlat, AreRefused, MakeNoPlat, DescribeNoLand, IsNoDescription, IsNoLandOnPlat, IsNoPlat, IsRefusal}
+use Rattle.twp_acres.specs.Answers.{ArePlatted, Describe, IsLandOnPlat, AreRefused, IsNoDescription, IsNoPlat, IsRefusal}
 use Rattle.twp_acres.specs.AcresAnswers.{AreHundredthsOf, HasAcres, IsAcresAnswer}
 use Rattle.twp_acres.specs.Laws.{OneAnswerOfLand}
 use Rattle.twp_acres.specs.declared.verdict.Verdict.{Verdict}

@@ -1,16 +1,15 @@
 -- Whole sections, and the whole township: the sum over single places is the sum of the pieces.
-use Rattle.std.proofs.Common.{◌≡◌, ◌≢◌, ◌==◌, ◌&&◌, ℕ, ◌+◌, ◌-◌, ◌*◌, ◌<◌, ◌≤◌, Bool, true, false, ap, refl, sym, ◌∙◌, arith, nat_le, nat_lt}
+use Rattle.std.proofs.Common.{◌≡◌, ◌≢◌, ℕ, ◌+◌, ◌-◌, ◌*◌, ◌<◌, ◌≤◌, Bool, true, false, ap, refl, sym, ◌∙◌, arith, nat_le, nat_lt}
 use Rattle.std.proofs.lemmas.Bool.{eq-eqb, ne_eqb}
 use Rattle.std.proofs.lemmas.Bool.Decides.{nat_tests}
-use Rattle.twp_grid.specs.Winding.{SECTION_COUNT, IsSection}
 use Rattle.twp_grid.specs.Places.{PLACE_DIGITS, is_place}
 use Rattle.twp_grid.specs.Spans.{position_block}
 use Rattle.twp_grid.specs.Totals.{total, total_over, one_where, over_positions}
 use Rattle.twp_grid.proofs.TotalFacts.{total-ext, total-same, total-scale, total-all_zero}
 use Rattle.twp_land.specs.Storage.{is_section}
-use Rattle.twp_acres.specs.LandAreas.{piece_where_held, section_sum, township_sum}
+use Rattle.twp_acres.specs.LandAreas.{piece_where_held, section_sum}
 use Rattle.twp_acres.specs.Laws.{section_places, township_places, SectionAreaIsOfLand, TownshipAreaIsOfLand}
-use Rattle.twp_acres.proofs.PositionSums.{positions-ext, positions-zero, positions-scale, by_position, total_differs}
+use Rattle.twp_acres.proofs.PositionSums.{positions-ext, positions-scale, by_position, total_differs}
 use Rattle.twp_acres.proofs.SectionSums.{held_of, position_sum}
 
 -- the sum over a section's places by positions: each piece times the places that are held of it

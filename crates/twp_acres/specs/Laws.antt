@@ -11,6 +11,7 @@ use Rattle.twp_plat.specs.PlatAreas.{IsSectionArea, IsTownshipArea}
 use Rattle.twp_acres.specs.LandAreas.{IsLandArea}
 use Rattle.twp_acres.specs.Answers.{IsLandOnPlat}
 use Rattle.twp_acres.specs.AcresAnswers.{IsAcresAnswer}
+use Rattle.twp_acres.specs.PlatAnswers.{IsPlatAnswer}
 use Rattle.twp_acres.specs.declared.verdict.Verdict.{Verdict}
 
 -- no place is held by both
@@ -65,4 +66,10 @@ OneAnswerOfLand = (notes description description' answer answer' : List ℕ)
     → IsLandOnPlat notes description plat places → IsLandOnPlat notes description' plat places
     → IsAcresAnswer notes description answer verdict
     → IsAcresAnswer notes description' answer' verdict'
+    → (answer ≡ answer') × (verdict ≡ verdict')
+
+-- field notes have one printed plat, or one refusal
+abbrev pub OnePlatAnswer : Type 0
+OnePlatAnswer = (notes answer answer' : List ℕ) (verdict verdict' : Verdict)
+    → IsPlatAnswer notes answer verdict → IsPlatAnswer notes answer' verdict'
     → (answer ≡ answer') × (verdict ≡ verdict')

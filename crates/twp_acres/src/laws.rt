@@ -2,7 +2,7 @@
 //! nothing to do.
 ghost use Rattle.twp_acres.specs.Laws.{OneLandArea, DisjointAreasAdd};
 ghost use Rattle.twp_acres.specs.Laws.{SectionAreaIsOfLand, TownshipAreaIsOfLand};
-ghost use Rattle.twp_acres.specs.Laws.{OneAnswer, OneAnswerOfLand};
+ghost use Rattle.twp_acres.specs.Laws.{OneAnswer, OneAnswerOfLand, OnePlatAnswer};
 
 /// A set of places has one area on a plat.
 pub fn one_land_area()
@@ -35,4 +35,9 @@ pub fn one_answer()
 /// Two descriptions of one land have one answer over the same notes, however the land is spelled.
 pub fn one_answer_of_land()
     ensures { OneAnswerOfLand }
+{}
+
+/// Field notes have one printed plat and one verdict.
+pub fn one_plat_answer()
+    ensures { OnePlatAnswer }
 {}

@@ -9,11 +9,10 @@ ghost use Rattle.twp_acres.specs.AcresAnswers.{HasAcres, IsAcresAnswer, acres_li
 ghost use Rattle.twp_acres.specs.PlatAnswers.{IsPlatAnswer};
 ghost use Rattle.twp_acres.specs.Runs.{AnyFailed, AppendsFront, IsAnswered, IsRun, Reads, ReadsTwo};
 
-use crate::acres_answer;
 use crate::answer::Answer;
-use crate::plat_answer;
 use crate::verdict::{RunFault, Verdict};
 use crate::writing::write_whole;
+use crate::{acres_answer, plat_answer};
 use std::alloc::Global;
 use twp_grid::{Sink, Source};
 

@@ -54,6 +54,7 @@ impl<P: Plot> Land for Sections<P> {
     }
 
     fn add(&mut self, section: Section, block: Block) {
-        self.plots[usize::from(section.number() - 1)].add(block);
+        let plot = &mut self.plots[usize::from(section.number() - 1)];
+        plot.add(block);
     }
 }

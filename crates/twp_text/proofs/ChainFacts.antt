@@ -1,5 +1,5 @@
 -- Aliquot parts: the block that their steps leave, and the places of it.
-use Rattle.std.proofs.Common.{Some, slice_get, ◌≡◌, ◌==◌, ℕ, zero, suc, ◌+◌, ◌-◌, ◌*◌, ◌^◌, ◌<◌, ◌≤◌, ◌&&◌, Bool, true, false, List, [], ◌∷◌, ◌++◌, length, drop, refl, sym, ap, ◌∙◌, inl, inr, arith, length-append, nat_lt, IsSome}
+use Rattle.std.proofs.Common.{Some, slice_get, ◌≡◌, ◌==◌, ℕ, zero, suc, ◌+◌, ◌-◌, ◌^◌, ◌<◌, ◌≤◌, ◌&&◌, Bool, true, false, List, [], ◌∷◌, ◌++◌, length, drop, refl, ap, ◌∙◌, inl, inr, arith, length-append, nat_lt}
 use Rattle.std.proofs.Math.Nat.{pow-succ'}
 use Rattle.std.proofs.lemmas.Nat.{pow_pos}
 use Rattle.std.proofs.lemmas.Bool.{and_parts}
@@ -11,16 +11,15 @@ use Rattle.std.proofs.lemmas.List.{drop_more}
 use Rattle.std.proofs.lemmas.Option.{slice_get_within, get_or_from_slice_get}
 use Rattle.twp_grid.specs.declared.block.Side.TheVariants as side
 use Rattle.twp_grid.specs.declared.block.Corner.TheVariants as corner
-use Rattle.twp_grid.specs.Blocks.{CanHalve, CanQuarter}
 use Rattle.twp_grid.specs.Cuts.{Cut, row_asked, column_asked, rows_asked, columns_asked, AreWithin, part_of, reached}
 use Rattle.twp_grid.specs.Cuts.Cut.{half, quarter}
-use Rattle.twp_grid.specs.Places.{places_across, is_place, IsPlace}
+use Rattle.twp_grid.specs.Places.{is_place, IsPlace}
 use Rattle.twp_grid.specs.Spans.{Span, in_span, Rectangle, in_rectangle, whole_block}
 use Rattle.twp_grid.proofs.CutFacts.{held_as_asked, sides_as_asked, within_span_of, rows_reached, columns_reached, rows_are_digits, columns_are_digits}
 use Rattle.twp_land.specs.Lands.{block_places}
 use Rattle.twp_text.specs.declared.item.Step.{Step}
 use Rattle.twp_text.specs.declared.item.Item.TheVariants.{Chain}
-use Rattle.twp_text.specs.ItemPlaces.{cut_of, cuts_of, in_chain, item_places}
+use Rattle.twp_text.specs.ItemPlaces.{cut_of, cuts_of, item_places}
 use Rattle.twp_text.specs.Taking.{item_of, CanCut}
 
 -- a side of so many digits is more than one place where a digit is left

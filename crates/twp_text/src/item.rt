@@ -1,4 +1,4 @@
-ghost use Rattle.std.specs.Prelude.{◌≡◌, [], ◌∷◌, ◌++◌, length, slice_get, OnOk};
+ghost use Rattle.std.specs.Prelude.{◌≡◌, ◌≤◌, [], ◌∷◌, ◌++◌, length, slice_get, OnOk};
 
 use arrayvec::ArrayVec;
 use std::alloc::{AllocError, Global};
@@ -91,6 +91,17 @@ impl Steps {
             self.first.push(step);
             return Ok(());
         }
+        self.push_more(step)
+    }
+
+    /// Adds a step behind the eighth.
+    #[cold]
+    #[inline(never)]
+    #[tactic(auto, using(crate::proofs::StepFacts::push_more))]
+    fn push_more(&mut self, step: Step) -> Result<(), AllocError>
+        requires { 8 ≤ length self.old }
+        ensures { OnOk result (self.new ≡ self.old ++ step ∷ []) }
+    {
         self.more.push(step)?;
         Ok(())
     }

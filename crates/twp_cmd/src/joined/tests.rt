@@ -130,8 +130,15 @@ fn reads_pieces_of_any_size(rt: HostRuntime) -> Result<(), Fail> {
             most,
             calls_left: u32::MAX,
         });
-        assert_eq!(rt; run_joined(alloc, &mut input, &mut out), Ok(Verdict::Accepted));
-        assert_eq!(rt; out.get().as_slice(), "40.45 acres\n".as_bytes(), "pieces of {most}");
+        assert_eq!(rt;
+            run_joined(alloc, &mut input, &mut out),
+            Ok(Verdict::Accepted)
+        );
+        assert_eq!(rt;
+            out.get().as_slice(),
+            "40.45 acres\n".as_bytes(),
+            "pieces of {most}"
+        );
     }
     Ok(())
 }

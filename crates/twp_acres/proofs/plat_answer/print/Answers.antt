@@ -1,6 +1,6 @@
-use Rattle.std.proofs.Common.{◌≡◌, ◌+◌, ◌-◌, ap, refl, sym, ◌∙◌, arith}
+use Rattle.std.proofs.Common.{◌≡◌, ◌-◌, ap, refl, sym, ◌∙◌, arith}
 use Rattle.twp_land.proofs.LotFacts.{section_is}
-use Rattle.twp_acres.specs.PlatAnswers.{section_line, total_text}
+use Rattle.twp_acres.specs.PlatAnswers.{section_line}
 use Rattle.twp_acres.proofs.FigureFacts.{no_texts, lines_grow, lines_end}
 use Rattle.twp_acres.proofs.plat_answer.print.Goals as goal
 

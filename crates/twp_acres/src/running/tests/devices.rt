@@ -1,4 +1,4 @@
-use super::{NOTHING_YET, b1, notes_of};
+use super::{notes_of, uneven};
 use crate::running::run_acres;
 use crate::verdict::{RunFault, Verdict};
 use std::io;
@@ -66,7 +66,7 @@ impl Source for Counted<'_> {
 #[test]
 fn reads_pieces_of_any_size(rt: HostRuntime) -> Result<(), Fail> {
     let alloc = rt.alloc();
-    let notes = b1(alloc)?;
+    let notes = uneven(alloc)?;
     for most in [1, 2, 3, 7, 1_000] {
         let mut out = Device::new(Vec::new(alloc));
         let mut text = Counted::new(b"sec. 5, lot 1.", most);
@@ -87,7 +87,7 @@ fn reads_pieces_of_any_size(rt: HostRuntime) -> Result<(), Fail> {
 #[test]
 fn reads_one_byte_past_a_limit(rt: HostRuntime) -> Result<(), Fail> {
     let alloc = rt.alloc();
-    let notes = b1(alloc)?;
+    let notes = uneven(alloc)?;
     let too_large = Verdict::Refused(Refusal {
         number: 1,
         at: 65_536,
@@ -105,7 +105,10 @@ fn reads_one_byte_past_a_limit(rt: HostRuntime) -> Result<(), Fail> {
     let mut lines = Counted::new(notes.as_slice(), 1_000);
     assert_eq!(rt;
         run_acres(alloc, &mut lines, &mut endless, &mut out),
-        Ok(Verdict::Refused(NOTHING_YET))
+        Ok(Verdict::Refused(Refusal {
+            number: 41,
+            at: 65_536,
+        }))
     );
     assert_eq!(rt; endless.given, 65_537);
     Ok(())
@@ -150,7 +153,7 @@ impl Read for FailsAt<'_> {
 #[test]
 fn tells_which_reader_failed(rt: HostRuntime) -> Result<(), Fail> {
     let alloc = rt.alloc();
-    let notes = b1(alloc)?;
+    let notes = uneven(alloc)?;
     for kind in [ErrorKind::Interrupted, ErrorKind::BrokenPipe] {
         // The notes take four calls and one more for their end, the description one and one more.
         for calls in 0..8u32 {
@@ -212,7 +215,7 @@ impl Write for Room {
 #[test]
 fn writes_a_front_where_the_writer_fails(rt: HostRuntime) -> Result<(), Fail> {
     let alloc = rt.alloc();
-    let notes = b1(alloc)?;
+    let notes = uneven(alloc)?;
     let answer = b"40.45 acres\n".as_slice();
     for room in 0..14usize {
         for (most, fails, flush_fails) in [(1, true, false), (100, false, false), (5, true, true)] {

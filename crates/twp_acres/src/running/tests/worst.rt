@@ -1,0 +1,72 @@
+//! The longest descriptions.
+use super::Said::{Acres, Refused};
+use super::{answer_to, even, expected};
+use std::alloc::Global;
+use std::test::Fail;
+
+const CORNERS: [&str; 4] = ["NE1/4", "NW1/4", "SW1/4", "SE1/4"];
+
+/// The most bytes of a description.
+const LIMIT: usize = 65_536;
+
+/// Sections without lots.
+const REGULAR: [&str; 11] = [
+    "8", "9", "10", "11", "12", "13", "14", "15", "16", "17", "20",
+];
+
+/// A description that names each place of eleven sections, one after another, and behind it white space up
+/// to the limit; and where its last place is named.
+fn each_place(alloc: Global) -> Result<(Vec<u8>, usize), Fail> {
+    let mut text = Vec::new(alloc);
+    let mut last = 0;
+    for number in REGULAR {
+        text.extend_from_slice(if text.is_empty() {
+            b"sec. ".as_slice()
+        } else {
+            b"; sec. "
+        })?;
+        text.extend_from_slice(number.as_bytes())?;
+        for place in 0..256usize {
+            text.extend_from_slice(b", ")?;
+            last = text.len();
+            for corner in [place / 64, place / 16 % 4, place / 4 % 4, place % 4] {
+                text.extend_from_slice(CORNERS[corner].as_bytes())?;
+            }
+        }
+    }
+    text.resize(LIMIT, b' ')?;
+    Ok((text, last))
+}
+
+#[test]
+fn names_one_place_each_time(rt: HostRuntime) -> Result<(), Fail> {
+    let alloc = rt.alloc();
+    let notes = even(alloc)?;
+    let (text, last) = each_place(alloc)?;
+    // 11 times 256 places of 2.5 acres.
+    let answer = answer_to(alloc, notes.as_slice(), text.as_slice())?;
+    assert_eq!(rt; answer, expected(alloc, Acres("7040.00"))?);
+    // Instead of the last place of section 20 its first one, once more.
+    let (front, rest) = text.as_slice().split_at(last);
+    let mut twice = Vec::from_slice(alloc, front)?;
+    twice.extend_from_slice(b"NE1/4NE1/4NE1/4NE1/4")?;
+    twice.extend_from_slice(rest.split_at(20).1)?;
+    assert_eq!(rt; twice.len(), LIMIT);
+    let answer = answer_to(alloc, notes.as_slice(), twice.as_slice())?;
+    assert_eq!(rt; answer, expected(alloc, Refused(67, last as u32))?);
+    Ok(())
+}
+
+#[test]
+fn keeps_to_the_limit(rt: HostRuntime) -> Result<(), Fail> {
+    let alloc = rt.alloc();
+    let notes = even(alloc)?;
+    let mut spaces = Vec::new(alloc);
+    spaces.resize(LIMIT, b' ')?;
+    let answer = answer_to(alloc, notes.as_slice(), spaces.as_slice())?;
+    assert_eq!(rt; answer, expected(alloc, Refused(44, 65_536))?);
+    spaces.push(b' ')?;
+    let answer = answer_to(alloc, notes.as_slice(), spaces.as_slice())?;
+    assert_eq!(rt; answer, expected(alloc, Refused(41, 65_536))?);
+    Ok(())
+}
