@@ -77,6 +77,30 @@ refuses '/^W,8,17,/s/40.00/40.251/' '21 at 58'
 refuses '/^W,6,,/s/80.00/64.99/' '22 at 47'
 refuses '/^W,6,7,/s/80.00/85.01/' '23 at 53'
 
+# Those on descriptions: a description, and its refusal.
+awk -F ' [|] ' '/^[|] [4-9][0-9] / { print $4 }' "$root/docs/REFUSALS.md" |
+    sed -n 's/^`\(.*\)`: `\(.*\)`$/\2|\1/p' > examples
+# The examples of docs/DESCRIPTIONS.md: a description, and its acres in the sample.
+awk -F ' [|] ' '/^[|] `/ { sub(/ [|]$/, "", $3); print $3 " acres|" $1 }' "$root/docs/DESCRIPTIONS.md" |
+    sed -n 's/|[|] `\(.*\)`$/|\1/p' >> examples
+[ "$(wc -l < examples)" = 20 ]; : > out; : > err; ended 'twenty examples' $? 0 '' ''
+while IFS='|' read -r answer description; do
+    printf %s "$description" > description
+    case $answer in refused*) wanted=1 ;; *) wanted=0 ;; esac
+    run acres "$root/samples/b0.csv" description; ended "$description" $? "$wanted" "$answer" ''
+done < examples
+
+# The plat: its sections 6, 7 and 8 and its last line, of 37.
+run plat n.csv; status=$?
+lines=$(wc -l < out)
+sed -n '6,8p;37p' out > some; mv some out
+ended 'plat' "$status $lines" '0 37' 'sec. 6: lot 1 40.90, lot 2 41.10, lot 3 41.31, lot 4 39.95, lot 5 38.70, lot 6 38.90, lot 7 39.10, total 639.97
+sec. 7: lot 1 39.18, lot 2 39.13, lot 3 39.08, lot 4 39.03, total 636.40
+sec. 8: total 640.00
+township total 23037.57' ''
+run plat empty; ended 'a refused plat' $? 1 'refused 2 at 1' ''
+run plat /dev/stdin < edited; ended 'the plat of a device' $? 1 'refused 23 at 53' ''
+
 # Without a word: standard input.
 run < joined; ended 'joined input' $? 0 '40.45 acres' ''
 cat joined | run; ended 'joined input on a pipe' $? 0 '40.45 acres' ''
@@ -163,6 +187,7 @@ run plat missing; ended 'plat of missing notes' $? 3 '' 'township: cannot open m
 # What can't be read.
 run acres folder d.txt; ended 'a folder for notes' $? 3 '' 'township: cannot read'
 run acres n.csv folder; ended 'a folder for a description' $? 3 '' 'township: cannot read'
+run plat folder; ended 'a folder for a plat' $? 3 '' 'township: cannot read'
 run < folder; ended 'a folder on standard input' $? 3 '' 'township: cannot read'
 run <&-; ended 'closed standard input' $? 3 '' 'township: cannot read'
 run acres "$bad_name" d.txt; ended 'a name that is no UTF-8' $? 3 '' 'township: cannot read'
@@ -173,9 +198,11 @@ broken='township: cannot write'
 : > out
 "$program" acres n.csv d.txt > /dev/full 2> err; ended 'acres, full' $? 3 '' "$broken"
 "$program" acres empty d.txt > /dev/full 2> err; ended 'a refusal, full' $? 3 '' "$broken"
+"$program" plat n.csv > /dev/full 2> err; ended 'plat, full' $? 3 '' "$broken"
 "$program" < joined > /dev/full 2> err; ended 'joined, full' $? 3 '' "$broken"
 "$program" --help > /dev/full 2> err; ended 'help, full' $? 3 '' "$broken"
 "$program" acres n.csv d.txt >&- 2> err; ended 'acres, closed' $? 3 '' "$broken"
+"$program" plat n.csv >&- 2> err; ended 'plat, closed' $? 3 '' "$broken"
 "$program" < joined >&- 2> err; ended 'joined, closed' $? 3 '' "$broken"
 "$program" --help >&- 2> err; ended 'help, closed' $? 3 '' "$broken"
 "$program" acres n.csv d.txt <&- >&- 2> err; ended 'both closed' $? 3 '' "$broken"
@@ -183,6 +210,7 @@ mkfifo pipe
 # Its reader goes before the run begins.
 unread() { (exec 3<> pipe 4> pipe 3>&-; exec "$program" "$@" >&4 2> err); }
 unread acres n.csv d.txt; ended 'acres, no reader' $? 3 '' "$broken"
+unread plat n.csv; ended 'plat, no reader' $? 3 '' "$broken"
 unread < joined; ended 'joined, no reader' $? 3 '' "$broken"
 unread help; ended 'help, no reader' $? 3 '' "$broken"
 

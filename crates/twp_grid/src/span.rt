@@ -9,13 +9,13 @@ use std::marker::Model;
 pub const PLACES_ACROSS: usize = 1 << 4;
 
 /// The places along a side of a position.
-const PLACES_TO_POSITION: u32 = PLACES_ACROSS as u32 / 4;
+const PLACES_TO_POSITION: usize = PLACES_ACROSS / 4;
 
 /// Columns or rows of places in succession, of those that halving a section's side gives.
 #[derive(Clone, Copy, Debug, PartialEq, Eq, Hash)]
 pub(crate) struct Span {
-    start: u32,
-    len: u32,
+    start: usize,
+    len: usize,
 }
 
 impl Model for Span {
@@ -42,7 +42,7 @@ impl Span {
     {
         Span {
             start: 0,
-            len: PLACES_ACROSS as u32,
+            len: PLACES_ACROSS,
         }
     }
 
@@ -55,7 +55,7 @@ impl Span {
             return None;
         }
         Some(Span {
-            start: u32::from(position) * PLACES_TO_POSITION,
+            start: usize::from(position) * PLACES_TO_POSITION,
             len: PLACES_TO_POSITION,
         })
     }

@@ -1,12 +1,11 @@
 -- Sets of places as they are kept by section.
-use Rattle.std.proofs.Common.{if◌then◌else◌, ◌≡◌, ◌≢◌, ◌==◌, ℕ, zero, suc, ◌-◌, ◌<◌, ◌&&◌, ◌||◌, Bool, true, false, List, [], ◌∷◌, length, get_or, Some, ap, refl, sym, ◌∙◌, inl, inr, arith, replicate}
+use Rattle.std.proofs.Common.{get_or, sym, ◌∙◌, if◌then◌else◌, ◌≡◌, ◌≢◌, ◌==◌, ℕ, zero, suc, ◌-◌, ◌<◌, ◌&&◌, ◌||◌, Bool, true, false, List, [], ◌∷◌, length, Some, ap, refl, inl, inr, arith, replicate}
 use Rattle.std.proofs.Math.Path.{fun_ext}
 use Rattle.std.proofs.Math.ListN.{set}
 use Rattle.std.specs.List.{slice_get}
 use Rattle.std.specs.Option.{option_map_or}
 use Rattle.std.proofs.lemmas.Bool.{cases_eq, ne_eqb, eq-eqb, and_right}
 use Rattle.std.proofs.lemmas.Bool.Decides.{nat_tests}
-use Rattle.std.proofs.lemmas.Option.{slice_get_read}
 use Rattle.twp_grid.specs.Winding.{SECTION_COUNT, IsSection}
 use Rattle.twp_grid.specs.Spans.{Rectangle}
 use Rattle.twp_land.specs.Lands.{no_places, union, block_places}
@@ -73,17 +72,6 @@ exchanged_is_union places section block =
     or_false true = refl
     or_false false = refl
 
--- to add a block to a section's part is to add it to the set
-pub added_in_part : {P : Type 0} (held : P → ℕ → ℕ → Bool) (plots : List P) (section : ℕ) (block : Rectangle) (old plot : P) → IsSection section
-    → length plots ≡ SECTION_COUNT → old ≡ get_or plots (section - 1) old → held plot ≡ with_block (held old) block
-    → held_by_section held (set plots (section - 1) plot) ≡ union (held_by_section held plots) (block_places section block)
-added_in_part held plots section block old plot range all at is =
-    let there : slice_get plots (section - 1) ≡ Some old = slice_get_read plots SECTION_COUNT (section - 1) old (sym all) (omega (arith, range.0, range.1)) at in
-    let part : held_by_section held plots section ≡ held old = fun_ext (λ column. fun_ext (λ row. rw (number_is section range, there) refl)) in
-    held_after held plots section plot range all
-    ∙ ap (λ h. exchanged (held_by_section held plots) section h) (is ∙ ap (λ h. with_block h block) (sym part))
-    ∙ exchanged_is_union (held_by_section held plots) section block
-
 -- where each part is empty, so is the set
 pub held_nowhere : {P : Type 0} (held : P → ℕ → ℕ → Bool) (plot : P) (n : ℕ) → held plot ≡ nothing_held
     → held_by_section held (replicate n plot) ≡ no_places
@@ -94,3 +82,20 @@ held_nowhere {P = P} held plot n none =
     no_part zero i column row = refl
     no_part (suc n) zero column row = ap (λ h. h column row) none
     no_part (suc n) (suc i) column row = no_part n i column row
+
+-- a section's part, changed where it is kept
+pub added_where_kept : {P : Type 0} (held : P → ℕ → ℕ → Bool) (plots : List P) (section : ℕ) (block : Rectangle) (plot plot' : P) → IsSection section
+    → length plots ≡ SECTION_COUNT → held plot' ≡ with_block (held (get_or plots (section - 1) plot)) block
+    → held_by_section held (set plots (section - 1) plot') ≡ union (held_by_section held plots) (block_places section block)
+added_where_kept {P = P} held plots section block plot plot' range all added =
+    held_after held plots section plot' range all
+    ∙ ap (λ part. exchanged (held_by_section held plots) section part) (added ∙ ap (λ part. with_block part block) (sym kept))
+    ∙ exchanged_is_union (held_by_section held plots) section block
+  where
+    found : (plots : List P) (i : ℕ) → i < length plots → slice_get plots i ≡ Some (get_or plots i plot)
+    found [] i inside = absurd (omega arith)
+    found (p ∷ plots) zero inside = refl
+    found (p ∷ plots) (suc i) inside = found plots i (omega arith)
+
+    kept : held_by_section held plots section ≡ held (get_or plots (section - 1) plot)
+    kept = fun_ext (λ column. fun_ext (λ row. rw (number_is section range, found plots (section - 1) (omega (arith, range.0))) refl))

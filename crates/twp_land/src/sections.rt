@@ -54,7 +54,6 @@ impl<P: Plot> Land for Sections<P> {
     }
 
     fn add(&mut self, section: Section, block: Block) {
-        let plot = &mut self.plots[usize::from(section.number() - 1)];
-        plot.add(block);
+        self.plots[usize::from(section.number() - 1)].add(block);
     }
 }

@@ -20,7 +20,7 @@ use Rattle.twp_land.specs.Lands.{block_places}
 use Rattle.twp_text.specs.declared.item.Step.{Step}
 use Rattle.twp_text.specs.declared.item.Item.TheVariants.{Chain}
 use Rattle.twp_text.specs.ItemPlaces.{cut_of, cuts_of, item_places}
-use Rattle.twp_text.specs.Taking.{item_of, CanCut}
+use Rattle.twp_text.specs.Taking.{item_of, CanCut, IsCutTo}
 
 -- a side of so many digits is more than one place where a digit is left
 more_left : (k : ℕ) → 1 < 2 ^ k → 0 < k
@@ -103,11 +103,6 @@ within_drop : (g : ℕ) (n : ℕ) (steps : List Step) → AreWithin g (cuts_of s
 within_drop g zero steps within = within
 within_drop g (suc n) [] within = within
 within_drop g (suc n) (step ∷ steps) within = within_drop g n steps (within_fewer g (cut_of step) (cuts_of steps) within)
-
--- what steps leave, from the last to the one at an index
-pub record IsCutTo (g : ℕ) (steps : List Step) (index : ℕ) (block : Rectangle) : Type 0 where
-  pub within : AreWithin g (cuts_of (drop index steps))
-  pub block_is : block ≡ reached g (cuts_of (drop index steps))
 
 pub cut_none : (g : ℕ) (steps : List Step) (n : ℕ) → n ≡ length steps → (block : Rectangle) → block ≡ whole_block g → IsCutTo g steps n block
 cut_none g steps n all block is =

@@ -11,6 +11,9 @@ use crate::token::{Token, Tokens};
 use std::alloc::Global;
 use std::marker::Model;
 
+/// There is room from the start for an item for each so many bytes: fine aliquot parts take some twenty.
+const BYTES_TO_ITEM: usize = 16;
+
 /// A description of land, as the items that it names, from left to right.
 #[derive(Debug, Drop)]
 pub struct Description {
@@ -58,7 +61,7 @@ impl Description {
             (λ fault. IfSome (refusal_of fault) (IsFirstTextFault text.now)) }
         ensures helps { IfErr result (Helps text.now) }
     {
-        let mut items = Items::new(alloc);
+        let mut items = Items::with_room(alloc, text.len() / BYTES_TO_ITEM)?;
         let mut state = State::Start;
         let mut at = 0;
         while let Some(token) = Token::first(text, at) {

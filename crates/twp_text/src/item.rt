@@ -1,4 +1,4 @@
-ghost use Rattle.std.specs.Prelude.{◌≡◌, ◌≤◌, [], ◌∷◌, ◌++◌, length, slice_get, OnOk};
+ghost use Rattle.std.specs.Prelude.{◌≡◌, ℕ, ◌≤◌, ◌<◌, ◌≤◌, [], ◌∷◌, ◌++◌, length, slice_get, OnOk};
 
 use arrayvec::ArrayVec;
 use std::alloc::{AllocError, Global};
@@ -66,6 +66,17 @@ impl Steps {
         ensures { result ≡ length self.now }
     {
         self.first.len() + self.more.len()
+    }
+
+    /// The first steps, which stand beside each other: all of them, or eight.
+    #[inline]
+    #[tactic(auto, using(crate::proofs::StepFacts::in_first))]
+    pub(crate) fn first(&self) -> &[Step]
+        ensures within { length result.now ≤ length self.now }
+        ensures front { (index : ℕ) → index < length result.now
+            → slice_get self.now index ≡ slice_get result.now index }
+    {
+        self.first.as_slice()
     }
 
     /// The step at an index, counted from the smallest. None past the last.

@@ -1,4 +1,4 @@
-ghost use Rattle.std.specs.Prelude.{◌≡◌, ◌∷◌, [], OnOk};
+ghost use Rattle.std.specs.Prelude.{◌≡◌, ◌∷◌, [], IfOk, OnOk};
 ghost use Rattle.twp_text.specs.Items.{north_or_south, east_or_west};
 
 use crate::change::Change;
@@ -28,13 +28,13 @@ impl Items {
     ghost use Rattle.std.specs.Prelude.{reverse};
     ghost use Rattle.twp_text.specs.Machine.{with_newest, before_parts, take_step, take_number, take_all, take_township, take_north_south, take_east_west, take_token};
 
-    /// No items.
-    pub fn new(alloc: Global) -> Items
-        ensures { result ≡ [] }
+    /// No items yet, with room for so many.
+    pub fn with_room(alloc: Global, room: usize) -> Result<Items, AllocError>
+        ensures { IfOk result (λ items. items ≡ []) }
     {
-        Items {
-            items: Vec::new(alloc),
-        }
+        Ok(Items {
+            items: Vec::with_capacity(alloc, room)?,
+        })
     }
 
     /// The items, the oldest first.

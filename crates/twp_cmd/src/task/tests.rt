@@ -233,3 +233,23 @@ fn usage_says_what_was_wrong(rt: HostRuntime) -> Result<(), Fail> {
     }
     Ok(())
 }
+
+#[test]
+fn a_fault_shows_its_text(rt: HostRuntime) -> Result<(), Fail> {
+    let alloc = rt.alloc();
+    let usage = TaskFault::Usage {
+        text: String::from_str(alloc, "how it is used")?,
+    };
+    let help = TaskFault::Help {
+        text: String::from_str(alloc, "what it does")?,
+    };
+    for (fault, text) in [
+        (usage, "how it is used"),
+        (help, "what it does"),
+        (TaskFault::Memory, "out of memory"),
+    ] {
+        let shown = fault.to_string(alloc)?;
+        assert!(rt; shown.as_str() == text, "{shown}");
+    }
+    Ok(())
+}
