@@ -1,9 +1,10 @@
 #!/bin/sh
-# Prints how many instructions the whole process of ./township takes, from its start to its end, on the
-# sample and on the longest input that is refused.
+# Prints how many instructions the whole process of ./township takes, from its start to its end: of joined
+# input on the sample and on the longest that is refused, and of each subcommand on the sample.
 set -eu
+# What is counted stands on standard input, or is named by words.
 count() {
-    valgrind --tool=callgrind --callgrind-out-file=/dev/null ./township < "$1" 2>&1 >/dev/null |
+    valgrind --tool=callgrind --callgrind-out-file=/dev/null ./township "$@" 2>&1 >/dev/null |
         sed -n 's/.*Collected : *//p'
 }
 work=$(mktemp -d)
@@ -19,6 +20,10 @@ cat samples/description.txt samples/b1.csv > "$work/sample"
 } > "$work/longest"
 : > "$work/empty"
 printf '%-44s %12s\n' 'input' 'instructions'
-printf '%-44s %12s\n' 'the sample (1,653 bytes, accepted)' "$(count "$work/sample")"
-printf '%-44s %12s\n' 'the longest refused (131,073 bytes)' "$(count "$work/longest")"
-printf '%-44s %12s\n' 'nothing (the start of the process)' "$(count "$work/empty")"
+printf '%-44s %12s\n' 'the sample (1,653 bytes, accepted)' "$(count < "$work/sample")"
+printf '%-44s %12s\n' 'the longest refused (131,073 bytes)' "$(count < "$work/longest")"
+printf '%-44s %12s\n' 'nothing (the start of the process)' "$(count < "$work/empty")"
+printf 'secs. 1 thru 36.' > "$work/all"
+printf '%-44s %12s\n' 'acres of all 36 sections' "$(count acres samples/b1.csv "$work/all")"
+printf '%-44s %12s\n' 'plat' "$(count plat samples/b1.csv)"
+printf '%-44s %12s\n' 'help' "$(count --help)"

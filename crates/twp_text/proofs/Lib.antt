@@ -12,6 +12,8 @@ pub mod ReaderFacts
 pub mod OneAnswer
 pub mod StepFacts
 pub mod LetterFacts
+pub mod PlaceFacts
+pub mod StateFacts
 pub mod BlockFacts
 pub mod ChainFacts
 pub mod ChainFlaws

@@ -3,6 +3,7 @@
 #![tactic(auto)]
 
 mod chain;
+mod change;
 mod description;
 mod expected;
 mod fault;
@@ -17,6 +18,7 @@ mod resolving;
 mod state;
 mod taking;
 mod token;
+mod transition;
 mod word;
 
 pub use description::Description;
