@@ -30,6 +30,7 @@ pub mod FullParts
 pub mod WrittenFacts
 pub mod PartOrder
 pub mod FinerParts
+pub mod Descent
 pub mod PartLaws
 pub mod CanonicalFacts
 pub mod Listings

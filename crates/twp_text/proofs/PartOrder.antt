@@ -42,13 +42,13 @@ pub record Inside (g : ℕ) (part : Part) : Type 0 where
   pub row : ℕ
   pub inside : IsInPart g part column row
 
-quarter_on : Side → Corner
+unfoldable pub quarter_on : Side → Corner
 quarter_on N = NE
 quarter_on S = SW
 quarter_on E = NE
 quarter_on W = NW
 
-is_quarter_on : (side : Side) → IsOnSide side (quarter_on side)
+pub is_quarter_on : (side : Side) → IsOnSide side (quarter_on side)
 unfolding quarter_on
 is_quarter_on N = tt
 is_quarter_on S = tt

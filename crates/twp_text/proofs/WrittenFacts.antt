@@ -81,7 +81,7 @@ not_deeper g held column row part (square (corner ∷ parent)) written written' 
         written'.2 side (subst (λ q. IsChosenHalf g held q side) is chosen) (subst (λ c. IsOnSide side c) corner_is half.1)
 
 -- the square of a written part that holds a place
-square_quarters : Part → List Corner
+unfoldable pub square_quarters : Part → List Corner
 square_quarters (square quarters) = quarters
 square_quarters (half_of_square side quarters) = quarters
 
