@@ -29,7 +29,7 @@ pub under_whole : (quarters : List Corner) → IsUnder [] quarters
 under_whole [] = refl
 under_whole (corner ∷ parent) = inr (under_whole parent)
 
-under_parent : (corner : Corner) (parent quarters : List Corner) → IsUnder (corner ∷ parent) quarters → IsUnder parent quarters
+pub under_parent : (corner : Corner) (parent quarters : List Corner) → IsUnder (corner ∷ parent) quarters → IsUnder parent quarters
 under_parent corner parent [] is = cc is
 under_parent corner parent (first ∷ more) (inl is) = inr (rw (there is) (under_itself parent))
   where
@@ -38,7 +38,7 @@ under_parent corner parent (first ∷ more) (inl is) = inr (rw (there is) (under
 under_parent corner parent (first ∷ more) (inr later) = inr (under_parent corner parent more later)
 
 -- what lies in a square is the square or lies in one of its quarters
-under_quarter : (parent quarters : List Corner) → IsUnder parent quarters → (quarters ≡ parent) ⊎ ((corner : Corner) × IsUnder (corner ∷ parent) quarters)
+pub under_quarter : (parent quarters : List Corner) → IsUnder parent quarters → (quarters ≡ parent) ⊎ ((corner : Corner) × IsUnder (corner ∷ parent) quarters)
 under_quarter parent [] is = inl is
 under_quarter parent (first ∷ more) (inl is) = inl is
 under_quarter parent (first ∷ more) (inr later) = elim (under_quarter parent more later) [
@@ -46,13 +46,13 @@ under_quarter parent (first ∷ more) (inr later) = elim (under_quarter parent m
   | inr found ↦ inr (found.0, inr found.1)
 ]
 
-under_deeper : (parent quarters : List Corner) → IsUnder parent quarters → length parent ≤ length quarters
+pub under_deeper : (parent quarters : List Corner) → IsUnder parent quarters → length parent ≤ length quarters
 under_deeper parent [] is = let same = ap length is in omega arith
 under_deeper parent (first ∷ more) (inl is) = let same = ap length is in omega arith
 under_deeper parent (first ∷ more) (inr later) = let rest = under_deeper parent more later in omega arith
 
 -- a place of a square in a square is a place of it
-under_place : (g : ℕ) (parent quarters : List Corner) (column row : ℕ) → IsUnder parent quarters → length quarters ≤ g → up g (length quarters) column row ≡ quarters → up g (length parent) column row ≡ parent
+pub under_place : (g : ℕ) (parent quarters : List Corner) (column row : ℕ) → IsUnder parent quarters → length quarters ≤ g → up g (length quarters) column row ≡ quarters → up g (length parent) column row ≡ parent
 under_place g parent [] column row is fits there = subst (λ q. up g (length q) column row ≡ q) is there
 under_place g parent (first ∷ more) column row (inl is) fits there = subst (λ q. up g (length q) column row ≡ q) is there
 under_place g parent (first ∷ more) column row (inr later) fits there =
@@ -123,12 +123,12 @@ record BeginsAt (g : ℕ) (parent : List Corner) (turn : ℕ) (part : Part) : Ty
   here : turn_of_quarter (corner_at g (length parent) column row) ≡ turn
   each : (column' row' : ℕ) → IsInPart g part column' row' → (up g (length parent) column' row' ≡ parent) × (turn ≤ turn_of_quarter (corner_at g (length parent) column' row'))
 
-part_fits : (g : ℕ) (held : ℕ → ℕ → Bool) (part : Part) → IsFull g held part → length (square_quarters part) ≤ g
+pub part_fits : (g : ℕ) (held : ℕ → ℕ → Bool) (part : Part) → IsFull g held part → length (square_quarters part) ≤ g
 unfolding square_quarters
 part_fits g held (square quarters) full = square_fits g quarters full.within
 part_fits g held (half_of_square side quarters) full = let fits = half_fits g side quarters full.within in omega arith
 
-part_place : (g : ℕ) (held : ℕ → ℕ → Bool) (part : Part) (column row : ℕ) → IsFull g held part → IsInPart g part column row → up g (length (square_quarters part)) column row ≡ square_quarters part
+pub part_place : (g : ℕ) (held : ℕ → ℕ → Bool) (part : Part) (column row : ℕ) → IsFull g held part → IsInPart g part column row → up g (length (square_quarters part)) column row ≡ square_quarters part
 unfolding square_quarters
 part_place g held (square quarters) column row full inside = in_square g quarters column row (square_fits g quarters full.within) inside.asked
 part_place g held (half_of_square side quarters) column row full inside = (in_half g side quarters column row (half_fits g side quarters full.within) inside.asked).0
@@ -185,7 +185,7 @@ begins_at g held parent corner part fits full (inr half) =
     subst (λ c. BeginsAt g parent (turn_of_quarter c) part) half.2 (subst (λ p. BeginsAt g parent (turn_of_quarter (quarter_on half.0)) p) (sym half.1) begins)
 
 -- parts that begin in an earlier quarter stand ahead
-quarters_ahead : (g : ℕ) (held : ℕ → ℕ → Bool) (parent : List Corner) (corner other : Corner) (part next : Part) → length parent < g → turn_of_quarter corner < turn_of_quarter other
+pub quarters_ahead : (g : ℕ) (held : ℕ → ℕ → Bool) (parent : List Corner) (corner other : Corner) (part next : Part) → length parent < g → turn_of_quarter corner < turn_of_quarter other
     → IsFull g held part → IsFull g held next → BeginsIn parent corner part → BeginsIn parent other next → StandsAhead g part next
 quarters_ahead g held parent corner other part next fits less full full' begins begins' =
     let first = begins_at g held parent corner part fits full begins in

@@ -31,6 +31,7 @@ pub mod WrittenFacts
 pub mod PartOrder
 pub mod FinerParts
 pub mod Descent
+pub mod DescentLists
 pub mod PartLaws
 pub mod CanonicalFacts
 pub mod Listings

@@ -11,7 +11,7 @@ use Rattle.twp_text.specs.ItemPlaces.{in_chain}
 use Rattle.twp_text.specs.Listing.{AreListed}
 use Rattle.twp_text.specs.WrittenParts.{Part, steps_of_part, IsInPart, IsFull, preference, IsChosenHalf, IsOnSide, IsWritten, address, StandsAhead, AreWrittenParts}
 use Rattle.twp_text.specs.WrittenParts.Part.{square, half_of_square}
-use Rattle.twp_text.proofs.Listings.{Among, AreCompared, one_listing, has_listing}
+use Rattle.twp_text.proofs.Listings.{Among, AreCompared, one_listing, has_listing, among_left, among_right}
 use Rattle.twp_text.proofs.SquareFacts.{square_fits, half_fits}
 use Rattle.twp_text.proofs.SquarePlaces.{first_of, up, corner_at, up_next, square_in, PlaceOf, place_of, one_place, one_address}
 use Rattle.twp_text.proofs.HalfPlaces.{half_in}
@@ -162,15 +162,6 @@ is_written g held (square (corner ∷ parent)) = elim (is_full g held (square (c
 ]
 
 -- all parts that are no finer than places
-among_left : {T : Type 0} (thing : T) (list more : List T) → Among thing list → Among thing (list ++ more)
-among_left thing [] more there = absurd there
-among_left thing (first ∷ list) more (inl here) = inl here
-among_left thing (first ∷ list) more (inr later) = inr (among_left thing list more later)
-
-among_right : {T : Type 0} (thing : T) (list more : List T) → Among thing more → Among thing (list ++ more)
-among_right thing [] more there = there
-among_right thing (first ∷ list) more there = inr (among_right thing list more there)
-
 among_map : {T U : Type 0} (f : T → U) (thing : T) (list : List T) → Among thing list → Among (f thing) (map f list)
 among_map f thing [] there = absurd there
 among_map f thing (first ∷ list) (inl here) = inl (ap f here)
