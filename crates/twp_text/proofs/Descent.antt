@@ -1,20 +1,16 @@
 -- The written parts of a square, quarter by quarter.
-use Rattle.std.proofs.Common.{◌≡◌, ℕ, zero, suc, ◌+◌, ◌-◌, ◌*◌, ◌/◌, ◌%◌, ◌<◌, ◌≤◌, ◌⊎◌, ◌↔◌, Bool, true, List, [], ◌∷◌, ◌++◌, length, refl, sym, ap, subst, ◌∙◌, inl, inr, arith}
-use Rattle.std.proofs.lemmas.Bool.{cases_lt}
+use Rattle.std.proofs.Common.{◌≡◌, ℕ, zero, suc, ◌+◌, ◌-◌, ◌*◌, ◌/◌, ◌%◌, ◌<◌, ◌≤◌, ◌⊎◌, Bool, List, [], ◌∷◌, length, refl, sym, ap, subst, ◌∙◌, inl, inr, arith}
 use Rattle.twp_grid.specs.declared.block.Side.{Side}
 use Rattle.twp_grid.specs.declared.block.Side.TheVariants.{N, S, E, W}
 use Rattle.twp_grid.specs.declared.block.Corner.{Corner}
 use Rattle.twp_grid.specs.declared.block.Corner.TheVariants.{NE, NW, SW, SE}
-use Rattle.twp_text.specs.Listing.{AreListed}
-use Rattle.twp_text.specs.WrittenParts.{Part, IsInPart, IsFull, IsChosenHalf, IsOnSide, IsWritten, quarter_named, turn_of_quarter, address, StandsAhead, AreWrittenParts}
+use Rattle.twp_text.specs.WrittenParts.{Part, IsInPart, IsFull, IsOnSide, quarter_named, turn_of_quarter, address, StandsAhead}
 use Rattle.twp_text.specs.WrittenParts.Part.{square, half_of_square}
-use Rattle.twp_text.proofs.Listings.{Among, InOrder, contains_among, among_contains, order_pairs, pairs_order}
 use Rattle.twp_text.proofs.SquareFacts.{square_within, square_fits, half_fits}
-use Rattle.twp_text.proofs.SquarePlaces.{path, up, corner_at, up_next, in_square, square_in, up_all, turn_small, PlaceOf, place_of}
+use Rattle.twp_text.proofs.SquarePlaces.{path, up, corner_at, up_next, in_square, square_in, up_all, turn_small, place_of}
 use Rattle.twp_text.proofs.HalfPlaces.{in_half, half_in}
-use Rattle.twp_text.proofs.FullParts.{one_chosen, full_below}
 use Rattle.twp_text.proofs.WrittenFacts.{square_quarters, parent_of}
-use Rattle.twp_text.proofs.PartOrder.{Inside, some_place, full_part, quarter_on, is_quarter_on}
+use Rattle.twp_text.proofs.PartOrder.{some_place, quarter_on, is_quarter_on}
 
 -- these quarters reach the square or a square in it
 abbrev pub IsUnder : List Corner → List Corner → Type 0
@@ -63,8 +59,8 @@ full_under : (g : ℕ) (held : ℕ → ℕ → Bool) (parent quarters : List Cor
 full_under g held parent quarters under fits full = record {
   within = square_within g quarters fits;
   each = λ column row inside.
-    let there = under_place g parent quarters column row under fits (in_square g quarters column row fits inside.asked) in
-    full.each column row (record { place = inside.place; asked = square_in g parent column row (square_fits g parent full.within) there });
+      let there = under_place g parent quarters column row under fits (in_square g quarters column row fits inside.asked) in
+      full.each column row (record { place = inside.place; asked = square_in g parent column row (square_fits g parent full.within) there });
 }
 
 -- addresses by the quarters that reach a place
@@ -174,8 +170,8 @@ half_begins g held parent side full =
       inside = record { place = first.place; asked = half_in g side parent first.column first.row fits above.1 on };
       here = ap turn_of_quarter above.0;
       each = λ column row inside.
-        let there = in_half g side parent column row fits inside.asked in
-        (there.0, later_quarters side (corner_at g (length parent) column row) there.1);
+          let there = in_half g side parent column row fits inside.asked in
+          (there.0, later_quarters side (corner_at g (length parent) column row) there.1);
     }
 
 begins_at : (g : ℕ) (held : ℕ → ℕ → Bool) (parent : List Corner) (corner : Corner) (part : Part) → length parent < g → IsFull g held part → BeginsIn parent corner part → BeginsAt g parent (turn_of_quarter corner) part
@@ -197,7 +193,7 @@ quarters_ahead g held parent corner other part next fits less full full' begins 
       row = first.row;
       inside = first.inside;
       lower = λ column row inside.
-        let there = second.each column row inside in
-        let more = there.1 in
-        lower_quarter g parent first.column first.row column row fits itself.0 there.0 (omega arith);
+          let there = second.each column row inside in
+          let more = there.1 in
+          lower_quarter g parent first.column first.row column row fits itself.0 there.0 (omega arith);
     }

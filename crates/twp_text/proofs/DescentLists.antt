@@ -1,16 +1,15 @@
 -- The written parts of a square that isn't full are those that begin in its quarters, in their order.
-use Rattle.std.proofs.Common.{◌≡◌, ℕ, zero, suc, ◌+◌, ◌<◌, ◌≤◌, ◌⊎◌, ◌↔◌, Bool, true, List, [], ◌∷◌, ◌++◌, length, refl, sym, ap, subst, ◌∙◌, inl, inr, arith}
+use Rattle.std.proofs.Common.{◌≡◌, ℕ, ◌<◌, ◌≤◌, ◌⊎◌, Bool, true, List, [], ◌∷◌, ◌++◌, length, refl, sym, ap, subst, ◌∙◌, inl, inr, arith}
 use Rattle.twp_grid.specs.declared.block.Side.{Side}
 use Rattle.twp_grid.specs.declared.block.Corner.{Corner}
 use Rattle.twp_grid.specs.declared.block.Corner.TheVariants.{NE, NW, SW, SE}
-use Rattle.twp_grid.specs.Places.{IsPlace}
 use Rattle.twp_text.specs.Listing.{AreListed}
 use Rattle.twp_text.specs.WrittenParts.{Part, IsInPart, IsFull, IsChosenHalf, IsOnSide, IsWritten, turn_of_quarter, StandsAhead, AreWrittenParts}
 use Rattle.twp_text.specs.WrittenParts.Part.{square, half_of_square}
 use Rattle.twp_text.proofs.Listings.{listed_both, listed_as, listed_none, listed_one}
 use Rattle.twp_text.proofs.SquareFacts.{square_fits, half_fits}
-use Rattle.twp_text.proofs.SquarePlaces.{up, corner_at, in_square, square_in}
-use Rattle.twp_text.proofs.HalfPlaces.{in_half, half_in}
+use Rattle.twp_text.proofs.SquarePlaces.{up, corner_at, square_in}
+use Rattle.twp_text.proofs.HalfPlaces.{half_in}
 use Rattle.twp_text.proofs.FullParts.{one_chosen}
 use Rattle.twp_text.proofs.WrittenFacts.{square_quarters, parent_of, one_part, written_held}
 use Rattle.twp_text.proofs.PartOrder.{Inside, some_place, full_part, quarter_on, is_quarter_on}
@@ -71,7 +70,7 @@ none_on_side g held parent side corner part chosen on is =
     let above = parent_of g corner parent there.column there.row fits place.1 in
     let there_on : IsOnSide side (corner_at g (length parent) there.column there.row) = subst (λ c. IsOnSide side c) (sym above.0) on in
     let same = one_part g held there.column there.row part (half_of_square side parent) is.0 chosen there.inside
-        (record { place = there.inside.place; asked = half_in g side parent there.column there.row fits above.1 there_on }) in
+    (record { place = there.inside.place; asked = half_in g side parent there.column there.row fits above.1 there_on }) in
     let deeper = under_deeper (corner ∷ parent) (square_quarters part) is.1 in
     let level : length (square_quarters part) ≡ length parent = ap (λ p. length (square_quarters p)) same in
     absurd (omega arith)

@@ -1,5 +1,5 @@
 -- Lists of all that has a property: there is one.
-use Rattle.std.proofs.Common.{◌≡◌, ℕ, zero, suc, ◌+◌, ◌<◌, ◌⊎◌, ◌↔◌, List, [], ◌∷◌, ◌++◌, length, refl, sym, ap, ◌∙◌, inl, inr, arith}
+use Rattle.std.proofs.Common.{◌≡◌, ℕ, zero, suc, ◌<◌, ◌⊎◌, List, [], ◌∷◌, ◌++◌, length, refl, sym, ap, ◌∙◌, inl, inr, arith}
 use Rattle.std.specs.List.{Contains, AllPairs}
 use Rattle.std.proofs.Math.ListN.{get_or}
 use Rattle.twp_text.specs.Listing.{AreListed}
@@ -159,12 +159,12 @@ insert has before through compare thing it (first ∷ list) sound order = elim (
   | inl less ↦ insert_here before through thing first list less order
   | inr others ↦ elim others [
     | inl same ↦ record {
-        all = first ∷ list;
-        order = order;
-        new = λ x there. inr there;
-        here = inl same;
-        kept = λ x there. there;
-      }
+      all = first ∷ list;
+      order = order;
+      new = λ x there. inr there;
+      here = inl same;
+      kept = λ x there. there;
+    }
     | inr more ↦ insert_later before thing first list more order (insert has before through compare thing it list (λ x there. sound x (inr there)) order.1)
   ]
 ]
@@ -202,11 +202,13 @@ collect has before through compare decide (first ∷ candidates) =
 pub has_listing : {T : Type 0} (has : T → Type 0) (before : T → T → Type 0) → ((x y z : T) → before x y → before y z → before x z) → AreCompared has before
     → ((x : T) → has x ⊎ ¬ has x) → (candidates : List T) → ((x : T) → has x → Among x candidates) → (list : List T) × AreListed has before list
 has_listing has before through compare decide candidates complete =
-    let found = collect has before through compare decide candidates in
-    (found.list, record {
-      listed = λ x. ((λ it. among_contains x found.list (found.whole x (complete x it) it)), λ there. found.sound x (contains_among x found.list there));
-      ordered = order_pairs before found.list found.order;
-    })
+    let found = collect has before through compare decide candidates in (
+      found.list,
+      record {
+        listed = λ x. ((λ it. among_contains x found.list (found.whole x (complete x it) it)), λ there. found.sound x (contains_among x found.list there));
+        ordered = order_pairs before found.list found.order;
+      },
+    )
 
 -- what follows from an order for things of a list
 pub other_pairs : {T : Type 0} (before after : T → T → Type 0) (list : List T) → AllPairs before list → ((x y : T) → Among x list → Among y list → before x y → after x y) → AllPairs after list

@@ -2,7 +2,8 @@
 //! to do.
 ghost use Rattle.twp_text.specs.Laws.{HasTokenList, OneTokenList, OneItemList, ShortCompletion, SeveralAreEntries, OneReading, ReadHasNoFault, OneTextFault};
 ghost use Rattle.twp_text.specs.Laws.{OnPlatHasNoFault, OnePlaceAnswer};
-ghost use Rattle.twp_text.specs.SpellingLaws.{OneListOfParts, WrittenPartsAreApart, WrittenPartsHoldAll, FinerPlacesSameParts};
+ghost use Rattle.twp_text.specs.SpellingLaws.{OneListOfParts, WrittenPartsAreApart};
+ghost use Rattle.twp_text.specs.SpellingLaws.{WrittenPartsHoldAll, FinerPlacesSameParts};
 ghost use Rattle.twp_text.specs.SpellingLaws.{OneCanonicalText, EmptyLandHasEmptyText};
 
 /// Every list of bytes is cut into tokens.
