@@ -6,17 +6,14 @@ use Rattle.twp_grid.specs.declared.block.Corner.{Corner}
 use Rattle.twp_grid.specs.declared.block.Corner.TheVariants.{NE, NW, SW, SE}
 use Rattle.twp_text.specs.WrittenParts.{Part, IsInPart, IsFull, IsOnSide, quarter_named, turn_of_quarter, address, StandsAhead}
 use Rattle.twp_text.specs.WrittenParts.Part.{square, half_of_square}
+use Rattle.twp_text.specs.Spelling.{square_quarters, IsUnder, quarter_on, BeginsIn}
 use Rattle.twp_text.proofs.SquareFacts.{square_within, square_fits, half_fits}
 use Rattle.twp_text.proofs.SquarePlaces.{path, up, corner_at, up_next, in_square, square_in, up_all, turn_small, place_of}
 use Rattle.twp_text.proofs.HalfPlaces.{in_half, half_in}
-use Rattle.twp_text.proofs.WrittenFacts.{square_quarters, parent_of}
-use Rattle.twp_text.proofs.PartOrder.{some_place, quarter_on, is_quarter_on}
+use Rattle.twp_text.proofs.WrittenFacts.{parent_of}
+use Rattle.twp_text.proofs.PartOrder.{some_place, is_quarter_on}
 
--- these quarters reach the square or a square in it
-abbrev pub IsUnder : List Corner → List Corner → Type 0
-IsUnder quarters [] = [] ≡ quarters
-IsUnder quarters (corner ∷ parent) = ((corner ∷ parent) ≡ quarters) ⊎ IsUnder quarters parent
-
+-- squares in a square
 pub under_itself : (quarters : List Corner) → IsUnder quarters quarters
 under_itself [] = refl
 under_itself (corner ∷ parent) = inl refl
@@ -106,12 +103,7 @@ lower_quarter g parent column row column' row' fits there there' less =
     let right : address g column' row' ≡ value (up g g column' row') = address_value g column' row' ∙ ap value (sym (up_all g column' row')) in
     omega arith
 
--- A part of a square begins in a quarter: it lies in the quarter, or is the half of which this quarter is
--- the first.
-abbrev pub BeginsIn : List Corner → Corner → Part → Type 0
-BeginsIn parent corner part = IsUnder (corner ∷ parent) (square_quarters part) ⊎ ((side : Side) × (part ≡ half_of_square side parent) × (quarter_on side ≡ corner))
-
--- what that says of the part's places
+-- where a part that begins in a quarter has places
 record BeginsAt (g : ℕ) (parent : List Corner) (turn : ℕ) (part : Part) : Type 0 where
   column : ℕ
   row : ℕ

@@ -6,14 +6,15 @@ use Rattle.twp_grid.specs.declared.block.Corner.TheVariants.{NE, NW, SW, SE}
 use Rattle.twp_text.specs.Listing.{AreListed}
 use Rattle.twp_text.specs.WrittenParts.{Part, IsInPart, IsFull, IsChosenHalf, IsOnSide, IsWritten, turn_of_quarter, StandsAhead, AreWrittenParts}
 use Rattle.twp_text.specs.WrittenParts.Part.{square, half_of_square}
+use Rattle.twp_text.specs.Spelling.{square_quarters, IsUnder, quarter_on, BeginsIn, AreOfSquare, AreOfQuarter}
 use Rattle.twp_text.proofs.Listings.{listed_both, listed_as, listed_none, listed_one}
 use Rattle.twp_text.proofs.SquareFacts.{square_fits, half_fits}
 use Rattle.twp_text.proofs.SquarePlaces.{up, corner_at, square_in}
 use Rattle.twp_text.proofs.HalfPlaces.{half_in}
 use Rattle.twp_text.proofs.FullParts.{one_chosen}
-use Rattle.twp_text.proofs.WrittenFacts.{square_quarters, parent_of, one_part, written_held}
-use Rattle.twp_text.proofs.PartOrder.{Inside, some_place, full_part, quarter_on, is_quarter_on}
-use Rattle.twp_text.proofs.Descent.{IsUnder, under_itself, under_whole, under_parent, under_quarter, under_deeper, under_place, part_fits, part_place, BeginsIn, quarters_ahead}
+use Rattle.twp_text.proofs.WrittenFacts.{parent_of, one_part, written_held}
+use Rattle.twp_text.proofs.PartOrder.{Inside, some_place, full_part, is_quarter_on}
+use Rattle.twp_text.proofs.Descent.{under_itself, under_whole, under_parent, under_quarter, under_deeper, under_place, part_fits, part_place, quarters_ahead}
 
 -- the written parts of a square; those that begin in a quarter of it
 abbrev pub InSquare : ℕ → (ℕ → ℕ → Bool) → List Corner → Part → Type 0
@@ -21,12 +22,6 @@ InSquare g held quarters part = IsWritten g held part × IsUnder quarters (squar
 
 abbrev pub InQuarter : ℕ → (ℕ → ℕ → Bool) → List Corner → Corner → Part → Type 0
 InQuarter g held parent corner part = IsWritten g held part × BeginsIn parent corner part
-
-abbrev pub AreOfSquare : ℕ → (ℕ → ℕ → Bool) → List Corner → List Part → Type 0
-AreOfSquare g held quarters parts = AreListed (InSquare g held quarters) (StandsAhead g) parts
-
-abbrev pub AreOfQuarter : ℕ → (ℕ → ℕ → Bool) → List Corner → Corner → List Part → Type 0
-AreOfQuarter g held parent corner parts = AreListed (InQuarter g held parent corner) (StandsAhead g) parts
 
 -- the section's written parts are those of the greatest square
 pub of_section : (g : ℕ) (held : ℕ → ℕ → Bool) (parts : List Part) → AreOfSquare g held [] parts → AreWrittenParts g held parts

@@ -32,6 +32,7 @@ pub mod PartOrder
 pub mod FinerParts
 pub mod Descent
 pub mod DescentLists
+pub mod SquareBlocks
 pub mod PartLaws
 pub mod CanonicalFacts
 pub mod Listings

@@ -9,6 +9,7 @@ use Rattle.twp_grid.specs.declared.block.Corner.TheVariants.{NE, NW, SW, SE}
 use Rattle.twp_text.specs.ItemPlaces.{in_chain}
 use Rattle.twp_text.specs.WrittenParts.{Part, steps_of_part, IsInPart, IsFull, preference, IsChosenHalf, IsOnSide, IsWritten, address, StandsAhead, AreWrittenParts}
 use Rattle.twp_text.specs.WrittenParts.Part.{square, half_of_square}
+use Rattle.twp_text.specs.Spelling.{quarter_on}
 use Rattle.twp_text.proofs.Listings.{Among, AreCompared, one_listing, has_listing, among_left, among_right}
 use Rattle.twp_text.proofs.SquareFacts.{square_fits, half_fits}
 use Rattle.twp_text.proofs.SquarePlaces.{first_of, up, corner_at, up_next, square_in, place_of, one_place, one_address}
@@ -39,12 +40,6 @@ pub record Inside (g : ℕ) (part : Part) : Type 0 where
   pub column : ℕ
   pub row : ℕ
   pub inside : IsInPart g part column row
-
-unfoldable pub quarter_on : Side → Corner
-quarter_on N = NE
-quarter_on S = SW
-quarter_on E = NE
-quarter_on W = NW
 
 pub is_quarter_on : (side : Side) → IsOnSide side (quarter_on side)
 unfolding quarter_on

@@ -6,6 +6,7 @@ use Rattle.twp_grid.specs.declared.block.Corner.{Corner}
 use Rattle.twp_grid.specs.Places.{IsPlace}
 use Rattle.twp_text.specs.WrittenParts.{Part, IsInPart, IsFull, IsChosenHalf, IsOnSide, IsWritten}
 use Rattle.twp_text.specs.WrittenParts.Part.{square, half_of_square}
+use Rattle.twp_text.specs.Spelling.{square_quarters}
 use Rattle.twp_text.proofs.SquareFacts.{square_within, square_fits, half_fits}
 use Rattle.twp_text.proofs.SquarePlaces.{first_of, up, corner_at, up_none, up_next, in_square, square_in, up_all, one_place}
 use Rattle.twp_text.proofs.HalfPlaces.{in_half, half_in}
@@ -81,10 +82,6 @@ not_deeper g held column row part (square (corner ∷ parent)) written written' 
         written'.2 side (subst (λ q. IsChosenHalf g held q side) is chosen) (subst (λ c. IsOnSide side c) corner_is half.1)
 
 -- the square of a written part that holds a place
-unfoldable pub square_quarters : Part → List Corner
-square_quarters (square quarters) = quarters
-square_quarters (half_of_square side quarters) = quarters
-
 its_square : (g : ℕ) (held : ℕ → ℕ → Bool) (column row : ℕ) (part : Part) → IsWritten g held part → IsInPart g part column row → up g (level part) column row ≡ square_quarters part
 unfolding level square_quarters
 its_square g held column row (half_of_square side quarters) chosen inside = (in_half g side quarters column row (half_fits g side quarters chosen.full.within) inside.asked).0
