@@ -33,6 +33,7 @@ pub mod FinerParts
 pub mod Descent
 pub mod DescentLists
 pub mod SquareBlocks
+pub mod WritingFacts
 pub mod PartLaws
 pub mod CanonicalFacts
 pub mod Listings

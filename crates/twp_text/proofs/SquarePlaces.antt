@@ -209,6 +209,9 @@ turn_back NW = refl
 turn_back SW = refl
 turn_back SE = refl
 
+pub same_quarter : (corner other : Corner) → turn_of_quarter corner ≡ turn_of_quarter other → corner ≡ other
+same_quarter corner other same = sym (turn_back corner) ∙ ap quarter_of_turn same ∙ turn_back other
+
 pub turn_small : (corner : Corner) → turn_of_quarter corner < 4
 turn_small NE = omega arith
 turn_small NW = omega arith

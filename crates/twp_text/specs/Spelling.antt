@@ -10,7 +10,7 @@ use Rattle.twp_grid.specs.declared.block.Corner.TheVariants.{NE, NW, SW}
 use Rattle.twp_text.specs.declared.item.Step.TheVariants.{Quarter}
 use Rattle.twp_text.specs.ItemPlaces.{cuts_of}
 use Rattle.twp_text.specs.Listing.{AreListed}
-use Rattle.twp_text.specs.WrittenParts.{Part, steps_of_part, IsFull, IsChosenHalf, IsWritten, StandsAhead}
+use Rattle.twp_text.specs.WrittenParts.{Part, steps_of_part, IsFull, IsChosenHalf, IsOnSide, IsWritten, StandsAhead}
 use Rattle.twp_text.specs.WrittenParts.Part.{square, half_of_square}
 use Rattle.twp_text.specs.CanonicalText.{step_text, part_text}
 
@@ -58,6 +58,11 @@ abbrev pub IsChoice : ℕ → (ℕ → ℕ → Bool) → List Corner → Option 
 IsChoice g held quarters (Some side) = IsChosenHalf g held quarters side
 IsChoice g held quarters None = (side : Side) → ¬ IsFull g held (half_of_square side quarters)
 
+-- the square's quarter doesn't lie in its chosen half
+abbrev pub IsOffChosen : ℕ → (ℕ → ℕ → Bool) → List Corner → Corner → Type 0
+IsOffChosen g held quarters corner =
+    (side : Side) → IsChosenHalf g held quarters side → ¬ IsOnSide side corner
+
 -- quarters as they are written behind a smaller part
 abbrev pub quarters_text : List Corner → List ℕ
 quarters_text quarters = flat_map step_text (map (λ corner. Quarter corner) quarters)
@@ -65,3 +70,9 @@ quarters_text quarters = flat_map step_text (map (λ corner. Quarter corner) qua
 -- parts as they are written behind others
 abbrev pub parts_text : List Part → List ℕ
 parts_text parts = flat_map (λ part. codes ", " ++ part_text part) parts
+
+-- the parts of which this holds were appended to a text
+pub record AreWritten (these : List Part → Type 0) (old new : List ℕ) : Type 0 where
+  pub parts : List Part
+  pub are : these parts
+  pub text_is : new ≡ old ++ parts_text parts
