@@ -1,5 +1,5 @@
 -- Parts that were appended to a text.
-use Rattle.std.proofs.Common.{◌≡◌, ℕ, ◌<◌, ◌≤◌, ◌⊎◌, Bool, true, List, [], ◌∷◌, ◌++◌, length, Option, Some, None, Result, Ok, Err, OnOk, refl, sym, ap, subst, ◌∙◌, inl, inr, arith, codes}
+use Rattle.std.proofs.Common.{◌≡◌, ℕ, ◌<◌, ◌≤◌, ◌⊎◌, Bool, true, false, List, [], ◌∷◌, ◌++◌, length, Option, Some, None, Result, Ok, Err, OnOk, ◌&&◌, is_none, refl, sym, ap, subst, ◌∙◌, inl, inr, arith, codes}
 use Rattle.std.specs.List.{flat_map}
 use Rattle.std.proofs.lemmas.Bool.{cases_lt}
 use Rattle.std.proofs.lemmas.Grind.{flat_map-append}
@@ -8,13 +8,16 @@ use Rattle.twp_grid.specs.declared.block.Side.{Side}
 use Rattle.twp_grid.specs.declared.block.Corner.{Corner}
 use Rattle.twp_grid.specs.declared.block.Corner.TheVariants.{NE, NW, SW, SE}
 use Rattle.twp_text.specs.declared.item.Step.TheVariants.{Half, Quarter}
-use Rattle.twp_text.specs.WrittenParts.{Part, IsInPart, IsFull, IsChosenHalf, IsOnSide, turn_of_quarter}
+use Rattle.twp_text.specs.WrittenParts.{Part, IsInPart, IsFull, IsChosenHalf, IsOnSide, turn_of_quarter, AreWrittenParts}
 use Rattle.twp_text.specs.WrittenParts.Part.{square, half_of_square}
-use Rattle.twp_text.specs.CanonicalText.{step_text, part_text}
-use Rattle.twp_text.specs.Spelling.{quarter_on, AreOfSquare, AreOfQuarter, IsChoice, IsOffChosen, quarters_text, parts_text, AreWritten}
+use Rattle.twp_text.specs.CanonicalText.{step_text, part_text, off_lots, HoldsEach}
+use Rattle.twp_text.specs.Spelling.{quarter_on, AreOfSquare, AreOfQuarter, IsChoice, IsOffChosen, quarters_text, parts_text, AreWritten, IsBlockOf}
+use Rattle.twp_grid.specs.Spans.{Rectangle, whole_block}
+use Rattle.twp_land.specs.WholeLots.{lot_of_place}
+use Rattle.twp_text.proofs.SquareFacts.{square_within}
 use Rattle.twp_text.proofs.SquarePlaces.{same_quarter}
 use Rattle.twp_text.proofs.FullParts.{one_chosen}
-use Rattle.twp_text.proofs.DescentLists.{of_written, of_empty, of_first, of_second, of_quarter, of_quarters}
+use Rattle.twp_text.proofs.DescentLists.{of_section, of_written, of_empty, of_first, of_second, of_quarter, of_quarters}
 
 -- the text of parts
 one_text : (part : Part) → parts_text (part ∷ []) ≡ codes ", " ++ part_text part
@@ -105,3 +108,21 @@ quarters_written result g held quarters old ne nw sw se fits short first second 
 
     one_more : (front : List ℕ) (parts : List Part) → front ≡ old ++ parts_text parts → (more : List Part) → front ++ parts_text more ≡ old ++ parts_text (parts ++ more)
     one_more front parts is more = ap (λ t. t ++ parts_text more) is ∙ both old parts more
+
+-- the section
+pub section_written : {T E : Type 0} (result : Result T E) (g section : ℕ) (held : ℕ → ℕ → Bool) (old new : List ℕ)
+    → OnOk result (AreWritten (AreOfSquare g (off_lots g section held) []) old new) → OnOk result (AreWritten (AreWrittenParts g (off_lots g section held)) old new)
+section_written result g section held old new ok =
+    on_ok result (AreWritten (AreOfSquare g (off_lots g section held) []) old new) (AreWritten (AreWrittenParts g (off_lots g section held)) old new) ok (λ is.
+    record { parts = is.parts; are = of_section g (off_lots g section held) is.parts is.are; text_is = is.text_is })
+
+-- where the section is full off its lots, it is held whole
+pub whole_held : (g section : ℕ) (held : ℕ → ℕ → Bool) → IsFull g (off_lots g section held) (square []) → HoldsEach g held
+whole_held g section held full column row place = first (held column row) (is_none (lot_of_place g section column row)) (full.each column row (record { place = place; asked = refl }))
+  where
+    first : (a b : Bool) → (a && b) ≡ true → a ≡ true
+    first true b is = refl
+    first false b is = is
+
+pub whole_of : (g : ℕ) (block : Rectangle) → block ≡ whole_block g → IsBlockOf g (square []) block
+whole_of g block is = record { within = square_within g [] (omega arith); block_is = is }

@@ -5,9 +5,9 @@ ghost use Rattle.twp_grid.specs.Blocks.{CanQuarter};
 ghost use Rattle.twp_grid.specs.declared.block.Corner.{Corner};
 ghost use Rattle.twp_grid.specs.declared.block.Side.{Side};
 ghost use Rattle.twp_text.specs.declared.item.Step.TheVariants.{Half, Quarter};
-ghost use Rattle.twp_text.specs.WrittenParts.{Part, IsFull, IsOnSide};
+ghost use Rattle.twp_text.specs.WrittenParts.{Part, IsFull, IsOnSide, AreWrittenParts};
 ghost use Rattle.twp_text.specs.WrittenParts.Part.{square, half_of_square};
-ghost use Rattle.twp_text.specs.CanonicalText.{step_text, off_lots};
+ghost use Rattle.twp_text.specs.CanonicalText.{step_text, off_lots, HoldsEach};
 ghost use Rattle.twp_text.specs.Spelling.{IsBlockOf, IsChoice, AreOfSquare, AreOfQuarter, AreWritten};
 ghost use Rattle.twp_text.specs.Spelling.{quarter_on, quarters_text, IsOffChosen};
 
@@ -15,6 +15,22 @@ use crate::chain::holds_of_lot;
 use std::alloc::{AllocError, Global};
 use twp_grid::{Block, Corner, Section, Side};
 use twp_land::Land;
+
+/// Appends the written parts of what a land holds of a section off its lots, each behind a comma, where
+/// the section isn't held whole.
+pub(crate) fn write_parts<L: Land>(
+    alloc: Global,
+    land: &L,
+    section: Section,
+    text: &mut Vec<u8>,
+) -> Result<(), AllocError>
+    ensures { ¬ HoldsEach PLACE_DIGITS (L.places land.now section)
+        → OnOk result (AreWritten (AreWrittenParts PLACE_DIGITS
+        (off_lots PLACE_DIGITS section (L.places land.now section)))
+        text.old.items text.new.items) }
+{
+    write_square(alloc, land, section, Block::whole(), b"", text)
+}
 
 /// Appends the written parts of a square that isn't full, each behind a comma. The path is the square's
 /// quarters as they are written.
@@ -249,3 +265,6 @@ fn quarter_step(corner: Corner) -> &'static [u8]
         Corner::SE => b"SE1/4",
     }
 }
+
+#[cfg(test)]
+mod tests;
