@@ -1,5 +1,8 @@
 # What each command does, and when to use it, is said in CONTRIBUTING.md.
-.PHONY: run township try test check bench clean
+.PHONY: run township try test e2e check bench install clean
+
+# Where `make install` puts the program: in its folder bin.
+PREFIX = /usr/local
 
 run: township
 	@cat samples/description.txt samples/b1.csv | ./township
@@ -12,15 +15,23 @@ try:
 
 test:
 	rt ci
+	@$(MAKE) --no-print-directory e2e
+
+e2e: township
+	@sh scripts/e2e.sh
 
 check:
 	rt all check
 
 bench: township
-	@cd crates/twp_bench && rt run -- count 10 > /dev/null
+	@cd crates/twp_bench && rt run -- lanes count 10 > /dev/null
 	@sh bench/instructions.sh
 	@sh bench/lands.sh
 	@sh bench/descriptions.sh
+
+install: township
+	install -d $(DESTDIR)$(PREFIX)/bin
+	install -m 755 township $(DESTDIR)$(PREFIX)/bin/township
 
 clean:
 	rm -rf crates/*/out township

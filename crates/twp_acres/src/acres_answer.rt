@@ -16,7 +16,7 @@ use crate::stop::Stop;
 use crate::verdict::{RunFault, Verdict};
 use std::alloc::Global;
 use twp_grid::Source;
-use twp_land::Grid;
+use twp_land::Lanes;
 use twp_measure::write_acres;
 
 /// The answer of field notes and a description. The description is read only where the notes make a
@@ -66,7 +66,7 @@ fn hundredths_of<N: Source, D: Source>(
         (λ n d. Settles n d result) }
 {
     let plat = read_plat(alloc, notes)?;
-    let land: Grid = read_land(alloc, plat.township(), description)?;
+    let land: Lanes = read_land(alloc, plat.township(), description)?;
     Ok(area_of(&plat, &land).hundredths())
 }
 

@@ -1,38 +1,43 @@
-//! Measures lands: makes so many calls of one kind on mixed blocks. `make bench` counts the instructions
-//! of each kind.
+//! Measures lands: makes so many calls of one kind on mixed blocks of a land of one kind. `make bench`
+//! counts the instructions of each.
 #![tactic(auto)]
 
 mod mixed;
+mod task;
 mod work;
 
 use std::env::Env;
 use std::process::ExitCode;
 use std::{env, io};
-use twp_land::Grid;
-use work::{Work, measure};
+use task::{Kind, Task};
+use twp_land::{Grid, Lanes};
+use work::measure;
 
-/// The words after the program's name: a kind of work, and how often it is done.
-fn task(rt: &(impl Env + Alloc)) -> io::Result<Option<(Work, u32)>> {
+/// The words after the program's name, as a task.
+fn asked(rt: &(impl Env + Alloc)) -> io::Result<Option<Task>> {
     let mut words = env::args(rt)?;
     let _program = words.next();
-    let Some(kind) = words.next() else {
+    let Some(land) = words.next() else {
+        return Ok(None);
+    };
+    let Some(work) = words.next() else {
         return Ok(None);
     };
     let Some(times) = words.next() else {
         return Ok(None);
     };
-    match (Work::read(kind.as_str()), times.as_str().parse::<u32>()) {
-        (Some(work), Ok(times)) => Ok(Some((work, times))),
-        _ => Ok(None),
-    }
+    Ok(Task::read(land.as_str(), work.as_str(), times.as_str()))
 }
 
 fn main(rt: HostRuntime) -> io::Result<ExitCode> {
-    let Some((work, times)) = task(&rt)? else {
-        eprintln!(rt; "twp_bench blocks|add|meets|full|count TIMES")?;
+    let Some(Task { kind, work, times }) = asked(&rt)? else {
+        eprintln!(rt; "twp_bench grid|lanes blocks|add|meets|full|count|take TIMES")?;
         return Ok(ExitCode::from(2));
     };
-    let tally = measure::<Grid>(work, times);
+    let tally = match kind {
+        Kind::Grid => measure::<Grid>(work, times),
+        Kind::Lanes => measure::<Lanes>(work, times),
+    };
     println!(rt; "{tally}")?;
     Ok(ExitCode::SUCCESS)
 }

@@ -9,6 +9,8 @@ pub enum Work {
     Meets,
     Full,
     Count,
+    /// Whether the land meets a block, and then the block is added, as a description's blocks are.
+    Take,
 }
 
 impl Work {
@@ -20,6 +22,7 @@ impl Work {
             "meets" => Some(Work::Meets),
             "full" => Some(Work::Full),
             "count" => Some(Work::Count),
+            "take" => Some(Work::Take),
             _ => None,
         }
     }
@@ -46,6 +49,11 @@ pub fn measure<L: Land>(work: Work, times: u32) -> u32 {
             Work::Meets => u32::from(land.meets(section, block)),
             Work::Full => u32::from(land.full(section, block)),
             Work::Count => land.count(section, block),
+            Work::Take => {
+                let meets = land.meets(section, block);
+                land.add(section, block);
+                u32::from(meets)
+            }
         };
         tally = tally.wrapping_add(answer);
     }

@@ -1,0 +1,4 @@
+pub mod CommandWalk
+pub mod TaskFacts
+pub mod TownshipWords
+pub mod JoinedFacts

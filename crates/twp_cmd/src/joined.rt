@@ -5,6 +5,7 @@ ghost use Rattle.twp_acres.specs.AcresAnswers.{IsAcresAnswer};
 ghost use Rattle.twp_cmd.specs.Joined.{JOINED_MOST, joined_notes, joined_description};
 ghost use Rattle.twp_acres.specs.Runs.{IsRun, Reads};
 
+use memchr::memchr;
 use std::alloc::Global;
 use twp_acres::{RunFault, Verdict, run_acres};
 use twp_grid::{Bytes, Sink, Source};
@@ -74,7 +75,7 @@ fn line_feed_place(bytes: &[u8]) -> usize
     ensures place { result ≡ position_or_len (λ byte. byte == 10) bytes.now }
     ensures within { result ≤ length bytes.now }
 {
-    bytes.iter().take_while(|byte| **byte != LINE_FEED).count()
+    memchr(LINE_FEED, bytes).unwrap_or(bytes.len())
 }
 
 #[cfg(test)]

@@ -111,12 +111,16 @@ impl Block {
     pub fn quarter(self, corner: Corner) -> Option<Block>
         ensures { SomeIff result (CanQuarter self) (quarter_of self corner) }
     {
-        match corner {
-            Corner::NE => self.half(Side::N)?.half(Side::E),
-            Corner::NW => self.half(Side::N)?.half(Side::W),
-            Corner::SW => self.half(Side::S)?.half(Side::W),
-            Corner::SE => self.half(Side::S)?.half(Side::E),
-        }
+        let Block { columns, rows } = self;
+        let rows = match corner {
+            Corner::NE | Corner::NW => rows.upper()?,
+            Corner::SW | Corner::SE => rows.lower()?,
+        };
+        let columns = match corner {
+            Corner::NE | Corner::SE => columns.lower()?,
+            Corner::NW | Corner::SW => columns.upper()?,
+        };
+        Some(Block { columns, rows })
     }
 
     /// The easternmost column, 0 to 15.

@@ -9,13 +9,13 @@ use std::marker::Model;
 pub const PLACES_ACROSS: usize = 1 << 4;
 
 /// The places along a side of a position.
-const PLACES_TO_POSITION: u8 = PLACES_ACROSS as u8 / 4;
+const PLACES_TO_POSITION: usize = PLACES_ACROSS / 4;
 
 /// Columns or rows of places in succession, of those that halving a section's side gives.
 #[derive(Clone, Copy, Debug, PartialEq, Eq, Hash)]
 pub(crate) struct Span {
-    start: u8,
-    len: u8,
+    start: usize,
+    len: usize,
 }
 
 impl Model for Span {
@@ -42,7 +42,7 @@ impl Span {
     {
         Span {
             start: 0,
-            len: PLACES_ACROSS as u8,
+            len: PLACES_ACROSS,
         }
     }
 
@@ -55,7 +55,7 @@ impl Span {
             return None;
         }
         Some(Span {
-            start: position * PLACES_TO_POSITION,
+            start: usize::from(position) * PLACES_TO_POSITION,
             len: PLACES_TO_POSITION,
         })
     }
@@ -92,7 +92,7 @@ impl Span {
         ensures value { result ≡ self.start }
         ensures dyadic { IsDyadic PLACE_DIGITS self }
     {
-        self.start
+        self.start as u8
     }
 
     /// How many, 1 to 16.
@@ -100,6 +100,6 @@ impl Span {
         ensures value { result ≡ self.len }
         ensures dyadic { IsDyadic PLACE_DIGITS self }
     {
-        self.len
+        self.len as u8
     }
 }

@@ -1,5 +1,5 @@
 -- Sets of places as they are kept by section.
-use Rattle.std.proofs.Common.{◌≡◌, ◌≢◌, ◌==◌, ℕ, zero, suc, ◌-◌, ◌<◌, ◌&&◌, ◌||◌, Bool, true, false, List, [], ◌∷◌, length, Some, ap, refl, inl, inr, arith, replicate}
+use Rattle.std.proofs.Common.{get_or, sym, ◌∙◌, if◌then◌else◌, ◌≡◌, ◌≢◌, ◌==◌, ℕ, zero, suc, ◌-◌, ◌<◌, ◌&&◌, ◌||◌, Bool, true, false, List, [], ◌∷◌, length, Some, ap, refl, inl, inr, arith, replicate}
 use Rattle.std.proofs.Math.Path.{fun_ext}
 use Rattle.std.proofs.Math.ListN.{set}
 use Rattle.std.specs.List.{slice_get}
@@ -9,7 +9,12 @@ use Rattle.std.proofs.lemmas.Bool.Decides.{nat_tests}
 use Rattle.twp_grid.specs.Winding.{SECTION_COUNT, IsSection}
 use Rattle.twp_grid.specs.Spans.{Rectangle}
 use Rattle.twp_land.specs.Lands.{no_places, union, block_places}
-use Rattle.twp_land.specs.Storage.{is_section, held_by_section, exchanged, with_block, nothing_held}
+use Rattle.twp_land.specs.Storage.{is_section, held_by_section, with_block, nothing_held}
+
+-- the set with one section's part exchanged
+abbrev exchanged : (ℕ → ℕ → ℕ → Bool) → ℕ → (ℕ → ℕ → Bool) → ℕ → ℕ → ℕ → Bool
+exchanged places section held other column row =
+    if section == other then held column row else places other column row
 
 number_is : (section : ℕ) → IsSection section → is_section section ≡ true
 number_is section range = grind (arith, nat_tests)
@@ -27,7 +32,7 @@ slice_get-set_other (p ∷ plots) (suc i) zero plot other = refl
 slice_get-set_other (p ∷ plots) (suc i) (suc j) plot other = slice_get-set_other plots i j plot (λ e. other (ap (λ k. suc k) e))
 
 -- an exchange in the list is an exchange in the set
-pub held_after : {P : Type 0} (held : P → ℕ → ℕ → Bool) (plots : List P) (section : ℕ) (plot : P) → IsSection section
+held_after : {P : Type 0} (held : P → ℕ → ℕ → Bool) (plots : List P) (section : ℕ) (plot : P) → IsSection section
     → length plots ≡ SECTION_COUNT → held_by_section held (set plots (section - 1) plot) ≡ exchanged (held_by_section held plots) section (held plot)
 held_after held plots section plot range all =
     fun_ext (λ other. fun_ext (λ column. fun_ext (λ row. elim (cases_eq section other) [
@@ -51,7 +56,7 @@ held_after held plots section plot range all =
         keeps other column row (is_section other) (λ number e. apart (grind (arith, nat_tests)))
 
 -- to exchange a section's part for itself and a block is to add the block
-pub exchanged_is_union : (places : ℕ → ℕ → ℕ → Bool) (section : ℕ) (block : Rectangle)
+exchanged_is_union : (places : ℕ → ℕ → ℕ → Bool) (section : ℕ) (block : Rectangle)
     → exchanged places section (with_block (places section) block) ≡ union places (block_places section block)
 exchanged_is_union places section block =
     fun_ext (λ other. fun_ext (λ column. fun_ext (λ row. elim (cases_eq section other) [
@@ -77,3 +82,20 @@ held_nowhere {P = P} held plot n none =
     no_part zero i column row = refl
     no_part (suc n) zero column row = ap (λ h. h column row) none
     no_part (suc n) (suc i) column row = no_part n i column row
+
+-- a section's part, changed where it is kept
+pub added_where_kept : {P : Type 0} (held : P → ℕ → ℕ → Bool) (plots : List P) (section : ℕ) (block : Rectangle) (plot plot' : P) → IsSection section
+    → length plots ≡ SECTION_COUNT → held plot' ≡ with_block (held (get_or plots (section - 1) plot)) block
+    → held_by_section held (set plots (section - 1) plot') ≡ union (held_by_section held plots) (block_places section block)
+added_where_kept {P = P} held plots section block plot plot' range all added =
+    held_after held plots section plot' range all
+    ∙ ap (λ part. exchanged (held_by_section held plots) section part) (added ∙ ap (λ part. with_block part block) (sym kept))
+    ∙ exchanged_is_union (held_by_section held plots) section block
+  where
+    found : (plots : List P) (i : ℕ) → i < length plots → slice_get plots i ≡ Some (get_or plots i plot)
+    found [] i inside = absurd (omega arith)
+    found (p ∷ plots) zero inside = refl
+    found (p ∷ plots) (suc i) inside = found plots i (omega arith)
+
+    kept : held_by_section held plots section ≡ held (get_or plots (section - 1) plot)
+    kept = fun_ext (λ column. fun_ext (λ row. rw (number_is section range, found plots (section - 1) (omega (arith, range.0))) refl))

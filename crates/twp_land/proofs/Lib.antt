@@ -1,3 +1,7 @@
+pub mod BitFacts
+pub mod BlockFacts
+pub mod BlockLaneFacts
 pub mod LandFacts
+pub mod LaneFacts
 pub mod LotFacts
 pub mod RowFacts

@@ -1,7 +1,8 @@
--- How the sets are kept: a township's as one set for each section, by number; a section's as rows of
--- tests, from the south, each by columns from the east.
-use Rattle.std.specs.Prelude.{◌≡◌, ℕ, ◌+◌, ◌<◌, ◌-◌, ◌==◌, ◌&&◌, ◌||◌, Bool, true, false, if◌then◌else◌, List, [], length, nat_le, slice_index_or}
+-- How the sets are kept: a township's as one set for each section, by number; a section's by rows from
+-- the south, each by columns from the east, as tests or as the bits of a lane.
+use Rattle.std.specs.Prelude.{◌≡◌, ℕ, ◌+◌, ◌<◌, ◌-◌, ◌^◌, ◌==◌, ◌&&◌, ◌||◌, Bool, true, false, List, [], length, nat_le, slice_index_or}
 use Rattle.std.specs.List.{slice_get}
+use Rattle.std.specs.Int.{bit_at}
 use Rattle.std.specs.Option.{option_map_or}
 use Rattle.twp_grid.specs.Winding.{SECTION_COUNT}
 use Rattle.twp_grid.specs.Places.{PLACE_DIGITS, places_across, is_place}
@@ -26,15 +27,23 @@ held_by_section held plots section column row =
     is_section section
     && option_map_or (λ plot. held plot column row) (slice_get plots (section - 1)) false
 
--- the set with one section's part exchanged
-abbrev pub exchanged : (ℕ → ℕ → ℕ → Bool) → ℕ → (ℕ → ℕ → Bool) → ℕ → ℕ → ℕ → Bool
-exchanged places section held other column row =
-    if section == other then held column row else places other column row
-
 -- the set that is kept as rows
 abbrev pub held_by_row : List (List Bool) → ℕ → ℕ → Bool
 held_by_row rows column row =
     is_place PLACE_DIGITS column row && slice_index_or (slice_index_or rows row []) column false
+
+-- the set that is kept as lanes of bits
+abbrev pub held_by_lane : List ℕ → ℕ → ℕ → Bool
+held_by_lane lanes column row =
+    is_place PLACE_DIGITS column row && (bit_at (slice_index_or lanes row 0) column == 1)
+
+-- a lane of so many bits for each row, and in it the bits of the columns that the block has there
+pub record AreBlockLanes (block : Rectangle) (lanes : List ℕ) : Type 0 where
+  pub count : length lanes ≡ places_across PLACE_DIGITS
+  pub below : (row : ℕ) → row < places_across PLACE_DIGITS
+      → slice_index_or lanes row 0 < 2 ^ places_across PLACE_DIGITS
+  pub bits : (column row : ℕ) → row < places_across PLACE_DIGITS
+      → bit_at (slice_index_or lanes row 0) column ≡ one_where (in_rectangle block column row)
 
 -- of a row's tests from a start, some holds; each holds
 abbrev pub SomeHeld : List Bool → ℕ → ℕ → Type 0

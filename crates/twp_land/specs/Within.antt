@@ -6,11 +6,18 @@ use Rattle.std.proofs.lemmas.Bool.Decides.{nat_tests}
 use Rattle.std.proofs.lemmas.Bool.{and_parts}
 use Rattle.twp_grid.specs.Winding.{SECTION_COUNT, IsSection}
 use Rattle.twp_grid.specs.Places.{PLACE_DIGITS, places_across, IsPlace}
-use Rattle.twp_land.specs.Storage.{is_section, held_by_section, held_by_row}
+use Rattle.twp_land.specs.Storage.{is_section, held_by_section, held_by_row, held_by_lane}
 
 -- what is kept as rows lies in the section
 pub row_within : (rows : List (List Bool)) (column row : ℕ) → held_by_row rows column row ≡ true → IsPlace PLACE_DIGITS column row
 row_within rows column row held =
+    let place = and_parts (nat_lt column (places_across PLACE_DIGITS) && nat_lt row (places_across PLACE_DIGITS)) _ held in
+    let parts = and_parts (nat_lt column (places_across PLACE_DIGITS)) (nat_lt row (places_across PLACE_DIGITS)) place.0 in
+    (grind (arith, nat_tests), grind (arith, nat_tests))
+
+-- what is kept as lanes lies in the section
+pub lane_within : (lanes : List ℕ) (column row : ℕ) → held_by_lane lanes column row ≡ true → IsPlace PLACE_DIGITS column row
+lane_within lanes column row held =
     let place = and_parts (nat_lt column (places_across PLACE_DIGITS) && nat_lt row (places_across PLACE_DIGITS)) _ held in
     let parts = and_parts (nat_lt column (places_across PLACE_DIGITS)) (nat_lt row (places_across PLACE_DIGITS)) place.0 in
     (grind (arith, nat_tests), grind (arith, nat_tests))

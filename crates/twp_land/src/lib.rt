@@ -1,8 +1,10 @@
 //! Lands: sets of places of a township. The trait `Land` says what such a set does; `Grid` is one that
-//! keeps a test for each place.
+//! keeps a test for each place, and `Lanes` one that keeps a bit.
 #![tactic(auto)]
 
+mod bits;
 mod land;
+mod lanes;
 mod lots;
 mod plot;
 mod row;
@@ -11,6 +13,7 @@ mod sections;
 mod window;
 
 pub use land::Land;
+pub use lanes::{LaneRows, Lanes};
 pub use lots::lots_whole;
 pub use plot::Plot;
 pub use rows::{Grid, Rows};

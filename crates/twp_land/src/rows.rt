@@ -72,6 +72,3 @@ impl Plot for Rows {
         }
     }
 }
-
-#[cfg(test)]
-mod tests;

@@ -1,5 +1,5 @@
 ghost use Rattle.std.specs.Prelude.{◌≡◌};
-ghost use Rattle.twp_land.specs.Storage.{held_by_section, exchanged};
+ghost use Rattle.twp_land.specs.Storage.{held_by_section};
 
 use crate::land::Land;
 use crate::plot::Plot;
@@ -20,14 +20,6 @@ impl<P: Plot> Sections<P> {
         ensures { held_by_section P.held self.now.plots section ≡ P.held result.now }
     {
         &self.plots[usize::from(section.number() - 1)]
-    }
-
-    /// Exchanges the set of a section's places.
-    fn exchange(&mut self, section: Section, plot: P)
-        ensures { held_by_section P.held self.new.plots
-            ≡ exchanged (held_by_section P.held self.old.plots) section (P.held plot) }
-    {
-        self.plots[usize::from(section.number() - 1)] = plot;
     }
 }
 
@@ -62,8 +54,6 @@ impl<P: Plot> Land for Sections<P> {
     }
 
     fn add(&mut self, section: Section, block: Block) {
-        let mut plot = *self.plot(section);
-        plot.add(block);
-        self.exchange(section, plot);
+        self.plots[usize::from(section.number() - 1)].add(block);
     }
 }

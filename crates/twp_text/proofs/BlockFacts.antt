@@ -1,5 +1,5 @@
 -- Blocks that share a place, and the blocks of lots.
-use Rattle.std.proofs.Common.{◌≡◌, ◌==◌, ℕ, ◌+◌, ◌<◌, ◌≤◌, ◌&&◌, ◌↔◌, Bool, true, false, Option, Some, None, refl, sym, ap, ◌∙◌, inl, inr, arith, nat_le, nat_lt, IsSome}
+use Rattle.std.proofs.Common.{◌≡◌, ◌==◌, ℕ, ◌+◌, ◌<◌, ◌≤◌, ◌↔◌, Bool, true, Option, Some, None, refl, ap, ◌∙◌, inl, inr, arith, nat_le, nat_lt, IsSome}
 use Rattle.std.proofs.lemmas.Bool.{cases_lt, and_parts, eqb-true}
 use Rattle.std.proofs.lemmas.Bool.Decides.{nat_tests}
 use Rattle.twp_grid.specs.Winding.{IsSection}
@@ -8,7 +8,7 @@ use Rattle.twp_grid.specs.Places.{PLACE_DIGITS, position_along}
 use Rattle.twp_grid.specs.Spans.{Span, in_span, Rectangle, in_rectangle, position_block}
 use Rattle.twp_land.specs.Lands.{Meets, block_places}
 use Rattle.twp_land.specs.WholeLots.{lot_of_place}
-use Rattle.twp_land.proofs.LotFacts.{Fills, fills, block_of, in_lot, lot_inside}
+use Rattle.twp_land.proofs.LotFacts.{fills, block_of, in_lot, lot_inside}
 use Rattle.twp_text.specs.PlaceFaults.{SharePlace}
 use Rattle.twp_text.specs.Taking.{Cross, HoldsLotPlace}
 

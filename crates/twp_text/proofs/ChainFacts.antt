@@ -1,5 +1,5 @@
 -- Aliquot parts: the block that their steps leave, and the places of it.
-use Rattle.std.proofs.Common.{Some, slice_get, ◌≡◌, ◌==◌, ℕ, zero, suc, ◌+◌, ◌-◌, ◌*◌, ◌^◌, ◌<◌, ◌≤◌, ◌&&◌, Bool, true, false, List, [], ◌∷◌, ◌++◌, length, drop, refl, sym, ap, ◌∙◌, inl, inr, arith, length-append, nat_lt, IsSome}
+use Rattle.std.proofs.Common.{Some, slice_get, ◌≡◌, ◌==◌, ℕ, zero, suc, ◌+◌, ◌-◌, ◌^◌, ◌<◌, ◌≤◌, ◌&&◌, Bool, true, false, List, [], ◌∷◌, ◌++◌, length, drop, refl, ap, ◌∙◌, inl, inr, arith, length-append, nat_lt}
 use Rattle.std.proofs.Math.Nat.{pow-succ'}
 use Rattle.std.proofs.lemmas.Nat.{pow_pos}
 use Rattle.std.proofs.lemmas.Bool.{and_parts}
@@ -11,24 +11,23 @@ use Rattle.std.proofs.lemmas.List.{drop_more}
 use Rattle.std.proofs.lemmas.Option.{slice_get_within, get_or_from_slice_get}
 use Rattle.twp_grid.specs.declared.block.Side.TheVariants as side
 use Rattle.twp_grid.specs.declared.block.Corner.TheVariants as corner
-use Rattle.twp_grid.specs.Blocks.{CanHalve, CanQuarter}
 use Rattle.twp_grid.specs.Cuts.{Cut, row_asked, column_asked, rows_asked, columns_asked, AreWithin, part_of, reached}
 use Rattle.twp_grid.specs.Cuts.Cut.{half, quarter}
-use Rattle.twp_grid.specs.Places.{places_across, is_place, IsPlace}
+use Rattle.twp_grid.specs.Places.{is_place, IsPlace}
 use Rattle.twp_grid.specs.Spans.{Span, in_span, Rectangle, in_rectangle, whole_block}
 use Rattle.twp_grid.proofs.CutFacts.{held_as_asked, sides_as_asked, within_span_of, rows_reached, columns_reached, rows_are_digits, columns_are_digits}
 use Rattle.twp_land.specs.Lands.{block_places}
 use Rattle.twp_text.specs.declared.item.Step.{Step}
 use Rattle.twp_text.specs.declared.item.Item.TheVariants.{Chain}
-use Rattle.twp_text.specs.ItemPlaces.{cut_of, cuts_of, in_chain, item_places}
-use Rattle.twp_text.specs.Taking.{item_of, CanCut}
+use Rattle.twp_text.specs.ItemPlaces.{cut_of, cuts_of, item_places}
+use Rattle.twp_text.specs.Taking.{item_of, CanCut, IsCutTo}
 
 -- a side of so many digits is more than one place where a digit is left
-more_left : (k : ℕ) → 1 < 2 ^ k → 0 < k
+pub more_left : (k : ℕ) → 1 < 2 ^ k → 0 < k
 more_left zero more = absurd (omega arith)
 more_left (suc k) more = omega arith
 
-more_than_one : (k : ℕ) → 0 < k → 1 < 2 ^ k
+pub more_than_one : (k : ℕ) → 0 < k → 1 < 2 ^ k
 more_than_one zero some = absurd (omega arith)
 more_than_one (suc k) some = let power = pow-succ' 2 k in let least = pow_pos k in omega arith
 
@@ -105,11 +104,6 @@ within_drop g zero steps within = within
 within_drop g (suc n) [] within = within
 within_drop g (suc n) (step ∷ steps) within = within_drop g n steps (within_fewer g (cut_of step) (cuts_of steps) within)
 
--- what steps leave, from the last to the one at an index
-pub record IsCutTo (g : ℕ) (steps : List Step) (index : ℕ) (block : Rectangle) : Type 0 where
-  pub within : AreWithin g (cuts_of (drop index steps))
-  pub block_is : block ≡ reached g (cuts_of (drop index steps))
-
 pub cut_none : (g : ℕ) (steps : List Step) (n : ℕ) → n ≡ length steps → (block : Rectangle) → block ≡ whole_block g → IsCutTo g steps n block
 cut_none g steps n all block is =
     let left : drop n steps ≡ [] = ap (λ k. drop k steps) all ∙ drop-length steps in
@@ -149,7 +143,7 @@ and_false : (a : Bool) → (a && false) ≡ false
 and_false true = refl
 and_false false = refl
 
-outside : (g : ℕ) (cuts : List Cut) (column row : ℕ) → AreWithin g cuts → is_place g column row ≡ false → in_rectangle (reached g cuts) column row ≡ false
+pub outside : (g : ℕ) (cuts : List Cut) (column row : ℕ) → AreWithin g cuts → is_place g column row ≡ false → in_rectangle (reached g cuts) column row ≡ false
 outside g cuts column row within not = elim (cases_Bool (nat_lt column (2 ^ g))) [
   | inl in-column ↦
       let out : nat_lt row (2 ^ g) ≡ false = rw in-column at not in
@@ -162,7 +156,7 @@ outside g cuts column row within not = elim (cases_Bool (nat_lt column (2 ^ g)))
       rw columns_out refl
 ]
 
-inside : (g column row : ℕ) → is_place g column row ≡ true → IsPlace g column row
+pub inside : (g column row : ℕ) → is_place g column row ≡ true → IsPlace g column row
 inside g column row place =
     let parts = and_parts (nat_lt column (2 ^ g)) (nat_lt row (2 ^ g)) place in
     (grind (arith, nat_tests, parts.0), grind (arith, nat_tests, parts.1))

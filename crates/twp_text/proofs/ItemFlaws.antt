@@ -2,7 +2,7 @@
 use Rattle.std.proofs.Common.{◌≡◌, ◌≢◌, ◌==◌, ℕ, ◌≤◌, ◌&&◌, Bool, true, false, refl, sym, ap, subst, ◌∙◌, arith}
 use Rattle.std.proofs.Math.Path.{fun_ext}
 use Rattle.twp_grid.specs.Places.{PLACE_DIGITS, is_place}
-use Rattle.twp_grid.specs.Spans.{Rectangle, in_rectangle, whole_block}
+use Rattle.twp_grid.specs.Spans.{whole_block}
 use Rattle.twp_grid.specs.Townships.{Designation, designation}
 use Rattle.twp_grid.specs.declared.township.NorthSouth.{NorthSouth}
 use Rattle.twp_grid.specs.declared.township.EastWest.{EastWest}

@@ -1,16 +1,16 @@
 -- Each item on the plat names a lot whole or not at all, and so does the land of items.
-use Rattle.std.proofs.Common.{◌≡◌, ◌==◌, ℕ, zero, suc, ◌<◌, ◌&&◌, ◌||◌, Bool, true, false, List, [], ◌∷◌, Some, length, refl, sym, ap, ◌∙◌, inl, inr, arith, IsSome}
+use Rattle.std.proofs.Common.{◌≡◌, ◌==◌, ℕ, suc, ◌<◌, ◌&&◌, ◌||◌, Bool, true, false, List, [], ◌∷◌, Some, length, refl, sym, ap, ◌∙◌, inl, inr, arith}
 use Rattle.std.specs.List.{list_any}
 use Rattle.std.proofs.Math.ListN.{get_or}
 use Rattle.std.proofs.lemmas.Bool.{cases_Bool, eqb-true}
 use Rattle.twp_grid.specs.Places.{PLACE_DIGITS}
 use Rattle.twp_grid.specs.Townships.{Designation}
 use Rattle.twp_grid.specs.Winding.{IsSection}
-use Rattle.twp_land.specs.WholeLots.{lot_of_place, IsWholeOrNot, HasWholeLots}
+use Rattle.twp_land.specs.WholeLots.{lot_of_place, HasWholeLots}
 use Rattle.twp_text.specs.declared.item.Item.{Item}
 use Rattle.twp_text.specs.declared.item.Item.TheVariants as item
 use Rattle.twp_text.specs.declared.item.Step.{Step}
-use Rattle.twp_text.specs.ItemPlaces.{ItemOfSection, is_lot_from, in_chain, in_item, item_places, parts_of, land_of}
+use Rattle.twp_text.specs.ItemPlaces.{is_lot_from, in_chain, in_item, item_places, parts_of, land_of}
 use Rattle.twp_text.specs.PlaceFaults.{HoldsOfLot, LiesOnPlat, AreOnPlat}
 use Rattle.twp_text.specs.Taking.{item_of}
 use Rattle.twp_text.proofs.RangeFacts.{lot_is_place}
@@ -58,8 +58,10 @@ any_alike test test' (x ∷ xs) each =
     ap (λ b. b || list_any test xs) (each 0 x (omega arith)) ∙ ap (λ b. test' x || b) (any_alike test test' xs (λ k d below. each (suc k) d (omega arith)))
 
 pub land_has_whole_lots : (township : Designation) (items : List Item) → AreOnPlat PLACE_DIGITS township items → HasWholeLots PLACE_DIGITS (land_of PLACE_DIGITS (parts_of items))
-land_has_whole_lots township items on s lot range = record { alike = λ column row column' row' is is'.
-    any_alike (λ p. item_places PLACE_DIGITS p s column row) (λ p. item_places PLACE_DIGITS p s column' row') (parts_of items) (λ k d below.
-    let part = get_or (parts_of items) k d in
-    rw (lot_is_place s lot column row range is, lot_is_place s lot column' row' range is')
-    (item_alike township part.section part.item s lot column row column' row' (on.each k d below) range is is')) }
+land_has_whole_lots township items on s lot range = record {
+  alike = λ column row column' row' is is'.
+      any_alike (λ p. item_places PLACE_DIGITS p s column row) (λ p. item_places PLACE_DIGITS p s column' row') (parts_of items) (λ k d below.
+      let part = get_or (parts_of items) k d in
+      rw (lot_is_place s lot column row range is, lot_is_place s lot column' row' range is')
+      (item_alike township part.section part.item s lot column row column' row' (on.each k d below) range is is'));
+}

@@ -42,3 +42,8 @@ every_byte = refl
 
 pub by_its_bit : (byte : ℕ) → byte < 256 → by_bit byte ≡ small_letter byte
 by_its_bit byte small = same_tells (by_bit byte) (small_letter byte) (each_at 256 (λ b. same_option (by_bit b) (small_letter b)) byte every_byte small)
+
+-- a letter isn't 0
+pub letter_counts : (byte small : ℕ) → small_letter byte ≡ Some small → 0 < byte
+letter_counts zero small h = cc h
+letter_counts (suc byte) small h = omega arith

@@ -12,6 +12,8 @@ pub mod ReaderFacts
 pub mod OneAnswer
 pub mod StepFacts
 pub mod LetterFacts
+pub mod PlaceFacts
+pub mod StateFacts
 pub mod BlockFacts
 pub mod ChainFacts
 pub mod ChainFlaws
@@ -28,6 +30,12 @@ pub mod FullParts
 pub mod WrittenFacts
 pub mod PartOrder
 pub mod FinerParts
+pub mod Descent
+pub mod DescentLists
+pub mod SquareBlocks
+pub mod WritingFacts
+pub mod PartLaws
+pub mod CanonicalFacts
 pub mod Listings
 pub mod Lexemes
 pub mod SpelledTokens

@@ -4,7 +4,7 @@ use Rattle.std.proofs.Math.ListN.{set}
 use Rattle.std.proofs.Math.Seq.{get_or-append_seam, set-append_seam}
 use Rattle.std.proofs.lemmas.List.{reverse-append}
 use Rattle.twp_text.specs.declared.item.Item.{Item}
-use Rattle.twp_text.specs.declared.items.Change.{Change}
+use Rattle.twp_text.specs.declared.change.Change.{Change}
 use Rattle.twp_text.specs.Machine.{with_newest, changed}
 
 record HasLast (items : List Item) : Type 0 where

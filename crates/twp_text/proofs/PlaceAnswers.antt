@@ -1,15 +1,14 @@
 -- Items that lie on the plat without overlap have no fault, and others have one first fault.
-use Rattle.std.proofs.Common.{◌≡◌, ℕ, zero, suc, ◌+◌, ◌<◌, ◌≤◌, ◌||◌, ◌⊎◌, Bool, true, false, List, [], ◌∷◌, Some, length, take, slice_get, refl, sym, ap, subst, ◌∙◌, inl, inr, arith, Result, Ok, Err}
-use Rattle.std.specs.List.{All, AllPairs, list_any}
+use Rattle.std.proofs.Common.{◌≡◌, ℕ, zero, suc, ◌<◌, ◌||◌, ◌⊎◌, Bool, true, false, List, [], ◌∷◌, Some, length, take, slice_get, refl, sym, ap, subst, ◌∙◌, inl, inr, arith, Result, Ok, Err}
+use Rattle.std.specs.List.{AllPairs, list_any}
 use Rattle.std.proofs.Math.ListN.{get_or}
-use Rattle.std.proofs.lemmas.Bool.{cases_lt}
 use Rattle.std.proofs.lemmas.Option.{slice_get_within, get_or_from_slice_get}
 use Rattle.twp_grid.specs.Townships.{Designation}
 use Rattle.twp_text.specs.declared.item.Item.{Item}
 use Rattle.twp_text.specs.declared.item.Item.TheVariants as item
 use Rattle.twp_text.specs.declared.place_fault.PlaceFault.{PlaceFault}
 use Rattle.twp_text.specs.ItemPlaces.{ItemOfSection, item_places, parts_of, land_of}
-use Rattle.twp_text.specs.PlaceFaults.{LiesOnPlat, SharePlace, AreOnPlat, IsLandOfItems, Flaw, HasFlaw, turn_of, HasFlawAt, IsFrom, fault_of_flaw, offset_of_flaw, IsFirstPlaceFault, AnswersPlaces}
+use Rattle.twp_text.specs.PlaceFaults.{LiesOnPlat, SharePlace, AreOnPlat, Flaw, HasFlaw, turn_of, HasFlawAt, IsFrom, fault_of_flaw, offset_of_flaw, IsFirstPlaceFault, AnswersPlaces}
 use Rattle.twp_text.specs.PlaceFaults.Flaw.{other_township, no_first_section, no_last_section, backward, no_first_lot, no_last_lot, too_fine, on_lot, overlap}
 use Rattle.twp_text.specs.Taking.{item_of}
 

@@ -1,16 +1,16 @@
 -- Ranges of sections and of lots: the places that they name, added block by block.
-use Rattle.std.proofs.Common.{◌≡◌, ◌≢◌, ◌==◌, ℕ, ◌+◌, ◌-◌, ◌<◌, ◌≤◌, ◌&&◌, ◌||◌, ◌⊎◌, ◌↔◌, Bool, true, false, Option, Some, None, refl, sym, ap, ◌∙◌, inl, inr, arith, nat_le, nat_lt, IsSome, if◌then◌else◌}
+use Rattle.std.proofs.Common.{◌≡◌, ◌==◌, ℕ, ◌+◌, ◌-◌, ◌<◌, ◌≤◌, ◌&&◌, ◌||◌, ◌⊎◌, Bool, true, false, Option, Some, None, refl, sym, ap, ◌∙◌, inl, inr, arith, nat_le, nat_lt, IsSome, if◌then◌else◌}
 use Rattle.std.proofs.Math.Path.{fun_ext}
-use Rattle.std.proofs.lemmas.Bool.{cases_Bool, cases_lt, and_parts, eqb-true}
+use Rattle.std.proofs.lemmas.Bool.{cases_Bool, and_parts, eqb-true}
 use Rattle.std.proofs.lemmas.Bool.Decides.{nat_tests}
 use Rattle.twp_grid.specs.Winding.{IsSection}
-use Rattle.twp_grid.specs.Lots.{position_of_lot, number_of_lots, is_western_number}
+use Rattle.twp_grid.specs.Lots.{position_of_lot, number_of_lots}
 use Rattle.twp_grid.specs.Places.{PLACE_DIGITS, places_across, is_place, position_along}
 use Rattle.twp_grid.specs.Spans.{Rectangle, in_rectangle, whole_block}
 use Rattle.twp_grid.proofs.LotFacts.{count_by_code, position_by_code, position_of_lot_is, lot_count_is}
 use Rattle.twp_land.specs.Lands.{no_places, union, block_places, Meets}
 use Rattle.twp_land.specs.WholeLots.{lot_of_place}
-use Rattle.twp_land.proofs.LotFacts.{fills, few_lots, block_of}
+use Rattle.twp_land.proofs.LotFacts.{fills, block_of}
 use Rattle.twp_text.specs.ItemPlaces.{is_lot_from}
 use Rattle.twp_text.specs.PlaceFaults.{HasLot, SharePlace}
 use Rattle.twp_text.specs.Taking.{sections_from, lots_from, AreAdded}
@@ -71,12 +71,12 @@ added_next places next old mid new section block so_far free is grown = record {
   apart = λ shared. elim (or_either (places shared.section shared.column shared.row) _ (sym (ap (λ p. p shared.section shared.column shared.row) grown) ∙ shared.in_second)) [
     | inl before ↦ so_far.apart (record { section = shared.section; column = shared.column; row = shared.row; in_first = shared.in_first; in_second = before })
     | inr now ↦ free (meets_of_share mid section block (record {
-        section = shared.section;
-        column = shared.column;
-        row = shared.row;
-        in_first = ap (λ p. p shared.section shared.column shared.row) so_far.added ∙ rw shared.in_first refl;
-        in_second = now;
-      }))
+      section = shared.section;
+      column = shared.column;
+      row = shared.row;
+      in_first = ap (λ p. p shared.section shared.column shared.row) so_far.added ∙ rw shared.in_first refl;
+      in_second = now;
+    }))
   ];
   added = is ∙ fun_ext (λ s. fun_ext (λ c. fun_ext (λ r.
       ap (λ p. p s c r || block_places section block s c r) so_far.added

@@ -1,7 +1,6 @@
 -- What is answered of a range of sections or of lots: the first of its flaws, or its places are taken.
-use Rattle.std.proofs.Common.{◌≡◌, ℕ, ◌≤◌, ◌<◌, ◌&&◌, Bool, true, false, refl, sym, ap, ◌∙◌, arith, Result, Ok, Err, IfOk, IfErr, MatchResult}
-use Rattle.std.proofs.Math.Path.{fun_ext}
-use Rattle.twp_grid.specs.Places.{PLACE_DIGITS, is_place}
+use Rattle.std.proofs.Common.{◌≡◌, ℕ, ◌≤◌, ◌<◌, Bool, true, refl, arith, Result, Ok, Err, IfOk, IfErr, MatchResult}
+use Rattle.twp_grid.specs.Places.{PLACE_DIGITS}
 use Rattle.twp_grid.specs.Winding.{IsSection}
 use Rattle.twp_grid.specs.Townships.{Designation}
 use Rattle.twp_text.specs.declared.item.Item.TheVariants.{Sections, Lots}
@@ -11,7 +10,7 @@ use Rattle.twp_text.specs.declared.place_fault.PlaceFault.TheVariants as fault
 use Rattle.twp_text.specs.PlaceFaults.{HasLot, SharePlace, Flaw, HasFlaw, turn_of}
 use Rattle.twp_text.specs.PlaceFaults.Flaw.{other_township, no_first_section, no_last_section, backward, no_first_lot, no_last_lot, too_fine, on_lot, overlap}
 use Rattle.twp_text.specs.Taking.{sections_from, lots_from, AreAdded, IsTaken, IsFirstFlaw}
-use Rattle.twp_text.proofs.RangeFacts.{has_lot_between, added_none}
+use Rattle.twp_text.proofs.RangeFacts.{has_lot_between}
 
 -- the flaws of lots are four
 lots_least : (township : Designation) (earlier : ℕ → ℕ → ℕ → Bool) (section : ℕ) (first last : Numeral) (turn : ℕ)
@@ -139,19 +138,3 @@ sections_overlap section first last earlier low high order shared township = rec
   first = sections_least township earlier section first last true 8 (λ out. absurd (out low)) (λ out. absurd (out high)) (λ back. absurd (omega arith)) (omega arith);
   fault_is = refl;
 }
-
-pub sections_taken : (section : ℕ) (first last : Numeral) (old new : ℕ → ℕ → ℕ → Bool) → IsSection first.value → IsSection last.value → first.value ≤ last.value
-    → AreAdded (sections_from PLACE_DIGITS first.value last.value) old new
-    → (township : Designation) → IsTaken PLACE_DIGITS township section (Sections first last true) old new
-sections_taken section first last old new low high order adds township = record { lies = (low, high, order); apart = adds.apart; added = adds.added }
-
--- a section of which parts follow names nothing by itself
-pub section_taken : (section : ℕ) (first last : Numeral) (old : ℕ → ℕ → ℕ → Bool) → IsSection first.value → IsSection last.value → first.value ≤ last.value
-    → (township : Designation) → IsTaken PLACE_DIGITS township section (Sections first last false) old old
-section_taken section first last old low high order township =
-    let none : AreAdded (λ s c r. is_place PLACE_DIGITS c r && false) old old = added_none (λ s c r. is_place PLACE_DIGITS c r && false) old (fun_ext (λ s. fun_ext (λ c. fun_ext (λ r. off (is_place PLACE_DIGITS c r))))) in
-    record { lies = (low, high, order); apart = none.apart; added = none.added }
-  where
-    off : (b : Bool) → (b && false) ≡ false
-    off true = refl
-    off false = refl

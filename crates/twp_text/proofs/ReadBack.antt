@@ -1,6 +1,5 @@
 -- The canonical text of a land is read back as that land, and there is one for each land.
-use Rattle.std.proofs.Common.{◌≡◌, ◌≢◌, ℕ, ◌<◌, ◌≤◌, ◌⊎◌, ◌↔◌, Bool, true, false, List, [], ◌∷◌, ◌++◌, map, codes, decimal, length, refl, sym, ap, subst, ◌∙◌, inl, inr, arith}
-use Rattle.std.specs.List.{AllZip}
+use Rattle.std.proofs.Common.{◌≡◌, ◌≢◌, ℕ, ◌<◌, ◌≤◌, ◌⊎◌, ◌↔◌, Bool, true, false, List, [], ◌∷◌, ◌++◌, map, length, refl, sym, ap, subst, ◌∙◌, inl, inr, arith}
 use Rattle.std.proofs.Math.Path.{fun_ext}
 use Rattle.std.proofs.lemmas.Bool.{false_from_ne_true}
 use Rattle.twp_grid.specs.Winding.{IsSection}
@@ -15,13 +14,13 @@ use Rattle.twp_text.specs.Sentences.{HasItems}
 use Rattle.twp_text.specs.TextFaults.{TEXT_LIMIT, IsReadAs}
 use Rattle.twp_text.specs.ItemPlaces.{parts_of, land_of}
 use Rattle.twp_text.specs.PlaceFaults.{IsLandOfItems}
-use Rattle.twp_text.specs.WrittenParts.{Part}
-use Rattle.twp_text.specs.CanonicalText.{part_text, with_commas, lots_entry, off_lots, line_end, IsSectionList, all, by_parts, IsLotHeld, IsSectionText, IsSectionOfLand, land_lines, IsCanonicalText}
+use Rattle.twp_text.specs.CanonicalText.{line_end, land_lines, IsCanonicalText}
 use Rattle.twp_text.specs.ReadBack.{IsTownshipLand, HasTownshipNumbers, NamesLand}
 use Rattle.twp_text.proofs.TokenFacts.{one_token_list}
 use Rattle.twp_text.proofs.Reading.{one_item_list}
-use Rattle.twp_text.proofs.Listings.{Among, InOrder, among_contains, contains_among, pairs_order, one_listing}
-use Rattle.twp_text.proofs.PartOrder.{among_map, one_parts}
+use Rattle.twp_text.proofs.Listings.{Among, InOrder, among_contains, contains_among, pairs_order}
+use Rattle.twp_text.proofs.PartOrder.{among_map}
+use Rattle.twp_text.proofs.CanonicalFacts.{one_text}
 use Rattle.twp_text.proofs.Lexemes.{bytes, placed, IsDrafted, drafted}
 use Rattle.twp_text.proofs.SpelledTokens.{Line, line_text, land_draft, bytes_land}
 use Rattle.twp_text.proofs.SpelledWords.{AreSmallLines, fits_land, one_line_end}
@@ -112,37 +111,11 @@ one_land g township text places other names names' =
     let same_items = one_item_list names.tokens names.items names'.items names.named (subst (λ ts. HasItems ts names'.items) same_tokens names'.named) in
     names.land.land_is ∙ ap (λ its. land_of g (parts_of its)) same_items ∙ sym names'.land.land_is
 
-never_below : (x y : ℕ) → x < y → y < x → ⊥
-never_below x y less more = absurd (omega arith)
-
--- a section has one list
-one_list : (g section : ℕ) (held : ℕ → ℕ → Bool) (text other : List ℕ) → IsSectionList g section held text → IsSectionList g section held other → text ≡ other
-one_list g section held text other (all each is) (all each' is') = is ∙ sym is'
-one_list g section held text other (all each is) (by_parts not_each lots parts lots_are parts_are is') = absurd (not_each each)
-one_list g section held text other (by_parts not_each lots parts lots_are parts_are is) (all each is') = absurd (not_each each)
-one_list g section held text other (by_parts not_each lots parts lots_are parts_are is) (by_parts not_each' lots' parts' lots_are' parts_are' is') =
-    let same_lots = one_listing (IsLotHeld g section held) ◌<◌ never_below lots lots' lots_are lots_are' in
-    let same_parts = one_parts g (off_lots g section held) parts parts' parts_are parts_are' in
-    is ∙ ap (λ ls. with_commas (lots_entry ls ++ map part_text parts)) same_lots ∙ ap (λ ps. with_commas (lots_entry lots' ++ map part_text ps)) same_parts ∙ sym is'
-
-one_lines : (g : ℕ) (places : ℕ → ℕ → ℕ → Bool) (sections : List ℕ) (lines other : List (List ℕ)) → AllZip (IsSectionText g places) sections lines → AllZip (IsSectionText g places) sections other → lines ≡ other
-one_lines g places [] [] [] zip zip' = refl
-one_lines g places [] [] (line' ∷ other) zip zip' = absurd zip'
-one_lines g places [] (line ∷ lines) other zip zip' = absurd zip
-one_lines g places (s ∷ sections) [] other zip zip' = absurd zip
-one_lines g places (s ∷ sections) (line ∷ lines) [] zip zip' = absurd zip'
-one_lines g places (s ∷ sections) (line ∷ lines) (line' ∷ other) zip zip' =
-    let same_list = one_list g s (places s) zip.0.list zip'.0.list zip.0.list_is zip'.0.list_is in
-    let same : line ≡ line' = zip.0.text_is ∙ ap (λ l. codes "sec. " ++ decimal s ++ codes ", " ++ l) same_list ∙ sym zip'.0.text_is in
-    ap (λ l. l ∷ lines) same ∙ ap (λ ls. line' ∷ ls) (one_lines g places sections lines other zip.1 zip'.1)
-
 -- a land has one canonical text
-pub one_text : (g : ℕ) (township : Designation) (places : ℕ → ℕ → ℕ → Bool) (text other : List ℕ) → IsCanonicalText g township places text → IsCanonicalText g township places other → text ≡ other
-one_text g township places text other canonical canonical' =
-    let same_sections = one_listing (IsSectionOfLand g places) ◌<◌ never_below canonical'.sections canonical.sections canonical'.sections_are canonical.sections_are in
-    let same_lines = one_lines g places canonical.sections canonical.lines canonical'.lines canonical.lines_are
-        (subst (λ ss. AllZip (IsSectionText g places) ss canonical'.lines) same_sections canonical'.lines_are) in
-    canonical.text_is ∙ ap (λ ls. land_lines township ls) same_lines ∙ sym canonical'.text_is
+same_text : (g : ℕ) (township : Designation) (places : ℕ → ℕ → ℕ → Bool) (text other : List ℕ) → IsCanonicalText g township places text → IsCanonicalText g township places other → text ≡ other
+same_text g township places text other canonical canonical' =
+    let one = one_text g township places in
+    one.2 text canonical ∙ sym (one.2 other canonical')
 
 -- two lands have one text exactly if they are one land
 pub one_text_for_each : (g : ℕ) (township : Designation) (places other : ℕ → ℕ → ℕ → Bool) (text other_text : List ℕ) → HasTownshipNumbers township → IsTownshipLand g places → IsTownshipLand g other
@@ -150,7 +123,7 @@ pub one_text_for_each : (g : ℕ) (township : Designation) (places other : ℕ �
 one_text_for_each g township places other text other_text numbers land land' canonical canonical' =
     ((λ same. by (told g township places text numbers land canonical)
         (subst (λ t. Told g township t other) (sym same) (told g township other other_text numbers land' canonical'))),
-    λ same. one_text g township other text other_text (subst (λ p. IsCanonicalText g township p text) same canonical) canonical')
+    λ same. same_text g township other text other_text (subst (λ p. IsCanonicalText g township p text) same canonical) canonical')
   where
     by : Told g township text places → Told g township text other → places ≡ other
     by (nothing_held none empty) (nothing_held none' empty') = none ∙ sym none'

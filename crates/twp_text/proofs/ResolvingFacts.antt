@@ -1,5 +1,5 @@
 -- The items that were taken one after another, what is left of them, and the land so far.
-use Rattle.std.proofs.Common.{◌≡◌, ◌≢◌, ℕ, zero, suc, ◌+◌, ◌<◌, ◌≤◌, ◌||◌, ◌⊎◌, ◌↔◌, Bool, true, false, List, [], ◌∷◌, Option, Some, None, length, take, drop, slice_get, refl, sym, ap, subst, ◌∙◌, inl, inr, arith, Result, Ok, Err, IfOk, IfErr, IsSome, IsTrue, is_ok}
+use Rattle.std.proofs.Common.{◌≡◌, ℕ, suc, ◌+◌, ◌<◌, ◌≤◌, ◌||◌, ◌⊎◌, Bool, List, [], ◌∷◌, Option, Some, None, length, take, drop, slice_get, refl, sym, ap, subst, ◌∙◌, inl, inr, arith, IsSome}
 use Rattle.std.proofs.Math.Path.{fun_ext}
 use Rattle.std.proofs.Math.ListN.{get_or}
 use Rattle.std.proofs.lemmas.Bool.{cases_lt}
@@ -9,15 +9,15 @@ use Rattle.std.proofs.lemmas.Option.{slice_get-get_or}
 use Rattle.twp_grid.specs.Townships.{Designation}
 use Rattle.twp_grid.specs.declared.township.NorthSouth.{NorthSouth}
 use Rattle.twp_grid.specs.declared.township.EastWest.{EastWest}
-use Rattle.twp_land.specs.Lands.{no_places, union}
+use Rattle.twp_land.specs.Lands.{no_places}
 use Rattle.twp_text.specs.declared.item.Item.{Item}
 use Rattle.twp_text.specs.declared.item.Item.TheVariants as item
 use Rattle.twp_text.specs.declared.place_fault.PlaceFault.{PlaceFault}
 use Rattle.twp_text.specs.Items.{BeginWithSections}
 use Rattle.twp_text.specs.ItemPlaces.{ItemOfSection, item_places, section_behind, with_sections, parts_of, land_of}
-use Rattle.twp_text.specs.PlaceFaults.{LiesOnPlat, SharePlace, AreOnPlat, IsLandOfItems, Flaw, HasFlaw, turn_of, HasFlawAt, IsFrom, IsFirstPlaceFault}
+use Rattle.twp_text.specs.PlaceFaults.{LiesOnPlat, SharePlace, IsLandOfItems, Flaw, HasFlaw, HasFlawAt, IsFrom, IsFirstPlaceFault}
 use Rattle.twp_text.specs.Taking.{item_of, IsTaken, IsFirstFlaw, IsBeforeParts, number_of_section}
-use Rattle.twp_text.proofs.PlaceAnswers.{no_flaw, pairs_of_apart, no_fault}
+use Rattle.twp_text.proofs.PlaceAnswers.{no_flaw, pairs_of_apart}
 
 -- the items before an index lie on the plat, no place is named by two of them, and this is their land
 pub record AreTaken (g : ℕ) (township : Designation) (items : List Item) (index section : ℕ) (places : ℕ → ℕ → ℕ → Bool) : Type 0 where

@@ -13,12 +13,11 @@ use Rattle.twp_text.specs.PlaceFaults.{LiesOnPlat, SharePlace}
 use Rattle.twp_text.specs.Taking.{item_of}
 use Rattle.twp_text.specs.Listing.{AreListed}
 use Rattle.twp_text.specs.CanonicalText.{IsSectionText, IsSectionOfLand}
-use Rattle.twp_text.proofs.Listings.{Among, InOrder, among_contains, contains_among, pairs_order}
-use Rattle.twp_text.proofs.PartOrder.{among_left, among_right}
+use Rattle.twp_text.proofs.Listings.{Among, InOrder, among_contains, contains_among, pairs_order, among_left, among_right, among_either, order_both}
 use Rattle.twp_text.proofs.SpelledTokens.{Line, line_text}
 use Rattle.twp_text.proofs.SpelledWords.{AreSmallLines}
 use Rattle.twp_text.proofs.SpelledItems.{bare, land_items, line_items}
-use Rattle.twp_text.proofs.SpelledParts.{among_append, order_append, Passes, some_passes, passed, AreApart, AreFine, list_parts, lines_parts, parts_of_lines}
+use Rattle.twp_text.proofs.SpelledParts.{Passes, some_passes, passed, AreApart, AreFine, list_parts, lines_parts, parts_of_lines}
 use Rattle.twp_text.proofs.SpelledLists.{NameHeld}
 use Rattle.twp_text.proofs.SpelledLines.{IsLineOf, line_of_section}
 
@@ -66,7 +65,7 @@ of_more first lines p (of_list line there inside) = of_list line (inr there) ins
 of_lines : (lines : List Line) (earlier : ℕ) (p : ItemOfSection) → Among p (lines_parts earlier lines) → IsOfLines lines p
 of_lines [] earlier p there = absurd there
 of_lines (line ∷ lines) earlier p (inl is) = of_section earlier line (inl refl) is
-of_lines (line ∷ lines) earlier p (inr later) = elim (among_append p (list_parts line) (lines_parts line.section lines) later) [
+of_lines (line ∷ lines) earlier p (inr later) = elim (among_either p (list_parts line) (lines_parts line.section lines) later) [
   | inl here ↦ of_list line (inl refl) here
   | inr behind ↦ of_more line lines p (of_lines lines line.section p behind)
 ]
@@ -110,7 +109,7 @@ lines_apart : (g : ℕ) (township : Designation) (places : ℕ → ℕ → ℕ �
 lines_apart g township places [] earlier names rising = tt
 lines_apart g township places (line ∷ lines) earlier names rising =
     ((λ q there share. no_place g earlier line (sections_part earlier line) share.section share.column share.row refl share.in_first),
-    order_append (AreApart g) (list_parts line) (lines_parts line.section lines) (names line (inl refl)).apart
+    order_both (AreApart g) (list_parts line) (lines_parts line.section lines) (names line (inl refl)).apart
     (lines_apart g township places lines line.section (λ l there. names l (inr there)) rising.1)
     (λ p q there there' share.
         let first = (names line (inl refl)).held p there share.section share.column share.row share.in_first in

@@ -16,11 +16,11 @@ use Rattle.twp_text.specs.Taking.{item_of}
 use Rattle.twp_text.specs.Listing.{AreListed}
 use Rattle.twp_text.specs.WrittenParts.{Part, steps_of_part, IsInPart, IsWritten, StandsAhead, AreWrittenParts}
 use Rattle.twp_text.specs.CanonicalText.{off_lots, HoldsEach, IsLotHeld}
-use Rattle.twp_text.proofs.Listings.{Among, InOrder, among_contains, contains_among, pairs_order}
+use Rattle.twp_text.proofs.Listings.{Among, InOrder, among_contains, contains_among, pairs_order, among_left, among_right, among_either, order_both}
 use Rattle.twp_text.proofs.WrittenFacts.{one_part, written_held, HasPart, has_part}
-use Rattle.twp_text.proofs.PartOrder.{among_left, among_right, among_map, full_part, ahead_once}
+use Rattle.twp_text.proofs.PartOrder.{among_map, full_part, ahead_once}
 use Rattle.twp_text.proofs.SpelledItems.{one_lot}
-use Rattle.twp_text.proofs.SpelledParts.{among_append, IsMade, made_of, order_append, order_map, order_weaker, Passes, AreApart}
+use Rattle.twp_text.proofs.SpelledParts.{IsMade, made_of, order_map, order_weaker, Passes, AreApart}
 
 -- the parts of a section's list lie on the plat, share no place, and name what is held of the section
 pub record NameHeld (g : ℕ) (township : Designation) (places : ℕ → ℕ → ℕ → Bool) (section : ℕ) (parts : List ItemOfSection) : Type 0 where
@@ -139,7 +139,7 @@ of_lists section lots parts = map (lot_part section) lots ++ map (aliquot_part s
 
 lies : (g : ℕ) (township : Designation) (places : ℕ → ℕ → ℕ → Bool) (section : ℕ) (lots : List ℕ) (parts : List Part) → IsInLists g places section lots parts
     → (p : ItemOfSection) → Among p (of_lists section lots parts) → LiesOnPlat g township p.section p.item
-lies g township places section lots parts lists p there = elim (among_append p (map (lot_part section) lots) (map (aliquot_part section) parts) there) [
+lies g township places section lots parts lists p there = elim (among_either p (map (lot_part section) lots) (map (aliquot_part section) parts) there) [
   | inl of_lots ↦
       let made = made_of (lot_part section) p lots of_lots in
       let held = lot_held g places section lots parts lists made.thing made.there in
@@ -163,7 +163,7 @@ some_is a b e = cc e
 apart : (g : ℕ) (places : ℕ → ℕ → ℕ → Bool) (section : ℕ) (lots : List ℕ) (parts : List Part) → IsInLists g places section lots parts
     → InOrder (AreApart g) (of_lists section lots parts)
 apart g places section lots parts lists =
-    order_append (AreApart g) (map (lot_part section) lots) (map (aliquot_part section) parts)
+    order_both (AreApart g) (map (lot_part section) lots) (map (aliquot_part section) parts)
     (order_map (lot_part section) (AreApart g) lots (order_weaker ◌<◌ (λ x y. AreApart g (lot_part section x) (lot_part section y)) lots lots_apart (pairs_order ◌<◌ lots lists.lots_are.ordered)))
     (order_map (aliquot_part section) (AreApart g) parts (order_weaker (StandsAhead g) (λ x y. AreApart g (aliquot_part section x) (aliquot_part section y)) parts parts_apart (pairs_order (StandsAhead g) parts lists.parts_are.ordered)))
     across
@@ -197,7 +197,7 @@ apart g places section lots parts lists =
 
 held_there : (g : ℕ) (places : ℕ → ℕ → ℕ → Bool) (section : ℕ) (lots : List ℕ) (parts : List Part) → IsInLists g places section lots parts
     → (p : ItemOfSection) → Among p (of_lists section lots parts) → (s c r : ℕ) → item_places g p s c r ≡ true → (section ≡ s) × (places section c r ≡ true)
-held_there g places section lots parts lists p there s c r inside = elim (among_append p (map (lot_part section) lots) (map (aliquot_part section) parts) there) [
+held_there g places section lots parts lists p there s c r inside = elim (among_either p (map (lot_part section) lots) (map (aliquot_part section) parts) there) [
   | inl of_lots ↦
       let made = made_of (lot_part section) p lots of_lots in
       let here = in_lot g section made.thing s c r (subst (λ (z : ItemOfSection). item_places g z s c r ≡ true) made.is inside) in

@@ -15,15 +15,6 @@ use Rattle.twp_text.proofs.PartOrder.{among_map}
 use Rattle.twp_text.proofs.SpelledTokens.{Entry, every, lots, aliquot, Line}
 use Rattle.twp_text.proofs.SpelledItems.{bare, unplaced, one_lot, entry_items, line_items}
 
--- what stands in one list after another stands in one of the two
-pub among_append : {T : Type 0} (thing : T) (list more : List T) → Among thing (list ++ more) → Among thing list ⊎ Among thing more
-among_append thing [] more there = inr there
-among_append thing (first ∷ list) more (inl here) = inl (inl here)
-among_append thing (first ∷ list) more (inr later) = elim (among_append thing list more later) [
-  | inl in_list ↦ inl (inr in_list)
-  | inr in_more ↦ inr in_more
-]
-
 -- what a thing of a list was made of
 pub record IsMade {T U : Type 0} (f : T → U) (list : List T) (made : U) : Type 0 where
   pub thing : T
@@ -36,15 +27,6 @@ made_of f made (first ∷ list) (inl here) = record { thing = first; there = inl
 made_of f made (first ∷ list) (inr later) =
     let found = made_of f made list later in
     record { thing = found.thing; there = inr found.there; is = found.is }
-
-pub order_append : {T : Type 0} (before : T → T → Type 0) (list more : List T) → InOrder before list → InOrder before more
-    → ((x y : T) → Among x list → Among y more → before x y) → InOrder before (list ++ more)
-order_append before [] more order order' across = order'
-order_append before (first ∷ list) more order order' across =
-    ((λ thing there. elim (among_append thing list more there) [
-      | inl in_list ↦ order.0 thing in_list
-      | inr in_more ↦ across first thing (inl refl) in_more
-    ]), order_append before list more order.1 order' (λ x y there there'. across x y (inr there) there'))
 
 pub order_map : {T U : Type 0} (f : T → U) (before : U → U → Type 0) (list : List T) → InOrder (λ x y. before (f x) (f y)) list → InOrder before (map f list)
 order_map f before [] order = tt

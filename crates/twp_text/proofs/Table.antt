@@ -2,11 +2,7 @@
 use Rattle.std.proofs.Common.{◌≡◌, ℕ, zero, suc, ◌<◌, ◌≤◌, Bool, true, false, ◌&&◌, List, [], ◌∷◌, Option, Some, None, length, get_or, refl, ap, subst, arith}
 use Rattle.std.specs.List.{list_all, list_any}
 use Rattle.twp_text.specs.declared.state.State.{State}
-use Rattle.twp_text.specs.declared.state.State.TheVariants.{Start, Heading, BeforeGroup, Semicolon, Section, Sections, SectionsColon, SectionsAll, Lot, Lots, Parts, End}
-use Rattle.twp_text.specs.declared.state.HeadingState.TheVariants.{Township, TownshipStop, TownshipNumber, TownshipSide, TownshipSideStop, TownshipComma, Range, RangeStop, RangeNumber, RangeSide, RangeSideStop}
-use Rattle.twp_text.specs.declared.state.SectionState.TheVariants as section
-use Rattle.twp_text.specs.declared.state.ListState.TheVariants.{Number, To, Last, Inclusive, Comma, LastComma, And}
-use Rattle.twp_text.specs.declared.state.PartState.TheVariants as part
+use Rattle.twp_text.specs.declared.state.State.TheVariants as past
 use Rattle.twp_text.specs.Grammar.{Class, sec, lot, all, and, to, inclusive, of, the, t, r, north_south, east_west, corner, half, quarter, number, comma, semicolon, colon, stop, other, bad_number, bad_byte, Ebnf, never, nothing, one, ◌⨾◌, ◌∣◌, many, description}
 use Rattle.twp_text.specs.Machine.{next, is_final}
 use Rattle.twp_text.specs.Expected.{named, expected_of}
@@ -19,97 +15,97 @@ after_all g (c ∷ cs) = after_all (after c g) cs
 
 -- a shortest way to each state
 abbrev way_to : State → List Class
-way_to Start = []
-way_to (Heading Township) = t ∷ []
-way_to (Heading TownshipStop) = t ∷ stop ∷ []
-way_to (Heading TownshipNumber) = t ∷ number ∷ []
-way_to (Heading TownshipSide) = t ∷ number ∷ north_south ∷ []
-way_to (Heading TownshipSideStop) = t ∷ number ∷ north_south ∷ stop ∷ []
-way_to (Heading TownshipComma) = t ∷ number ∷ north_south ∷ comma ∷ []
-way_to (Heading Range) = t ∷ number ∷ north_south ∷ r ∷ []
-way_to (Heading RangeStop) = t ∷ number ∷ north_south ∷ r ∷ stop ∷ []
-way_to (Heading RangeNumber) = t ∷ number ∷ north_south ∷ r ∷ number ∷ []
-way_to (Heading RangeSide) = t ∷ number ∷ north_south ∷ r ∷ number ∷ east_west ∷ []
-way_to (Heading RangeSideStop) = t ∷ number ∷ north_south ∷ r ∷ number ∷ east_west ∷ stop ∷ []
-way_to (Section section.Word) = sec ∷ []
-way_to (Section section.Stop) = sec ∷ stop ∷ []
-way_to (Section section.Number) = sec ∷ number ∷ []
-way_to (Section section.Comma) = sec ∷ number ∷ comma ∷ []
-way_to Semicolon = sec ∷ number ∷ semicolon ∷ []
-way_to BeforeGroup = sec ∷ number ∷ semicolon ∷ and ∷ []
-way_to End = sec ∷ number ∷ stop ∷ []
-way_to (Sections To) = sec ∷ number ∷ to ∷ []
-way_to (Sections And) = sec ∷ number ∷ and ∷ []
-way_to (Sections Number) = sec ∷ number ∷ and ∷ number ∷ []
-way_to (Sections Last) = sec ∷ number ∷ to ∷ number ∷ []
-way_to (Sections Inclusive) = sec ∷ number ∷ to ∷ number ∷ inclusive ∷ []
-way_to (Sections Comma) = sec ∷ number ∷ and ∷ number ∷ comma ∷ []
-way_to (Sections LastComma) = sec ∷ number ∷ to ∷ number ∷ comma ∷ []
-way_to SectionsColon = sec ∷ number ∷ and ∷ number ∷ colon ∷ []
-way_to SectionsAll = sec ∷ number ∷ and ∷ number ∷ all ∷ []
-way_to Lot = sec ∷ number ∷ lot ∷ []
-way_to (Lots Number) = sec ∷ number ∷ lot ∷ number ∷ []
-way_to (Lots To) = sec ∷ number ∷ lot ∷ number ∷ to ∷ []
-way_to (Lots Last) = sec ∷ number ∷ lot ∷ number ∷ to ∷ number ∷ []
-way_to (Lots Inclusive) = sec ∷ number ∷ lot ∷ number ∷ to ∷ number ∷ inclusive ∷ []
-way_to (Lots Comma) = sec ∷ number ∷ lot ∷ number ∷ comma ∷ []
-way_to (Lots LastComma) = sec ∷ number ∷ lot ∷ number ∷ to ∷ number ∷ comma ∷ []
-way_to (Lots And) = sec ∷ number ∷ lot ∷ number ∷ and ∷ []
-way_to (Parts part.Before) = sec ∷ number ∷ colon ∷ []
-way_to (Parts part.Side) = sec ∷ number ∷ north_south ∷ []
-way_to (Parts part.Corner) = sec ∷ number ∷ corner ∷ []
-way_to (Parts part.All) = sec ∷ number ∷ all ∷ []
-way_to (Parts part.Comma) = sec ∷ number ∷ all ∷ comma ∷ []
-way_to (Parts part.Step) = sec ∷ number ∷ north_south ∷ half ∷ []
-way_to (Parts part.Of) = sec ∷ number ∷ north_south ∷ half ∷ of ∷ []
-way_to (Parts part.OfThe) = sec ∷ number ∷ north_south ∷ half ∷ of ∷ the ∷ []
+way_to past.Start = []
+way_to past.Township = t ∷ []
+way_to past.TownshipStop = t ∷ stop ∷ []
+way_to past.TownshipNumber = t ∷ number ∷ []
+way_to past.TownshipSide = t ∷ number ∷ north_south ∷ []
+way_to past.TownshipSideStop = t ∷ number ∷ north_south ∷ stop ∷ []
+way_to past.TownshipComma = t ∷ number ∷ north_south ∷ comma ∷ []
+way_to past.Range = t ∷ number ∷ north_south ∷ r ∷ []
+way_to past.RangeStop = t ∷ number ∷ north_south ∷ r ∷ stop ∷ []
+way_to past.RangeNumber = t ∷ number ∷ north_south ∷ r ∷ number ∷ []
+way_to past.RangeSide = t ∷ number ∷ north_south ∷ r ∷ number ∷ east_west ∷ []
+way_to past.RangeSideStop = t ∷ number ∷ north_south ∷ r ∷ number ∷ east_west ∷ stop ∷ []
+way_to past.SectionWord = sec ∷ []
+way_to past.SectionStop = sec ∷ stop ∷ []
+way_to past.SectionNumber = sec ∷ number ∷ []
+way_to past.SectionComma = sec ∷ number ∷ comma ∷ []
+way_to past.Semicolon = sec ∷ number ∷ semicolon ∷ []
+way_to past.BeforeGroup = sec ∷ number ∷ semicolon ∷ and ∷ []
+way_to past.End = sec ∷ number ∷ stop ∷ []
+way_to past.ListTo = sec ∷ number ∷ to ∷ []
+way_to past.ListAnd = sec ∷ number ∷ and ∷ []
+way_to past.ListNumber = sec ∷ number ∷ and ∷ number ∷ []
+way_to past.ListLast = sec ∷ number ∷ to ∷ number ∷ []
+way_to past.ListInclusive = sec ∷ number ∷ to ∷ number ∷ inclusive ∷ []
+way_to past.ListComma = sec ∷ number ∷ and ∷ number ∷ comma ∷ []
+way_to past.ListLastComma = sec ∷ number ∷ to ∷ number ∷ comma ∷ []
+way_to past.ListColon = sec ∷ number ∷ and ∷ number ∷ colon ∷ []
+way_to past.ListAll = sec ∷ number ∷ and ∷ number ∷ all ∷ []
+way_to past.Lot = sec ∷ number ∷ lot ∷ []
+way_to past.LotNumber = sec ∷ number ∷ lot ∷ number ∷ []
+way_to past.LotTo = sec ∷ number ∷ lot ∷ number ∷ to ∷ []
+way_to past.LotLast = sec ∷ number ∷ lot ∷ number ∷ to ∷ number ∷ []
+way_to past.LotInclusive = sec ∷ number ∷ lot ∷ number ∷ to ∷ number ∷ inclusive ∷ []
+way_to past.LotComma = sec ∷ number ∷ lot ∷ number ∷ comma ∷ []
+way_to past.LotLastComma = sec ∷ number ∷ lot ∷ number ∷ to ∷ number ∷ comma ∷ []
+way_to past.LotAnd = sec ∷ number ∷ lot ∷ number ∷ and ∷ []
+way_to past.BeforePart = sec ∷ number ∷ colon ∷ []
+way_to past.Side = sec ∷ number ∷ north_south ∷ []
+way_to past.Corner = sec ∷ number ∷ corner ∷ []
+way_to past.All = sec ∷ number ∷ all ∷ []
+way_to past.PartComma = sec ∷ number ∷ all ∷ comma ∷ []
+way_to past.Step = sec ∷ number ∷ north_south ∷ half ∷ []
+way_to past.Of = sec ∷ number ∷ north_south ∷ half ∷ of ∷ []
+way_to past.OfThe = sec ∷ number ∷ north_south ∷ half ∷ of ∷ the ∷ []
 
 -- a shortest way from each state to the end of a sentence
 abbrev pub way_out : State → List Class
-way_out Start = sec ∷ number ∷ []
-way_out (Heading Township) = number ∷ north_south ∷ r ∷ number ∷ east_west ∷ sec ∷ number ∷ []
-way_out (Heading TownshipStop) = number ∷ north_south ∷ r ∷ number ∷ east_west ∷ sec ∷ number ∷ []
-way_out (Heading TownshipNumber) = north_south ∷ r ∷ number ∷ east_west ∷ sec ∷ number ∷ []
-way_out (Heading TownshipSide) = r ∷ number ∷ east_west ∷ sec ∷ number ∷ []
-way_out (Heading TownshipSideStop) = r ∷ number ∷ east_west ∷ sec ∷ number ∷ []
-way_out (Heading TownshipComma) = r ∷ number ∷ east_west ∷ sec ∷ number ∷ []
-way_out (Heading Range) = number ∷ east_west ∷ sec ∷ number ∷ []
-way_out (Heading RangeStop) = number ∷ east_west ∷ sec ∷ number ∷ []
-way_out (Heading RangeNumber) = east_west ∷ sec ∷ number ∷ []
-way_out (Heading RangeSide) = sec ∷ number ∷ []
-way_out (Heading RangeSideStop) = sec ∷ number ∷ []
-way_out (Section section.Word) = number ∷ []
-way_out (Section section.Stop) = number ∷ []
-way_out (Section section.Number) = []
-way_out (Section section.Comma) = all ∷ []
-way_out Semicolon = sec ∷ number ∷ []
-way_out BeforeGroup = sec ∷ number ∷ []
-way_out End = []
-way_out (Sections To) = number ∷ []
-way_out (Sections And) = number ∷ []
-way_out (Sections Number) = []
-way_out (Sections Last) = []
-way_out (Sections Inclusive) = []
-way_out (Sections Comma) = all ∷ []
-way_out (Sections LastComma) = all ∷ []
-way_out SectionsColon = all ∷ []
-way_out SectionsAll = []
-way_out Lot = number ∷ []
-way_out (Lots Number) = []
-way_out (Lots To) = number ∷ []
-way_out (Lots Last) = []
-way_out (Lots Inclusive) = []
-way_out (Lots Comma) = all ∷ []
-way_out (Lots LastComma) = all ∷ []
-way_out (Lots And) = all ∷ []
-way_out (Parts part.Before) = all ∷ []
-way_out (Parts part.Side) = half ∷ []
-way_out (Parts part.Corner) = quarter ∷ []
-way_out (Parts part.All) = []
-way_out (Parts part.Comma) = all ∷ []
-way_out (Parts part.Step) = []
-way_out (Parts part.Of) = north_south ∷ half ∷ []
-way_out (Parts part.OfThe) = north_south ∷ half ∷ []
+way_out past.Start = sec ∷ number ∷ []
+way_out past.Township = number ∷ north_south ∷ r ∷ number ∷ east_west ∷ sec ∷ number ∷ []
+way_out past.TownshipStop = number ∷ north_south ∷ r ∷ number ∷ east_west ∷ sec ∷ number ∷ []
+way_out past.TownshipNumber = north_south ∷ r ∷ number ∷ east_west ∷ sec ∷ number ∷ []
+way_out past.TownshipSide = r ∷ number ∷ east_west ∷ sec ∷ number ∷ []
+way_out past.TownshipSideStop = r ∷ number ∷ east_west ∷ sec ∷ number ∷ []
+way_out past.TownshipComma = r ∷ number ∷ east_west ∷ sec ∷ number ∷ []
+way_out past.Range = number ∷ east_west ∷ sec ∷ number ∷ []
+way_out past.RangeStop = number ∷ east_west ∷ sec ∷ number ∷ []
+way_out past.RangeNumber = east_west ∷ sec ∷ number ∷ []
+way_out past.RangeSide = sec ∷ number ∷ []
+way_out past.RangeSideStop = sec ∷ number ∷ []
+way_out past.SectionWord = number ∷ []
+way_out past.SectionStop = number ∷ []
+way_out past.SectionNumber = []
+way_out past.SectionComma = all ∷ []
+way_out past.Semicolon = sec ∷ number ∷ []
+way_out past.BeforeGroup = sec ∷ number ∷ []
+way_out past.End = []
+way_out past.ListTo = number ∷ []
+way_out past.ListAnd = number ∷ []
+way_out past.ListNumber = []
+way_out past.ListLast = []
+way_out past.ListInclusive = []
+way_out past.ListComma = all ∷ []
+way_out past.ListLastComma = all ∷ []
+way_out past.ListColon = all ∷ []
+way_out past.ListAll = []
+way_out past.Lot = number ∷ []
+way_out past.LotNumber = []
+way_out past.LotTo = number ∷ []
+way_out past.LotLast = []
+way_out past.LotInclusive = []
+way_out past.LotComma = all ∷ []
+way_out past.LotLastComma = all ∷ []
+way_out past.LotAnd = all ∷ []
+way_out past.BeforePart = all ∷ []
+way_out past.Side = half ∷ []
+way_out past.Corner = quarter ∷ []
+way_out past.All = []
+way_out past.PartComma = all ∷ []
+way_out past.Step = []
+way_out past.Of = north_south ∷ half ∷ []
+way_out past.OfThe = north_south ∷ half ∷ []
 
 -- what the grammar leaves to be read in a state
 unfoldable pub rest : State → Ebnf
@@ -158,50 +154,50 @@ record Row (s : State) : Type 0 where
 
 row : (s : State) → Row s
 unfolding rest after_all
-row Start = record { edges = refl; end = refl; out = refl; few = omega arith; no_byte = refl; no_number = refl; names_all = refl }
-row (Heading Township) = record { edges = refl; end = refl; out = refl; few = omega arith; no_byte = refl; no_number = refl; names_all = refl }
-row (Heading TownshipStop) = record { edges = refl; end = refl; out = refl; few = omega arith; no_byte = refl; no_number = refl; names_all = refl }
-row (Heading TownshipNumber) = record { edges = refl; end = refl; out = refl; few = omega arith; no_byte = refl; no_number = refl; names_all = refl }
-row (Heading TownshipSide) = record { edges = refl; end = refl; out = refl; few = omega arith; no_byte = refl; no_number = refl; names_all = refl }
-row (Heading TownshipSideStop) = record { edges = refl; end = refl; out = refl; few = omega arith; no_byte = refl; no_number = refl; names_all = refl }
-row (Heading TownshipComma) = record { edges = refl; end = refl; out = refl; few = omega arith; no_byte = refl; no_number = refl; names_all = refl }
-row (Heading Range) = record { edges = refl; end = refl; out = refl; few = omega arith; no_byte = refl; no_number = refl; names_all = refl }
-row (Heading RangeStop) = record { edges = refl; end = refl; out = refl; few = omega arith; no_byte = refl; no_number = refl; names_all = refl }
-row (Heading RangeNumber) = record { edges = refl; end = refl; out = refl; few = omega arith; no_byte = refl; no_number = refl; names_all = refl }
-row (Heading RangeSide) = record { edges = refl; end = refl; out = refl; few = omega arith; no_byte = refl; no_number = refl; names_all = refl }
-row (Heading RangeSideStop) = record { edges = refl; end = refl; out = refl; few = omega arith; no_byte = refl; no_number = refl; names_all = refl }
-row (Section section.Word) = record { edges = refl; end = refl; out = refl; few = omega arith; no_byte = refl; no_number = refl; names_all = refl }
-row (Section section.Stop) = record { edges = refl; end = refl; out = refl; few = omega arith; no_byte = refl; no_number = refl; names_all = refl }
-row (Section section.Number) = record { edges = refl; end = refl; out = refl; few = omega arith; no_byte = refl; no_number = refl; names_all = refl }
-row (Section section.Comma) = record { edges = refl; end = refl; out = refl; few = omega arith; no_byte = refl; no_number = refl; names_all = refl }
-row Semicolon = record { edges = refl; end = refl; out = refl; few = omega arith; no_byte = refl; no_number = refl; names_all = refl }
-row BeforeGroup = record { edges = refl; end = refl; out = refl; few = omega arith; no_byte = refl; no_number = refl; names_all = refl }
-row End = record { edges = refl; end = refl; out = refl; few = omega arith; no_byte = refl; no_number = refl; names_all = refl }
-row (Sections To) = record { edges = refl; end = refl; out = refl; few = omega arith; no_byte = refl; no_number = refl; names_all = refl }
-row (Sections And) = record { edges = refl; end = refl; out = refl; few = omega arith; no_byte = refl; no_number = refl; names_all = refl }
-row (Sections Number) = record { edges = refl; end = refl; out = refl; few = omega arith; no_byte = refl; no_number = refl; names_all = refl }
-row (Sections Last) = record { edges = refl; end = refl; out = refl; few = omega arith; no_byte = refl; no_number = refl; names_all = refl }
-row (Sections Inclusive) = record { edges = refl; end = refl; out = refl; few = omega arith; no_byte = refl; no_number = refl; names_all = refl }
-row (Sections Comma) = record { edges = refl; end = refl; out = refl; few = omega arith; no_byte = refl; no_number = refl; names_all = refl }
-row (Sections LastComma) = record { edges = refl; end = refl; out = refl; few = omega arith; no_byte = refl; no_number = refl; names_all = refl }
-row SectionsColon = record { edges = refl; end = refl; out = refl; few = omega arith; no_byte = refl; no_number = refl; names_all = refl }
-row SectionsAll = record { edges = refl; end = refl; out = refl; few = omega arith; no_byte = refl; no_number = refl; names_all = refl }
-row Lot = record { edges = refl; end = refl; out = refl; few = omega arith; no_byte = refl; no_number = refl; names_all = refl }
-row (Lots Number) = record { edges = refl; end = refl; out = refl; few = omega arith; no_byte = refl; no_number = refl; names_all = refl }
-row (Lots To) = record { edges = refl; end = refl; out = refl; few = omega arith; no_byte = refl; no_number = refl; names_all = refl }
-row (Lots Last) = record { edges = refl; end = refl; out = refl; few = omega arith; no_byte = refl; no_number = refl; names_all = refl }
-row (Lots Inclusive) = record { edges = refl; end = refl; out = refl; few = omega arith; no_byte = refl; no_number = refl; names_all = refl }
-row (Lots Comma) = record { edges = refl; end = refl; out = refl; few = omega arith; no_byte = refl; no_number = refl; names_all = refl }
-row (Lots LastComma) = record { edges = refl; end = refl; out = refl; few = omega arith; no_byte = refl; no_number = refl; names_all = refl }
-row (Lots And) = record { edges = refl; end = refl; out = refl; few = omega arith; no_byte = refl; no_number = refl; names_all = refl }
-row (Parts part.Before) = record { edges = refl; end = refl; out = refl; few = omega arith; no_byte = refl; no_number = refl; names_all = refl }
-row (Parts part.Side) = record { edges = refl; end = refl; out = refl; few = omega arith; no_byte = refl; no_number = refl; names_all = refl }
-row (Parts part.Corner) = record { edges = refl; end = refl; out = refl; few = omega arith; no_byte = refl; no_number = refl; names_all = refl }
-row (Parts part.All) = record { edges = refl; end = refl; out = refl; few = omega arith; no_byte = refl; no_number = refl; names_all = refl }
-row (Parts part.Comma) = record { edges = refl; end = refl; out = refl; few = omega arith; no_byte = refl; no_number = refl; names_all = refl }
-row (Parts part.Step) = record { edges = refl; end = refl; out = refl; few = omega arith; no_byte = refl; no_number = refl; names_all = refl }
-row (Parts part.Of) = record { edges = refl; end = refl; out = refl; few = omega arith; no_byte = refl; no_number = refl; names_all = refl }
-row (Parts part.OfThe) = record { edges = refl; end = refl; out = refl; few = omega arith; no_byte = refl; no_number = refl; names_all = refl }
+row past.Start = record { edges = refl; end = refl; out = refl; few = omega arith; no_byte = refl; no_number = refl; names_all = refl }
+row past.Township = record { edges = refl; end = refl; out = refl; few = omega arith; no_byte = refl; no_number = refl; names_all = refl }
+row past.TownshipStop = record { edges = refl; end = refl; out = refl; few = omega arith; no_byte = refl; no_number = refl; names_all = refl }
+row past.TownshipNumber = record { edges = refl; end = refl; out = refl; few = omega arith; no_byte = refl; no_number = refl; names_all = refl }
+row past.TownshipSide = record { edges = refl; end = refl; out = refl; few = omega arith; no_byte = refl; no_number = refl; names_all = refl }
+row past.TownshipSideStop = record { edges = refl; end = refl; out = refl; few = omega arith; no_byte = refl; no_number = refl; names_all = refl }
+row past.TownshipComma = record { edges = refl; end = refl; out = refl; few = omega arith; no_byte = refl; no_number = refl; names_all = refl }
+row past.Range = record { edges = refl; end = refl; out = refl; few = omega arith; no_byte = refl; no_number = refl; names_all = refl }
+row past.RangeStop = record { edges = refl; end = refl; out = refl; few = omega arith; no_byte = refl; no_number = refl; names_all = refl }
+row past.RangeNumber = record { edges = refl; end = refl; out = refl; few = omega arith; no_byte = refl; no_number = refl; names_all = refl }
+row past.RangeSide = record { edges = refl; end = refl; out = refl; few = omega arith; no_byte = refl; no_number = refl; names_all = refl }
+row past.RangeSideStop = record { edges = refl; end = refl; out = refl; few = omega arith; no_byte = refl; no_number = refl; names_all = refl }
+row past.SectionWord = record { edges = refl; end = refl; out = refl; few = omega arith; no_byte = refl; no_number = refl; names_all = refl }
+row past.SectionStop = record { edges = refl; end = refl; out = refl; few = omega arith; no_byte = refl; no_number = refl; names_all = refl }
+row past.SectionNumber = record { edges = refl; end = refl; out = refl; few = omega arith; no_byte = refl; no_number = refl; names_all = refl }
+row past.SectionComma = record { edges = refl; end = refl; out = refl; few = omega arith; no_byte = refl; no_number = refl; names_all = refl }
+row past.Semicolon = record { edges = refl; end = refl; out = refl; few = omega arith; no_byte = refl; no_number = refl; names_all = refl }
+row past.BeforeGroup = record { edges = refl; end = refl; out = refl; few = omega arith; no_byte = refl; no_number = refl; names_all = refl }
+row past.End = record { edges = refl; end = refl; out = refl; few = omega arith; no_byte = refl; no_number = refl; names_all = refl }
+row past.ListTo = record { edges = refl; end = refl; out = refl; few = omega arith; no_byte = refl; no_number = refl; names_all = refl }
+row past.ListAnd = record { edges = refl; end = refl; out = refl; few = omega arith; no_byte = refl; no_number = refl; names_all = refl }
+row past.ListNumber = record { edges = refl; end = refl; out = refl; few = omega arith; no_byte = refl; no_number = refl; names_all = refl }
+row past.ListLast = record { edges = refl; end = refl; out = refl; few = omega arith; no_byte = refl; no_number = refl; names_all = refl }
+row past.ListInclusive = record { edges = refl; end = refl; out = refl; few = omega arith; no_byte = refl; no_number = refl; names_all = refl }
+row past.ListComma = record { edges = refl; end = refl; out = refl; few = omega arith; no_byte = refl; no_number = refl; names_all = refl }
+row past.ListLastComma = record { edges = refl; end = refl; out = refl; few = omega arith; no_byte = refl; no_number = refl; names_all = refl }
+row past.ListColon = record { edges = refl; end = refl; out = refl; few = omega arith; no_byte = refl; no_number = refl; names_all = refl }
+row past.ListAll = record { edges = refl; end = refl; out = refl; few = omega arith; no_byte = refl; no_number = refl; names_all = refl }
+row past.Lot = record { edges = refl; end = refl; out = refl; few = omega arith; no_byte = refl; no_number = refl; names_all = refl }
+row past.LotNumber = record { edges = refl; end = refl; out = refl; few = omega arith; no_byte = refl; no_number = refl; names_all = refl }
+row past.LotTo = record { edges = refl; end = refl; out = refl; few = omega arith; no_byte = refl; no_number = refl; names_all = refl }
+row past.LotLast = record { edges = refl; end = refl; out = refl; few = omega arith; no_byte = refl; no_number = refl; names_all = refl }
+row past.LotInclusive = record { edges = refl; end = refl; out = refl; few = omega arith; no_byte = refl; no_number = refl; names_all = refl }
+row past.LotComma = record { edges = refl; end = refl; out = refl; few = omega arith; no_byte = refl; no_number = refl; names_all = refl }
+row past.LotLastComma = record { edges = refl; end = refl; out = refl; few = omega arith; no_byte = refl; no_number = refl; names_all = refl }
+row past.LotAnd = record { edges = refl; end = refl; out = refl; few = omega arith; no_byte = refl; no_number = refl; names_all = refl }
+row past.BeforePart = record { edges = refl; end = refl; out = refl; few = omega arith; no_byte = refl; no_number = refl; names_all = refl }
+row past.Side = record { edges = refl; end = refl; out = refl; few = omega arith; no_byte = refl; no_number = refl; names_all = refl }
+row past.Corner = record { edges = refl; end = refl; out = refl; few = omega arith; no_byte = refl; no_number = refl; names_all = refl }
+row past.All = record { edges = refl; end = refl; out = refl; few = omega arith; no_byte = refl; no_number = refl; names_all = refl }
+row past.PartComma = record { edges = refl; end = refl; out = refl; few = omega arith; no_byte = refl; no_number = refl; names_all = refl }
+row past.Step = record { edges = refl; end = refl; out = refl; few = omega arith; no_byte = refl; no_number = refl; names_all = refl }
+row past.Of = record { edges = refl; end = refl; out = refl; few = omega arith; no_byte = refl; no_number = refl; names_all = refl }
+row past.OfThe = record { edges = refl; end = refl; out = refl; few = omega arith; no_byte = refl; no_number = refl; names_all = refl }
 
 both : (x y : Bool) → (x && y) ≡ true → (x ≡ true) × (y ≡ true)
 both true y h = (refl, h)
@@ -273,7 +269,7 @@ leads s = (row s).out
 pub few : (s : State) → length (way_out s) ≤ 7
 few s = (row s).few
 
-pub rest_at_start : rest Start ≡ description
+pub rest_at_start : rest past.Start ≡ description
 unfolding rest after_all
 rest_at_start = refl
 

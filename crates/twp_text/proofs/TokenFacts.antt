@@ -2,14 +2,14 @@
 -- bytes have one list of tokens.
 use Rattle.std.proofs.Common.{◌≡◌, ℕ, zero, suc, ◌+◌, ◌-◌, ◌<◌, ◌≤◌, false, List, [], ◌∷◌, ◌++◌, length, take, drop, refl, sym, ap, subst, ◌∙◌, arith, length-append, length-drop, length-take-le}
 use Rattle.std.specs.List.{prefix_len, AllPass}
-use Rattle.std.proofs.lemmas.List.{take-append-drop, append-nil, drop_all}
+use Rattle.std.proofs.lemmas.List.{take-append-drop, append-nil, drop_all, drop-drop}
 use Rattle.std.proofs.lemmas.List.Sums.{AllPass-from_list_all, list_all-from_AllPass}
 use Rattle.std.proofs.lemmas.List.Folds.{length-prefix_len}
 use Rattle.std.proofs.Math.Seq.{take-append_seam, drop-append_seam}
 use Rattle.twp_text.specs.declared.kind.Kind.{Kind}
 use Rattle.twp_text.specs.declared.lexeme.Lexeme.{Lexeme}
-use Rattle.twp_text.specs.Cutting.{lexeme, cut}
-use Rattle.twp_text.specs.Tokens.{is_white, begins_with, IsToken, StartsWith, HasTokens, Token, Left}
+use Rattle.twp_text.specs.Cutting.{lexeme, cut, IsFirstIn}
+use Rattle.twp_text.specs.Tokens.{is_white, begins_with, StartsWith, HasTokens, Token}
 use Rattle.twp_text.proofs.Cuts.{run_len, front_passes, front_ends, IsTheCut, the_cut, IsFirstToken, cut_is_token, kind_of_cut, size_of_cut}
 
 abbrev spaces : List ℕ → ℕ
@@ -42,52 +42,48 @@ starts_with at bytes some =
       is = first.is;
     }
 
--- what is left of a text, in front of it white space, and the token behind that
-pub record IsCutUp (s : Left) (at : ℕ) (bytes front left : List ℕ) : Type 0 where
-  pub view : let here : Left = record { at = at; bytes = bytes } in here ≡ s
-  pub front_is : front ≡ take (spaces bytes) bytes
-  pub left_is : left ≡ drop (spaces bytes) bytes
-
-pub cut_up : (s : Left) (at : ℕ) (bytes front left : List ℕ) (n : ℕ) → (let here : Left = record { at = at; bytes = bytes } in here ≡ s) → n ≡ spaces bytes → front ≡ take n bytes → left ≡ drop n bytes → IsCutUp s at bytes front left
-cut_up s at bytes front left n view is front_is left_is = record {
-  view = view;
-  front_is = front_is ∙ ap (λ m. take m bytes) is;
-  left_is = left_is ∙ ap (λ m. drop m bytes) is;
-}
-
 nothing : (bytes : List ℕ) → length bytes ≡ 0 → bytes ≡ []
 nothing [] h = refl
 nothing (byte ∷ bytes) h = absurd (omega arith)
 
-abbrev GivesNone : Left → Left → Type 0
-GivesNone left after = AllPass is_white left.bytes × (after ≡ record { at = left.at + length left.bytes; bytes = [] })
+no_more : (bytes : List ℕ) → drop (spaces bytes) bytes ≡ [] → AllPass is_white bytes
+no_more bytes e =
+    let whole : take (spaces bytes) bytes ≡ bytes = sym (append-nil (take (spaces bytes) bytes)) ∙ ap (λ t. take (spaces bytes) bytes ++ t) (sym e) ∙ take-append-drop (spaces bytes) bytes in
+    subst (λ (t : List ℕ). AllPass is_white t) whole (all_white bytes)
 
-pub gives_none : (s : Left) (at : ℕ) (bytes front left : List ℕ) → IsCutUp s at bytes front left → length left ≡ 0 → GivesNone s (record { at = at + length front; bytes = left })
-gives_none s at bytes front left cuts empty =
-    let no_left : left ≡ [] = nothing left empty in
-    let rest : drop (spaces bytes) bytes ≡ [] = sym cuts.left_is ∙ no_left in
-    let whole : front ≡ bytes = cuts.front_is ∙ sym (append-nil (take (spaces bytes) bytes)) ∙ ap (λ t. take (spaces bytes) bytes ++ t) (sym rest) ∙ take-append-drop (spaces bytes) bytes in
-    let white : AllPass is_white bytes = subst (λ (t : List ℕ). AllPass is_white t) (sym cuts.front_is ∙ whole) (all_white bytes) in
-    let here : GivesNone (record { at = at; bytes = bytes }) (record { at = at + length front; bytes = left }) = (white, rw (no_left, whole) refl) in
-    subst (λ (t : Left). GivesNone t (record { at = at + length front; bytes = left })) cuts.view here
+-- the bytes from the place behind the white space
+behind_spaces : (text : List ℕ) (from at : ℕ) → at ≡ from + spaces (drop from text) → drop (spaces (drop from text)) (drop from text) ≡ drop at text
+behind_spaces text from at is = drop-drop (spaces (drop from text)) from text ∙ ap (λ n. drop n text) (sym is)
 
-pub gives_fits : (s : Left) (at : ℕ) (bytes front left : List ℕ) → IsCutUp s at bytes front left → 0 < length left → IsFirstToken left (cut left)
-gives_fits s at bytes front left cuts some =
-    subst (λ (t : List ℕ). IsFirstToken t (cut t)) (sym cuts.left_is) (first_behind bytes (rw cuts.left_is at some))
+-- the token that is cut there
+pub first_at : (text : List ℕ) (from at : ℕ) → at ≡ from + spaces (drop from text) → at < length text → IsFirstToken (drop at text) (cut (drop at text))
+first_at text from at is below =
+    let left : drop (spaces (drop from text)) (drop from text) ≡ drop at text = behind_spaces text from at is in
+    subst (λ (b : List ℕ). IsFirstToken b (cut b)) left (first_behind (drop from text) (rw left (rw (length-drop at text) (omega arith))))
 
-abbrev GivesSome : Left → Token → Left → Type 0
-GivesSome left token after = StartsWith left.at left.bytes token after.bytes × (after.at ≡ token.at + length token.text)
+pub first_in : (text : List ℕ) (from at : ℕ) (l : Lexeme) (token : List ℕ) → at ≡ from + spaces (drop from text) → at < length text → l ≡ cut (drop at text) → token ≡ take l.size (drop at text) → IsFirstIn text from (record { kind = l.kind; text = token; at = at })
+first_in text from at l token is below l_is token_is =
+    let bytes : List ℕ = drop from text in
+    let left : drop (spaces bytes) bytes ≡ drop at text = behind_spaces text from at is in
+    let some : 0 < length (drop at text) = rw (length-drop at text) (omega arith) in
+    let first : IsFirstToken (drop at text) l = subst (λ (m : Lexeme). IsFirstToken (drop at text) m) (sym l_is) (first_at text from at is below) in
+    let fits : l.size ≤ length text - at = rw (length-drop at text) at first.fits in
+    let positive : 0 < l.size = first.some in
+    let size : length token ≡ l.size = rw token_is (length-take-le l.size (drop at text) first.fits) in
+    let here : StartsWith from bytes (token_with (cut (drop at text)) (from + spaces bytes) (drop at text)) (drop (cut (drop at text)).size (drop at text)) =
+    subst (λ (b : List ℕ). StartsWith from bytes (token_with (cut b) (from + spaces bytes) b) (drop (cut b).size b)) left (starts_with from bytes (rw left some)) in
+    let placed : StartsWith from bytes (token_with (cut (drop at text)) at (drop at text)) (drop (cut (drop at text)).size (drop at text)) =
+    subst (λ (n : ℕ). StartsWith from bytes (token_with (cut (drop at text)) n (drop at text)) (drop (cut (drop at text)).size (drop at text))) (sym is) here in
+    let starts : StartsWith from bytes (token_with l at (drop at text)) (drop l.size (drop at text)) =
+    subst (λ (m : Lexeme). StartsWith from bytes (token_with m at (drop at text)) (drop m.size (drop at text))) (sym l_is) placed in
+    record {
+      starts = rw (size, sym (drop-drop l.size at text), token_is) starts;
+      further = rw size (omega arith);
+      within = rw size (omega arith);
+    }
 
-pub gives_some : (s : Left) (at : ℕ) (bytes front left : List ℕ) (l : Lexeme) (text rest : List ℕ) → IsCutUp s at bytes front left → 0 < length left → l ≡ cut left → text ≡ take l.size left → rest ≡ drop l.size left → GivesSome s (record { kind = l.kind; text = text; at = at + length front }) (record { at = at + length front + l.size; bytes = rest })
-gives_some s at bytes front left l text rest cuts some l_is text_is rest_is =
-    let first : IsFirstToken left l = subst (λ (m : Lexeme). IsFirstToken left m) (sym l_is) (gives_fits s at bytes front left cuts some) in
-    let size : length text ≡ l.size = rw text_is (length-take-le l.size left first.fits) in
-    let white : AllPass is_white front = subst (λ (t : List ℕ). AllPass is_white t) (sym cuts.front_is) (all_white bytes) in
-    let spelt : bytes ≡ front ++ (text ++ rest) = sym (rw (cuts.front_is, text_is, rest_is, take-append-drop l.size left, cuts.left_is) (take-append-drop (spaces bytes) bytes)) in
-    let is : IsToken text rest l.kind = rw (text_is, rest_is) first.is in
-    let here : GivesSome (record { at = at; bytes = bytes }) (record { kind = l.kind; text = text; at = at + length front }) (record { at = at + length front + l.size; bytes = rest }) =
-    (record { space = front; white = white; spelt = spelt; place = refl; is = is }, rw size refl) in
-    subst (λ (t : Left). GivesSome t (record { kind = l.kind; text = text; at = at + length front }) (record { at = at + length front + l.size; bytes = rest })) cuts.view here
+pub none_in : (text : List ℕ) (from : ℕ) → length text ≡ from + spaces (drop from text) → AllPass is_white (drop from text)
+none_in text from is = no_more (drop from text) (behind_spaces text from (length text) is ∙ drop_all (length text) text (omega arith))
 
 -- what the bytes say of a token that they begin with
 record IsStart (at : ℕ) (bytes : List ℕ) (token : Token) (rest : List ℕ) : Type 0 where
@@ -152,11 +148,6 @@ one_token_list at bytes (token ∷ tokens) (token' ∷ tokens') (rest, starts, m
 -- each list of bytes is cut into tokens
 abbrev pub Cutting : ℕ → List ℕ → Type 0
 Cutting at bytes = (tokens : List Token) × HasTokens at bytes tokens
-
-no_more : (bytes : List ℕ) → drop (spaces bytes) bytes ≡ [] → AllPass is_white bytes
-no_more bytes e =
-    let whole : take (spaces bytes) bytes ≡ bytes = sym (append-nil (take (spaces bytes) bytes)) ∙ ap (λ t. take (spaces bytes) bytes ++ t) (sym e) ∙ take-append-drop (spaces bytes) bytes in
-    subst (λ (t : List ℕ). AllPass is_white t) whole (all_white bytes)
 
 cut_one : (n : ℕ) → ((at : ℕ) (bytes : List ℕ) → length bytes ≤ n → Cutting at bytes) → (at : ℕ) (bytes : List ℕ) → length bytes ≤ suc n → (left : List ℕ) → drop (spaces bytes) bytes ≡ left → Cutting at bytes
 cut_one n others at bytes few [] e = ([], no_more bytes e)

@@ -8,12 +8,7 @@ use Rattle.twp_text.specs.declared.item.Item.TheVariants as item
 use Rattle.twp_text.specs.declared.item.Numeral.{Numeral}
 use Rattle.twp_text.specs.declared.item.Step.{Step}
 use Rattle.twp_text.specs.declared.state.State.{State}
-use Rattle.twp_text.specs.declared.state.State.TheVariants.{Start, Heading, BeforeGroup, Semicolon, Section, Sections, SectionsAll, Lot, Lots, Parts, End}
-use Rattle.twp_text.specs.declared.state.HeadingState.TheVariants.{TownshipNumber, Range as RangeLetter, RangeNumber, RangeSide, RangeSideStop}
-use Rattle.twp_text.specs.declared.state.SectionState.TheVariants as section
-use Rattle.twp_text.specs.declared.state.ListState.{ListState}
-use Rattle.twp_text.specs.declared.state.ListState.TheVariants as list
-use Rattle.twp_text.specs.declared.state.PartState.TheVariants as part_state
+use Rattle.twp_text.specs.declared.state.State.TheVariants as past
 use Rattle.twp_grid.specs.declared.township.NorthSouth.TheVariants as ns
 use Rattle.twp_grid.specs.declared.township.EastWest.TheVariants as ew
 use Rattle.twp_text.specs.Tokens.{Token}
@@ -72,11 +67,11 @@ data Growing : Type 0 where
   at_the : Growing
 
 abbrev growing : Growing → State
-growing at_step = Parts part_state.Step
-growing at_of = Parts part_state.Of
-growing at_the = Parts part_state.OfThe
+growing at_step = past.Step
+growing at_of = past.Of
+growing at_the = past.OfThe
 
-grow : (from : Growing) (v : Tree step) (steps : List Step) (at : ℕ) (is : List Item) (ts : List Token) → run (Some (growing from)) (item.Chain steps at ∷ is) (onto step v ts) ≡ run (Some (Parts part_state.Step)) (item.Chain (steps ++ step_of v ∷ []) at ∷ is) ts
+grow : (from : Growing) (v : Tree step) (steps : List Step) (at : ℕ) (is : List Item) (ts : List Token) → run (Some (growing from)) (item.Chain steps at ∷ is) (onto step v ts) ≡ run (Some past.Step) (item.Chain (steps ++ step_of v ∷ []) at ∷ is) ts
 grow at_step (inl (inl side & _)) steps at is ts = refl
 grow at_step (inl (inr side & _)) steps at is ts = refl
 grow at_step (inr (which & _)) steps at is ts = refl
@@ -90,16 +85,16 @@ grow at_the (inr (which & _)) steps at is ts = refl
 abbrev further_steps : Ebnf
 further_steps = many (maybe (one of ⨾ maybe (one the)) ⨾ step)
 
-grow_further : (v : Tree (maybe (one of ⨾ maybe (one the)) ⨾ step)) (steps : List Step) (at : ℕ) (is : List Item) (ts : List Token) → run (Some (Parts part_state.Step)) (item.Chain steps at ∷ is) (onto (maybe (one of ⨾ maybe (one the)) ⨾ step) v ts) ≡ run (Some (Parts part_state.Step)) (item.Chain (steps ++ behind step_of v ∷ []) at ∷ is) ts
+grow_further : (v : Tree (maybe (one of ⨾ maybe (one the)) ⨾ step)) (steps : List Step) (at : ℕ) (is : List Item) (ts : List Token) → run (Some past.Step) (item.Chain steps at ∷ is) (onto (maybe (one of ⨾ maybe (one the)) ⨾ step) v ts) ≡ run (Some past.Step) (item.Chain (steps ++ behind step_of v ∷ []) at ∷ is) ts
 grow_further (inl (_ & inl _) & v) steps at is ts = grow at_the v steps at is ts
 grow_further (inl (_ & inr _) & v) steps at is ts = grow at_of v steps at is ts
 grow_further (inr _ & v) steps at is ts = grow at_step v steps at is ts
 
-grow_all : (vs : Tree further_steps) (steps : List Step) (at : ℕ) (is : List Item) (ts : List Token) → run (Some (Parts part_state.Step)) (item.Chain steps at ∷ is) (onto further_steps vs ts) ≡ run (Some (Parts part_state.Step)) (item.Chain (steps ++ map (behind step_of) vs) at ∷ is) ts
-grow_all [] steps at is ts = ap (λ all_steps. run (Some (Parts part_state.Step)) (item.Chain all_steps at ∷ is) ts) (sym (append-nil steps))
+grow_all : (vs : Tree further_steps) (steps : List Step) (at : ℕ) (is : List Item) (ts : List Token) → run (Some past.Step) (item.Chain steps at ∷ is) (onto further_steps vs ts) ≡ run (Some past.Step) (item.Chain (steps ++ map (behind step_of) vs) at ∷ is) ts
+grow_all [] steps at is ts = ap (λ all_steps. run (Some past.Step) (item.Chain all_steps at ∷ is) ts) (sym (append-nil steps))
 grow_all (v ∷ vs) steps at is ts =
     grow_further v steps at is (onto further_steps vs ts) ∙ grow_all vs (steps ++ behind step_of v ∷ []) at is ts
-    ∙ ap (λ all_steps. run (Some (Parts part_state.Step)) (item.Chain all_steps at ∷ is) ts) (append_assoc steps (behind step_of v ∷ []) (map (behind step_of) vs))
+    ∙ ap (λ all_steps. run (Some past.Step) (item.Chain all_steps at ∷ is) ts) (append_assoc steps (behind step_of v ∷ []) (map (behind step_of) vs))
 
 -- the end of an entry: behind a number alone, behind a range, or behind `inclusive`
 data EntryEnd : Type 0 where
@@ -107,21 +102,11 @@ data EntryEnd : Type 0 where
   at_last : EntryEnd
   at_inclusive : EntryEnd
 
-abbrev entry_end : EntryEnd → ListState
-entry_end at_number = list.Number
-entry_end at_last = list.Last
-entry_end at_inclusive = list.Inclusive
-
 -- what a separator leads to
 data Separated : Type 0 where
   at_comma : Separated
   at_last_comma : Separated
   at_and : Separated
-
-abbrev separated : Separated → ListState
-separated at_comma = list.Comma
-separated at_last_comma = list.LastComma
-separated at_and = list.And
 
 abbrev behind_separator : EntryEnd → Tree separator → Separated
 behind_separator _ (inl (_ & inl _)) = at_and
@@ -135,9 +120,21 @@ data Listed : Type 0 where
   of_sections : Listed
   of_lots : Listed
 
-abbrev in_list : Listed → ListState → State
-in_list of_sections state = Sections state
-in_list of_lots state = Lots state
+abbrev ended : Listed → EntryEnd → State
+ended of_sections at_number = past.ListNumber
+ended of_sections at_last = past.ListLast
+ended of_sections at_inclusive = past.ListInclusive
+ended of_lots at_number = past.LotNumber
+ended of_lots at_last = past.LotLast
+ended of_lots at_inclusive = past.LotInclusive
+
+abbrev separated : Listed → Separated → State
+separated of_sections at_comma = past.ListComma
+separated of_sections at_last_comma = past.ListLastComma
+separated of_sections at_and = past.ListAnd
+separated of_lots at_comma = past.LotComma
+separated of_lots at_last_comma = past.LotLastComma
+separated of_lots at_and = past.LotAnd
 
 abbrev listed_item : Listed → Range → Item
 listed_item of_sections = whole_sections_item
@@ -146,7 +143,7 @@ listed_item of_lots = lots_item
 abbrev range : Numeral → Numeral → Range
 range first last = record { first = first; last = last }
 
-read_separator : (listed : Listed) (end : EntryEnd) (v : Tree separator) (is : List Item) (ts : List Token) → run (Some (in_list listed (entry_end end))) is (onto separator v ts) ≡ run (Some (in_list listed (separated (behind_separator end v)))) is ts
+read_separator : (listed : Listed) (end : EntryEnd) (v : Tree separator) (is : List Item) (ts : List Token) → run (Some (ended listed end)) is (onto separator v ts) ≡ run (Some (separated listed (behind_separator end v))) is ts
 read_separator of_sections at_number (inl (_ & inl _)) is ts = refl
 read_separator of_sections at_number (inl (_ & inr _)) is ts = refl
 read_separator of_sections at_number (inr _) is ts = refl
@@ -172,8 +169,8 @@ data Numbered : Type 0 where
   listed_number : Listed → Numbered
 
 abbrev numbered : Numbered → State
-numbered one_section = Section section.Number
-numbered (listed_number listed) = in_list listed list.Number
+numbered one_section = past.SectionNumber
+numbered (listed_number listed) = ended listed at_number
 
 abbrev list_of : Numbered → Listed
 list_of one_section = of_sections
@@ -183,7 +180,7 @@ abbrev through_end : Tree through → EntryEnd
 through_end (_ & _ & inl _) = at_inclusive
 through_end (_ & _ & inr _) = at_last
 
-read_through : (from : Numbered) (v : Tree through) (first last : Numeral) (is : List Item) (ts : List Token) → run (Some (numbered from)) (listed_item (list_of from) (range first last) ∷ is) (onto through v ts) ≡ run (Some (in_list (list_of from) (entry_end (through_end v)))) (listed_item (list_of from) (range first (end_of v)) ∷ is) ts
+read_through : (from : Numbered) (v : Tree through) (first last : Numeral) (is : List Item) (ts : List Token) → run (Some (numbered from)) (listed_item (list_of from) (range first last) ∷ is) (onto through v ts) ≡ run (Some (ended (list_of from) (through_end v))) (listed_item (list_of from) (range first (end_of v)) ∷ is) ts
 read_through one_section (_ & _ & inl (inl _ & _)) first last is ts = refl
 read_through one_section (_ & _ & inl (inr _ & _)) first last is ts = refl
 read_through one_section (_ & _ & inr _) first last is ts = refl
@@ -201,16 +198,16 @@ data EntryStart : Type 0 where
   listed_entry : Listed → Separated → EntryStart
 
 abbrev entry_start : EntryStart → State
-entry_start first_lot = Lot
-entry_start second_section = Section section.Comma
-entry_start (listed_entry listed at) = in_list listed (separated at)
+entry_start first_lot = past.Lot
+entry_start second_section = past.SectionComma
+entry_start (listed_entry listed at) = separated listed at
 
 abbrev list_of_entry : EntryStart → Listed
 list_of_entry first_lot = of_lots
 list_of_entry second_section = of_sections
 list_of_entry (listed_entry listed at) = listed
 
-read_number : (from : EntryStart) (n : Leaf number) (is : List Item) (ts : List Token) → run (Some (entry_start from)) is (token_of number n ∷ ts) ≡ run (Some (in_list (list_of_entry from) list.Number)) (listed_item (list_of_entry from) (range (numeral n) (numeral n)) ∷ is) ts
+read_number : (from : EntryStart) (n : Leaf number) (is : List Item) (ts : List Token) → run (Some (entry_start from)) is (token_of number n ∷ ts) ≡ run (Some (ended (list_of_entry from) at_number)) (listed_item (list_of_entry from) (range (numeral n) (numeral n)) ∷ is) ts
 read_number first_lot n is ts = refl
 read_number second_section n is ts = refl
 read_number (listed_entry of_sections at_comma) n is ts = refl
@@ -224,7 +221,7 @@ abbrev end_of_entry : Tree entry → EntryEnd
 end_of_entry (_ & inl thru) = through_end thru
 end_of_entry (_ & inr _) = at_number
 
-read_entry : (from : EntryStart) (v : Tree entry) (is : List Item) (ts : List Token) → run (Some (entry_start from)) is (onto entry v ts) ≡ run (Some (in_list (list_of_entry from) (entry_end (end_of_entry v)))) (listed_item (list_of_entry from) (range_of v) ∷ is) ts
+read_entry : (from : EntryStart) (v : Tree entry) (is : List Item) (ts : List Token) → run (Some (entry_start from)) is (onto entry v ts) ≡ run (Some (ended (list_of_entry from) (end_of_entry v))) (listed_item (list_of_entry from) (range_of v) ∷ is) ts
 read_entry from (n & inl thru) is ts =
     read_number from n is (onto through thru ts) ∙ read_through (listed_number (list_of_entry from)) thru (numeral n) (numeral n) is ts
 read_entry from (n & inr _) is ts = read_number from n is ts
@@ -236,7 +233,7 @@ abbrev end_of_entries : EntryEnd → Tree further_entries → EntryEnd
 end_of_entries end [] = end
 end_of_entries end ((_ & v) ∷ vs) = end_of_entries (end_of_entry v) vs
 
-read_entries : (listed : Listed) (end : EntryEnd) (vs : Tree further_entries) (is : List Item) (ts : List Token) → run (Some (in_list listed (entry_end end))) is (onto further_entries vs ts) ≡ run (Some (in_list listed (entry_end (end_of_entries end vs)))) (newest_first (map (listed_item listed) (map (behind range_of) vs)) is) ts
+read_entries : (listed : Listed) (end : EntryEnd) (vs : Tree further_entries) (is : List Item) (ts : List Token) → run (Some (ended listed end)) is (onto further_entries vs ts) ≡ run (Some (ended listed (end_of_entries end vs))) (newest_first (map (listed_item listed) (map (behind range_of) vs)) is) ts
 read_entries listed end [] is ts = refl
 read_entries listed end ((s & v) ∷ vs) is ts =
     read_separator listed end s is (onto entry v (onto further_entries vs ts))
@@ -252,11 +249,11 @@ data PartStart : Type 0 where
   behind_lots : Separated → PartStart
 
 abbrev part_start : PartStart → State
-part_start section_number = Section section.Number
-part_start section_comma = Section section.Comma
-part_start before = Parts part_state.Before
-part_start part_comma = Parts part_state.Comma
-part_start (behind_lots at) = Lots (separated at)
+part_start section_number = past.SectionNumber
+part_start section_comma = past.SectionComma
+part_start before = past.BeforePart
+part_start part_comma = past.PartComma
+part_start (behind_lots at) = separated of_lots at
 
 -- where a part ends
 data PartEnd : Type 0 where
@@ -265,16 +262,16 @@ data PartEnd : Type 0 where
   lots_end : EntryEnd → PartEnd
 
 abbrev part_end : PartEnd → State
-part_end chain_end = Parts part_state.Step
-part_end all_end = Parts part_state.All
-part_end (lots_end end) = Lots (entry_end end)
+part_end chain_end = past.Step
+part_end all_end = past.All
+part_end (lots_end end) = ended of_lots end
 
 abbrev end_of_part : Tree part → PartEnd
 end_of_part (inl (_ & first & more)) = lots_end (end_of_entries (end_of_entry first) more)
 end_of_part (inr (inl _)) = chain_end
 end_of_part (inr (inr _)) = all_end
 
-begin_chain : (from : PartStart) (v : Tree step) (is : List Item) (ts : List Token) → run (Some (part_start from)) is (onto step v ts) ≡ run (Some (Parts part_state.Step)) (item.Chain (step_of v ∷ []) (place_of_step v) ∷ before_parts (part_start from) is) ts
+begin_chain : (from : PartStart) (v : Tree step) (is : List Item) (ts : List Token) → run (Some (part_start from)) is (onto step v ts) ≡ run (Some past.Step) (item.Chain (step_of v ∷ []) (place_of_step v) ∷ before_parts (part_start from) is) ts
 begin_chain section_number (inl (inl side & _)) is ts = refl
 begin_chain section_number (inl (inr side & _)) is ts = refl
 begin_chain section_number (inr (which & _)) is ts = refl
@@ -297,7 +294,7 @@ begin_chain (behind_lots at_and) (inl (inl side & _)) is ts = refl
 begin_chain (behind_lots at_and) (inl (inr side & _)) is ts = refl
 begin_chain (behind_lots at_and) (inr (which & _)) is ts = refl
 
-begin_lots : (from : PartStart) (word : Leaf lot) (is : List Item) (ts : List Token) → run (Some (part_start from)) is (token_of lot word ∷ ts) ≡ run (Some Lot) (before_parts (part_start from) is) ts
+begin_lots : (from : PartStart) (word : Leaf lot) (is : List Item) (ts : List Token) → run (Some (part_start from)) is (token_of lot word ∷ ts) ≡ run (Some past.Lot) (before_parts (part_start from) is) ts
 begin_lots section_number word is ts = refl
 begin_lots section_comma word is ts = refl
 begin_lots before word is ts = refl
@@ -306,7 +303,7 @@ begin_lots (behind_lots at_comma) word is ts = refl
 begin_lots (behind_lots at_last_comma) word is ts = refl
 begin_lots (behind_lots at_and) word is ts = refl
 
-read_all : (from : PartStart) (word : Leaf all) (is : List Item) (ts : List Token) → run (Some (part_start from)) is (token_of all word ∷ ts) ≡ run (Some (Parts part_state.All)) (item.All word.at ∷ before_parts (part_start from) is) ts
+read_all : (from : PartStart) (word : Leaf all) (is : List Item) (ts : List Token) → run (Some (part_start from)) is (token_of all word ∷ ts) ≡ run (Some past.All) (item.All word.at ∷ before_parts (part_start from) is) ts
 read_all section_number word is ts = refl
 read_all section_comma word is ts = refl
 read_all before word is ts = refl
@@ -344,6 +341,11 @@ read_part_separator all_end (inr _) is ts = refl
 read_part_separator (lots_end end) v is ts = read_separator of_lots end v is ts
 
 -- the section is already one that isn't whole
+lots_parted : (at : Separated) (is : List Item) → before_parts (separated of_lots at) is ≡ is
+lots_parted at_comma is = refl
+lots_parted at_last_comma is = refl
+lots_parted at_and is = refl
+
 already_parted : (end : PartEnd) (v : Tree separator) (is : List Item) → before_parts (part_start (next_part end v)) is ≡ is
 already_parted chain_end (inl (_ & inl _)) is = refl
 already_parted chain_end (inl (_ & inr _)) is = refl
@@ -351,7 +353,7 @@ already_parted chain_end (inr _) is = refl
 already_parted all_end (inl (_ & inl _)) is = refl
 already_parted all_end (inl (_ & inr _)) is = refl
 already_parted all_end (inr _) is = refl
-already_parted (lots_end end) v is = refl
+already_parted (lots_end end) v is = lots_parted (behind_separator end v) is
 
 abbrev further_parts : Ebnf
 further_parts = many (separator ⨾ part)
@@ -387,13 +389,13 @@ data GroupStart : Type 0 where
   before_group : GroupStart
 
 abbrev group_start : GroupStart → State
-group_start first_group = Start
-group_start behind_range = Heading RangeSide
-group_start behind_range_stop = Heading RangeSideStop
-group_start next_group = Semicolon
-group_start before_group = BeforeGroup
+group_start first_group = past.Start
+group_start behind_range = past.RangeSide
+group_start behind_range_stop = past.RangeSideStop
+group_start next_group = past.Semicolon
+group_start before_group = past.BeforeGroup
 
-read_section : (from : GroupStart) (word : Leaf sec) (v : Tree (maybe (one stop))) (n : Leaf number) (is : List Item) (ts : List Token) → run (Some (group_start from)) is (token_of sec word ∷ onto (maybe (one stop)) v (token_of number n ∷ ts)) ≡ run (Some (Section section.Number)) (item.Sections (numeral n) (numeral n) true ∷ is) ts
+read_section : (from : GroupStart) (word : Leaf sec) (v : Tree (maybe (one stop))) (n : Leaf number) (is : List Item) (ts : List Token) → run (Some (group_start from)) is (token_of sec word ∷ onto (maybe (one stop)) v (token_of number n ∷ ts)) ≡ run (Some past.SectionNumber) (item.Sections (numeral n) (numeral n) true ∷ is) ts
 read_section first_group word (inl _) n is ts = refl
 read_section first_group word (inr _) n is ts = refl
 read_section behind_range word (inl _) n is ts = refl
@@ -413,12 +415,12 @@ data GroupEnd : Type 0 where
   parts_end : PartEnd → GroupEnd
 
 abbrev group_end : GroupEnd → State
-group_end section_end = Section section.Number
-group_end (sections_end end) = Sections (entry_end end)
-group_end all_sections_end = SectionsAll
+group_end section_end = past.SectionNumber
+group_end (sections_end end) = ended of_sections end
+group_end all_sections_end = past.ListAll
 group_end (parts_end end) = part_end end
 
-read_section_parts : (cc : Tree comma_or_colon) (v : Tree parts) (n : Numeral) (is : List Item) (ts : List Token) → run (Some (Section section.Number)) (item.Sections n n true ∷ is) (onto comma_or_colon cc (onto parts v ts)) ≡ run (Some (part_end (end_of_all_parts v))) (newest_first (parts_items v) (item.Sections n n false ∷ is)) ts
+read_section_parts : (cc : Tree comma_or_colon) (v : Tree parts) (n : Numeral) (is : List Item) (ts : List Token) → run (Some past.SectionNumber) (item.Sections n n true ∷ is) (onto comma_or_colon cc (onto parts v ts)) ≡ run (Some (part_end (end_of_all_parts v))) (newest_first (parts_items v) (item.Sections n n false ∷ is)) ts
 read_section_parts (inl (inl _)) v n is ts = read_parts section_comma v (item.Sections n n true ∷ is) ts
 read_section_parts (inl (inr _)) v n is ts = read_parts before v (item.Sections n n false ∷ is) ts
 read_section_parts (inr _) v n is ts = read_parts section_number v (item.Sections n n true ∷ is) ts
@@ -433,22 +435,22 @@ second_is_section (inl (_ & inl _)) = refl
 second_is_section (inl (_ & inr _)) = refl
 second_is_section (inr _) = refl
 
-read_first_separator : (v : Tree separator) (is : List Item) (ts : List Token) → run (Some (Section section.Number)) is (onto separator v ts) ≡ run (Some (entry_start (second_entry v))) is ts
+read_first_separator : (v : Tree separator) (is : List Item) (ts : List Token) → run (Some past.SectionNumber) is (onto separator v ts) ≡ run (Some (entry_start (second_entry v))) is ts
 read_first_separator (inl (_ & inl _)) is ts = refl
 read_first_separator (inl (_ & inr _)) is ts = refl
 read_first_separator (inr _) is ts = refl
 
-read_second_entry : (s : Tree separator) (v : Tree entry) (is : List Item) (ts : List Token) → run (Some (Section section.Number)) is (onto separator s (onto entry v ts)) ≡ run (Some (Sections (entry_end (end_of_entry v)))) (whole_sections_item (range_of v) ∷ is) ts
+read_second_entry : (s : Tree separator) (v : Tree entry) (is : List Item) (ts : List Token) → run (Some past.SectionNumber) is (onto separator s (onto entry v ts)) ≡ run (Some (ended of_sections (end_of_entry v))) (whole_sections_item (range_of v) ∷ is) ts
 read_second_entry s v is ts =
     read_first_separator s is (onto entry v ts) ∙ read_entry (second_entry s) v is ts
-    ∙ ap (λ listed. run (Some (in_list listed (entry_end (end_of_entry v)))) (listed_item listed (range_of v) ∷ is) ts) (second_is_section s)
+    ∙ ap (λ listed. run (Some (ended listed (end_of_entry v))) (listed_item listed (range_of v) ∷ is) ts) (second_is_section s)
 
 abbrev end_of_several : Tree several → EntryEnd
 end_of_several (_ & inl thru & more) = end_of_entries (through_end thru) more
 end_of_several (_ & inr (_ & second) & more) = end_of_entries (end_of_entry second) more
 
 -- several entries behind the word
-read_several : (word : Leaf sec) (from : GroupStart) (st : Tree (maybe (one stop))) (v : Tree several) (is : List Item) (ts : List Token) → run (Some (group_start from)) is (token_of sec word ∷ onto (maybe (one stop)) st (onto several v ts)) ≡ run (Some (Sections (entry_end (end_of_several v)))) (newest_first (map whole_sections_item (ranges_of_several v)) is) ts
+read_several : (word : Leaf sec) (from : GroupStart) (st : Tree (maybe (one stop))) (v : Tree several) (is : List Item) (ts : List Token) → run (Some (group_start from)) is (token_of sec word ∷ onto (maybe (one stop)) st (onto several v ts)) ≡ run (Some (ended of_sections (end_of_several v))) (newest_first (map whole_sections_item (ranges_of_several v)) is) ts
 read_several word from st (n & inl thru & more) is ts =
     read_section from word st n is (onto through thru (onto further_entries more ts))
     ∙ read_through one_section thru (numeral n) (numeral n) is (onto further_entries more ts)
@@ -462,7 +464,7 @@ abbrev end_of_sections : EntryEnd → Tree (maybe (comma_or_colon ⨾ one all)) 
 end_of_sections end (inl _) = all_sections_end
 end_of_sections end (inr _) = sections_end end
 
-read_sections_all : (end : EntryEnd) (v : Tree (maybe (comma_or_colon ⨾ one all))) (is : List Item) (ts : List Token) → run (Some (Sections (entry_end end))) is (onto (maybe (comma_or_colon ⨾ one all)) v ts) ≡ run (Some (group_end (end_of_sections end v))) is ts
+read_sections_all : (end : EntryEnd) (v : Tree (maybe (comma_or_colon ⨾ one all))) (is : List Item) (ts : List Token) → run (Some (ended of_sections end)) is (onto (maybe (comma_or_colon ⨾ one all)) v ts) ≡ run (Some (group_end (end_of_sections end v))) is ts
 read_sections_all at_number (inl (inl (inl _) & _)) is ts = refl
 read_sections_all at_number (inl (inl (inr _) & _)) is ts = refl
 read_sections_all at_number (inl (inr _ & _)) is ts = refl
@@ -489,7 +491,7 @@ read_group from (inr (word & st & v & w)) is ts =
     read_several word from st v is (onto (maybe (comma_or_colon ⨾ one all)) w ts)
     ∙ read_sections_all (end_of_several v) w (newest_first (map whole_sections_item (ranges_of_several v)) is) ts
 
-read_semicolon : (end : GroupEnd) (mark : Leaf semicolon) (is : List Item) (ts : List Token) → run (Some (group_end end)) is (token_of semicolon mark ∷ ts) ≡ run (Some Semicolon) is ts
+read_semicolon : (end : GroupEnd) (mark : Leaf semicolon) (is : List Item) (ts : List Token) → run (Some (group_end end)) is (token_of semicolon mark ∷ ts) ≡ run (Some past.Semicolon) is ts
 read_semicolon section_end mark is ts = refl
 read_semicolon (sections_end at_number) mark is ts = refl
 read_semicolon (sections_end at_last) mark is ts = refl
@@ -523,7 +525,7 @@ read_groups end (v ∷ vs) is ts =
 
 -- a sentence ends with a full stop or without
 abbrev end_of_text : GroupEnd → Tree (maybe (one stop)) → State
-end_of_text end (inl _) = End
+end_of_text end (inl _) = past.End
 end_of_text end (inr _) = group_end end
 
 read_end : (end : GroupEnd) (v : Tree (maybe (one stop))) (is : List Item) → run (Some (group_end end)) is (onto (maybe (one stop)) v []) ≡ Some (end_of_text end v, is)
@@ -570,17 +572,17 @@ ends_finally (parts_end (lots_end at_last)) (inr _) = refl
 ends_finally (parts_end (lots_end at_inclusive)) (inl _) = refl
 ends_finally (parts_end (lots_end at_inclusive)) (inr _) = refl
 
-read_township : (letter : Leaf t) (st : Tree (maybe (one stop))) (n : Leaf number) (is : List Item) (ts : List Token) → run (Some Start) is (token_of t letter ∷ onto (maybe (one stop)) st (token_of number n ∷ ts)) ≡ run (Some (Heading TownshipNumber)) (item.Heading n.value ns.N 0 ew.E letter.at ∷ is) ts
+read_township : (letter : Leaf t) (st : Tree (maybe (one stop))) (n : Leaf number) (is : List Item) (ts : List Token) → run (Some past.Start) is (token_of t letter ∷ onto (maybe (one stop)) st (token_of number n ∷ ts)) ≡ run (Some past.TownshipNumber) (item.Heading n.value ns.N 0 ew.E letter.at ∷ is) ts
 read_township letter (inl _) n is ts = refl
 read_township letter (inr _) n is ts = refl
 
-read_side : (side : Leaf north_south) (st : Tree (maybe (one stop))) (c : Tree (maybe (one comma))) (letter : Leaf r) (n at : ℕ) (is : List Item) (ts : List Token) → run (Some (Heading TownshipNumber)) (item.Heading n ns.N 0 ew.E at ∷ is) (token_of north_south side ∷ onto (maybe (one stop)) st (onto (maybe (one comma)) c (token_of r letter ∷ ts))) ≡ run (Some (Heading RangeLetter)) (item.Heading n side.value 0 ew.E at ∷ is) ts
+read_side : (side : Leaf north_south) (st : Tree (maybe (one stop))) (c : Tree (maybe (one comma))) (letter : Leaf r) (n at : ℕ) (is : List Item) (ts : List Token) → run (Some past.TownshipNumber) (item.Heading n ns.N 0 ew.E at ∷ is) (token_of north_south side ∷ onto (maybe (one stop)) st (onto (maybe (one comma)) c (token_of r letter ∷ ts))) ≡ run (Some past.Range) (item.Heading n side.value 0 ew.E at ∷ is) ts
 read_side side (inl _) (inl _) letter n at is ts = refl
 read_side side (inl _) (inr _) letter n at is ts = refl
 read_side side (inr _) (inl _) letter n at is ts = refl
 read_side side (inr _) (inr _) letter n at is ts = refl
 
-read_range : (st : Tree (maybe (one stop))) (n : Leaf number) (township at : ℕ) (side : Leaf north_south) (is : List Item) (ts : List Token) → run (Some (Heading RangeLetter)) (item.Heading township side.value 0 ew.E at ∷ is) (onto (maybe (one stop)) st (token_of number n ∷ ts)) ≡ run (Some (Heading RangeNumber)) (item.Heading township side.value n.value ew.E at ∷ is) ts
+read_range : (st : Tree (maybe (one stop))) (n : Leaf number) (township at : ℕ) (side : Leaf north_south) (is : List Item) (ts : List Token) → run (Some past.Range) (item.Heading township side.value 0 ew.E at ∷ is) (onto (maybe (one stop)) st (token_of number n ∷ ts)) ≡ run (Some past.RangeNumber) (item.Heading township side.value n.value ew.E at ∷ is) ts
 read_range (inl _) n township at side is ts = refl
 read_range (inr _) n township at side is ts = refl
 
@@ -589,7 +591,7 @@ end_of_heading st (inl _) = before_group
 end_of_heading (inl _) (inr _) = behind_range_stop
 end_of_heading (inr _) (inr _) = behind_range
 
-read_way : (way : Leaf east_west) (st : Tree (maybe (one stop))) (c : Tree (maybe (one comma))) (township n at : ℕ) (side : Leaf north_south) (is : List Item) (ts : List Token) → run (Some (Heading RangeNumber)) (item.Heading township side.value n ew.E at ∷ is) (token_of east_west way ∷ onto (maybe (one stop)) st (onto (maybe (one comma)) c ts)) ≡ run (Some (group_start (end_of_heading st c))) (item.Heading township side.value n way.value at ∷ is) ts
+read_way : (way : Leaf east_west) (st : Tree (maybe (one stop))) (c : Tree (maybe (one comma))) (township n at : ℕ) (side : Leaf north_south) (is : List Item) (ts : List Token) → run (Some past.RangeNumber) (item.Heading township side.value n ew.E at ∷ is) (token_of east_west way ∷ onto (maybe (one stop)) st (onto (maybe (one comma)) c ts)) ≡ run (Some (group_start (end_of_heading st c))) (item.Heading township side.value n way.value at ∷ is) ts
 read_way way (inl _) (inl _) township n at side is ts = refl
 read_way way (inl _) (inr _) township n at side is ts = refl
 read_way way (inr _) (inl _) township n at side is ts = refl
@@ -598,7 +600,7 @@ read_way way (inr _) (inr _) township n at side is ts = refl
 abbrev start_behind : Tree heading → GroupStart
 start_behind (_ & _ & _ & _ & _ & _ & _ & _ & _ & _ & st & c) = end_of_heading st c
 
-read_heading : (v : Tree heading) (is : List Item) (ts : List Token) → run (Some Start) is (onto heading v ts) ≡ run (Some (group_start (start_behind v))) (heading_item v ∷ is) ts
+read_heading : (v : Tree heading) (is : List Item) (ts : List Token) → run (Some past.Start) is (onto heading v ts) ≡ run (Some (group_start (start_behind v))) (heading_item v ∷ is) ts
 read_heading (letter & st & n & side & st2 & c & range_letter & st3 & m & way & st4 & c2) is ts =
     read_township letter st n is _ ∙ read_side side st2 c range_letter n.value letter.at is _ ∙ read_range st3 m n.value letter.at side is _
     ∙ read_way way st4 c2 n.value m.value letter.at side is ts
@@ -607,7 +609,7 @@ read_heading (letter & st & n & side & st2 & c & range_letter & st3 & m & way & 
 pub record IsRead (ts : List Token) (its : List Item) : Type 0 where
   pub end : State
   pub final : is_final end ≡ true
-  pub read : run (Some Start) [] ts ≡ Some (end, newest_first its [])
+  pub read : run (Some past.Start) [] ts ≡ Some (end, newest_first its [])
 
 read_from : (from : GroupStart) (first : Tree group) (more : Tree further_groups) (st : Tree (maybe (one stop))) (is : List Item) → run (Some (group_start from)) is (onto group first (onto further_groups more (onto (maybe (one stop)) st []))) ≡ Some (end_of_text (end_of_groups (end_of_group first) more) st, newest_first (group_items first ++ flat_map (behind (behind group_items)) more) is)
 read_from from first more st is =

@@ -1,13 +1,15 @@
--- How the reader cuts the first token off bytes that begin with no white space. No public promise speaks of it;
--- proofs/Cuts shows that it is the one token that the bytes begin with. Past the end a byte is read as 0.
-use Rattle.std.specs.Prelude.{◌==◌, ◌&&◌, ℕ, nat_le, List, take, Option, Some, None, slice_index, if◌then◌else◌}
+-- How the reader cuts the first token off bytes that begin with no white space. No public promise
+-- speaks of it; proofs/Cuts shows that it is the one token that the bytes begin with. Past the end a
+-- byte is read as 0.
+use Rattle.std.specs.Prelude.{◌==◌, ◌&&◌, ℕ, Bool, ◌+◌, ◌<◌, ◌≤◌, nat_le, List, length, take, drop, Option, Some, None, slice_index, if◌then◌else◌}
 use Rattle.std.specs.Char.{is_ascii_alphabetic, is_ascii_digit, to_ascii_lowercase}
-use Rattle.std.specs.List.{prefix_len}
+use Rattle.std.specs.List.{prefix_len, AllPass}
 use Rattle.std.specs.Str.Parse.{digits_value}
 use Rattle.twp_text.specs.declared.kind.Kind.{Kind}
 use Rattle.twp_text.specs.declared.kind.Kind.TheVariants.{Half, Quarter, Number, Comma, Semicolon, Colon, Stop, BadNumber, BadByte}
 use Rattle.twp_text.specs.declared.lexeme.Lexeme.{Lexeme}
-use Rattle.twp_text.specs.Tokens.{kind_of_word}
+use Rattle.twp_text.specs.declared.token.Token.{Token as Piece}
+use Rattle.twp_text.specs.Tokens.{Token, is_white, kind_of_word, seen, StartsWith}
 
 abbrev pub lexeme : Kind → ℕ → Lexeme
 lexeme kind size = record { kind = kind; size = size }
@@ -16,21 +18,32 @@ lexeme kind size = record { kind = kind; size = size }
 abbrev pub small_letter : ℕ → Option ℕ
 small_letter byte = if is_ascii_alphabetic byte then Some (to_ascii_lowercase byte) else None
 
+-- how many letters bytes begin with
+abbrev pub letters_in_front : List ℕ → ℕ
+letters_in_front bytes = prefix_len is_ascii_alphabetic bytes
+
 unfoldable pub cut_word : List ℕ → Lexeme
-cut_word bytes = lexeme (kind_of_word (take (prefix_len is_ascii_alphabetic bytes) bytes)) (prefix_len is_ascii_alphabetic bytes)
+cut_word bytes = lexeme (kind_of_word (take (letters_in_front bytes) bytes)) (letters_in_front bytes)
 
 -- what so many digits are
 abbrev pub numeral_of : ℕ → List ℕ → Lexeme
-numeral_of size bytes = if nat_le size 4 then lexeme (Number (digits_value 10 (take size bytes))) size else lexeme BadNumber size
+numeral_of size bytes =
+    if nat_le size 4 then lexeme (Number (digits_value 10 (take size bytes))) size
+    else lexeme BadNumber size
 
 unfoldable pub cut_number : List ℕ → Lexeme
 cut_number bytes = numeral_of (prefix_len is_ascii_digit bytes) bytes
 
+-- the bytes begin with 1, / and this one
+abbrev pub one_over : List ℕ → ℕ → Bool
+one_over bytes last =
+    (slice_index bytes 0 == 49) && (slice_index bytes 1 == 47) && (slice_index bytes 2 == last)
+
 -- bytes that begin with a digit
 unfoldable pub cut_digits : List ℕ → Lexeme
 cut_digits bytes =
-    if (slice_index bytes 0 == 49) && (slice_index bytes 1 == 47) && (slice_index bytes 2 == 50) then lexeme Half 3
-    else if (slice_index bytes 0 == 49) && (slice_index bytes 1 == 47) && (slice_index bytes 2 == 52) then lexeme Quarter 3
+    if one_over bytes 50 then lexeme Half 3
+    else if one_over bytes 52 then lexeme Quarter 3
     else cut_number bytes
 
 -- a byte that is neither a letter nor a digit, and the one behind it
@@ -49,3 +62,14 @@ cut bytes =
     if is_ascii_alphabetic (slice_index bytes 0) then cut_word bytes
     else if is_ascii_digit (slice_index bytes 0) then cut_digits bytes
     else cut_mark (slice_index bytes 0) (slice_index bytes 1)
+
+-- the token, behind a place of a text and white space there
+pub record IsFirstIn (text : List ℕ) (from : ℕ) (token : Token) : Type 0 where
+  pub starts : StartsWith from (drop from text) token (drop (token.at + length token.text) text)
+  pub further : from < token.at + length token.text
+  pub within : token.at + length token.text ≤ length text
+
+-- the first token of a text from a place on, or None where that is white space
+abbrev pub GivesFirst : List ℕ → ℕ → Option Piece → Type 0
+GivesFirst text from None = AllPass is_white (drop from text)
+GivesFirst text from (Some token) = IsFirstIn text from (seen token)

@@ -3,11 +3,7 @@ use Rattle.std.specs.Prelude.{◌≡◌, ◌⊎◌, List, [], ◌∷◌, ◌++�
 use Rattle.twp_text.specs.declared.expected.Expected.{Expected}
 use Rattle.twp_text.specs.declared.expected.Expected.TheVariants as expected
 use Rattle.twp_text.specs.declared.state.State.{State}
-use Rattle.twp_text.specs.declared.state.State.TheVariants.{Start, Heading, BeforeGroup, Semicolon, Section, Sections, SectionsColon, SectionsAll, Lot, Lots, Parts, End}
-use Rattle.twp_text.specs.declared.state.HeadingState.TheVariants.{Township, TownshipStop, TownshipNumber, TownshipSide, TownshipSideStop, TownshipComma, Range, RangeStop, RangeNumber, RangeSide, RangeSideStop}
-use Rattle.twp_text.specs.declared.state.SectionState.TheVariants as section
-use Rattle.twp_text.specs.declared.state.ListState.TheVariants.{Number, To, Last, Inclusive, Comma, LastComma, And}
-use Rattle.twp_text.specs.declared.state.PartState.TheVariants as part
+use Rattle.twp_text.specs.declared.state.State.TheVariants as past
 use Rattle.twp_text.specs.Grammar.{Class, sec, lot, all, and, to, inclusive, of, the, t, r, north_south, east_west, corner, half, quarter, number, comma, semicolon, colon, stop}
 
 -- marks that may stand before what is named
@@ -53,47 +49,47 @@ IsNamed class (first ∷ rest) = (class ≡ first) ⊎ IsNamed class rest
 
 -- what is named in each state
 abbrev pub expected_of : State → Expected
-expected_of Start = expected.Beginning
-expected_of (Heading Township) = expected.TownshipNumber
-expected_of (Heading TownshipStop) = expected.TownshipNumber
-expected_of (Heading TownshipNumber) = expected.TownshipSide
-expected_of (Heading TownshipSide) = expected.Range
-expected_of (Heading TownshipSideStop) = expected.Range
-expected_of (Heading TownshipComma) = expected.Range
-expected_of (Heading Range) = expected.RangeNumber
-expected_of (Heading RangeStop) = expected.RangeNumber
-expected_of (Heading RangeNumber) = expected.RangeSide
-expected_of (Heading RangeSide) = expected.Sections
-expected_of (Heading RangeSideStop) = expected.Sections
-expected_of BeforeGroup = expected.Sections
-expected_of Semicolon = expected.Sections
-expected_of (Section section.Word) = expected.SectionNumber
-expected_of (Section section.Stop) = expected.SectionNumber
-expected_of (Section section.Number) = expected.PartsOrSections
-expected_of (Section section.Comma) = expected.PartOrSection
-expected_of (Sections To) = expected.LastSection
-expected_of (Sections Comma) = expected.SectionOrAll
-expected_of (Sections LastComma) = expected.SectionOrAll
-expected_of (Sections And) = expected.SectionNumber
-expected_of (Sections Number) = expected.MoreSections
-expected_of (Sections Last) = expected.MoreSections
-expected_of (Sections Inclusive) = expected.MoreSections
-expected_of SectionsColon = expected.All
-expected_of SectionsAll = expected.GroupEnd
-expected_of Lot = expected.LotNumber
-expected_of (Lots To) = expected.LastLot
-expected_of (Lots Comma) = expected.LotOrPart
-expected_of (Lots LastComma) = expected.LotOrPart
-expected_of (Lots And) = expected.LotOrPart
-expected_of (Lots Number) = expected.MoreLots
-expected_of (Lots Last) = expected.MoreLots
-expected_of (Lots Inclusive) = expected.MoreLots
-expected_of (Parts part.Before) = expected.Part
-expected_of (Parts part.Comma) = expected.Part
-expected_of (Parts part.Side) = expected.Half
-expected_of (Parts part.Corner) = expected.Quarter
-expected_of (Parts part.Step) = expected.MoreParts
-expected_of (Parts part.Of) = expected.Step
-expected_of (Parts part.OfThe) = expected.Step
-expected_of (Parts part.All) = expected.MoreParts
-expected_of End = expected.Nothing
+expected_of past.Start = expected.Beginning
+expected_of past.Township = expected.TownshipNumber
+expected_of past.TownshipStop = expected.TownshipNumber
+expected_of past.TownshipNumber = expected.TownshipSide
+expected_of past.TownshipSide = expected.Range
+expected_of past.TownshipSideStop = expected.Range
+expected_of past.TownshipComma = expected.Range
+expected_of past.Range = expected.RangeNumber
+expected_of past.RangeStop = expected.RangeNumber
+expected_of past.RangeNumber = expected.RangeSide
+expected_of past.RangeSide = expected.Sections
+expected_of past.RangeSideStop = expected.Sections
+expected_of past.BeforeGroup = expected.Sections
+expected_of past.Semicolon = expected.Sections
+expected_of past.SectionWord = expected.SectionNumber
+expected_of past.SectionStop = expected.SectionNumber
+expected_of past.SectionNumber = expected.PartsOrSections
+expected_of past.SectionComma = expected.PartOrSection
+expected_of past.ListTo = expected.LastSection
+expected_of past.ListComma = expected.SectionOrAll
+expected_of past.ListLastComma = expected.SectionOrAll
+expected_of past.ListAnd = expected.SectionNumber
+expected_of past.ListNumber = expected.MoreSections
+expected_of past.ListLast = expected.MoreSections
+expected_of past.ListInclusive = expected.MoreSections
+expected_of past.ListColon = expected.All
+expected_of past.ListAll = expected.GroupEnd
+expected_of past.Lot = expected.LotNumber
+expected_of past.LotTo = expected.LastLot
+expected_of past.LotComma = expected.LotOrPart
+expected_of past.LotLastComma = expected.LotOrPart
+expected_of past.LotAnd = expected.LotOrPart
+expected_of past.LotNumber = expected.MoreLots
+expected_of past.LotLast = expected.MoreLots
+expected_of past.LotInclusive = expected.MoreLots
+expected_of past.BeforePart = expected.Part
+expected_of past.PartComma = expected.Part
+expected_of past.Side = expected.Half
+expected_of past.Corner = expected.Quarter
+expected_of past.Step = expected.MoreParts
+expected_of past.Of = expected.Step
+expected_of past.OfThe = expected.Step
+expected_of past.All = expected.MoreParts
+expected_of past.End = expected.Nothing

@@ -1,5 +1,6 @@
--- The grammar of descriptions (the form of the Specifications for Descriptions of Land; the grammar is this
--- project's). It speaks of the classes of tokens alone: which number or which side it is doesn't matter.
+-- The grammar of descriptions (the form of the Specifications for Descriptions of Land; the grammar is
+-- this project's). It speaks of the classes of tokens alone: which number or which side it is doesn't
+-- matter.
 use Rattle.std.specs.Prelude.{ℕ}
 use Rattle.twp_grid.specs.declared.township.NorthSouth.{NorthSouth as NorthOrSouth}
 use Rattle.twp_grid.specs.declared.township.EastWest.{EastWest as EastOrWest}
@@ -94,7 +95,8 @@ kind_of bad_byte _ = BadByte
 
 infixr 6 ◌⨾◌
 infixr 5 ◌∣◌
--- grammars: nothing at all, no tokens, a token of a class, one after the other, the one or the other, any number
+-- grammars: nothing at all, no tokens, a token of a class, one after the other, the one or the other,
+-- any number
 pub data Ebnf : Type 0 where
   never : Ebnf
   nothing : Ebnf
@@ -150,8 +152,10 @@ group = one sec ⨾ maybe (one stop) ⨾ one number ⨾ maybe (comma_or_colon �
     ∣ one sec ⨾ maybe (one stop) ⨾ several ⨾ maybe (comma_or_colon ⨾ one all)
 
 abbrev pub heading : Ebnf
-heading = one t ⨾ maybe (one stop) ⨾ one number ⨾ one north_south ⨾ maybe (one stop) ⨾ maybe (one comma)
+heading =
+    one t ⨾ maybe (one stop) ⨾ one number ⨾ one north_south ⨾ maybe (one stop) ⨾ maybe (one comma)
     ⨾ one r ⨾ maybe (one stop) ⨾ one number ⨾ one east_west ⨾ maybe (one stop) ⨾ maybe (one comma)
 
 abbrev pub description : Ebnf
-description = maybe heading ⨾ group ⨾ many (one semicolon ⨾ maybe (one and) ⨾ group) ⨾ maybe (one stop)
+description =
+    maybe heading ⨾ group ⨾ many (one semicolon ⨾ maybe (one and) ⨾ group) ⨾ maybe (one stop)

@@ -8,7 +8,6 @@ use Rattle.twp_grid.specs.Cuts.Cut.{half, quarter}
 use Rattle.twp_land.specs.WholeLots.{lot_of_place}
 use Rattle.twp_text.specs.declared.item.Item.{Item}
 use Rattle.twp_text.specs.declared.item.Item.TheVariants.{Heading, Sections, Lots, Chain, All}
-use Rattle.twp_text.specs.declared.item.Numeral.{Numeral}
 use Rattle.twp_text.specs.declared.item.Step.{Step}
 use Rattle.twp_text.specs.declared.item.Step.TheVariants.{Half, Quarter}
 

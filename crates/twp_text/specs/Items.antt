@@ -102,7 +102,8 @@ abbrev pub ranges_of_several : Tree several → List Range
 ranges_of_several (first & inl thru & more) =
     record { first = numeral first; last = end_of thru } ∷ map (behind range_of) more
 ranges_of_several (first & inr (_ & second) & more) =
-    record { first = numeral first; last = numeral first } ∷ range_of second ∷ map (behind range_of) more
+    record { first = numeral first; last = numeral first } ∷ range_of second
+    ∷ map (behind range_of) more
 
 abbrev pub lots_item : Range → Item
 lots_item range = Lots range.first range.last
@@ -121,7 +122,8 @@ parts_items (first & more) = part_items first ++ flat_map (behind part_items) mo
 
 -- sections, and then their parts; an `all` behind several sections makes no item
 abbrev pub group_items : Tree group → List Item
-group_items (inl (_ & _ & only & inl (_ & v))) = Sections (numeral only) (numeral only) false ∷ parts_items v
+group_items (inl (_ & _ & only & inl (_ & v))) =
+    Sections (numeral only) (numeral only) false ∷ parts_items v
 group_items (inl (_ & _ & only & inr _)) = Sections (numeral only) (numeral only) true ∷ []
 group_items (inr (_ & _ & v & _)) = map whole_sections_item (ranges_of_several v)
 
@@ -131,7 +133,8 @@ heading_item (letter & _ & township & side & _ & _ & _ & _ & range & way & _) =
     Heading township.value side.value range.value way.value letter.at
 
 abbrev pub items : Tree description → List Item
-items (inl v & first & more & _) = heading_item v ∷ group_items first ++ flat_map (behind (behind group_items)) more
+items (inl v & first & more & _) =
+    heading_item v ∷ group_items first ++ flat_map (behind (behind group_items)) more
 items (inr _ & first & more & _) = group_items first ++ flat_map (behind (behind group_items)) more
 
 -- the items begin with sections, behind a heading or at once

@@ -17,11 +17,15 @@ HasTokenList = (at : ℕ) (bytes : List ℕ) → (tokens : List Token) × HasTok
 
 -- bytes are cut into tokens in one way
 abbrev pub OneTokenList : Type 0
-OneTokenList = (at : ℕ) (bytes : List ℕ) (tokens tokens' : List Token) → HasTokens at bytes tokens → HasTokens at bytes tokens' → tokens ≡ tokens'
+OneTokenList =
+    (at : ℕ) (bytes : List ℕ) (tokens tokens' : List Token)
+    → HasTokens at bytes tokens → HasTokens at bytes tokens' → tokens ≡ tokens'
 
 -- a list of tokens is read as one list of items
 abbrev pub OneItemList : Type 0
-OneItemList = (tokens : List Token) (items items' : List Item) → HasItems tokens items → HasItems tokens items' → items ≡ items'
+OneItemList =
+    (tokens : List Token) (items items' : List Item)
+    → HasItems tokens items → HasItems tokens items' → items ≡ items'
 
 -- whatever a sentence goes on with, a few tokens would do
 abbrev pub ShortCompletion : Type 0
@@ -34,19 +38,26 @@ IsOneNumber ts = (n : Leaf number) × (ts ≡ token_of number n ∷ [])
 -- several entries are entries, and not one number alone
 abbrev pub SeveralAreEntries : Type 0
 SeveralAreEntries = (ts : List Token) →
-    ((v : Tree several) × (tokens several v ≡ ts)) ↔ (((v : Tree entries) × (tokens entries v ≡ ts)) × ¬ IsOneNumber ts)
+    ((v : Tree several) × (tokens several v ≡ ts))
+    ↔ (((v : Tree entries) × (tokens entries v ≡ ts)) × ¬ IsOneNumber ts)
 
 -- a text is read as one list of items
 abbrev pub OneReading : Type 0
-OneReading = (text : List ℕ) (items items' : List Item) → IsReadAs text items → IsReadAs text items' → items ≡ items'
+OneReading =
+    (text : List ℕ) (items items' : List Item)
+    → IsReadAs text items → IsReadAs text items' → items ≡ items'
 
 -- a text that is read has no fault
 abbrev pub ReadHasNoFault : Type 0
-ReadHasNoFault = (text : List ℕ) (items : List Item) (r : Refusal) → IsReadAs text items → ¬ IsFirstTextFault text r
+ReadHasNoFault =
+    (text : List ℕ) (items : List Item) (r : Refusal)
+    → IsReadAs text items → ¬ IsFirstTextFault text r
 
 -- a text has one first fault
 abbrev pub OneTextFault : Type 0
-OneTextFault = (text : List ℕ) (r r' : Refusal) → IsFirstTextFault text r → IsFirstTextFault text r' → r ≡ r'
+OneTextFault =
+    (text : List ℕ) (r r' : Refusal)
+    → IsFirstTextFault text r → IsFirstTextFault text r' → r ≡ r'
 
 -- what lies on the plat without overlap has no fault
 abbrev pub OnPlatHasNoFault : Type 0

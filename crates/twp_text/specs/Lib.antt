@@ -9,6 +9,7 @@ pub mod PlaceFaults
 pub mod Listing
 pub mod WrittenParts
 pub mod CanonicalText
+pub mod Spelling
 pub mod SpellingLaws
 pub mod Taking
 pub mod Cutting

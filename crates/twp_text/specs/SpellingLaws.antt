@@ -1,7 +1,10 @@
 -- Laws of written parts and of canonical texts.
-use Rattle.std.specs.Prelude.{◌≡◌, ◌↔◌, ℕ, suc, ◌/◌, Bool, true, List}
+use Rattle.std.specs.Prelude.{◌≡◌, ◌↔◌, ℕ, suc, ◌/◌, Bool, true, List, []}
 use Rattle.std.specs.List.{Contains, AllPairs}
 use Rattle.twp_grid.specs.Places.{IsPlace}
+use Rattle.twp_grid.specs.Townships.{Designation}
+use Rattle.twp_land.specs.Lands.{no_places}
+use Rattle.twp_text.specs.CanonicalText.{IsCanonicalText}
 use Rattle.twp_text.specs.WrittenParts.{Part, IsInPart, AreWrittenParts}
 
 -- what is held of a section is written as one list of parts
@@ -32,3 +35,13 @@ cut_in_four held column row = held (column / 2) (row / 2)
 abbrev pub FinerPlacesSameParts : Type 0
 FinerPlacesSameParts = (g : ℕ) (held : ℕ → ℕ → Bool) (parts : List Part)
     → AreWrittenParts g held parts ↔ AreWrittenParts (suc g) (cut_in_four held) parts
+
+-- each land of a township has one canonical text
+abbrev pub OneCanonicalText : Type 0
+OneCanonicalText = (g : ℕ) (township : Designation) (places : ℕ → ℕ → ℕ → Bool)
+    → (text : List ℕ) × IsCanonicalText g township places text
+    × ((other : List ℕ) → IsCanonicalText g township places other → other ≡ text)
+
+-- the empty land's canonical text is empty
+abbrev pub EmptyLandHasEmptyText : Type 0
+EmptyLandHasEmptyText = (g : ℕ) (township : Designation) → IsCanonicalText g township no_places []

@@ -1,9 +1,9 @@
 -- What each step of resolving does with an item: it is taken into the land of the items before it, or its
 -- first flaw is answered.
-use Rattle.std.specs.Prelude.{◌≡◌, ◌==◌, ◌&&◌, nat_le, ℕ, ◌+◌, ◌≤◌, ◌<◌, Bool, true, Option, Some, None, IsSome}
+use Rattle.std.specs.Prelude.{◌≡◌, ◌==◌, ◌&&◌, nat_le, ℕ, ◌+◌, ◌≤◌, ◌<◌, Bool, true, List, drop, Option, IsSome}
 use Rattle.std.specs.Option.{option_map_or}
 use Rattle.twp_grid.specs.Blocks.{CanHalve, CanQuarter}
-use Rattle.twp_grid.specs.Cuts.{Cut}
+use Rattle.twp_grid.specs.Cuts.{Cut, AreWithin, reached}
 use Rattle.twp_grid.specs.Cuts.Cut.{half, quarter}
 use Rattle.twp_grid.specs.Places.{is_place}
 use Rattle.twp_grid.specs.Spans.{Span, Rectangle, in_rectangle}
@@ -13,7 +13,8 @@ use Rattle.twp_land.specs.WholeLots.{lot_of_place}
 use Rattle.twp_text.specs.declared.item.Item.{Item}
 use Rattle.twp_text.specs.declared.item.Item.TheVariants as item
 use Rattle.twp_text.specs.declared.place_fault.PlaceFault.{PlaceFault}
-use Rattle.twp_text.specs.ItemPlaces.{ItemOfSection, is_lot_from, item_places}
+use Rattle.twp_text.specs.declared.item.Step.{Step}
+use Rattle.twp_text.specs.ItemPlaces.{ItemOfSection, cuts_of, is_lot_from, item_places}
 use Rattle.twp_text.specs.PlaceFaults.{LiesOnPlat, SharePlace, Flaw, HasFlaw, turn_of, fault_of_flaw, offset_of_flaw}
 
 -- an item of a section
@@ -77,3 +78,8 @@ abbrev pub IsBeforeParts : Item → Type 0
 IsBeforeParts (item.Heading number north_south range east_west at) = Unit {0}
 IsBeforeParts (item.Sections first last whole) = Unit {0}
 IsBeforeParts other = ⊥
+
+-- what steps leave, from the last to the one at an index
+pub record IsCutTo (g : ℕ) (steps : List Step) (index : ℕ) (block : Rectangle) : Type 0 where
+  pub within : AreWithin g (cuts_of (drop index steps))
+  pub block_is : block ≡ reached g (cuts_of (drop index steps))

@@ -89,8 +89,8 @@ refusal_of (fault.BadNumber at) = Some (refusal 43 at)
 refusal_of (fault.Syntax at expected) = Some (refusal 44 at)
 refusal_of fault.Memory = None
 
--- The text goes wrong at this place, whether or not it has bad tokens, and whatever token a sentence could
--- have there is named.
+-- The text goes wrong at this place, whether or not it has bad tokens, and whatever token a sentence
+-- could have there is named.
 pub record GoesWrong (text : List ℕ) (at : ℕ) (expected : Expected) : Type 0 where
   pub tokens : List Token
   pub cut : HasTokens 0 text tokens

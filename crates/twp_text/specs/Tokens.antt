@@ -32,13 +32,13 @@ word letters kind = record { letters = letters; kind = kind }
 -- the words that a description is made of: those of four letters and more, and those of up to three
 abbrev pub long_words : List Word
 long_words =
-    word (codes "secs") Sec ∷ word (codes "section") Sec ∷ word (codes "sections") Sec ∷ word (codes "lots") Lot
-    ∷ word (codes "thru") To ∷ word (codes "through") To ∷ word (codes "inclusive") Inclusive ∷ []
+    word (codes "secs") Sec ∷ word (codes "section") Sec ∷ word (codes "sections") Sec
+    ∷ word (codes "lots") Lot ∷ word (codes "thru") To ∷ word (codes "through") To ∷ word (codes "inclusive") Inclusive ∷ []
 
 abbrev pub short_words : List Word
 short_words =
-    word (codes "sec") Sec ∷ word (codes "lot") Lot ∷ word (codes "all") All ∷ word (codes "and") And ∷ word (codes "the") The
-    ∷ word (codes "to") To ∷ word (codes "of") Of
+    word (codes "sec") Sec ∷ word (codes "lot") Lot ∷ word (codes "all") All
+    ∷ word (codes "and") And ∷ word (codes "the") The ∷ word (codes "to") To ∷ word (codes "of") Of
     ∷ word (codes "ne") (Corner corner.NE) ∷ word (codes "nw") (Corner corner.NW)
     ∷ word (codes "sw") (Corner corner.SW) ∷ word (codes "se") (Corner corner.SE)
     ∷ word (codes "n") (NorthSouth ns.N) ∷ word (codes "s") (NorthSouth ns.S)
@@ -85,12 +85,15 @@ pub record IsNumber (text rest : List ℕ) : Type 0 where
   pub no_half : ¬ Begins (codes "1/2") (text ++ rest)
   pub no_quarter : ¬ Begins (codes "1/4") (text ++ rest)
 
--- the text, where the rest follows it, is a token of this kind and no bad byte; U+00BD is the bytes C2 BD,
--- and U+00BC is C2 BC
+-- the text, where the rest follows it, is a token of this kind and no bad byte; U+00BD is the bytes
+-- C2 BD, and U+00BC is C2 BC
 pub data IsGoodToken (text rest : List ℕ) (kind : Kind) : Type 0 where
-  a_word : IsWholeRun is_ascii_alphabetic text rest → kind ≡ kind_of_word text → IsGoodToken text rest kind
-  a_number : IsNumber text rest → length text ≤ 4 → kind ≡ Number (digits_value 10 text) → IsGoodToken text rest kind
-  a_bad_number : IsNumber text rest → 4 < length text → kind ≡ BadNumber → IsGoodToken text rest kind
+  a_word : IsWholeRun is_ascii_alphabetic text rest → kind ≡ kind_of_word text
+      → IsGoodToken text rest kind
+  a_number : IsNumber text rest → length text ≤ 4 → kind ≡ Number (digits_value 10 text)
+      → IsGoodToken text rest kind
+  a_bad_number : IsNumber text rest → 4 < length text → kind ≡ BadNumber
+      → IsGoodToken text rest kind
   a_half : text ≡ codes "1/2" → kind ≡ Half → IsGoodToken text rest kind
   a_half_sign : text ≡ 0xC2 ∷ 0xBD ∷ [] → kind ≡ Half → IsGoodToken text rest kind
   a_quarter : text ≡ codes "1/4" → kind ≡ Quarter → IsGoodToken text rest kind
@@ -102,7 +105,8 @@ pub data IsGoodToken (text rest : List ℕ) (kind : Kind) : Type 0 where
 
 -- no token begins the bytes, unless it is a bad byte
 abbrev pub NoGoodToken : List ℕ → Type 0
-NoGoodToken bytes = (text rest : List ℕ) (kind : Kind) → bytes ≡ text ++ rest → ¬ IsGoodToken text rest kind
+NoGoodToken bytes =
+    (text rest : List ℕ) (kind : Kind) → bytes ≡ text ++ rest → ¬ IsGoodToken text rest kind
 
 -- one byte that is no white space and that no other token can begin with
 pub record IsBadByte (text rest : List ℕ) : Type 0 where
@@ -128,7 +132,8 @@ pub record StartsWith (at : ℕ) (bytes : List ℕ) (token : Token) (rest : List
 abbrev pub HasTokens : ℕ → List ℕ → List Token → Type 0
 HasTokens at bytes [] = AllPass is_white bytes
 HasTokens at bytes (token ∷ tokens) =
-    (rest : List ℕ) × StartsWith at bytes token rest × HasTokens (token.at + length token.text) rest tokens
+    (rest : List ℕ) × StartsWith at bytes token rest
+    × HasTokens (token.at + length token.text) rest tokens
 
 -- what is left of a text, and where it stands
 pub record Left : Type 0 where
@@ -141,6 +146,9 @@ seen token = record { kind = token.kind; text = token.text.now; at = token.at }
 
 -- the next token of what is left, or None where that is white space
 abbrev pub GivesToken : Left → Option Piece → Left → Type 0
-GivesToken left None after = AllPass is_white left.bytes × (after ≡ record { at = left.at + length left.bytes; bytes = [] })
+GivesToken left None after =
+    AllPass is_white left.bytes
+    × (after ≡ record { at = left.at + length left.bytes; bytes = [] })
 GivesToken left (Some token) after =
-    StartsWith left.at left.bytes (seen token) after.bytes × (after.at ≡ token.at + length token.text.now)
+    StartsWith left.at left.bytes (seen token) after.bytes
+    × (after.at ≡ token.at + length token.text.now)

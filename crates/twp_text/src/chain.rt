@@ -1,4 +1,4 @@
-ghost use Rattle.std.specs.Prelude.{◌≡◌, ◌+◌, ◌≤◌, ◌↔◌, IfOk, IfErr, IsTrue};
+ghost use Rattle.std.specs.Prelude.{◌≡◌, ◌+◌, ◌≤◌, ◌↔◌, length, IfOk, IfErr, IsTrue, MatchOption};
 ghost use Rattle.std.specs.Option.{SomeIff};
 ghost use Rattle.twp_grid.specs.Places.{PLACE_DIGITS, places_across};
 ghost use Rattle.twp_grid.specs.Cuts.{AreWithin, part_of, reached};
@@ -6,7 +6,7 @@ ghost use Rattle.twp_grid.specs.Spans.{span_from, in_rectangle};
 ghost use Rattle.twp_grid.specs.Townships.{Designation};
 ghost use Rattle.twp_land.specs.Lands.{Meets};
 ghost use Rattle.twp_text.specs.ItemPlaces.{cut_of, cuts_of};
-ghost use Rattle.twp_text.specs.Taking.{CanCut, IsTaken, IsFirstFlaw, HoldsLotPlace, Cross};
+ghost use Rattle.twp_text.specs.Taking.{CanCut, IsCutTo, IsTaken, IsFirstFlaw, HoldsLotPlace, Cross};
 ghost use Rattle.twp_text.specs.declared.item.Item.TheVariants.{Chain};
 
 use crate::item::{Step, Steps};
@@ -43,8 +43,22 @@ fn block_of(steps: &Steps) -> Option<Block>
     ensures { SomeIff result (AreWithin PLACE_DIGITS (cuts_of steps.now))
         (reached PLACE_DIGITS (cuts_of steps.now)) }
 {
+    let first = steps.first();
+    let mut block = block_behind(steps, first.len())?;
+    for index in (0..first.len()).rev() {
+        block = cut(block, first[index])?;
+    }
+    Some(block)
+}
+
+/// The block that the steps from an index on leave of a section.
+fn block_behind(steps: &Steps, start: usize) -> Option<Block>
+    requires { start ≤ length steps.now }
+    ensures { MatchOption result (¬ AreWithin PLACE_DIGITS (cuts_of steps.now))
+        (IsCutTo PLACE_DIGITS steps.now start) }
+{
     let mut block = Block::whole();
-    for index in (0..steps.len()).rev() {
+    for index in (start..steps.len()).rev() {
         block = cut(block, steps.get(index).unwrap())?;
     }
     Some(block)
@@ -61,7 +75,7 @@ fn cut(block: Block, step: Step) -> Option<Block>
 }
 
 /// Whether a block of a section holds a place of a lot.
-fn holds_of_lot(section: Section, block: Block) -> bool
+pub(crate) fn holds_of_lot(section: Section, block: Block) -> bool
     ensures { IsTrue result ↔ HoldsLotPlace PLACE_DIGITS section block }
 {
     for lot in 1..lot_count(section) + 1 {

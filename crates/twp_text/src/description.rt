@@ -7,9 +7,12 @@ use crate::item::Item;
 use crate::items::Items;
 use crate::kind::Kind;
 use crate::state::State;
-use crate::token::Tokens;
+use crate::token::{Token, Tokens};
 use std::alloc::Global;
 use std::marker::Model;
+
+/// There is room from the start for an item for each so many bytes: fine aliquot parts take some twenty.
+const BYTES_TO_ITEM: usize = 16;
 
 /// A description of land, as the items that it names, from left to right.
 #[derive(Debug, Drop)]
@@ -39,7 +42,8 @@ impl Description {
         ensures read { IfOk result (IsReadAs text.now) }
         ensures taken { (items : List Item) → IsReadAs text.now items
             → MatchResult result (λ d. d ≡ items) (λ fault. fault ≡ TextFault.Memory) }
-        ensures refused { IfErr result (λ fault. IfSome (refusal_of fault) (IsFirstTextFault text.now)) }
+        ensures refused { IfErr result
+            (λ fault. IfSome (refusal_of fault) (IsFirstTextFault text.now)) }
         ensures helps { IfErr result (Helps text.now) }
     {
         if text.len() > TEXT_LIMIT {
@@ -49,21 +53,24 @@ impl Description {
     }
 
     /// Reads a description within the limit.
+    #[inline(never)]
     fn read_within(alloc: Global, text: &[u8]) -> Result<Description, TextFault>
         requires { length text.now ≤ TEXT_LIMIT }
         ensures read { IfOk result (IsReadAs text.now) }
-        ensures refused { IfErr result (λ fault. IfSome (refusal_of fault) (IsFirstTextFault text.now)) }
+        ensures refused { IfErr result
+            (λ fault. IfSome (refusal_of fault) (IsFirstTextFault text.now)) }
         ensures helps { IfErr result (Helps text.now) }
     {
-        let mut items = Items::new(alloc);
+        let mut items = Items::with_room(alloc, text.len() / BYTES_TO_ITEM)?;
         let mut state = State::Start;
-        let mut tokens = Tokens::new(text);
-        while let Some(token) = tokens.advance() {
+        let mut at = 0;
+        while let Some(token) = Token::first(text, at) {
             let Some(behind) = state.next(token.kind) else {
                 return Err(fault_of(text, token.at, state.expected()));
             };
             items.take(alloc, state, token.kind, token.at as u32)?;
             state = behind;
+            at = token.at + token.text.len();
         }
         if !state.is_final() {
             return Err(fault_of(text, text.len(), state.expected()));

@@ -1,4 +1,4 @@
-ghost use Rattle.std.specs.Prelude.{◌≡◌, [], ◌∷◌, ◌++◌, length, slice_get, OnOk};
+ghost use Rattle.std.specs.Prelude.{◌≡◌, ℕ, ◌≤◌, ◌<◌, ◌≤◌, [], ◌∷◌, ◌++◌, length, slice_get, OnOk};
 
 use arrayvec::ArrayVec;
 use std::alloc::{AllocError, Global};
@@ -68,6 +68,17 @@ impl Steps {
         self.first.len() + self.more.len()
     }
 
+    /// The first steps, which stand beside each other: all of them, or eight.
+    #[inline]
+    #[tactic(auto, using(crate::proofs::StepFacts::in_first))]
+    pub(crate) fn first(&self) -> &[Step]
+        ensures within { length result.now ≤ length self.now }
+        ensures front { (index : ℕ) → index < length result.now
+            → slice_get self.now index ≡ slice_get result.now index }
+    {
+        self.first.as_slice()
+    }
+
     /// The step at an index, counted from the smallest. None past the last.
     #[tactic(auto, using(crate::proofs::StepFacts::in_first, crate::proofs::StepFacts::in_more))]
     pub fn get(&self, index: usize) -> Option<Step>
@@ -91,6 +102,17 @@ impl Steps {
             self.first.push(step);
             return Ok(());
         }
+        self.push_more(step)
+    }
+
+    /// Adds a step behind the eighth.
+    #[cold]
+    #[inline(never)]
+    #[tactic(auto, using(crate::proofs::StepFacts::push_more))]
+    fn push_more(&mut self, step: Step) -> Result<(), AllocError>
+        requires { 8 ≤ length self.old }
+        ensures { OnOk result (self.new ≡ self.old ++ step ∷ []) }
+    {
         self.more.push(step)?;
         Ok(())
     }

@@ -1,9 +1,10 @@
-ghost use Rattle.std.specs.Prelude.{◌≡◌, ◌∷◌, [], OnOk};
+ghost use Rattle.std.specs.Prelude.{◌≡◌, ◌∷◌, [], IfOk, OnOk};
 ghost use Rattle.twp_text.specs.Items.{north_or_south, east_or_west};
 
+use crate::change::Change;
 use crate::item::{Item, Numeral, Step, Steps};
 use crate::kind::Kind;
-use crate::state::{HeadingState, ListState, PartState, State};
+use crate::state::State;
 use std::alloc::{AllocError, Global};
 use std::marker::Model;
 use twp_grid::{Corner, EastWest, NorthSouth, Side};
@@ -23,32 +24,17 @@ impl Model for Items {
     ghost view = { λ s. reverse s.items.items };
 }
 
-/// What a token says of the newest item.
-#[derive(Clone, Copy, Debug, PartialEq, Eq)]
-pub enum Change {
-    TownshipNumber(u16),
-    TownshipSide(NorthSouth),
-    RangeNumber(u16),
-    RangeSide(EastWest),
-    /// The last number of a range.
-    Last(Numeral),
-    /// Parts of the section follow.
-    Parted,
-    /// One step more, of which the last one is a part.
-    Grown(Step),
-}
-
 impl Items {
     ghost use Rattle.std.specs.Prelude.{reverse};
     ghost use Rattle.twp_text.specs.Machine.{with_newest, before_parts, take_step, take_number, take_all, take_township, take_north_south, take_east_west, take_token};
 
-    /// No items.
-    pub fn new(alloc: Global) -> Items
-        ensures { result ≡ [] }
+    /// No items yet, with room for so many.
+    pub fn with_room(alloc: Global, room: usize) -> Result<Items, AllocError>
+        ensures { IfOk result (λ items. items ≡ []) }
     {
-        Items {
-            items: Vec::new(alloc),
-        }
+        Ok(Items {
+            items: Vec::with_capacity(alloc, room)?,
+        })
     }
 
     /// The items, the oldest first.
@@ -92,7 +78,7 @@ impl Items {
             Kind::T => self.take_township(at),
             Kind::NorthSouth(side) => self.take_north_south(alloc, state, side, at),
             Kind::EastWest(side) => self.take_east_west(alloc, state, side, at),
-            Kind::Corner(corner) => self.take_corner(alloc, state, corner, at),
+            Kind::Corner(corner) => self.take_step(alloc, state, Step::Quarter(corner), at),
             Kind::Number(value) => self.take_number(state, Numeral { value, at }),
             Kind::Lot => self.before_parts(state),
             Kind::Colon => self.before_parts(state),
@@ -116,7 +102,7 @@ impl Items {
     }
 
     /// The side of a township, or a half.
-    #[inline(never)]
+    #[inline(always)]
     fn take_north_south(
         &mut self,
         alloc: Global,
@@ -127,13 +113,13 @@ impl Items {
         ensures { OnOk result (self.new ≡ take_north_south state side at self.old) }
     {
         match state {
-            State::Heading(_) => self.change(Change::TownshipSide(side)),
+            State::TownshipNumber => self.change_once(Change::TownshipSide(side)),
             _ => self.take_step(alloc, state, Step::Half(north_or_south(side)), at),
         }
     }
 
     /// The side of a range, or a half.
-    #[inline(never)]
+    #[inline(always)]
     fn take_east_west(
         &mut self,
         alloc: Global,
@@ -144,23 +130,17 @@ impl Items {
         ensures { OnOk result (self.new ≡ take_east_west state side at self.old) }
     {
         match state {
-            State::Heading(_) => self.change(Change::RangeSide(side)),
+            State::RangeNumber => self.change_once(Change::RangeSide(side)),
             _ => self.take_step(alloc, state, Step::Half(east_or_west(side)), at),
         }
     }
 
-    /// A quarter.
+    /// What a token says of the newest item that only one token says of it.
     #[inline(never)]
-    fn take_corner(
-        &mut self,
-        alloc: Global,
-        state: State,
-        corner: Corner,
-        at: u32,
-    ) -> Result<(), AllocError>
-        ensures { OnOk result (self.new ≡ take_step state (Step.Quarter corner) at self.old) }
+    fn change_once(&mut self, change: Change) -> Result<(), AllocError>
+        ensures { OnOk result (self.new ≡ with_newest change self.old) }
     {
-        self.take_step(alloc, state, Step::Quarter(corner), at)
+        self.change(change)
     }
 
     /// A step: of the chain, where one stands before it, and else the first of a chain.
@@ -174,16 +154,21 @@ impl Items {
     ) -> Result<(), AllocError>
         ensures { OnOk result (self.new ≡ take_step state step at self.old) }
     {
-        match state {
-            State::Parts(PartState::Step | PartState::Of | PartState::OfThe) => {
-                self.change(Change::Grown(step))
-            }
-            _ => {
-                self.before_parts(state)?;
-                let steps = Steps::one(alloc, step);
-                self.push(Item::Chain { steps, at })
-            }
+        if state.is_in_chain() {
+            self.change(Change::Grown(step))
+        } else {
+            self.before_parts(state)?;
+            self.push_chain(alloc, step, at)
         }
+    }
+
+    /// A chain of one step.
+    #[inline(always)]
+    fn push_chain(&mut self, alloc: Global, step: Step, at: u32) -> Result<(), AllocError>
+        ensures { OnOk result (self.new ≡ Item.Chain (step ∷ []) at ∷ self.old) }
+    {
+        let steps = Steps::one(alloc, step);
+        self.push(Item::Chain { steps, at })
     }
 
     /// A number of the heading, the first or the last number of a range of sections or lots.
@@ -192,17 +177,17 @@ impl Items {
         ensures { OnOk result (self.new ≡ take_number state number self.old) }
     {
         match state {
-            State::Heading(HeadingState::Range | HeadingState::RangeStop) => {
-                self.change(Change::RangeNumber(number.value))
+            State::Township | State::TownshipStop => {
+                self.change(Change::TownshipNumber(number.value))
             }
-            State::Heading(_) => self.change(Change::TownshipNumber(number.value)),
-            State::Sections(ListState::To) | State::Lots(ListState::To) => {
-                self.change(Change::Last(number))
+            State::Range | State::RangeStop => self.change(Change::RangeNumber(number.value)),
+            State::ListTo | State::LotTo => self.change(Change::Last(number)),
+            State::Lot | State::LotComma | State::LotLastComma | State::LotAnd => {
+                self.push(Item::Lots {
+                    first: number,
+                    last: number,
+                })
             }
-            State::Lots(_) | State::Lot => self.push(Item::Lots {
-                first: number,
-                last: number,
-            }),
             _ => self.push(Item::Sections {
                 first: number,
                 last: number,
@@ -217,7 +202,12 @@ impl Items {
         ensures { OnOk result (self.new ≡ take_all state at self.old) }
     {
         match state {
-            State::Sections(_) | State::SectionsColon => Ok(()),
+            State::ListNumber
+            | State::ListLast
+            | State::ListInclusive
+            | State::ListComma
+            | State::ListLastComma
+            | State::ListColon => Ok(()),
             _ => {
                 self.before_parts(state)?;
                 self.push(Item::All { at })
@@ -226,12 +216,12 @@ impl Items {
     }
 
     /// The first part of a section makes it one that isn't whole.
-    #[inline(never)]
+    #[inline(always)]
     fn before_parts(&mut self, state: State) -> Result<(), AllocError>
         ensures { OnOk result (self.new ≡ before_parts state self.old) }
     {
         match state {
-            State::Section(_) => self.change(Change::Parted),
+            State::SectionNumber | State::SectionComma => self.change_once(Change::Parted),
             _ => Ok(()),
         }
     }
@@ -254,53 +244,5 @@ fn east_or_west(side: EastWest) -> Side
     match side {
         EastWest::E => Side::E,
         EastWest::W => Side::W,
-    }
-}
-
-impl Item {
-    ghost use Rattle.twp_text.specs.Machine.{changed};
-
-    #[inline(always)]
-    fn change(&mut self, change: Change) -> Result<(), AllocError>
-        ensures { OnOk result (self.new ≡ changed change self.old) }
-    {
-        match change {
-            Change::TownshipNumber(value) => {
-                if let Item::Heading { number, .. } = self {
-                    *number = value;
-                }
-            }
-            Change::TownshipSide(side) => {
-                if let Item::Heading { north_south, .. } = self {
-                    *north_south = side;
-                }
-            }
-            Change::RangeNumber(value) => {
-                if let Item::Heading { range, .. } = self {
-                    *range = value;
-                }
-            }
-            Change::RangeSide(side) => {
-                if let Item::Heading { east_west, .. } = self {
-                    *east_west = side;
-                }
-            }
-            Change::Last(number) => match self {
-                Item::Sections { last, .. } => *last = number,
-                Item::Lots { last, .. } => *last = number,
-                _ => {}
-            },
-            Change::Parted => {
-                if let Item::Sections { whole, .. } = self {
-                    *whole = false;
-                }
-            }
-            Change::Grown(step) => {
-                if let Item::Chain { steps, .. } = self {
-                    steps.push(step)?;
-                }
-            }
-        }
-        Ok(())
     }
 }

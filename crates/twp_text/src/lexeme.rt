@@ -1,13 +1,15 @@
-ghost use Rattle.std.specs.Prelude.{◌≡◌, ◌<◌, ◌≤◌, Some, length, slice_index};
+ghost use Rattle.std.specs.Prelude.{◌≡◌, ◌+◌, ◌<◌, ◌≤◌, Some, IfSome, length, take, drop, slice_index};
 ghost use Rattle.std.specs.Char.{is_ascii_alphabetic, is_ascii_digit};
 ghost use Rattle.std.specs.List.{prefix_len};
 ghost use Rattle.std.specs.Str.Parse.{AllDigits, digits_value};
+ghost use Rattle.std.specs.Str.{str_to_ascii_lowercase};
+ghost use Rattle.twp_text.specs.Tokens.{kind_among, long_words};
 ghost use Rattle.twp_text.specs.Cutting.{small_letter, cut_word, cut_number, cut_digits, cut_mark, cut};
 
 use crate::kind::Kind;
 use crate::word::{self, one_letter, three_letters, two_letters};
 
-/// The first token of some bytes: its kind, and how many bytes it has.
+/// A token that begins at a place: its kind, and how many bytes it has.
 #[derive(Clone, Copy, Debug, PartialEq, Eq)]
 pub struct Lexeme {
     pub kind: Kind,
@@ -15,30 +17,55 @@ pub struct Lexeme {
 }
 
 impl Lexeme {
-    /// The token that bytes begin with.
+    /// The token that begins at a place of a text.
     #[inline(always)]
     #[tactic(auto, unfolding(crate::specs::Cutting::cut))]
-    pub fn first(bytes: &[u8]) -> Lexeme
-        requires { 0 < length bytes.now }
-        ensures { result ≡ cut bytes.now }
+    pub fn at(text: &[u8], at: usize) -> Lexeme
+        requires { at < length text.now }
+        ensures { result ≡ cut (drop at text.now) }
     {
-        let byte = byte_at(bytes, 0);
+        let byte = byte_at(text, at, 0);
         if let Some(letter) = small_letter(byte) {
-            return word(bytes, letter);
+            return word(text, at, letter);
         }
         if byte.is_ascii_digit() {
-            return digits(bytes);
+            return digits(text, at);
         }
-        mark(byte, byte_at(bytes, 1))
+        mark(text, at)
     }
 }
 
-/// A byte, or 0 past the end.
+/// The byte that stands so many bytes ahead of a place, or 0 past the end.
 #[inline(always)]
-fn byte_at(bytes: &[u8], index: usize) -> u8
-    ensures { result ≡ slice_index bytes.now index }
+#[tactic(auto, using(crate::proofs::PlaceFacts::byte_ahead, crate::proofs::PlaceFacts::past_end))]
+fn byte_at(text: &[u8], at: usize, ahead: usize) -> u8
+    requires { at + ahead ≤ length text.now }
+    ensures value { result ≡ slice_index (drop at text.now) ahead }
+    ensures inside { 0 < result → at + ahead < length text.now }
 {
-    if index < bytes.len() { bytes[index] } else { 0 }
+    let index = at + ahead;
+    if index < text.len() { text[index] } else { 0 }
+}
+
+/// The letter that stands so many bytes ahead of a place, as a small one.
+#[inline(always)]
+#[tactic(auto, using(crate::proofs::LetterFacts::letter_counts))]
+fn letter_at(text: &[u8], at: usize, ahead: usize) -> Option<u8>
+    requires { at + ahead ≤ length text.now }
+    ensures letter { result ≡ small_letter (slice_index (drop at text.now) ahead) }
+    ensures inside { IfSome result (λ _. at + ahead < length text.now) }
+{
+    small_letter(byte_at(text, at, ahead))
+}
+
+/// The bytes from a place on.
+#[inline(always)]
+fn bytes_from(text: &[u8], at: usize) -> &[u8]
+    requires { at ≤ length text.now }
+    ensures { result.now ≡ drop at text.now }
+{
+    let (_, bytes) = text.split_at(at);
+    bytes
 }
 
 /// A letter as a small one. In ASCII the two differ in one bit.
@@ -58,62 +85,79 @@ fn small_letter(byte: u8) -> Option<u8>
 /// A word, whose first letter is known.
 #[inline(always)]
 #[tactic(auto, using(crate::proofs::WordFacts::one_letter, crate::proofs::WordFacts::two_letters, crate::proofs::WordFacts::three_letters, crate::proofs::WordFacts::long))]
-fn word(bytes: &[u8], first: u8) -> Lexeme
-    requires { small_letter (slice_index bytes.now 0) ≡ Some first }
-    ensures { result ≡ cut_word bytes.now }
+fn word(text: &[u8], at: usize, first: u8) -> Lexeme
+    requires place { at < length text.now }
+    requires letter { small_letter (slice_index (drop at text.now) 0) ≡ Some first }
+    ensures { result ≡ cut_word (drop at text.now) }
 {
-    let Some(second) = small_letter(byte_at(bytes, 1)) else {
+    let Some(second) = letter_at(text, at, 1) else {
         return Lexeme {
             kind: one_letter(first),
             size: 1,
         };
     };
-    let Some(third) = small_letter(byte_at(bytes, 2)) else {
+    let Some(third) = letter_at(text, at, 2) else {
         return Lexeme {
             kind: two_letters(first, second),
             size: 2,
         };
     };
-    let Some(_) = small_letter(byte_at(bytes, 3)) else {
+    let Some(_) = letter_at(text, at, 3) else {
         return Lexeme {
             kind: three_letters(first, second, third),
             size: 3,
         };
     };
-    long_word(bytes)
+    long_word(text, at)
 }
 
 /// A word of four letters or more.
-#[inline(never)]
+#[inline(always)]
 #[tactic(auto, using(crate::proofs::WordFacts::long_word_is))]
-fn long_word(bytes: &[u8]) -> Lexeme
-    requires { 3 < prefix_len is_ascii_alphabetic bytes.now }
-    ensures { result ≡ cut_word bytes.now }
+fn long_word(text: &[u8], at: usize) -> Lexeme
+    requires place { at < length text.now }
+    requires long { 3 < prefix_len is_ascii_alphabetic (drop at text.now) }
+    ensures { result ≡ cut_word (drop at text.now) }
 {
-    let size = count_letters(bytes);
+    let size = count_letters(text, at);
     Lexeme {
-        kind: word::long_word(&bytes[..size]),
+        kind: kind_of_long(text, at, size),
         size,
     }
 }
 
-/// How many letters bytes begin with.
-fn count_letters(bytes: &[u8]) -> usize
-    ensures value { result ≡ prefix_len is_ascii_alphabetic bytes.now }
-    ensures range { result ≤ length bytes.now }
+/// How many letters stand at a place.
+#[inline(never)]
+fn count_letters(text: &[u8], at: usize) -> usize
+    requires { at ≤ length text.now }
+    ensures value { result ≡ prefix_len is_ascii_alphabetic (drop at text.now) }
+    ensures range { result ≤ length (drop at text.now) }
 {
-    bytes
+    bytes_from(text, at)
         .iter()
         .take_while(|byte| byte.is_ascii_alphabetic())
         .count()
 }
 
-/// How many digits bytes begin with.
-fn count_digits(bytes: &[u8]) -> usize
-    ensures value { result ≡ prefix_len is_ascii_digit bytes.now }
-    ensures range { result ≤ length bytes.now }
+/// What the word of so many letters at a place is, which are four or more.
+#[inline(never)]
+fn kind_of_long(text: &[u8], at: usize, size: usize) -> Kind
+    requires place { at ≤ length text.now }
+    requires size { size ≤ length (drop at text.now) }
+    ensures { result ≡ kind_among
+        (str_to_ascii_lowercase (take size (drop at text.now))) long_words }
 {
-    bytes
+    word::long_word(&bytes_from(text, at)[..size])
+}
+
+/// How many digits stand at a place.
+#[inline(never)]
+fn count_digits(text: &[u8], at: usize) -> usize
+    requires { at ≤ length text.now }
+    ensures value { result ≡ prefix_len is_ascii_digit (drop at text.now) }
+    ensures range { result ≤ length (drop at text.now) }
+{
+    bytes_from(text, at)
         .iter()
         .take_while(|byte| byte.is_ascii_digit())
         .count()
@@ -122,11 +166,12 @@ fn count_digits(bytes: &[u8]) -> usize
 /// A half, a quarter or a number.
 #[inline(always)]
 #[tactic(auto, unfolding(crate::specs::Cutting::cut_digits))]
-fn digits(bytes: &[u8]) -> Lexeme
-    ensures { result ≡ cut_digits bytes.now }
+fn digits(text: &[u8], at: usize) -> Lexeme
+    requires { at < length text.now }
+    ensures { result ≡ cut_digits (drop at text.now) }
 {
-    if byte_at(bytes, 0) == b'1' && byte_at(bytes, 1) == b'/' {
-        match byte_at(bytes, 2) {
+    if byte_at(text, at, 0) == b'1' && byte_at(text, at, 1) == b'/' {
+        match byte_at(text, at, 2) {
             b'2' => {
                 return Lexeme {
                     kind: Kind::Half,
@@ -142,16 +187,17 @@ fn digits(bytes: &[u8]) -> Lexeme
             _ => {}
         }
     }
-    number(bytes)
+    number(text, at)
 }
 
 /// Digits: a number, or too many.
-#[inline(never)]
+#[inline(always)]
 #[tactic(auto, using(crate::proofs::Numerals::digits_in_front, crate::proofs::Numerals::few_digits, crate::proofs::Numerals::many_digits))]
-fn number(bytes: &[u8]) -> Lexeme
-    ensures { result ≡ cut_number bytes.now }
+fn number(text: &[u8], at: usize) -> Lexeme
+    requires { at ≤ length text.now }
+    ensures { result ≡ cut_number (drop at text.now) }
 {
-    let size = count_digits(bytes);
+    let size = count_digits(text, at);
     if size > 4 {
         return Lexeme {
             kind: Kind::BadNumber,
@@ -159,9 +205,21 @@ fn number(bytes: &[u8]) -> Lexeme
         };
     }
     Lexeme {
-        kind: Kind::Number(value(&bytes[..size])),
+        kind: Kind::Number(value_at(text, at, size)),
         size,
     }
+}
+
+/// The number that so many digits at a place spell, up to four.
+#[inline(never)]
+fn value_at(text: &[u8], at: usize, size: usize) -> u16
+    requires place { at ≤ length text.now }
+    requires size { size ≤ length (drop at text.now) }
+    requires digits { AllDigits 10 (take size (drop at text.now)) }
+    requires few { size ≤ 4 }
+    ensures { result ≡ digits_value 10 (take size (drop at text.now)) }
+{
+    value(&bytes_from(text, at)[..size])
 }
 
 /// The number that up to four digits spell.
@@ -178,17 +236,23 @@ fn value(digits: &[u8]) -> u16
 }
 
 /// A mark, or a byte that begins no token.
+#[inline(always)]
 #[tactic(auto, unfolding(crate::specs::Cutting::cut_mark))]
-fn mark(byte: u8, behind: u8) -> Lexeme
-    ensures { result ≡ cut_mark byte behind }
+fn mark(text: &[u8], at: usize) -> Lexeme
+    requires { at < length text.now }
+    ensures { result ≡ cut_mark
+        (slice_index (drop at text.now) 0) (slice_index (drop at text.now) 1) }
 {
-    let (kind, size) = match (byte, behind) {
-        (b',', _) => (Kind::Comma, 1),
-        (b'.', _) => (Kind::Stop, 1),
-        (b';', _) => (Kind::Semicolon, 1),
-        (b':', _) => (Kind::Colon, 1),
-        (0xC2, 0xBD) => (Kind::Half, 2),
-        (0xC2, 0xBC) => (Kind::Quarter, 2),
+    let (kind, size) = match byte_at(text, at, 0) {
+        b',' => (Kind::Comma, 1),
+        b'.' => (Kind::Stop, 1),
+        b';' => (Kind::Semicolon, 1),
+        b':' => (Kind::Colon, 1),
+        0xC2 => match byte_at(text, at, 1) {
+            0xBD => (Kind::Half, 2),
+            0xBC => (Kind::Quarter, 2),
+            _ => (Kind::BadByte, 1),
+        },
         _ => (Kind::BadByte, 1),
     };
     Lexeme { kind, size }

@@ -3,6 +3,7 @@
 #![tactic(auto)]
 
 mod chain;
+mod change;
 mod description;
 mod expected;
 mod fault;
@@ -17,7 +18,9 @@ mod resolving;
 mod state;
 mod taking;
 mod token;
+mod transition;
 mod word;
+mod written_parts;
 
 pub use description::Description;
 pub use expected::Expected;

@@ -1,5 +1,6 @@
-ghost use Rattle.std.specs.Prelude.{◌≡◌, ◌≤◌, length};
+ghost use Rattle.std.specs.Prelude.{◌≡◌, ◌==◌, ◌||◌, ◌≤◌, ◌+◌, drop, length};
 ghost use Rattle.twp_text.specs.Tokens.{is_white};
+ghost use Rattle.twp_text.specs.Cutting.{GivesFirst};
 ghost use Rattle.std.specs.Iterator.{at_most};
 ghost use Rattle.std.specs.List.{prefix_len};
 
@@ -17,52 +18,52 @@ pub struct Token<'a> {
     pub at: usize,
 }
 
+impl<'a> Token<'a> {
+    /// The first token of a text at a place or behind it.
+    #[inline(always)]
+    pub(crate) fn first(text: &'a [u8], from: usize) -> Option<Token<'a>>
+        requires { from ≤ length text.now }
+        ensures { GivesFirst text.now from result }
+    {
+        let at = behind_white(text, from);
+        if at >= text.len() {
+            return None;
+        }
+        let Lexeme { kind, size } = Lexeme::at(text, at);
+        let (_, left) = text.split_at(at);
+        let (text, _) = left.split_at(size);
+        Some(Token { kind, text, at })
+    }
+}
+
 /// The tokens of a description, from left to right. White space between them is left out. A byte that
 /// begins no token is one of kind `BadByte`, and more than four digits are one of kind `BadNumber`.
 #[derive(Debug, Drop)]
 pub struct Tokens<'a> {
-    rest: &'a [u8],
+    text: &'a [u8],
+    /// Where the bytes begin that are left.
     at: usize,
 }
 
 impl<'a> Model for Tokens<'a> {
-    ghost use Rattle.std.specs.Prelude.{ℕ, ◌+◌, ◌<◌, ◌^◌, length};
+    ghost use Rattle.std.specs.Prelude.{◌≤◌, drop, length};
     ghost use Rattle.twp_text.specs.Tokens.{Left};
 
     ghost Value = { Left };
 
-    ghost view = { λ s. record { at = s.at; bytes = s.rest.now } };
+    ghost view = { λ s. record { at = s.at; bytes = drop s.at s.text.now } };
 
-    ghost invariant = { λ s. s.at + length s.rest.now < 2 ^ 64 };
+    ghost invariant = { λ s. s.at ≤ length s.text.now };
 }
 
 impl<'a> Tokens<'a> {
-    ghost use Rattle.twp_text.specs.Tokens.{Left, GivesToken};
+    ghost use Rattle.twp_text.specs.Tokens.{Left};
 
     /// The tokens of a text, which stands at 0.
     pub fn new(text: &'a [u8]) -> Tokens<'a>
         ensures { result ≡ record { at = 0; bytes = text.now } }
     {
-        Tokens { rest: text, at: 0 }
-    }
-
-    /// What `next` gives.
-    #[inline(always)]
-    pub(crate) fn advance(&mut self) -> Option<Token<'a>>
-        ensures { GivesToken self.old result self.new }
-    {
-        let (space, bytes) = self.rest.split_at(count_white(self.rest));
-        let at = self.at + space.len();
-        self.at = at;
-        self.rest = bytes;
-        if bytes.is_empty() {
-            return None;
-        }
-        let Lexeme { kind, size } = Lexeme::first(bytes);
-        let (text, rest) = bytes.split_at(size);
-        self.at = at + size;
-        self.rest = rest;
-        Some(Token { kind, text, at })
+        Tokens { text, at: 0 }
     }
 }
 
@@ -77,17 +78,27 @@ impl<'a> Iterator for Tokens<'a> {
     ghost remaining = { λ s. at_most (length s.bytes) };
 
     fn next(&mut self) -> Option<Token<'a>> {
-        self.advance()
+        let token = Token::first(self.text, self.at);
+        self.at = match token {
+            Some(token) => token.at + token.text.len(),
+            None => self.text.len(),
+        };
+        token
     }
 }
 
-/// How many bytes of white space bytes begin with.
+/// The first place from a place on that has no white space, or the text's length.
 #[inline(always)]
-fn count_white(bytes: &[u8]) -> usize
-    ensures value { result ≡ prefix_len is_white bytes.now }
-    ensures range { result ≤ length bytes.now }
+fn behind_white(text: &[u8], from: usize) -> usize
+    requires { from ≤ length text.now }
+    ensures value { result ≡ from + prefix_len is_white (drop from text.now) }
+    ensures range { result ≤ length text.now }
 {
-    bytes.iter().take_while(|byte| is_white(**byte)).count()
+    let mut at = from;
+    while at < text.len() && is_white(text[at]) {
+        at += 1;
+    }
+    at
 }
 
 /// Whether a byte is a space, a tabulator, a line feed or a carriage return.
@@ -95,7 +106,16 @@ fn count_white(bytes: &[u8]) -> usize
 fn is_white(byte: u8) -> bool
     ensures { result ≡ is_white byte }
 {
-    byte <= b' ' && matches!(byte, b' ' | b'\t' | b'\n' | b'\r')
+    byte <= b' ' && (byte == b' ' || is_white_control(byte))
+}
+
+/// Whether a byte is a tabulator, a line feed or a carriage return, which are rarer than spaces.
+#[cold]
+#[inline(never)]
+fn is_white_control(byte: u8) -> bool
+    ensures { result ≡ (byte == 9) || (byte == 10) || (byte == 13) }
+{
+    matches!(byte, b'\t' | b'\n' | b'\r')
 }
 
 #[cfg(test)]

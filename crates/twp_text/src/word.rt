@@ -21,38 +21,41 @@ pub fn one_letter(first: u8) -> Kind
     }
 }
 
-/// What a word of two small letters is.
+/// What a word of two small letters is. Quarters are the commonest, and `e` and `w` are tested first.
 #[inline(always)]
 pub fn two_letters(first: u8, second: u8) -> Kind
     ensures { result ≡ kind_among (first ∷ second ∷ []) words }
 {
-    match (first, second) {
-        (b'n', b'e') => Kind::Corner(Corner::NE),
-        (b'n', b'w') => Kind::Corner(Corner::NW),
-        (b's', b'w') => Kind::Corner(Corner::SW),
-        (b's', b'e') => Kind::Corner(Corner::SE),
-        (b'o', b'f') => Kind::Of,
-        (b't', b'o') => Kind::To,
+    match second {
+        b'e' if first == b'n' => Kind::Corner(Corner::NE),
+        b'e' if first == b's' => Kind::Corner(Corner::SE),
+        b'w' if first == b'n' => Kind::Corner(Corner::NW),
+        b'w' if first == b's' => Kind::Corner(Corner::SW),
+        _ if first == b'o' && second == b'f' => Kind::Of,
+        _ if first == b't' && second == b'o' => Kind::To,
         _ => Kind::Other,
     }
 }
 
-/// What a word of three small letters is.
+/// What a word of three small letters is. `the` is the commonest, and tested first.
 #[inline(always)]
 pub fn three_letters(first: u8, second: u8, third: u8) -> Kind
     ensures { result ≡ kind_among (first ∷ second ∷ third ∷ []) words }
 {
+    if third == b'e' && first == b't' && second == b'h' {
+        return Kind::The;
+    }
     match (first, second, third) {
+        (b'a', b'n', b'd') => Kind::And,
         (b's', b'e', b'c') => Kind::Sec,
         (b'l', b'o', b't') => Kind::Lot,
         (b'a', b'l', b'l') => Kind::All,
-        (b'a', b'n', b'd') => Kind::And,
-        (b't', b'h', b'e') => Kind::The,
         _ => Kind::Other,
     }
 }
 
 /// What a word of four letters or more is, in any letters.
+#[inline(never)]
 pub fn long_word(text: &[u8]) -> Kind
     ensures { result ≡ kind_among (str_to_ascii_lowercase text.now) long_words }
 {

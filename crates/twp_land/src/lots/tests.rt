@@ -1,5 +1,7 @@
 use super::*;
+use crate::lanes::Lanes;
 use crate::rows::Grid;
+use std::process::Abort;
 use std::test::Fail;
 use twp_grid::{Corner, Side};
 
@@ -17,8 +19,17 @@ fn corner(block: Block, corner: Corner) -> Result<Block, Fail> {
 }
 
 #[test]
-fn tells_lots_held_whole(rt: HostRuntime) -> Result<(), Fail> {
-    let mut land = Grid::empty();
+fn grid_tells_lots_held_whole(rt: HostRuntime) -> Result<(), Fail> {
+    check_whole_lots::<Grid>(&rt)
+}
+
+#[test]
+fn lanes_tell_lots_held_whole(rt: HostRuntime) -> Result<(), Fail> {
+    check_whole_lots::<Lanes>(&rt)
+}
+
+fn check_whole_lots<L: Land>(rt: &impl Abort) -> Result<(), Fail> {
+    let mut land = L::empty();
     assert!(rt; lots_whole(&land));
     // Section 6 has lots along its north and down its west, and its SE1/4 has none.
     let southeast = Block::whole().quarter(Corner::SE).ok_or("a quarter")?;

@@ -38,109 +38,137 @@ fn check_refused(alloc: Global, rt: &impl Abort, rows: &[(&[u8], u8, u32)]) -> R
 /// Another number or side of the township or of the range. 258 is 2, and 259 is 3, modulo 256.
 #[test]
 fn refuses_another_township(rt: HostRuntime) -> Result<(), Fail> {
-    check_refused(rt.alloc(), &rt, &[
-        (b"T. 2 N., R. 3 E., sec. 14.", 61, 0),
-        (b"  T. 3 N., R. 3 W., sec. 14.", 61, 2),
-        (b"T2S R3W sec 14", 61, 0),
-        (b"T2N R4W sec 14", 61, 0),
-        (b"T258N R3W sec 14", 61, 0),
-        (b"T2N R259W sec 14", 61, 0),
-        (b"T3N R3W sec 37", 61, 0),
-    ])
+    check_refused(
+        rt.alloc(),
+        &rt,
+        &[
+            (b"T. 2 N., R. 3 E., sec. 14.", 61, 0),
+            (b"  T. 3 N., R. 3 W., sec. 14.", 61, 2),
+            (b"T2S R3W sec 14", 61, 0),
+            (b"T2N R4W sec 14", 61, 0),
+            (b"T258N R3W sec 14", 61, 0),
+            (b"T2N R259W sec 14", 61, 0),
+            (b"T3N R3W sec 37", 61, 0),
+        ],
+    )
 }
 
 /// Sections are 1 to 36; 257 is 1 modulo 256. The section is judged before its parts.
 #[test]
 fn refuses_what_is_no_section(rt: HostRuntime) -> Result<(), Fail> {
-    check_refused(rt.alloc(), &rt, &[
-        (b"sec. 37.", 62, 5),
-        (b"sec. 0.", 62, 5),
-        (b"sec. 257.", 62, 5),
-        (b"sec. 37, lot 1", 62, 5),
-        (b"secs. 37 to 38.", 62, 6),
-        (b"secs. 1 to 37.", 62, 11),
-        (b"secs. 3 to 0.", 62, 11),
-        (b"secs. 40 to 3.", 62, 6),
-        (b"sec. 14; sec. 40, lot 1", 62, 14),
-        (b"sec. 1; secs. 1 to 40", 62, 19),
-    ])
+    check_refused(
+        rt.alloc(),
+        &rt,
+        &[
+            (b"sec. 37.", 62, 5),
+            (b"sec. 0.", 62, 5),
+            (b"sec. 257.", 62, 5),
+            (b"sec. 37, lot 1", 62, 5),
+            (b"secs. 37 to 38.", 62, 6),
+            (b"secs. 1 to 37.", 62, 11),
+            (b"secs. 3 to 0.", 62, 11),
+            (b"secs. 40 to 3.", 62, 6),
+            (b"sec. 14; sec. 40, lot 1", 62, 14),
+            (b"sec. 1; secs. 1 to 40", 62, 19),
+        ],
+    )
 }
 
 /// A range that runs backward is refused at its second number, also where that is no lot.
 #[test]
 fn refuses_what_runs_backward(rt: HostRuntime) -> Result<(), Fail> {
-    check_refused(rt.alloc(), &rt, &[
-        (b"secs. 9 to 4.", 63, 11),
-        (b"sec. 5, lots 3 to 1.", 63, 18),
-        (b"sec. 5, lots 9 to 1.", 63, 18),
-        (b"sec. 5, lots 9 to 0.", 63, 18),
-        (b"sec. 1; secs. 9 to 1", 63, 19),
-    ])
+    check_refused(
+        rt.alloc(),
+        &rt,
+        &[
+            (b"secs. 9 to 4.", 63, 11),
+            (b"sec. 5, lots 3 to 1.", 63, 18),
+            (b"sec. 5, lots 9 to 1.", 63, 18),
+            (b"sec. 5, lots 9 to 0.", 63, 18),
+            (b"sec. 1; secs. 9 to 1", 63, 19),
+        ],
+    )
 }
 
 /// Section 5 has lots 1 to 4, section 6 lots 1 to 7, section 14 none; 260 is 4 modulo 256.
 #[test]
 fn refuses_what_is_no_lot(rt: HostRuntime) -> Result<(), Fail> {
-    check_refused(rt.alloc(), &rt, &[
-        (b"sec. 5, lot 5.", 64, 12),
-        (b"sec. 5, lot 0.", 64, 12),
-        (b"sec. 5, lot 260.", 64, 12),
-        (b"sec. 6, lot 8.", 64, 12),
-        (b"sec. 14, lot 1.", 64, 13),
-        (b"sec. 5, lots 1 to 5.", 64, 18),
-        (b"sec. 5, lots 0 to 5.", 64, 13),
-        (b"sec. 5, lot 9, N1/2.", 64, 12),
-        (b"sec. 5, lot 1, lots 1 to 5.", 64, 25),
-    ])
+    check_refused(
+        rt.alloc(),
+        &rt,
+        &[
+            (b"sec. 5, lot 5.", 64, 12),
+            (b"sec. 5, lot 0.", 64, 12),
+            (b"sec. 5, lot 260.", 64, 12),
+            (b"sec. 6, lot 8.", 64, 12),
+            (b"sec. 14, lot 1.", 64, 13),
+            (b"sec. 5, lots 1 to 5.", 64, 18),
+            (b"sec. 5, lots 0 to 5.", 64, 13),
+            (b"sec. 5, lot 9, N1/2.", 64, 12),
+            (b"sec. 5, lot 1, lots 1 to 5.", 64, 25),
+        ],
+    )
 }
 
 /// A side of a section is halved four times at most. In section 5 the part would lie in lot 1.
 #[test]
 fn refuses_what_is_too_fine(rt: HostRuntime) -> Result<(), Fail> {
-    check_refused(rt.alloc(), &rt, &[
-        (b"sec. 14, N1/2NE1/4NE1/4NE1/4NE1/4.", 65, 9),
-        (b"sec. 14, W1/2NE1/4NE1/4NE1/4NE1/4.", 65, 9),
-        (b"sec. 14, SE1/4NE1/4NE1/4NE1/4NE1/4.", 65, 9),
-        (b"sec. 14, N1/2N1/2N1/2N1/2N1/2.", 65, 9),
-        (b"sec. 14, NE1/4NE1/4N1/2N1/2N1/2.", 65, 9),
-        (b"sec. 5, N1/2NE1/4NE1/4NE1/4NE1/4.", 65, 8),
-    ])
+    check_refused(
+        rt.alloc(),
+        &rt,
+        &[
+            (b"sec. 14, N1/2NE1/4NE1/4NE1/4NE1/4.", 65, 9),
+            (b"sec. 14, W1/2NE1/4NE1/4NE1/4NE1/4.", 65, 9),
+            (b"sec. 14, SE1/4NE1/4NE1/4NE1/4NE1/4.", 65, 9),
+            (b"sec. 14, N1/2N1/2N1/2N1/2N1/2.", 65, 9),
+            (b"sec. 14, NE1/4NE1/4N1/2N1/2N1/2.", 65, 9),
+            (b"sec. 5, N1/2NE1/4NE1/4NE1/4NE1/4.", 65, 8),
+        ],
+    )
 }
 
 /// Lots fill the north of section 5, the west of section 7, and both in section 6. The north-east quarter
 /// of the north-east quarter of section 5 is lot 1 itself.
 #[test]
 fn refuses_what_holds_of_a_lot(rt: HostRuntime) -> Result<(), Fail> {
-    check_refused(rt.alloc(), &rt, &[
-        (b"sec. 5, N1/2.", 66, 8),
-        (b"sec. 5, NE1/4NE1/4.", 66, 8),
-        (b"sec. 5, NE1/4NE1/4NE1/4NE1/4.", 66, 8),
-        (b"sec. 5, W1/2W1/2.", 66, 8),
-        (b"sec. 7, W1/2.", 66, 8),
-        (b"sec. 6, NE1/4.", 66, 8),
-        (b"sec. 6, SW1/4.", 66, 8),
-        (b"sec. 5, N1/2, lot 9.", 66, 8),
-        (b"sec. 5, lot 1, NE1/4NE1/4.", 66, 15),
-    ])
+    check_refused(
+        rt.alloc(),
+        &rt,
+        &[
+            (b"sec. 5, N1/2.", 66, 8),
+            (b"sec. 5, NE1/4NE1/4.", 66, 8),
+            (b"sec. 5, NE1/4NE1/4NE1/4NE1/4.", 66, 8),
+            (b"sec. 5, W1/2W1/2.", 66, 8),
+            (b"sec. 7, W1/2.", 66, 8),
+            (b"sec. 6, NE1/4.", 66, 8),
+            (b"sec. 6, SW1/4.", 66, 8),
+            (b"sec. 5, N1/2, lot 9.", 66, 8),
+            (b"sec. 5, lot 1, NE1/4NE1/4.", 66, 15),
+        ],
+    )
 }
 
 /// Inside a list, inside a section, between sections named twice, and between parts of all kinds.
 #[test]
 fn refuses_overlaps(rt: HostRuntime) -> Result<(), Fail> {
-    check_refused(rt.alloc(), &rt, &[
-        (b"secs. 1, 1.", 67, 9),
-        (b"secs. 1, 3 to 5, 4 to 6.", 67, 17),
-        (b"secs. 13 to 15; sec. 14.", 67, 21),
-        (b"sec. 5, lots 1, 2 and 1.", 67, 22),
-        (b"sec. 5, lots 1 to 3, 2.", 67, 21),
-        (b"sec. 14, NE1/4 and N1/2.", 67, 19),
-        (b"sec. 14, NE1/4, NE1/4, lot 1", 67, 16),
-        (b"sec. 14, NE1/4, all.", 67, 16),
-        (b"sec. 14, all, NE1/4.", 67, 14),
-        (b"sec. 5, all, lot 1.", 67, 17),
-        (b"sec. 14, NE1/4; sec. 15; sec. 14, N1/2.", 67, 34),
-        (b"secs. 1 thru 36; sec. 36, NE1/4NE1/4NE1/4NE1/4.", 67, 26),
-    ])
+    check_refused(
+        rt.alloc(),
+        &rt,
+        &[
+            (b"secs. 1, 1.", 67, 9),
+            (b"secs. 1, 3 to 5, 4 to 6.", 67, 17),
+            (b"secs. 13 to 15; sec. 14.", 67, 21),
+            (b"sec. 5, lots 1, 2 and 1.", 67, 22),
+            (b"sec. 5, lots 1 to 3, 2.", 67, 21),
+            (b"sec. 14, NE1/4 and N1/2.", 67, 19),
+            (b"sec. 14, NE1/4, NE1/4, lot 1", 67, 16),
+            (b"sec. 14, NE1/4, all.", 67, 16),
+            (b"sec. 14, all, NE1/4.", 67, 14),
+            (b"sec. 5, all, lot 1.", 67, 17),
+            (b"sec. 14, NE1/4; sec. 15; sec. 14, N1/2.", 67, 34),
+            (b"secs. 1 thru 36; sec. 36, NE1/4NE1/4NE1/4NE1/4.", 67, 26),
+        ],
+    )
 }
 
 /// A section has 16 by 16 places, a quarter 8 by 8, a lot 4 by 4.
@@ -154,7 +182,10 @@ fn names_land(rt: HostRuntime) -> Result<(), Fail> {
         (b"secs. 1, 3 to 5.", 1024),
         (b"sec. 5, lot 1.", 16),
         (b"sec. 6, lots 1 to 7.", 112),
-        (b"sec. 6, lots 1 thru 7, SE1/4, S1/2NE1/4, E1/2SW1/4, SE1/4NW1/4.", 256),
+        (
+            b"sec. 6, lots 1 thru 7, SE1/4, S1/2NE1/4, E1/2SW1/4, SE1/4NW1/4.",
+            256,
+        ),
         (b"sec. 6, SE1/4, S1/2NE1/4, E1/2SW1/4, SE1/4NW1/4.", 144),
         (b"sec. 14, S1/2N1/2, N1/2N1/2, and S1/2.", 256),
         (b"sec. 14, NE1/4NE1/4NE1/4NE1/4.", 1),
@@ -187,7 +218,11 @@ fn takes_the_last_step_first(rt: HostRuntime) -> Result<(), Fail> {
         (3, 0, false),
         (0, 7, false),
     ] {
-        assert_eq!(rt; land.holds(section, column, row), held, "at {column}, {row}");
+        assert_eq!(rt;
+            land.holds(section, column, row),
+            held,
+            "at {column}, {row}"
+        );
     }
     Ok(())
 }

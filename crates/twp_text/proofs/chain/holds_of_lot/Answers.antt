@@ -1,5 +1,5 @@
 -- A lot's block holds the places of the lot, so a block that shares none with them holds no lot's place.
-use Rattle.std.proofs.Common.{◌≡◌, ◌<◌, ◌≤◌, ◌+◌, Some, refl, sym, ◌∙◌, inl, inr, arith}
+use Rattle.std.proofs.Common.{◌≡◌, Some, refl, sym, ◌∙◌, inl, inr, arith}
 use Rattle.std.proofs.lemmas.Bool.{cases_lt}
 use Rattle.twp_grid.specs.Lots.{position_of_lot}
 use Rattle.twp_land.proofs.LotFacts.{few_lots, block_of}

@@ -1,5 +1,5 @@
 -- Lot by lot, what is added grows by a block that held nothing of the land before.
-use Rattle.std.proofs.Common.{◌≡◌, ◌-◌, ◌+◌, Some, sym, ap, subst, ◌∙◌, arith}
+use Rattle.std.proofs.Common.{◌≡◌, ◌-◌, ◌+◌, Some, sym, subst, ◌∙◌, arith}
 use Rattle.std.proofs.lemmas.Result.{err_from_is_err_and}
 use Rattle.twp_grid.specs.Lots.{position_of_lot}
 use Rattle.twp_grid.specs.Places.{PLACE_DIGITS}
@@ -36,10 +36,10 @@ returns-in_err-add_block g c =
     let is : block_of (position_of_lot c.args.section c.loop-lot.lot) ≡ Some c.unwrap-block.result = sym c.of_lot.ensures.block ∙ c.unwrap-block.ensures in
     let gone = err_from_is_err_and c.from_residual.result c.from_residual.ensures.1 in
     rw (gone.1, gone.2) (
-    (c.in_err-add_block.ensures).0,
-    added_stuck (lots_from PLACE_DIGITS c.args.section c.args.first (c.loop-lot.lot - 1)) (lots_from PLACE_DIGITS c.args.section c.args.first c.args.last) (g.L.Land.places c.args.land.now) (g.L.Land.places c.loop-lot.land) c.args.section c.unwrap-block.result
-    so_far.added (c.in_err-add_block.ensures).1
-    (in_next_lot c.args.section c.args.first c.loop-lot.lot c.args.last c.unwrap-block.result c.requires.section (omega (arith, low.0, so_far.least)) so_far.least (omega arith) (omega (arith, high.1)) is),
+      (c.in_err-add_block.ensures).0,
+      added_stuck (lots_from PLACE_DIGITS c.args.section c.args.first (c.loop-lot.lot - 1)) (lots_from PLACE_DIGITS c.args.section c.args.first c.args.last) (g.L.Land.places c.args.land.now) (g.L.Land.places c.loop-lot.land) c.args.section c.unwrap-block.result
+          so_far.added (c.in_err-add_block.ensures).1
+          (in_next_lot c.args.section c.args.first c.loop-lot.lot c.args.last c.unwrap-block.result c.requires.section (omega (arith, low.0, so_far.least)) so_far.least (omega arith) (omega (arith, high.1)) is),
     )
 
 pub loop-lot-preserved : goal.loop-lot-preserved
@@ -52,9 +52,9 @@ loop-lot-preserved g c =
     record {
       least = omega (arith, so_far.least);
       added = subst (λ n. AreAdded (lots_from PLACE_DIGITS c.args.section c.args.first n) (g.L.Land.places c.args.land.now) (g.L.Land.places c.add_block.new.land)) next
-      (added_next (lots_from PLACE_DIGITS c.args.section c.args.first (c.loop-lot.lot - 1)) (lots_from PLACE_DIGITS c.args.section c.args.first c.loop-lot.lot) (g.L.Land.places c.args.land.now) (g.L.Land.places c.loop-lot.land) (g.L.Land.places c.add_block.new.land) c.args.section c.unwrap-block.result
-      so_far.added (c.in_ok-add_block.ensures).0 (c.in_ok-add_block.ensures).1
-      (next_lot c.args.section c.args.first c.loop-lot.lot c.unwrap-block.result c.requires.section (omega (arith, low.0, so_far.least)) so_far.least (omega (arith, high.1)) is));
+          (added_next (lots_from PLACE_DIGITS c.args.section c.args.first (c.loop-lot.lot - 1)) (lots_from PLACE_DIGITS c.args.section c.args.first c.loop-lot.lot) (g.L.Land.places c.args.land.now) (g.L.Land.places c.loop-lot.land) (g.L.Land.places c.add_block.new.land) c.args.section c.unwrap-block.result
+          so_far.added (c.in_ok-add_block.ensures).0 (c.in_ok-add_block.ensures).1
+          (next_lot c.args.section c.args.first c.loop-lot.lot c.unwrap-block.result c.requires.section (omega (arith, low.0, so_far.least)) so_far.least (omega (arith, high.1)) is));
     }
 
 pub returns : goal.returns

@@ -1,5 +1,5 @@
 -- Section by section, what is added grows by a block that held nothing of the land before.
-use Rattle.std.proofs.Common.{◌≡◌, ◌-◌, ◌+◌, sym, ap, subst, ◌∙◌, arith}
+use Rattle.std.proofs.Common.{◌≡◌, ◌-◌, ◌+◌, subst, arith}
 use Rattle.std.proofs.lemmas.Result.{err_from_is_err_and}
 use Rattle.twp_grid.specs.Places.{PLACE_DIGITS}
 use Rattle.twp_grid.specs.Spans.{whole_block}
@@ -15,9 +15,9 @@ returns-in_err-add_block g c =
     let meets = rw (number, c.whole.ensures) at (c.in_err-add_block.ensures).1 in
     let gone = err_from_is_err_and c.from_residual.result c.from_residual.ensures.1 in
     rw (gone.1, gone.2) (
-    (c.in_err-add_block.ensures).0,
-    added_stuck (sections_from PLACE_DIGITS c.args.first (c.loop-number.number - 1)) (sections_from PLACE_DIGITS c.args.first c.args.last) (g.L.Land.places c.args.land.now) (g.L.Land.places c.loop-number.land) c.loop-number.number (whole_block PLACE_DIGITS)
-    so_far.added meets (in_next_section c.args.first c.loop-number.number c.args.last (omega (arith, c.requires.first.0, so_far.least)) so_far.least (omega arith)),
+      (c.in_err-add_block.ensures).0,
+      added_stuck (sections_from PLACE_DIGITS c.args.first (c.loop-number.number - 1)) (sections_from PLACE_DIGITS c.args.first c.args.last) (g.L.Land.places c.args.land.now) (g.L.Land.places c.loop-number.land) c.loop-number.number (whole_block PLACE_DIGITS)
+          so_far.added meets (in_next_section c.args.first c.loop-number.number c.args.last (omega (arith, c.requires.first.0, so_far.least)) so_far.least (omega arith)),
     )
 
 pub loop-number-preserved : goal.loop-number-preserved
@@ -30,8 +30,8 @@ loop-number-preserved g c =
     record {
       least = omega (arith, so_far.least);
       added = subst (λ n. AreAdded (sections_from PLACE_DIGITS c.args.first n) (g.L.Land.places c.args.land.now) (g.L.Land.places c.add_block.new.land)) next
-      (added_next (sections_from PLACE_DIGITS c.args.first (c.loop-number.number - 1)) (sections_from PLACE_DIGITS c.args.first c.loop-number.number) (g.L.Land.places c.args.land.now) (g.L.Land.places c.loop-number.land) (g.L.Land.places c.add_block.new.land) c.loop-number.number (whole_block PLACE_DIGITS)
-      so_far.added free grown (next_section c.args.first c.loop-number.number (omega (arith, c.requires.first.0, so_far.least)) so_far.least));
+          (added_next (sections_from PLACE_DIGITS c.args.first (c.loop-number.number - 1)) (sections_from PLACE_DIGITS c.args.first c.loop-number.number) (g.L.Land.places c.args.land.now) (g.L.Land.places c.loop-number.land) (g.L.Land.places c.add_block.new.land) c.loop-number.number (whole_block PLACE_DIGITS)
+          so_far.added free grown (next_section c.args.first c.loop-number.number (omega (arith, c.requires.first.0, so_far.least)) so_far.least));
     }
 
 pub returns : goal.returns

@@ -1,4 +1,4 @@
-use Rattle.std.proofs.Common.{ℕ, ◌-◌, ◌≤◌}
+use Rattle.std.proofs.Common.{◌-◌, ◌≤◌}
 use Rattle.twp_grid.specs.Places.{PLACE_DIGITS}
 use Rattle.twp_text.specs.Taking.{sections_from, AreAdded}
 use Rattle.twp_text.proofs.ranges.add_sections.Given as goal

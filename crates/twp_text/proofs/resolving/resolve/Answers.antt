@@ -1,15 +1,14 @@
 -- The items are taken one after another; the first flaw is the first fault, and at the end the land is
 -- that of all items.
-use Rattle.std.proofs.Common.{◌≡◌, sym, subst, ◌∙◌, refl, arith}
-use Rattle.std.proofs.Math.ListN.{get_or}
+use Rattle.std.proofs.Common.{sym, subst, refl, arith}
 use Rattle.std.proofs.lemmas.Result.{err_from_is_err_and}
 use Rattle.twp_grid.specs.Places.{PLACE_DIGITS}
 use Rattle.twp_land.specs.WholeLots.{HasWholeLots}
-use Rattle.twp_text.specs.PlaceFaults.{IsLandOfItems, IsFirstPlaceFault}
+use Rattle.twp_text.specs.PlaceFaults.{IsLandOfItems}
 use Rattle.twp_text.specs.Taking.{number_of_section}
 use Rattle.twp_text.proofs.LandLots.{land_has_whole_lots}
 use Rattle.twp_text.proofs.PlaceAnswers.{no_fault}
-use Rattle.twp_text.proofs.ResolvingFacts.{AreTaken, taken_none, taken_next, refused_here, taken_all, not_known, may_be_taken, known_next}
+use Rattle.twp_text.proofs.ResolvingFacts.{taken_none, taken_next, refused_here, taken_all, not_known, may_be_taken, known_next}
 use Rattle.twp_text.proofs.resolving.resolve.Goals as goal
 
 pub loop-index-init : goal.loop-index-init
@@ -32,7 +31,7 @@ pub returns-in_err-section-clause-on_plat : goal.returns-in_err-section-clause-o
 returns-in_err-section-clause-on_plat g c =
     let gone = err_from_is_err_and c.from_residual.result c.from_residual.ensures.1 in
     let refused = refused_here PLACE_DIGITS c.args.township c.items-items.result.now c.loop-index.index (number_of_section c.loop-index.section) c.index-items-index.result (g.L.Land.places c.loop-index.land) c.in_err-section.field-0.0
-        c.loop-index-test.true (sym c.index-items-index.is) c.loop-index.invariant.taken c.in_err-section.ensures.refused in
+    c.loop-index-test.true (sym c.index-items-index.is) c.loop-index.invariant.taken c.in_err-section.ensures.refused in
     rw (gone.1, ← c.items-items.ensures.items)
     (λ ok. cc ok, λ on. absurd (no_fault PLACE_DIGITS c.args.township c.items-items.result.now c.in_err-section.field-0.0 on refused))
 
@@ -40,7 +39,7 @@ pub loop-index-preserved : goal.loop-index-preserved
 loop-index-preserved g c =
     let so_far = c.loop-index.invariant in
     let taken = taken_next PLACE_DIGITS c.args.township c.items-items.result.now c.loop-index.index (number_of_section c.loop-index.section) c.index-items-index.result (g.L.Land.places c.loop-index.land) (g.L.Land.places c.take_item.new.land)
-        c.loop-index-test.true (sym c.index-items-index.is) so_far.taken c.in_ok-section.ensures.taken in
+    c.loop-index-test.true (sym c.index-items-index.is) so_far.taken c.in_ok-section.ensures.taken in
     record {
       taken = rw c.in_ok-section.ensures.behind taken;
       known = known_next PLACE_DIGITS c.args.township c.loop-index.section c.in_ok-section.section c.items-items.result.now c.loop-index.index c.index-items-index.result

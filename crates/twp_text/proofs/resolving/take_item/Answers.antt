@@ -1,8 +1,6 @@
 -- What each kind of item answers is what the item answers.
-use Rattle.std.proofs.Common.{◌≡◌, sym, ap, ◌∙◌}
 use Rattle.std.proofs.lemmas.Result.{err_from_is_err_and}
-use Rattle.twp_grid.specs.Places.{PLACE_DIGITS}
-use Rattle.twp_text.specs.Taking.{number_of_section, IsTaken}
+use Rattle.twp_text.specs.Taking.{number_of_section}
 use Rattle.twp_text.proofs.ItemFlaws.{heading_taken, heading_refused, all_taken, all_refused}
 use Rattle.twp_text.proofs.resolving.take_item.Goals as goal
 use Rattle.twp_text.proofs.resolving.take_item.Goals.{in-Heading+in_ok-take_heading-in-Heading, in-Lots+in_ok-take_lots-in-Lots, in-Chain+in_ok-take_chain-in-Chain, in-All+in_ok-add_block-in-All}

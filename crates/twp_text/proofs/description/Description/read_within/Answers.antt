@@ -1,5 +1,5 @@
 -- The reader has come to a token that it takes, to one that it can't take, or to the end.
-use Rattle.std.proofs.Common.{sym, subst, reverse}
+use Rattle.std.proofs.Common.{ℕ, ◌+◌, List, length, drop, refl, sym, subst, reverse}
 use Rattle.twp_text.specs.Tokens.{seen}
 use Rattle.twp_text.specs.TextFaults.{IsReadAs}
 use Rattle.twp_text.proofs.ReaderFacts.{Front, front_next, wrong_here, wrong_at_end, read_whole, begins}
@@ -7,28 +7,35 @@ use Rattle.twp_text.proofs.description.Description.read_within.Goals as goal
 
 pub fault_of-requires-clause-wrong : goal.fault_of-requires-clause-wrong
 fault_of-requires-clause-wrong c =
-    let left = c.loop-token.tokens in
-    rw c.expected.ensures (wrong_here c.args.text.now left.at left.bytes c.loop-token.state c.loop-token.items (seen c.in-Some.token) c.advance.new.self.bytes c.loop-token.invariant c.in-Some.ensures.0 (sym c.in_default-next.ensures))
+    let text : List ℕ = c.args.text.now in
+    let at : ℕ = c.loop-token.at in
+    let end : ℕ = c.in-Some.token.at + length c.in-Some.token.text.now in
+    rw c.expected.ensures (wrong_here text at (drop at text) c.loop-token.state c.loop-token.items (seen c.in-Some.token) (drop end text) c.loop-token.invariant c.in-Some.ensures.starts (sym c.in_default-next.ensures))
 
 pub loop-token-preserved : goal.loop-token-preserved
 loop-token-preserved c =
-    let left = c.loop-token.tokens in
-    subst (λ is. Front c.args.text.now c.advance.new.self.at c.advance.new.self.bytes c.in-Some-next.behind is) (sym c.in_ok-take.ensures)
-    (front_next c.args.text.now left.at left.bytes c.loop-token.state c.in-Some-next.behind c.loop-token.items (seen c.in-Some.token) c.advance.new.self.at c.advance.new.self.bytes c.loop-token.invariant c.in-Some.ensures.0 c.in-Some.ensures.1 (sym c.in-Some-next.ensures))
+    let text : List ℕ = c.args.text.now in
+    let at : ℕ = c.loop-token.at in
+    let end : ℕ = c.in-Some.token.at + length c.in-Some.token.text.now in
+    subst (λ is. Front text end (drop end text) c.in-Some-next.behind is) (sym c.in_ok-take.ensures)
+    (front_next text at (drop at text) c.loop-token.state c.in-Some-next.behind c.loop-token.items (seen c.in-Some.token) end (drop end text) c.loop-token.invariant c.in-Some.ensures.starts refl (sym c.in-Some-next.ensures))
 
 pub fault_of-requires-then-not-is_final-clause-wrong : goal.fault_of-requires-then-not-is_final-clause-wrong
 fault_of-requires-then-not-is_final-clause-wrong c =
-    let left = c.loop-token.tokens in
+    let text : List ℕ = c.args.text.now in
+    let at : ℕ = c.loop-token.at in
     rw c.expected-then-not-is_final.ensures
-    (wrong_at_end c.args.text.now left.at left.bytes c.loop-token.state c.loop-token.items c.loop-token.invariant c.in_default.ensures.0 (sym c.if-not-is_final.ensures))
+    (wrong_at_end text at (drop at text) c.loop-token.state c.loop-token.items c.loop-token.invariant c.in_default.ensures (sym c.if-not-is_final.ensures))
 
 pub invariant_of-result : goal.invariant_of-result
 invariant_of-result c =
-    let left = c.loop-token.tokens in
-    let read : IsReadAs c.args.text.now (reverse c.loop-token.items) = read_whole c.args.text.now left.at left.bytes c.loop-token.state c.loop-token.items c.loop-token.invariant c.in_default.ensures.0 (sym c.if-not-is_final.ensures) c.requires in
-    rw c.into_vec.ensures (begins c.args.text.now (reverse c.loop-token.items) read)
+    let text : List ℕ = c.args.text.now in
+    let at : ℕ = c.loop-token.at in
+    let read : IsReadAs text (reverse c.loop-token.items) = read_whole text at (drop at text) c.loop-token.state c.loop-token.items c.loop-token.invariant c.in_default.ensures (sym c.if-not-is_final.ensures) c.requires in
+    rw c.into_vec.ensures (begins text (reverse c.loop-token.items) read)
 
 pub returns-clause-read : goal.returns-clause-read
 returns-clause-read c =
-    let left = c.loop-token.tokens in
-    rw c.into_vec.ensures (read_whole c.args.text.now left.at left.bytes c.loop-token.state c.loop-token.items c.loop-token.invariant c.in_default.ensures.0 (sym c.if-not-is_final.ensures) c.requires)
+    let text : List ℕ = c.args.text.now in
+    let at : ℕ = c.loop-token.at in
+    rw c.into_vec.ensures (read_whole text at (drop at text) c.loop-token.state c.loop-token.items c.loop-token.invariant c.in_default.ensures (sym c.if-not-is_final.ensures) c.requires)

@@ -1,0 +1,98 @@
+-- From what a parse entered to its task.
+use Rattle.std.proofs.Common.{◌≡◌, ◌⊎◌, ◌∙◌, ap, true, [], ◌∷◌, Option, Some, None, refl, sym, inl, inr, subst}
+use Rattle.std.specs.Prelude.{option_map, codes, List, Box}
+use Rattle.std.specs.Box.{box_value}
+use Rattle.std.proofs.lemmas.List.Elements.{All-cons, All-nil}
+use Rattle.clap.specs.Simple.{subcommand_rows}
+use Rattle.clap.specs.declared.parser.matches.SubCommand.{SubCommand}
+use Rattle.clap.specs.Words.{App, IsAmong, Row, Text, fault_of, is_simple, is_simple_and_free, matches_of, subcommand_name_of, subcommand_of, subcommand_rows_of}
+use Rattle.clap.specs.declared.error.kind.ErrorKind.{ErrorKind}
+use Rattle.clap.specs.declared.error.kind.ErrorKind.TheVariants.{DisplayHelp, OutOfMemory}
+use Rattle.clap.specs.declared.parser.matches.ArgMatches.{ArgMatches}
+use Rattle.clap.specs.declared.parser.matches.ArgMatches.TheViews.{out-ArgMatches, out-SubCommand}
+use Rattle.twp_cmd.specs.Commands.{IsTownship, township}
+use Rattle.twp_cmd.specs.Parses.{HasValue, IsTaskIn, IsWhole, ShowsAs}
+use Rattle.twp_cmd.specs.Tasks.{HasGiven, IsFaultOf, IsTaskOf, given_description, given_notes}
+use Rattle.twp_cmd.specs.declared.task.Task.{Task}
+use Rattle.twp_cmd.specs.declared.task.Task.TheVariants.{Plat, Acres}
+use Rattle.twp_cmd.specs.declared.task.TaskFault.{TaskFault}
+use Rattle.twp_cmd.specs.declared.task.TaskFault.TheVariants.{Usage, Help, Memory}
+use Rattle.twp_cmd.proofs.TownshipWords.{township_whole}
+
+module _ {Z : Type 0} where
+  entered_names : (o : Option (Box SubCommand Z)) → option_map (λ p. p.0) (subcommand_rows o) ≡ option_map (λ b. (out-SubCommand (box_value b)).name.now) o
+  entered_names None = refl
+  entered_names (Some b) = refl
+
+-- the name that the parse entered
+pub entered_name : (m : ArgMatches) → option_map (λ p. p.0) (subcommand_rows_of m) ≡ subcommand_name_of m
+entered_name m = entered_names (out-ArgMatches m).subcommand
+
+-- what isn't `plat` is `acres`
+pub acres_words : (entered : Option (Text × List Row)) (name : Text) (rows : List Row) → IsWhole entered
+    → option_map (λ p. p.0) entered ≡ Some name → option_map (λ p. p.1) entered ≡ Some rows
+    → (name ≡ codes "plat" → ⊥) → (name ≡ codes "acres") × HasValue (codes "DESCRIPTION") rows
+acres_words None name rows whole named found other = absurd whole
+acres_words (Some e) name rows whole named found other =
+    let same : e.0 ≡ name = cc in
+    let those : e.1 ≡ rows = cc in
+    elim whole [
+      | inl h ↦ absurd (other (sym same ∙ h.0))
+      | inr h ↦ (sym same ∙ h.0, subst (HasValue (codes "DESCRIPTION")) those h.2)
+    ]
+
+simple : is_simple township ≡ true
+simple = refl
+
+simple_and_free : is_simple_and_free township ≡ true
+simple_and_free = refl
+
+-- what a parse that succeeds entered has all its values
+pub parse_whole : (app : App) (words : List Text) (rows : List Row) (entered : Option (Text × List Row)) → IsTownship app
+    → (is_simple_and_free app ≡ true → fault_of app words ≡ [])
+    → (is_simple app ≡ true → (rows ≡ matches_of app words) × (entered ≡ subcommand_of app words)) → IsWhole entered
+parse_whole app words rows entered is taken matches =
+    let free : is_simple_and_free app ≡ true = rw is simple_and_free in
+    let plain : is_simple app ≡ true = rw is simple in
+    let none : fault_of township words ≡ [] = subst (λ a. fault_of a words ≡ []) is (taken free) in
+    let same : entered ≡ subcommand_of township words = (matches plain).1 ∙ ap (λ a. subcommand_of a words) is in
+    rw same (township_whole words none)
+
+-- and its task is what the words ask for
+pub parse_task : (app : App) (words : List Text) (rows : List Row) (entered : Option (Text × List Row)) (task : Task) → IsTownship app
+    → (is_simple_and_free app ≡ true → fault_of app words ≡ [])
+    → (is_simple app ≡ true → (rows ≡ matches_of app words) × (entered ≡ subcommand_of app words))
+    → IsTaskIn entered task → IsTaskOf words task
+parse_task app words rows entered task is taken matches asks = go task asks
+  where
+    go : (t : Task) → IsTaskIn entered t → IsTaskOf words t
+    go (Plat notes) h = record {
+      app = app;
+      is_township = is;
+      taken = taken (rw is simple_and_free);
+      rows = h.0;
+      subcommand_is = sym (matches (rw is simple)).1 ∙ h.1;
+      values_are = All-cons (HasGiven h.0) (given_notes notes) [] h.2 (All-nil (HasGiven h.0));
+    }
+    go (Acres notes description) h = record {
+      app = app;
+      is_township = is;
+      taken = taken (rw is simple_and_free);
+      rows = h.0;
+      subcommand_is = sym (matches (rw is simple)).1 ∙ h.1;
+      values_are = All-cons (HasGiven h.0) (given_notes notes) (given_description description ∷ []) h.2
+          (All-cons (HasGiven h.0) (given_description description) [] h.3 (All-nil (HasGiven h.0)));
+    }
+
+-- the error of a parse shows the fault of the words
+pub parse_fault : (app : App) (words : List Text) (kind : ErrorKind) (fault : TaskFault) → IsTownship app
+    → (is_simple_and_free app ≡ true → (kind ≡ OutOfMemory) ⊎ IsAmong kind (fault_of app words))
+    → ShowsAs kind fault → IsFaultOf words fault
+parse_fault app words kind fault is fails shows = go fault shows (fails (rw is simple_and_free))
+  where
+    go : (f : TaskFault) → ShowsAs kind f → (kind ≡ OutOfMemory) ⊎ IsAmong kind (fault_of app words) → IsFaultOf words f
+    go (Usage text) h (inl none) = absurd (h.1 none)
+    go (Usage text) h (inr among) = (kind, record { app = app; is_township = is; among = among }, h.0)
+    go (Help text) h (inl none) = let bad : OutOfMemory ≡ DisplayHelp = rw none at h in cc
+    go (Help text) h (inr among) = record { app = app; is_township = is; among = subst (λ k. IsAmong k (fault_of app words)) h among }
+    go Memory h e = tt

@@ -1,0 +1,24 @@
+-- The command line, in the words of clap's own rule.
+use Rattle.std.specs.Prelude.{◌≡◌, true, false, List, [], ◌∷◌, map, codes}
+use Rattle.clap.specs.Words.{App, Rule, Shape, Text, new_rule}
+use Rattle.clap.specs.Simple.{new_shape}
+
+-- a word that a subcommand requires
+abbrev pub required_word : Text → Rule
+required_word id = record (new_rule id) { required = true }
+
+-- a subcommand, with the words that it requires in their order
+abbrev pub subcommand_with : Text → List Text → Shape
+subcommand_with name ids = record (new_shape name) { rules = map required_word ids }
+
+-- the command `township`, which requires one of its subcommands
+abbrev pub township : App
+township = record {
+  top = record (new_shape (codes "township")) { is_leaf = false; subcommand_required = true };
+  subs = subcommand_with (codes "plat") (codes "NOTES" ∷ [])
+      ∷ subcommand_with (codes "acres") (codes "NOTES" ∷ codes "DESCRIPTION" ∷ []) ∷ [];
+}
+
+-- the program's command
+abbrev pub IsTownship : App → Type 0
+IsTownship app = app ≡ township

@@ -1,0 +1,67 @@
+ghost use Rattle.std.specs.Prelude.{◌≡◌, ◌∷◌, [], IfOk, false, codes};
+ghost use Rattle.clap.specs.Words.{app_of, rule_of, shape_of};
+ghost use Rattle.clap.specs.declared.builder.command.Command.TheViews.{out-Command as fields_of};
+ghost use Rattle.twp_cmd.specs.Commands.{IsTownship, required_word, subcommand_with};
+
+use clap::{Arg, Command};
+use std::alloc::{AllocError, Global};
+
+/// The program's name in help and usage, whatever file it was called by.
+const NAME: &str = "township";
+
+/// The command line of the program: one of its subcommands, with its files.
+pub(crate) fn township<'a>(alloc: Global) -> Result<Command<'a>, AllocError>
+    ensures { IfOk result (λ command. IsTownship (app_of command)) }
+{
+    Command::new(alloc, NAME)
+        .about(
+            "Protracts a township from its field notes, and gives the acres of land described on it",
+        )
+        .bin_name(NAME)?
+        .subcommand_required(true)
+        .subcommand(plat(alloc)?)?
+        .subcommand(acres(alloc)?)
+}
+
+/// `plat NOTES`
+fn plat<'a>(alloc: Global) -> Result<Command<'a>, AllocError>
+    ensures local { IfOk result (λ command. (fields_of command).has_globals ≡ false) }
+    ensures shape { IfOk result (λ command. shape_of command
+        ≡ subcommand_with (codes "plat") (codes "NOTES" ∷ [])) }
+{
+    Command::new(alloc, "plat")
+        .about("Writes the acres of each lot, of each section and of the whole township")
+        .arg(notes(alloc))
+}
+
+/// `acres NOTES DESCRIPTION`
+fn acres<'a>(alloc: Global) -> Result<Command<'a>, AllocError>
+    ensures local { IfOk result (λ command. (fields_of command).has_globals ≡ false) }
+    ensures shape { IfOk result (λ command. shape_of command
+        ≡ subcommand_with (codes "acres") (codes "NOTES" ∷ codes "DESCRIPTION" ∷ [])) }
+{
+    Command::new(alloc, "acres")
+        .about("Writes the acres of the land that a description names")
+        .arg(notes(alloc))?
+        .arg(description(alloc))
+}
+
+/// The file of field notes.
+fn notes<'a>(alloc: Global) -> Arg<'a>
+    ensures local { result.global ≡ false }
+    ensures rule { rule_of result ≡ required_word (codes "NOTES") }
+{
+    Arg::new(alloc, "NOTES")
+        .required(true)
+        .help("field notes of the township's 84 section lines, CSV")
+}
+
+/// The file of a description.
+fn description<'a>(alloc: Global) -> Arg<'a>
+    ensures local { result.global ≡ false }
+    ensures rule { rule_of result ≡ required_word (codes "DESCRIPTION") }
+{
+    Arg::new(alloc, "DESCRIPTION")
+        .required(true)
+        .help("description of land, as: sec. 5, lot 1.")
+}

@@ -1,0 +1,255 @@
+use super::{Task, TaskFault, read_task};
+use std::alloc::Global;
+use std::test::Fail;
+
+/// What `township --help` says.
+const PROGRAM_HELP: &str =
+    "Protracts a township from its field notes, and gives the acres of land described on it
+
+Usage: township <COMMAND>
+
+Commands:
+  plat   Writes the acres of each lot, of each section and of the whole township
+  acres  Writes the acres of the land that a description names
+  help   Print this message or the help of the given subcommand(s)
+
+Options:
+  -h, --help  Print help
+";
+
+/// What `township plat --help` says.
+const PLAT_HELP: &str = "Writes the acres of each lot, of each section and of the whole township
+
+Usage: township plat <NOTES>
+
+Arguments:
+  <NOTES>  field notes of the township's 84 section lines, CSV
+
+Options:
+  -h, --help  Print help
+";
+
+/// What `township acres --help` says.
+const ACRES_HELP: &str = "Writes the acres of the land that a description names
+
+Usage: township acres <NOTES> <DESCRIPTION>
+
+Arguments:
+  <NOTES>        field notes of the township's 84 section lines, CSV
+  <DESCRIPTION>  description of land, as: sec. 5, lot 1.
+
+Options:
+  -h, --help  Print help
+";
+
+/// How each text of usage ends, after what was wrong.
+const USAGE: &str = "\nUsage: township <COMMAND>\n\nFor more information, try '--help'.\n";
+
+/// The same in `plat`.
+const PLAT_USAGE: &str = "\nUsage: township plat <NOTES>\n\nFor more information, try '--help'.\n";
+
+/// The same in `acres`.
+const ACRES_USAGE: &str =
+    "\nUsage: township acres <NOTES> <DESCRIPTION>\n\nFor more information, try '--help'.\n";
+
+/// Reads a command line.
+fn read(alloc: Global, line: &[&str]) -> Result<Result<Task, TaskFault>, Fail> {
+    let mut words = Vec::new(alloc);
+    for word in line {
+        words.push(String::from_str(alloc, word)?)?;
+    }
+    Ok(read_task(alloc, words))
+}
+
+/// The text of a fault, behind its kind.
+fn fault_text(alloc: Global, line: &[&str]) -> Result<String, Fail> {
+    match read(alloc, line)? {
+        Ok(task) => Ok(format!(in alloc; "a task: {task:?}")?),
+        Err(TaskFault::Usage { text }) => Ok(format!(in alloc; "usage: {text}")?),
+        Err(TaskFault::Help { text }) => Ok(format!(in alloc; "help: {text}")?),
+        Err(TaskFault::Memory) => Ok(format!(in alloc; "memory")?),
+    }
+}
+
+#[test]
+fn a_task_is_a_subcommand_with_its_files(rt: HostRuntime) -> Result<(), Fail> {
+    // The subcommand, NOTES, and DESCRIPTION where the subcommand has it.
+    let lines: [(&[&str], &str, Option<&str>); 9] = [
+        (
+            &["township", "acres", "n.csv", "d.txt"],
+            "n.csv",
+            Some("d.txt"),
+        ),
+        (&["township", "plat", "n.csv"], "n.csv", None),
+        // Whatever the program was called by.
+        (&["/usr/local/bin/tw", "plat", "n.csv"], "n.csv", None),
+        (&["", "plat", "n.csv"], "n.csv", None),
+        // Behind `--` each word is a value.
+        (
+            &["township", "acres", "--", "-h", "--help"],
+            "-h",
+            Some("--help"),
+        ),
+        (
+            &["township", "acres", "n.csv", "--", "--"],
+            "n.csv",
+            Some("--"),
+        ),
+        (&["township", "plat", "--", "acres"], "acres", None),
+        // A hyphen alone is a value, and so is the empty word.
+        (&["township", "acres", "-", ""], "-", Some("")),
+        // A name is kept as it is written.
+        (
+            &["township", "acres", "my notes.csv", "\u{e9}=1"],
+            "my notes.csv",
+            Some("\u{e9}=1"),
+        ),
+    ];
+    for (line, wanted_notes, wanted_description) in lines {
+        let (notes, description) = match read(rt.alloc(), line)? {
+            Ok(Task::Plat { notes }) => (notes, None),
+            Ok(Task::Acres { notes, description }) => (notes, Some(description)),
+            Err(fault) => {
+                assert!(rt; false, "{line:?}: {fault}");
+                continue;
+            }
+        };
+        assert!(rt; notes.text() == wanted_notes, "{line:?}: {notes}");
+        match (description, wanted_description) {
+            (Some(name), Some(wanted)) => assert!(rt; name.text() == wanted, "{line:?}: {name}"),
+            (found, wanted) => assert!(rt; found.is_none() && wanted.is_none(), "{line:?}"),
+        }
+    }
+    Ok(())
+}
+
+#[test]
+fn help_is_shown_where_it_is_asked_for(rt: HostRuntime) -> Result<(), Fail> {
+    let lines: [(&[&str], &str); 10] = [
+        (&["township", "--help"], PROGRAM_HELP),
+        (&["township", "-h"], PROGRAM_HELP),
+        (&["township", "help"], PROGRAM_HELP),
+        (&["/usr/local/bin/tw", "--help"], PROGRAM_HELP),
+        (&["township", "help", "plat"], PLAT_HELP),
+        (&["township", "plat", "--help"], PLAT_HELP),
+        (&["township", "help", "acres"], ACRES_HELP),
+        (&["township", "acres", "-h"], ACRES_HELP),
+        // Also where the other words are misused.
+        (&["tw", "acres", "n.csv", "--help"], ACRES_HELP),
+        (&["township", "--help", "akres"], PROGRAM_HELP),
+    ];
+    for (line, wanted) in lines {
+        let fault = fault_text(rt.alloc(), line)?;
+        let text = fault.as_str().strip_prefix("help: ");
+        assert!(rt; text == Some(wanted), "{line:?}: {fault}");
+    }
+    Ok(())
+}
+
+#[test]
+fn usage_says_what_was_wrong(rt: HostRuntime) -> Result<(), Fail> {
+    let missing = "error: 'township' requires a subcommand but one was not provided
+  [subcommands: plat, acres, help]
+";
+    let lines: [(&[&str], &str, &str); 15] = [
+        (&["township"], missing, USAGE),
+        (&[], missing, USAGE),
+        (
+            &["township", ""],
+            "error: unrecognized subcommand ''\n",
+            USAGE,
+        ),
+        (
+            &["township", "akres", "n.csv", "d.txt"],
+            "error: unrecognized subcommand 'akres'\n\n  tip: a similar subcommand exists: 'acres'\n",
+            USAGE,
+        ),
+        (
+            &["township", "normal"],
+            "error: unrecognized subcommand 'normal'\n",
+            USAGE,
+        ),
+        (
+            &["township", "help", "report"],
+            "error: unrecognized subcommand 'report'\n",
+            USAGE,
+        ),
+        (
+            &["township", "--", "acres", "n.csv", "d.txt"],
+            "error: unexpected argument 'acres' found
+
+  tip: subcommand 'acres' exists; to use it, remove the '--' before it
+",
+            USAGE,
+        ),
+        (
+            &["township", "-v"],
+            "error: unexpected argument '-v' found\n",
+            USAGE,
+        ),
+        (
+            &["township", "plat"],
+            "error: the following required arguments were not provided:\n  <NOTES>\n",
+            PLAT_USAGE,
+        ),
+        (
+            &["township", "plat", "n.csv", "d.txt"],
+            "error: unexpected argument 'd.txt' found\n",
+            PLAT_USAGE,
+        ),
+        (
+            &["township", "acres"],
+            "error: the following required arguments were not provided:\n  <NOTES>\n  <DESCRIPTION>\n",
+            ACRES_USAGE,
+        ),
+        (
+            &["township", "acres", "n.csv"],
+            "error: the following required arguments were not provided:\n  <DESCRIPTION>\n",
+            ACRES_USAGE,
+        ),
+        (
+            &["township", "acres", "n.csv", "d.txt", "t.csv"],
+            "error: unexpected argument 't.csv' found\n",
+            ACRES_USAGE,
+        ),
+        (
+            &["township", "acres", "--notes", "n.csv"],
+            "error: unexpected argument '--notes' found
+
+  tip: to pass '--notes' as a value, use '-- --notes'
+",
+            ACRES_USAGE,
+        ),
+        (
+            &["township", "acres", "-n.csv", "d.txt"],
+            "error: unexpected argument '-n' found\n\n  tip: to pass '-n' as a value, use '-- -n'\n",
+            ACRES_USAGE,
+        ),
+    ];
+    for (line, wrong, usage) in lines {
+        let fault = fault_text(rt.alloc(), line)?;
+        let wanted = format!(in rt.alloc(); "usage: {wrong}{usage}")?;
+        assert!(rt; fault == wanted, "{line:?}: {fault}");
+    }
+    Ok(())
+}
+
+#[test]
+fn a_fault_shows_its_text(rt: HostRuntime) -> Result<(), Fail> {
+    let alloc = rt.alloc();
+    let usage = TaskFault::Usage {
+        text: String::from_str(alloc, "how it is used")?,
+    };
+    let help = TaskFault::Help {
+        text: String::from_str(alloc, "what it does")?,
+    };
+    for (fault, text) in [
+        (usage, "how it is used"),
+        (help, "what it does"),
+        (TaskFault::Memory, "out of memory"),
+    ] {
+        let shown = fault.to_string(alloc)?;
+        assert!(rt; shown.as_str() == text, "{shown}");
+    }
+    Ok(())
+}

@@ -1,0 +1,6 @@
+use Rattle.twp_grid.specs.Places.{PLACE_DIGITS, places_across}
+use Rattle.twp_land.proofs.LaneFacts.{held_in_no_lanes}
+use Rattle.twp_land.proofs.lanes.LaneRowsPlot.empty.Goals as goal
+
+pub returns : goal.returns
+returns c = held_in_no_lanes (places_across PLACE_DIGITS)

@@ -1,0 +1,197 @@
+use super::*;
+use crate::lanes::Lanes;
+use crate::rows::Grid;
+use std::alloc::Global;
+use std::process::Abort;
+use std::test::Fail;
+use twp_grid::Side;
+
+// The lengths of the sides that halving 16 places gives, and how many such sides there are: 31 in all, and
+// 31 times 31 blocks.
+const SIDES: [(u8, u8); 5] = [(16, 1), (8, 2), (4, 4), (2, 8), (1, 16)];
+
+// Numbers that look random: each step multiplies by 1,664,525 and adds 1,013,904,223, modulo 2 to the 32nd.
+#[derive(Drop)]
+struct Random {
+    state: u32,
+}
+
+impl Random {
+    fn below(&mut self, bound: u8) -> u8 {
+        self.state = self
+            .state
+            .wrapping_mul(1_664_525)
+            .wrapping_add(1_013_904_223);
+        let high = self.state >> 24;
+        u8::try_from(high.checked_rem(u32::from(bound)).unwrap_or(0)).unwrap_or(0)
+    }
+
+    fn block(&mut self) -> Block {
+        let mut block = Block::whole();
+        for _ in 0..self.below(8) {
+            let side = match self.below(4) {
+                0 => Side::N,
+                1 => Side::S,
+                2 => Side::E,
+                _ => Side::W,
+            };
+            block = block.half(side).unwrap_or(block);
+        }
+        block
+    }
+}
+
+// The block of these columns and rows, by halving the whole section.
+fn reach(column: u8, width: u8, row: u8, height: u8) -> Option<Block> {
+    let mut block = Block::whole();
+    for _ in 0..4u8 {
+        if block.width() > width {
+            let west = block.half(Side::W)?;
+            let is_west = column >= west.column();
+            block = if is_west { west } else { block.half(Side::E)? };
+        }
+        if block.height() > height {
+            let north = block.half(Side::N)?;
+            let is_north = row >= north.row();
+            block = if is_north {
+                north
+            } else {
+                block.half(Side::S)?
+            };
+        }
+    }
+    Some(block)
+}
+
+fn is_inside(block: Block, column: u8, row: u8) -> bool {
+    column.wrapping_sub(block.column()) < block.width()
+        && row.wrapping_sub(block.row()) < block.height()
+}
+
+#[test]
+fn grid_holds_what_was_added(rt: HostRuntime) -> Result<(), Fail> {
+    check_added::<Grid>(rt.alloc(), &rt)
+}
+
+#[test]
+fn lanes_hold_what_was_added(rt: HostRuntime) -> Result<(), Fail> {
+    check_added::<Lanes>(rt.alloc(), &rt)
+}
+
+// A land of 200 blocks holds their places and no others.
+fn check_added<L: Land>(alloc: Global, rt: &impl Abort) -> Result<(), Fail> {
+    let mut random = Random { state: 1796 };
+    let mut land = L::empty();
+    let mut added = Vec::new(alloc);
+    for _ in 0..200u8 {
+        let section = Section::new(random.below(36).wrapping_add(1)).ok_or("a section")?;
+        let block = random.block();
+        land.add(section, block);
+        added.push((section, block))?;
+    }
+    for number in 1..37u8 {
+        let section = Section::new(number).ok_or("a section")?;
+        let mut count = 0u32;
+        for column in 0..16u8 {
+            for row in 0..16u8 {
+                let held = land.holds(section, column, row);
+                let wanted = added.iter().any(|(other, block)| *other == section
+                    && is_inside(*block, column, row));
+                assert_eq!(rt; held, wanted, "section {number}, {column}, {row}");
+                count = count.wrapping_add(u32::from(held));
+            }
+        }
+        let whole = Block::whole();
+        assert_eq!(rt; land.count(section, whole), count, "section {number}");
+        assert_eq!(rt; land.meets(section, whole), count > 0);
+        assert_eq!(rt; land.full(section, whole), count == 256);
+    }
+    Ok(())
+}
+
+#[test]
+fn grid_tells_961_blocks_apart(rt: HostRuntime) -> Result<(), Fail> {
+    let section = Section::new(14).ok_or("a section")?;
+    for block in blocks(rt.alloc(), &rt)? {
+        check_alone::<Grid>(&rt, section, block);
+    }
+    Ok(())
+}
+
+#[test]
+fn lanes_tell_961_blocks_apart(rt: HostRuntime) -> Result<(), Fail> {
+    let section = Section::new(14).ok_or("a section")?;
+    for block in blocks(rt.alloc(), &rt)? {
+        check_alone::<Lanes>(&rt, section, block);
+    }
+    Ok(())
+}
+
+#[test]
+fn lanes_answer_as_a_grid_does(rt: HostRuntime) -> Result<(), Fail> {
+    let section = Section::new(29).ok_or("a section")?;
+    let mut random = Random { state: 1796 };
+    for block in blocks(rt.alloc(), &rt)? {
+        let mut grid = Grid::empty();
+        let mut lanes = Lanes::empty();
+        for _ in 0..3u8 {
+            let more = random.block();
+            grid.add(section, more);
+            lanes.add(section, more);
+        }
+        assert_eq!(&rt; lanes.meets(section, block), grid.meets(section, block));
+        assert_eq!(&rt; lanes.full(section, block), grid.full(section, block));
+        assert_eq!(&rt; lanes.count(section, block), grid.count(section, block));
+        grid.add(section, block);
+        lanes.add(section, block);
+        for column in 0..16u8 {
+            for row in 0..16u8 {
+                assert_eq!(&rt;
+                    lanes.holds(section, column, row),
+                    grid.holds(section, column, row)
+                );
+            }
+        }
+    }
+    Ok(())
+}
+
+// All blocks that halving gives.
+fn blocks(alloc: Global, rt: &impl Abort) -> Result<Vec<Block>, Fail> {
+    let mut blocks = Vec::new(alloc);
+    for (width, across) in SIDES {
+        for i in 0..across {
+            for (height, upward) in SIDES {
+                for j in 0..upward {
+                    let column = i.wrapping_mul(width);
+                    let row = j.wrapping_mul(height);
+                    let block = reach(column, width, row, height).ok_or("a block")?;
+                    assert_eq!(rt; (block.column(), block.width()), (column, width));
+                    assert_eq!(rt; (block.row(), block.height()), (row, height));
+                    blocks.push(block)?;
+                }
+            }
+        }
+    }
+    assert_eq!(rt; blocks.len(), 961);
+    Ok(blocks)
+}
+
+// A land of one block holds its places and no others.
+fn check_alone<L: Land>(rt: &impl Abort, section: Section, block: Block) {
+    let mut land = L::empty();
+    assert!(rt; !land.meets(section, block));
+    land.add(section, block);
+    assert!(rt; land.full(section, block));
+    let size = u32::from(block.width()).wrapping_mul(u32::from(block.height()));
+    assert_eq!(rt; land.count(section, block), size);
+    assert_eq!(rt; land.count(section, Block::whole()), size);
+    for column in 0..16u8 {
+        for row in 0..16u8 {
+            assert_eq!(rt;
+                land.holds(section, column, row),
+                is_inside(block, column, row)
+            );
+        }
+    }
+}

@@ -1,0 +1,59 @@
+use crate::bits::{block_lanes, vector};
+use crate::plot::Plot;
+use crate::sections::Sections;
+use std::simd::prelude::*;
+use twp_grid::{Block, PLACES_ACROSS};
+
+/// A land that keeps a bit for each place, in lanes.
+pub type Lanes = Sections<LaneRows>;
+
+/// A section's places as lanes of bits: a lane for each row, from the south, and in it a bit for each
+/// column, from the east.
+#[derive(Clone, Copy, Debug)]
+pub struct LaneRows {
+    lanes: [u16; PLACES_ACROSS],
+}
+
+impl Plot for LaneRows {
+    ghost use Rattle.twp_land.specs.Storage.{held_by_lane};
+
+    ghost held = { λ plot. held_by_lane plot.lanes };
+
+    ghost use Rattle.twp_land.specs.Within.{lane_within};
+
+    ghost within = { λ plot column row held. lane_within plot.lanes column row held };
+
+    fn empty() -> Self {
+        LaneRows {
+            lanes: [0; PLACES_ACROSS],
+        }
+    }
+
+    #[inline]
+    fn holds(&self, column: u8, row: u8) -> bool {
+        (self.lanes[usize::from(row)] >> column) & 1 == 1
+    }
+
+    #[inline]
+    fn meets(&self, block: Block) -> bool {
+        (vector(&self.lanes) & block_lanes(block)).reduce_or() != 0
+    }
+
+    #[inline]
+    fn full(&self, block: Block) -> bool {
+        let block = block_lanes(block);
+        ((vector(&self.lanes) & block) ^ block).reduce_or() == 0
+    }
+
+    #[inline]
+    fn count(&self, block: Block) -> u32 {
+        let held = vector(&self.lanes) & block_lanes(block);
+        u32::from(held.count_ones().strict_reduce_sum())
+    }
+
+    #[inline]
+    fn add(&mut self, block: Block) {
+        let held = vector(&self.lanes) | block_lanes(block);
+        held.copy_to_slice(&mut self.lanes);
+    }
+}

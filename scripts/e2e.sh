@@ -1,0 +1,243 @@
+#!/bin/sh
+# Runs ./township, or the program that is named, as people do: on files, pipes, folders and devices. It
+# compares the status, standard output and standard error of each run. The last line is
+# 'N passed, 0 failed'.
+set -u
+# A program that goes wrong fills no disk and doesn't run forever.
+ulimit -f 2000
+ulimit -t 20
+program=$(readlink -f "${1:-./township}")
+root=$(readlink -f "$(dirname "$0")/..")
+work=$(mktemp -d)
+trap 'rm -rf "$work"' EXIT
+cd "$work" || exit 1
+passed=0
+failed=0
+
+# Compares the last run: what it shows, its status, and what it wrote to standard output and standard
+# error, each without its last line feed.
+ended() {
+    what=$1 status=$2 wanted_status=$3 wanted_out=$4 wanted_err=$5
+    text "$wanted_out" > wanted_out
+    text "$wanted_err" > wanted_err
+    if [ "$status" = "$wanted_status" ] && cmp -s wanted_out out && cmp -s wanted_err err; then
+        passed=$((passed + 1))
+        return
+    fi
+    failed=$((failed + 1))
+    echo "FAILED: $what: status $status for $wanted_status; standard output, standard error:"
+    head -c 2000 out
+    head -c 2000 err
+}
+
+# A text as a program writes it: nothing, or ended by a line feed.
+text() { [ -z "$1" ] || printf '%s\n' "$1"; }
+
+# Runs the program with these words, and keeps what it writes.
+run() { "$program" "$@" > out 2> err; }
+
+cp "$root/samples/b1.csv" n.csv
+printf 'sec. 5, lot 1.' > d.txt
+printf 'sec. 5, lot 1.\n' | cat - n.csv > joined
+: > empty
+mkdir folder
+cp n.csv ./-h
+cp n.csv 'my notes.csv'
+bad_name=$(printf 'n\377.csv')
+cp n.csv "$bad_name"
+
+# Accepted and refused, with two files.
+run acres n.csv d.txt; ended 'acres' $? 0 '40.45 acres' ''
+run acres ./n.csv "$work/d.txt"; ended 'names with slashes' $? 0 '40.45 acres' ''
+run acres 'my notes.csv' d.txt; ended 'a name with a space' $? 0 '40.45 acres' ''
+run acres -- -h d.txt; ended 'a file called -h' $? 0 '40.45 acres' ''
+run acres /dev/stdin d.txt < n.csv; ended 'notes on a device' $? 0 '40.45 acres' ''
+cat n.csv | run acres /dev/stdin d.txt; ended 'notes on a pipe' $? 0 '40.45 acres' ''
+run acres n.csv d.txt <&-; ended 'standard input is not wanted' $? 0 '40.45 acres' ''
+run acres empty d.txt; ended 'refused notes' $? 1 'refused 2 at 1' ''
+run acres /dev/null d.txt; ended 'no notes' $? 1 'refused 2 at 1' ''
+run acres /dev/zero d.txt; ended 'endless notes' $? 1 'refused 1 at 65536' ''
+run acres empty folder; ended 'no description is read after refused notes' $? 1 'refused 2 at 1' ''
+
+# The examples of docs/REFUSALS.md on field notes and their plat: each edits the sample.
+refuses() {
+    sed "$1" "$root/samples/b0.csv" > edited
+    run acres edited d.txt; ended "refused: $1" $? 1 "refused $2" ''
+}
+refuses '1s/line/Line/' '3 at 1'
+refuses '3s/.*/N,1,,40.00/' '4 at 3'
+refuses '2s/2/0/' '5 at 2'
+refuses '3s/N/X/' '6 at 3'
+refuses '3s/1/37/' '7 at 3'
+refuses '3s/.*/N,1,3,40.00,80.00/' '8 at 3'
+refuses '3s/40.00/40.0000/' '9 at 3'
+refuses '4s/.*/N,1,,40.00,80.00/' '10 at 4'
+refuses '/^W,6,7,/d' '11 at 53'
+refuses '/^W,8,17,/s/40.00/40.251/' '21 at 58'
+refuses '/^W,6,,/s/80.00/64.99/' '22 at 47'
+refuses '/^W,6,7,/s/80.00/85.01/' '23 at 53'
+
+# Those on descriptions: a description, and its refusal.
+awk -F ' [|] ' '/^[|] [4-9][0-9] / { print $4 }' "$root/docs/REFUSALS.md" |
+    sed -n 's/^`\(.*\)`: `\(.*\)`$/\2|\1/p' > examples
+# The examples of docs/DESCRIPTIONS.md: a description, and its acres in the sample.
+awk -F ' [|] ' '/^[|] `/ { sub(/ [|]$/, "", $3); print $3 " acres|" $1 }' "$root/docs/DESCRIPTIONS.md" |
+    sed -n 's/|[|] `\(.*\)`$/|\1/p' >> examples
+[ "$(wc -l < examples)" = 20 ]; : > out; : > err; ended 'twenty examples' $? 0 '' ''
+while IFS='|' read -r answer description; do
+    printf %s "$description" > description
+    case $answer in refused*) wanted=1 ;; *) wanted=0 ;; esac
+    run acres "$root/samples/b0.csv" description; ended "$description" $? "$wanted" "$answer" ''
+done < examples
+
+# The plat: its sections 6, 7 and 8 and its last line, of 37.
+run plat n.csv; status=$?
+lines=$(wc -l < out)
+sed -n '6,8p;37p' out > some; mv some out
+ended 'plat' "$status $lines" '0 37' 'sec. 6: lot 1 40.90, lot 2 41.10, lot 3 41.31, lot 4 39.95, lot 5 38.70, lot 6 38.90, lot 7 39.10, total 639.97
+sec. 7: lot 1 39.18, lot 2 39.13, lot 3 39.08, lot 4 39.03, total 636.40
+sec. 8: total 640.00
+township total 23037.57' ''
+run plat empty; ended 'a refused plat' $? 1 'refused 2 at 1' ''
+run plat /dev/stdin < edited; ended 'the plat of a device' $? 1 'refused 23 at 53' ''
+
+# Without a word: standard input.
+run < joined; ended 'joined input' $? 0 '40.45 acres' ''
+cat joined | run; ended 'joined input on a pipe' $? 0 '40.45 acres' ''
+(cat d.txt; echo; sleep 1; cat n.csv) | run; ended 'a slow pipe' $? 0 '40.45 acres' ''
+run < empty; ended 'no input' $? 1 'refused 2 at 1' ''
+run < /dev/zero; ended 'endless input' $? 1 'refused 2 at 1' ''
+
+# Help.
+help_text="Protracts a township from its field notes, and gives the acres of land described on it
+
+Usage: township <COMMAND>
+
+Commands:
+  plat   Writes the acres of each lot, of each section and of the whole township
+  acres  Writes the acres of the land that a description names
+  help   Print this message or the help of the given subcommand(s)
+
+Options:
+  -h, --help  Print help"
+run --help; ended '--help' $? 0 "$help_text" ''
+run -h; ended '-h' $? 0 "$help_text" ''
+run help; ended 'help' $? 0 "$help_text" ''
+cp "$program" other-name
+./other-name --help > out 2> err; ended 'called by another name' $? 0 "$help_text" ''
+acres_text="Writes the acres of the land that a description names
+
+Usage: township acres <NOTES> <DESCRIPTION>
+
+Arguments:
+  <NOTES>        field notes of the township's 84 section lines, CSV
+  <DESCRIPTION>  description of land, as: sec. 5, lot 1.
+
+Options:
+  -h, --help  Print help"
+run acres --help; ended 'acres --help' $? 0 "$acres_text" ''
+run help acres; ended 'help acres' $? 0 "$acres_text" ''
+run acres missing --help; ended 'help before a missing file' $? 0 "$acres_text" ''
+
+# Usage.
+more="For more information, try '--help'."
+usage="Usage: township <COMMAND>
+
+$more"
+acres_usage="Usage: township acres <NOTES> <DESCRIPTION>
+
+$more"
+run ''; ended 'the empty word' $? 2 '' "error: unrecognized subcommand ''
+
+$usage"
+run n.csv d.txt; ended 'no subcommand' $? 2 '' "error: unrecognized subcommand 'n.csv'
+
+$usage"
+run normal n.csv d.txt; ended 'a subcommand to come' $? 2 '' "error: unrecognized subcommand 'normal'
+
+$usage"
+run acres n.csv; ended 'a word too few' $? 2 '' "error: the following required arguments were not provided:
+  <DESCRIPTION>
+
+$acres_usage"
+run acres n.csv d.txt d.txt; ended 'a word too many' $? 2 '' "error: unexpected argument 'd.txt' found
+
+$acres_usage"
+run plat; ended 'plat without notes' $? 2 '' "error: the following required arguments were not provided:
+  <NOTES>
+
+Usage: township plat <NOTES>
+
+$more"
+run -v; ended 'an unknown option' $? 2 '' "error: unexpected argument '-v' found
+
+$usage"
+
+# Files that can't be opened: both are opened before the run, the first before the second.
+run acres missing d.txt; ended 'missing notes' $? 3 '' 'township: cannot open missing'
+run acres n.csv gone; ended 'a missing description' $? 3 '' 'township: cannot open gone'
+run acres missing gone; ended 'both missing' $? 3 '' 'township: cannot open missing'
+run acres empty gone; ended 'opened before notes are refused' $? 3 '' 'township: cannot open gone'
+run acres folder gone; ended 'opened before a folder is read' $? 3 '' 'township: cannot open gone'
+run acres '' d.txt; ended 'an empty name' $? 3 '' 'township: cannot open '
+run acres n.csv/n.csv d.txt; ended 'a file for a folder' $? 3 '' 'township: cannot open n.csv/n.csv'
+run acres 'no such file' d.txt; ended 'a missing name with spaces' $? 3 '' 'township: cannot open no such file'
+run plat missing; ended 'plat of missing notes' $? 3 '' 'township: cannot open missing'
+
+# What can't be read.
+run acres folder d.txt; ended 'a folder for notes' $? 3 '' 'township: cannot read'
+run acres n.csv folder; ended 'a folder for a description' $? 3 '' 'township: cannot read'
+run plat folder; ended 'a folder for a plat' $? 3 '' 'township: cannot read'
+run < folder; ended 'a folder on standard input' $? 3 '' 'township: cannot read'
+run <&-; ended 'closed standard input' $? 3 '' 'township: cannot read'
+run acres "$bad_name" d.txt; ended 'a name that is no UTF-8' $? 3 '' 'township: cannot read'
+run "$bad_name"; ended 'a subcommand that is no UTF-8' $? 3 '' 'township: cannot read'
+
+# What can't be written: a full device, closed standard output, and a pipe without a reader.
+broken='township: cannot write'
+: > out
+"$program" acres n.csv d.txt > /dev/full 2> err; ended 'acres, full' $? 3 '' "$broken"
+"$program" acres empty d.txt > /dev/full 2> err; ended 'a refusal, full' $? 3 '' "$broken"
+"$program" plat n.csv > /dev/full 2> err; ended 'plat, full' $? 3 '' "$broken"
+"$program" < joined > /dev/full 2> err; ended 'joined, full' $? 3 '' "$broken"
+"$program" --help > /dev/full 2> err; ended 'help, full' $? 3 '' "$broken"
+"$program" acres n.csv d.txt >&- 2> err; ended 'acres, closed' $? 3 '' "$broken"
+"$program" plat n.csv >&- 2> err; ended 'plat, closed' $? 3 '' "$broken"
+"$program" < joined >&- 2> err; ended 'joined, closed' $? 3 '' "$broken"
+"$program" --help >&- 2> err; ended 'help, closed' $? 3 '' "$broken"
+"$program" acres n.csv d.txt <&- >&- 2> err; ended 'both closed' $? 3 '' "$broken"
+mkfifo pipe
+# Its reader goes before the run begins.
+unread() { (exec 3<> pipe 4> pipe 3>&-; exec "$program" "$@" >&4 2> err); }
+unread acres n.csv d.txt; ended 'acres, no reader' $? 3 '' "$broken"
+unread plat n.csv; ended 'plat, no reader' $? 3 '' "$broken"
+unread < joined; ended 'joined, no reader' $? 3 '' "$broken"
+unread help; ended 'help, no reader' $? 3 '' "$broken"
+
+# Standard error may be lost, the status is not.
+: > err
+"$program" acres missing gone > out 2>&-; ended 'closed standard error' $? 3 '' ''
+"$program" acres missing gone > out 2> /dev/full; ended 'full standard error' $? 3 '' ''
+"$program" akres > out 2>&-; ended 'usage, closed standard error' $? 2 '' ''
+
+# Memory: between too little to start and enough, some limit starts the program and refuses it memory.
+limit=1000
+status=none
+while [ "$limit" -lt 20000 ]; do
+    (ulimit -v "$limit" && exec "$program" acres n.csv d.txt) > out 2> err < /dev/null
+    status=$?
+    if [ "$status" = 0 ] || [ "$status" = 3 ]; then break; fi
+    limit=$((limit + 50))
+done 2> lost
+ended 'little memory' "$status" 3 '' 'township: out of memory'
+
+# The table of docs/REFUSALS.md has the numbers and names of the code, and no other.
+find "$root/crates" -path '*/src/*' -name '*.rt' -exec \
+    sed -n 's/^ *[A-Za-z]*Fault::\([A-Za-z]*\).* => (\([0-9][0-9]*\), .*/\2 \1/p' {} + |
+    sort > in_code
+sed -n 's/^| \([0-9][0-9]*\) | \([A-Za-z]*\) |.*/\1 \2/p' "$root/docs/REFUSALS.md" | sort > out
+: > err
+[ -s in_code ]; ended 'the table of refusals' $? 0 "$(cat in_code)" ''
+
+echo "$passed passed, $failed failed"
+[ "$failed" = 0 ]
