@@ -1,5 +1,5 @@
 -- The items of the canonical text: a heading, and for each section lots and aliquot parts, or all.
-use Rattle.std.proofs.Common.{◌≡◌, ℕ, List, [], ◌∷◌, ◌++◌, map, codes, false, refl, sym, ap, ◌∙◌}
+use Rattle.std.proofs.Common.{◌≡◌, ℕ, List, [], ◌∷◌, ◌++◌, map, codes, false, refl, ap, ◌∙◌}
 use Rattle.std.specs.List.{flat_map}
 use Rattle.twp_grid.specs.Townships.{Designation}
 use Rattle.twp_grid.specs.declared.block.Side.TheVariants.{N, S, E, W}
@@ -12,7 +12,7 @@ use Rattle.twp_text.specs.declared.item.Step.TheVariants.{Half, Quarter}
 use Rattle.twp_text.specs.Grammar.{◌⨾◌, one, many, semicolon, heading, step, entry, separator, part, group, description}
 use Rattle.twp_text.specs.Items.{behind, step_of, range_of, lots_item, part_items, group_items, items}
 use Rattle.twp_text.proofs.Lexemes.{mark, placed, end_at}
-use Rattle.twp_text.proofs.SpelledTokens.{Entry, every, lots, aliquot, Line, step_draft, further_step_grammar, further_step, further_number, entry_draft, further_entry, line_draft, further_line_grammar, further_line, heading_draft, land_draft}
+use Rattle.twp_text.proofs.SpelledTokens.{ListEntry, all_entry, lot_entry, part_entry, SectionLine, step_draft, further_step_grammar, further_step, further_number, entry_draft, further_entry, line_draft, further_line_grammar, further_line, heading_draft, land_draft}
 
 -- a number that stands nowhere
 abbrev pub bare : ℕ → Numeral
@@ -30,16 +30,16 @@ unplaced (All at) = All 0
 abbrev pub one_lot : ℕ → Item
 one_lot n = Lots (bare n) (bare n)
 
-abbrev pub entry_items : Entry → List Item
-entry_items every = All 0 ∷ []
-entry_items (lots n ns) = map one_lot (n ∷ ns)
-entry_items (aliquot s ss) = Chain (s ∷ ss) 0 ∷ []
+abbrev pub entry_items : ListEntry → List Item
+entry_items all_entry = All 0 ∷ []
+entry_items (lot_entry n ns) = map one_lot (n ∷ ns)
+entry_items (part_entry s ss) = Chain (s ∷ ss) 0 ∷ []
 
-abbrev pub line_items : Line → List Item
+abbrev pub line_items : SectionLine → List Item
 line_items line =
     Sections (bare line.section) (bare line.section) false ∷ flat_map entry_items (line.first ∷ line.more)
 
-abbrev pub land_items : Designation → List Line → List Item
+abbrev pub land_items : Designation → List SectionLine → List Item
 land_items township lines =
     Heading township.number township.north_south township.range township.east_west 0 ∷ flat_map line_items lines
 
@@ -71,22 +71,22 @@ numbers_are : (ns : List ℕ) (at : ℕ) → map unplaced (map lots_item (map (b
 numbers_are [] at = refl
 numbers_are (n ∷ ns) at = ap (λ its. one_lot n ∷ its) (numbers_are ns (end_at (separator ⨾ entry) at (further_number n)))
 
-entry_is : (e : Entry) (at : ℕ) → map unplaced (part_items (placed part at (entry_draft e))) ≡ entry_items e
-entry_is every at = refl
-entry_is (lots n ns) at = ap (λ its. one_lot n ∷ its) (numbers_are ns _)
-entry_is (aliquot s ss) at =
+entry_is : (e : ListEntry) (at : ℕ) → map unplaced (part_items (placed part at (entry_draft e))) ≡ entry_items e
+entry_is all_entry at = refl
+entry_is (lot_entry n ns) at = ap (λ its. one_lot n ∷ its) (numbers_are ns _)
+entry_is (part_entry s ss) at =
     ap (λ steps. Chain steps 0 ∷ []) (cons_both (step_is s at (32 ∷ [])) (steps_are ss (end_at step at (step_draft (32 ∷ []) s))))
 
-entries_are : (es : List Entry) (at : ℕ) → map unplaced (flat_map (behind part_items) (placed (many (separator ⨾ part)) at (map further_entry es))) ≡ flat_map entry_items es
+entries_are : (es : List ListEntry) (at : ℕ) → map unplaced (flat_map (behind part_items) (placed (many (separator ⨾ part)) at (map further_entry es))) ≡ flat_map entry_items es
 entries_are [] at = refl
 entries_are (e ∷ es) at = map_both unplaced _ _ (entry_is e _) (entries_are es (end_at (separator ⨾ part) at (further_entry e)))
 
-line_is : (line : Line) (at : ℕ) → map unplaced (group_items (placed group at (line_draft line))) ≡ line_items line
+line_is : (line : SectionLine) (at : ℕ) → map unplaced (group_items (placed group at (line_draft line))) ≡ line_items line
 line_is line at =
     ap (λ its. Sections (bare line.section) (bare line.section) false ∷ its)
     (map_both unplaced _ _ (entry_is line.first _) (entries_are line.more _))
 
-lines_are : (lines : List Line) (at : ℕ) → map unplaced (flat_map (behind (behind group_items)) (placed (many further_line_grammar) at (map further_line lines))) ≡ flat_map line_items lines
+lines_are : (lines : List SectionLine) (at : ℕ) → map unplaced (flat_map (behind (behind group_items)) (placed (many further_line_grammar) at (map further_line lines))) ≡ flat_map line_items lines
 lines_are [] at = refl
 lines_are (line ∷ lines) at =
     let start = end_at (one semicolon) at (mark semicolon tt [] (codes ";")) in
@@ -94,7 +94,7 @@ lines_are (line ∷ lines) at =
     map_both unplaced (group_items (placed group start (line_draft line))) (flat_map (behind (behind group_items)) others) (line_is line start) (lines_are lines (end_at further_line_grammar at (further_line line)))
 
 -- the items are these, but for their places in the text
-pub items_are : (township : Designation) (first : Line) (more : List Line)
+pub items_are : (township : Designation) (first : SectionLine) (more : List SectionLine)
     → map unplaced (items (placed description 0 (land_draft township first more))) ≡ land_items township (first ∷ more)
 items_are township first more =
     let start = end_at heading 0 (heading_draft township) in

@@ -1,31 +1,29 @@
 -- The lines of the canonical text: a section's text as a line, and the land that the lines name.
-use Rattle.std.proofs.Common.{◌≡◌, ℕ, ◌<◌, ◌≤◌, Bool, true, false, List, [], ◌∷◌, ◌++◌, map, codes, decimal, refl, sym, ap, subst, ◌∙◌, inl, inr, arith}
-use Rattle.std.specs.List.{flat_map, AllZip}
-use Rattle.twp_grid.specs.Winding.{IsSection}
-use Rattle.twp_grid.specs.Places.{IsPlace}
+use Rattle.std.proofs.Common.{◌≡◌, ℕ, ◌<◌, Bool, List, [], ◌∷◌, ◌++◌, map, codes, decimal, refl, sym, ap, subst, ◌∙◌, inl, inr, arith}
+use Rattle.std.specs.List.{flat_map}
 use Rattle.twp_grid.specs.Townships.{Designation}
 use Rattle.twp_land.specs.WholeLots.{HasWholeLots}
 use Rattle.twp_text.specs.declared.item.Step.TheVariants.{Half, Quarter}
 use Rattle.twp_text.specs.ItemPlaces.{ItemOfSection}
 use Rattle.twp_text.specs.Taking.{item_of}
 use Rattle.twp_text.specs.WrittenParts.{Part, square, half_of_square, IsFull}
-use Rattle.twp_text.specs.CanonicalText.{part_text, with_commas, lots_entry, off_lots, HoldsSome, HoldsEach, IsLotHeld, IsSectionList, all, by_parts, IsSectionText, IsSectionOfLand}
+use Rattle.twp_text.specs.CanonicalText.{part_text, with_commas, lots_entry, off_lots, HoldsEach, IsSectionList, all, by_parts, IsSectionText, IsSectionOfLand}
 use Rattle.std.proofs.lemmas.Bool.{and_parts}
 use Rattle.twp_land.specs.WholeLots.{lot_of_place}
 use Rattle.std.specs.Prelude.{is_none}
-use Rattle.twp_text.proofs.Listings.{Among, contains_among, among_contains}
+use Rattle.twp_text.proofs.Listings.{Among, among_contains}
 use Rattle.twp_text.proofs.PartOrder.{full_part}
-use Rattle.twp_text.proofs.SpelledTokens.{Entry, every, lots, aliquot, Line, entry_text, line_text}
-use Rattle.twp_text.proofs.SpelledWords.{AreSmall, AreSmallEntries, IsSmallLine, AreSmallLines}
+use Rattle.twp_text.proofs.SpelledTokens.{ListEntry, all_entry, lot_entry, part_entry, SectionLine, entry_text, line_text}
+use Rattle.twp_text.proofs.SpelledWords.{AreSmall, AreSmallEntries, IsSmallLine}
 use Rattle.twp_text.proofs.SpelledItems.{one_lot}
-use Rattle.twp_text.proofs.SpelledParts.{Passes, entry_parts, list_parts}
+use Rattle.twp_text.proofs.SpelledParts.{entry_parts, list_parts}
 use Rattle.twp_text.proofs.SpelledLists.{NameHeld, all_named, lot_part, aliquot_part, IsInLists, part_written, of_lists, lists_named, small_lot}
 
 -- a written part as an entry; no part of a list is the whole section
-abbrev entry_of : Part → Entry
-entry_of (square []) = every
-entry_of (square (q ∷ qs)) = aliquot (Quarter q) (map (λ corner. Quarter corner) qs)
-entry_of (half_of_square side qs) = aliquot (Half side) (map (λ corner. Quarter corner) qs)
+abbrev entry_of : Part → ListEntry
+entry_of (square []) = all_entry
+entry_of (square (q ∷ qs)) = part_entry (Quarter q) (map (λ corner. Quarter corner) qs)
+entry_of (half_of_square side qs) = part_entry (Half side) (map (λ corner. Quarter corner) qs)
 
 abbrev NotWhole : Part → Type 0
 NotWhole (square []) = ⊥
@@ -70,13 +68,13 @@ lots_parts section (n ∷ ns) = ap (λ ps. lot_part section n ∷ ps) (lots_part
 
 -- a section's text is that of a line, whose parts name what is held of the section
 pub record IsLineOf (g : ℕ) (township : Designation) (places : ℕ → ℕ → ℕ → Bool) (section : ℕ) (text : List ℕ) : Type 0 where
-  pub line : Line
+  pub line : SectionLine
   pub section_is : line.section ≡ section
   pub text_is : line_text line ≡ text
   pub small : IsSmallLine line
   pub names : NameHeld g township places line.section (list_parts line)
 
-abbrev line_of : ℕ → Entry → List Entry → Line
+abbrev line_of : ℕ → ListEntry → List ListEntry → SectionLine
 line_of section first more = record { section = section; first = first; more = more }
 
 abbrev text_with : ℕ → List ℕ → List ℕ
@@ -96,7 +94,7 @@ of_lots_and_parts g township places section [] (part ∷ parts) small few each t
   names = subst (λ ps. NameHeld g township places section ps) (sym (entries_parts section (part ∷ parts) each)) names;
 }
 of_lots_and_parts g township places section (n ∷ ns) parts small few each thing there names = record {
-  line = line_of section (lots n ns) (map entry_of parts);
+  line = line_of section (lot_entry n ns) (map entry_of parts);
   section_is = refl;
   text_is = lots_first ns ∙ ap (λ ts. text_with section (with_commas (lots_entry (n ∷ ns) ++ ts))) (entries_texts parts each);
   small = (small, (small_numbers (n ∷ ns) few, small_entries parts each));
@@ -105,7 +103,7 @@ of_lots_and_parts g township places section (n ∷ ns) parts small few each thin
       ∙ ap (λ ps. map (lot_part section) (n ∷ ns) ++ ps) (entries_parts section parts each))) names;
 }
   where
-    lots_first : (ns : List ℕ) → line_text (line_of section (lots n ns) (map entry_of parts)) ≡ text_with section (with_commas (lots_entry (n ∷ ns) ++ map entry_text (map entry_of parts)))
+    lots_first : (ns : List ℕ) → line_text (line_of section (lot_entry n ns) (map entry_of parts)) ≡ text_with section (with_commas (lots_entry (n ∷ ns) ++ map entry_text (map entry_of parts)))
     lots_first [] = refl
     lots_first (m ∷ ms) = refl
 
@@ -126,7 +124,7 @@ line_of_section g township places section text whole of_land spelt =
 
     by_list : (list : List ℕ) → IsSectionList g section (places section) list → IsLineOf g township places section (text_with section list)
     by_list list (all each is) = subst (λ l. IsLineOf g township places section (text_with section l)) (sym is) (record {
-      line = line_of section every [];
+      line = line_of section all_entry [];
       section_is = refl;
       text_is = refl;
       small = (small, (tt, tt));

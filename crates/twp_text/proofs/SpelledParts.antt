@@ -1,6 +1,6 @@
 -- The items of the canonical text with their sections, and what it takes that they lie on the plat.
-use Rattle.std.proofs.Common.{◌≡◌, ◌⊎◌, ℕ, ◌<◌, ◌||◌, Bool, true, false, List, [], ◌∷◌, ◌++◌, map, length, refl, sym, ap, subst, ◌∙◌, inl, inr, append_assoc}
-use Rattle.std.specs.List.{flat_map, list_any, AllPairs}
+use Rattle.std.proofs.Common.{◌≡◌, ℕ, ◌||◌, Bool, true, false, List, [], ◌∷◌, ◌++◌, map, refl, sym, ap, subst, ◌∙◌, inl, inr, append_assoc}
+use Rattle.std.specs.List.{flat_map, list_any}
 use Rattle.std.proofs.Math.Path.{fun_ext}
 use Rattle.std.proofs.Math.ListN.{get_or}
 use Rattle.std.proofs.lemmas.Bool.{cases_Bool}
@@ -12,7 +12,7 @@ use Rattle.twp_text.specs.PlaceFaults.{LiesOnPlat, SharePlace, AreOnPlat}
 use Rattle.twp_text.specs.Taking.{item_of}
 use Rattle.twp_text.proofs.Listings.{Among, InOrder, among_at, order_pairs}
 use Rattle.twp_text.proofs.PartOrder.{among_map}
-use Rattle.twp_text.proofs.SpelledTokens.{Entry, every, lots, aliquot, Line}
+use Rattle.twp_text.proofs.SpelledTokens.{ListEntry, all_entry, lot_entry, part_entry, SectionLine}
 use Rattle.twp_text.proofs.SpelledItems.{bare, unplaced, one_lot, entry_items, line_items}
 
 -- what a thing of a list was made of
@@ -30,9 +30,10 @@ made_of f made (first ∷ list) (inr later) =
 
 pub order_map : {T U : Type 0} (f : T → U) (before : U → U → Type 0) (list : List T) → InOrder (λ x y. before (f x) (f y)) list → InOrder before (map f list)
 order_map f before [] order = tt
-order_map f before (first ∷ list) order =
-    ((λ made there. let from = made_of f made list there in subst (λ z. before (f first) z) (sym from.is) (order.0 from.thing from.there)),
-    order_map f before list order.1)
+order_map f before (first ∷ list) order = (
+  (λ made there. let from = made_of f made list there in subst (λ z. before (f first) z) (sym from.is) (order.0 from.thing from.there)),
+  order_map f before list order.1,
+)
 
 pub order_of_map : {T U : Type 0} (f : T → U) (before : U → U → Type 0) (list : List T) → InOrder before (map f list) → InOrder (λ x y. before (f x) (f y)) list
 order_of_map f before [] order = tt
@@ -139,14 +140,14 @@ same_land g items = fun_ext (λ s. fun_ext (λ c. fun_ext (λ r.
     ∙ any_mapped unplaced_part (λ p. item_places g p s c r) (parts_of items) (λ p. places_at g p.section p.item s c r))))
 
 -- the items of a section's list, each with its section
-abbrev pub entry_parts : ℕ → Entry → List ItemOfSection
+abbrev pub entry_parts : ℕ → ListEntry → List ItemOfSection
 entry_parts section e = map (λ it. item_of section it) (entry_items e)
 
-abbrev pub list_parts : Line → List ItemOfSection
+abbrev pub list_parts : SectionLine → List ItemOfSection
 list_parts line = flat_map (entry_parts line.section) (line.first ∷ line.more)
 
 -- the sections' items and those of their lists
-abbrev pub lines_parts : ℕ → List Line → List ItemOfSection
+abbrev pub lines_parts : ℕ → List SectionLine → List ItemOfSection
 lines_parts earlier [] = []
 lines_parts earlier (line ∷ lines) =
     item_of earlier (Sections (bare line.section) (bare line.section) false) ∷ (list_parts line ++ lines_parts line.section lines)
@@ -155,12 +156,12 @@ numbers_parts : (section : ℕ) (ns : List ℕ) (more : List Item) → with_sect
 numbers_parts section [] more = refl
 numbers_parts section (n ∷ ns) more = ap (λ ps. item_of section (one_lot n) ∷ ps) (numbers_parts section ns more)
 
-parts_of_entry : (section : ℕ) (e : Entry) (more : List Item) → with_sections section (entry_items e ++ more) ≡ entry_parts section e ++ with_sections section more
-parts_of_entry section every more = refl
-parts_of_entry section (lots n ns) more = numbers_parts section (n ∷ ns) more
-parts_of_entry section (aliquot s ss) more = refl
+parts_of_entry : (section : ℕ) (e : ListEntry) (more : List Item) → with_sections section (entry_items e ++ more) ≡ entry_parts section e ++ with_sections section more
+parts_of_entry section all_entry more = refl
+parts_of_entry section (lot_entry n ns) more = numbers_parts section (n ∷ ns) more
+parts_of_entry section (part_entry s ss) more = refl
 
-parts_of_entries : (section : ℕ) (es : List Entry) (more : List Item) → with_sections section (flat_map entry_items es ++ more) ≡ flat_map (entry_parts section) es ++ with_sections section more
+parts_of_entries : (section : ℕ) (es : List ListEntry) (more : List Item) → with_sections section (flat_map entry_items es ++ more) ≡ flat_map (entry_parts section) es ++ with_sections section more
 parts_of_entries section [] more = refl
 parts_of_entries section (e ∷ es) more =
     ap (λ its. with_sections section its) (append_assoc (entry_items e) (flat_map entry_items es) more)
@@ -169,7 +170,7 @@ parts_of_entries section (e ∷ es) more =
     ∙ sym (append_assoc (entry_parts section e) (flat_map (entry_parts section) es) (with_sections section more))
 
 -- the parts of the lines
-pub parts_of_lines : (lines : List Line) (earlier : ℕ) → with_sections earlier (flat_map line_items lines) ≡ lines_parts earlier lines
+pub parts_of_lines : (lines : List SectionLine) (earlier : ℕ) → with_sections earlier (flat_map line_items lines) ≡ lines_parts earlier lines
 parts_of_lines [] earlier = refl
 parts_of_lines (line ∷ lines) earlier =
     ap (λ ps. item_of earlier (Sections (bare line.section) (bare line.section) false) ∷ ps)

@@ -1,51 +1,42 @@
 -- The canonical text as a derivation whose tokens have no places yet: a heading, and a group for each section
 -- with all, lots and aliquot parts, from which each byte of the text is taken.
-use Rattle.std.proofs.Common.{◌≡◌, ◌≢◌, ◌==◌, ℕ, ◌+◌, ◌<◌, ◌≤◌, Bool, true, false, List, [], ◌∷◌, ◌++◌, map, codes, decimal, length, refl, sym, ap, subst, ◌∙◌, inl, inr, append_assoc, arith}
-use Rattle.std.specs.Char.{is_ascii_alphabetic, is_ascii_digit}
-use Rattle.std.specs.List.{flat_map, list_all}
-use Rattle.std.proofs.lemmas.List.Sums.{AllPass-from_list_all}
-use Rattle.std.proofs.lemmas.Fmt.{decimal_is_IsNumeral, length-decimal-le}
+use Rattle.std.proofs.Common.{◌≡◌, ℕ, List, [], ◌∷◌, ◌++◌, map, codes, decimal, refl, sym, ap, ◌∙◌, inl, inr, append_assoc}
+use Rattle.std.specs.List.{flat_map}
 use Rattle.twp_grid.specs.Townships.{Designation}
-use Rattle.twp_grid.specs.declared.township.NorthSouth.{NorthSouth}
 use Rattle.twp_grid.specs.declared.township.NorthSouth.TheVariants as ns
-use Rattle.twp_grid.specs.declared.township.EastWest.{EastWest}
 use Rattle.twp_grid.specs.declared.township.EastWest.TheVariants as ew
 use Rattle.twp_grid.specs.declared.block.Side.TheVariants.{N, S, E, W}
 use Rattle.twp_grid.specs.declared.block.Corner.TheVariants.{NE, NW, SW, SE}
-use Rattle.twp_text.specs.declared.kind.Kind.{Kind}
-use Rattle.twp_text.specs.declared.kind.Kind.TheVariants.{Number}
 use Rattle.twp_text.specs.declared.item.Step.{Step}
 use Rattle.twp_text.specs.declared.item.Step.TheVariants.{Half, Quarter}
-use Rattle.twp_text.specs.Tokens.{is_white, kind_of_word, begins_with, IsWholeRun, Begins, IsNumber, IsGoodToken, a_word, a_number, a_half, a_quarter, a_comma, a_semicolon, a_stop}
 use Rattle.twp_text.specs.Grammar.{sec, lot, all, t, r, north_south, east_west, corner, half, quarter, number, comma, semicolon, stop, Ebnf, ◌⨾◌, one, many, maybe, and, step, of, the, entry, separator, part, group, heading, description}
-use Rattle.twp_text.specs.Items.{Then, ◌&◌}
+use Rattle.twp_text.specs.Items.{◌&◌}
 use Rattle.twp_text.specs.CanonicalText.{step_text, with_commas, north_south_letter, east_west_letter, line_end, heading_line, land_lines}
-use Rattle.twp_text.proofs.Numerals.{digits_test}
-use Rattle.twp_text.proofs.Lexemes.{Mark, mark, Draft, bytes_each, bytes, fit_each, Fits}
+use Rattle.twp_text.proofs.Lexemes.{mark, Draft, bytes_each, bytes}
 
 -- an entry of a section's list: all of the section, some lots, or an aliquot part, smallest step first
-pub data Entry : Type 0 where
-  every : Entry
-  lots : ℕ → List ℕ → Entry
-  aliquot : Step → List Step → Entry
+pub data ListEntry : Type 0 where
+  all_entry : ListEntry
+  lot_entry : ℕ → List ℕ → ListEntry
+  part_entry : Step → List Step → ListEntry
 
 -- a section and the entries of its list
-pub record Line : Type 0 where
+pub record SectionLine : Type 0 where
   pub section : ℕ
-  pub first : Entry
-  pub more : List Entry
+  pub first : ListEntry
+  pub more : List ListEntry
 
 -- the text of lots, after the word that names them
 abbrev pub lots_text : ℕ → List ℕ → List ℕ
 lots_text n [] = codes "lot " ++ decimal n
 lots_text n (m ∷ ns) = codes "lots " ++ with_commas (map decimal (n ∷ m ∷ ns))
 
-abbrev pub entry_text : Entry → List ℕ
-entry_text every = codes "all"
-entry_text (lots n ns) = lots_text n ns
-entry_text (aliquot s ss) = flat_map step_text (s ∷ ss)
+abbrev pub entry_text : ListEntry → List ℕ
+entry_text all_entry = codes "all"
+entry_text (lot_entry n ns) = lots_text n ns
+entry_text (part_entry s ss) = flat_map step_text (s ∷ ss)
 
-abbrev pub line_text : Line → List ℕ
+abbrev pub line_text : SectionLine → List ℕ
 line_text line =
     codes "sec. " ++ decimal line.section ++ codes ", " ++ with_commas (map entry_text (line.first ∷ line.more))
 
@@ -89,16 +80,16 @@ abbrev pub lots_word : List ℕ → List ℕ
 lots_word [] = codes "lot"
 lots_word (m ∷ ns) = codes "lots"
 
-abbrev pub entry_draft : Entry → Draft part
-entry_draft every = inr (inr (mark all tt space (codes "all")))
-entry_draft (lots n ns) = inl (mark lot tt space (lots_word ns) & number_entry n & map further_number ns)
-entry_draft (aliquot s ss) = inr (inl (step_draft space s & map further_step ss))
+abbrev pub entry_draft : ListEntry → Draft part
+entry_draft all_entry = inr (inr (mark all tt space (codes "all")))
+entry_draft (lot_entry n ns) = inl (mark lot tt space (lots_word ns) & number_entry n & map further_number ns)
+entry_draft (part_entry s ss) = inr (inl (step_draft space s & map further_step ss))
 
-abbrev pub further_entry : Entry → Draft (separator ⨾ part)
+abbrev pub further_entry : ListEntry → Draft (separator ⨾ part)
 further_entry e = inl (a_comma_mark & inr tt) & entry_draft e
 
 -- a section and its list
-abbrev pub line_draft : Line → Draft group
+abbrev pub line_draft : SectionLine → Draft group
 line_draft line =
     inl (mark sec tt line_end (codes "sec") & inl a_stop_mark & number_mark line.section
     & inl (inl (inl a_comma_mark) & entry_draft line.first & map further_entry line.more))
@@ -106,7 +97,7 @@ line_draft line =
 abbrev pub further_line_grammar : Ebnf
 further_line_grammar = one semicolon ⨾ maybe (one and) ⨾ group
 
-abbrev pub further_line : Line → Draft further_line_grammar
+abbrev pub further_line : SectionLine → Draft further_line_grammar
 further_line line = mark semicolon tt [] (codes ";") & inr tt & line_draft line
 
 abbrev pub heading_draft : Designation → Draft heading
@@ -116,7 +107,7 @@ heading_draft township =
     & mark r tt space (codes "R") & inl a_stop_mark & number_mark township.range
     & mark east_west township.east_west space (east_west_letter township.east_west) & inl a_stop_mark & inl a_comma_mark
 
-abbrev pub land_draft : Designation → Line → List Line → Draft description
+abbrev pub land_draft : Designation → SectionLine → List SectionLine → Draft description
 land_draft township first more =
     inl (heading_draft township) & line_draft first & map further_line more & inl a_stop_mark
 
@@ -148,18 +139,18 @@ bytes_numbers : (ns : List ℕ) (rest : List ℕ) → bytes (many (separator ⨾
 bytes_numbers ns rest =
     bytes_list (λ v us. bytes (separator ⨾ entry) v us) further_number (λ y. codes ", " ++ y) decimal (λ n us. refl) ns rest
 
-pub bytes_entry : (e : Entry) (rest : List ℕ) → bytes part (entry_draft e) rest ≡ space ++ (entry_text e ++ rest)
-bytes_entry every rest = refl
-bytes_entry (lots n []) rest = refl
-bytes_entry (lots n (m ∷ ns)) rest =
+pub bytes_entry : (e : ListEntry) (rest : List ℕ) → bytes part (entry_draft e) rest ≡ space ++ (entry_text e ++ rest)
+bytes_entry all_entry rest = refl
+bytes_entry (lot_entry n []) rest = refl
+bytes_entry (lot_entry n (m ∷ ns)) rest =
     ap (λ us. space ++ (codes "lots " ++ (decimal n ++ us))) (bytes_numbers (m ∷ ns) rest)
     ∙ ap (λ us. space ++ (codes "lots " ++ us)) (sym (append_assoc (decimal n) (flat_map (λ y. codes ", " ++ y) (map decimal (m ∷ ns))) rest))
-bytes_entry (aliquot s ss) rest =
+bytes_entry (part_entry s ss) rest =
     bytes_step space s (bytes (many further_step_grammar) (map further_step ss) rest)
     ∙ ap (λ us. space ++ (step_text s ++ us)) (bytes_steps ss rest)
     ∙ ap (λ us. space ++ us) (sym (append_assoc (step_text s) (flat_map step_text ss) rest))
 
-bytes_entries : (es : List Entry) (rest : List ℕ) → bytes (many (separator ⨾ part)) (map further_entry es) rest ≡ flat_map (λ y. codes ", " ++ y) (map entry_text es) ++ rest
+bytes_entries : (es : List ListEntry) (rest : List ℕ) → bytes (many (separator ⨾ part)) (map further_entry es) rest ≡ flat_map (λ y. codes ", " ++ y) (map entry_text es) ++ rest
 bytes_entries es rest =
     bytes_list (λ v us. bytes (separator ⨾ part) v us) further_entry (λ y. codes ", " ++ y) entry_text (λ e us. ap (λ us. codes "," ++ us) (bytes_entry e us)) es rest
 
@@ -167,7 +158,7 @@ bytes_entries es rest =
 four_texts : (a b c d rest : List ℕ) → a ++ b ++ c ++ d ++ rest ≡ a ++ (b ++ (c ++ (d ++ rest)))
 four_texts a b c d rest = append_assoc (a ++ b ++ c) d rest ∙ append_assoc (a ++ b) c (d ++ rest) ∙ append_assoc a b (c ++ (d ++ rest))
 
-pub bytes_line : (line : Line) (rest : List ℕ) → bytes group (line_draft line) rest ≡ line_end ++ (line_text line ++ rest)
+pub bytes_line : (line : SectionLine) (rest : List ℕ) → bytes group (line_draft line) rest ≡ line_end ++ (line_text line ++ rest)
 bytes_line line rest =
     let first = entry_text line.first in
     let others = flat_map (λ y. codes ", " ++ y) (map entry_text line.more) in
@@ -177,7 +168,7 @@ bytes_line line rest =
     ∙ ap (λ us. space ++ us) (sym (append_assoc first others rest)))
     ∙ ap (λ us. line_end ++ us) (sym (four_texts (codes "sec. ") (decimal line.section) (codes ", ") (first ++ others) rest))
 
-bytes_lines : (lines : List Line) (rest : List ℕ) → bytes (many further_line_grammar) (map further_line lines) rest ≡ flat_map (λ y. codes ";" ++ line_end ++ y) (map line_text lines) ++ rest
+bytes_lines : (lines : List SectionLine) (rest : List ℕ) → bytes (many further_line_grammar) (map further_line lines) rest ≡ flat_map (λ y. codes ";" ++ line_end ++ y) (map line_text lines) ++ rest
 bytes_lines lines rest =
     bytes_list (λ v us. bytes further_line_grammar v us) further_line (λ y. codes ";" ++ line_end ++ y) line_text (λ line us. ap (λ us. codes ";" ++ us) (bytes_line line us)) lines rest
 
@@ -194,7 +185,7 @@ bytes_heading township rest =
     ∙ four_texts (codes "T. ") number space side (codes "., R. " ++ (range ++ (space ++ (way ++ (codes ".," ++ (line_end ++ rest)))))))
 
 -- the bytes of the whole are the lines
-pub bytes_land : (township : Designation) (first : Line) (more : List Line)
+pub bytes_land : (township : Designation) (first : SectionLine) (more : List SectionLine)
     → bytes description (land_draft township first more) line_end ≡ land_lines township (map line_text (first ∷ more))
 bytes_land township first more =
     let others = flat_map (λ y. codes ";" ++ line_end ++ y) (map line_text more) in

@@ -12,7 +12,7 @@ use Rattle.twp_text.specs.TextFaults.{TEXT_LIMIT, IsReadAs}
 use Rattle.twp_text.specs.PlaceFaults.{IsLandOfItems}
 use Rattle.twp_text.specs.CanonicalText.{IsCanonicalText}
 
--- a land of a township: what is held are places of its sections, and each lot is held whole or not at all
+-- a land of a township: it holds places of its sections, and each lot whole or not at all
 pub record IsTownshipLand (g : ℕ) (places : ℕ → ℕ → ℕ → Bool) : Type 0 where
   pub within : (section column row : ℕ) → places section column row ≡ true
       → IsSection section × IsPlace g column row
