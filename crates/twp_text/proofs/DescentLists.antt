@@ -3,7 +3,6 @@ use Rattle.std.proofs.Common.{◌≡◌, ℕ, ◌<◌, ◌≤◌, ◌⊎◌, Boo
 use Rattle.twp_grid.specs.declared.block.Side.{Side}
 use Rattle.twp_grid.specs.declared.block.Corner.{Corner}
 use Rattle.twp_grid.specs.declared.block.Corner.TheVariants.{NE, NW, SW, SE}
-use Rattle.twp_text.specs.Listing.{AreListed}
 use Rattle.twp_text.specs.WrittenParts.{Part, IsInPart, IsFull, IsChosenHalf, IsOnSide, IsWritten, turn_of_quarter, StandsAhead, AreWrittenParts}
 use Rattle.twp_text.specs.WrittenParts.Part.{square, half_of_square}
 use Rattle.twp_text.specs.Spelling.{square_quarters, IsUnder, quarter_on, BeginsIn, AreOfSquare, AreOfQuarter}

@@ -1,17 +1,17 @@
 -- The blocks that squares and their halves fill.
-use Rattle.std.proofs.Common.{◌≡◌, ℕ, zero, suc, ◌+◌, ◌-◌, ◌^◌, ◌<◌, ◌≤◌, ◌⊎◌, ◌&&◌, ◌↔◌, Bool, true, false, List, [], ◌∷◌, length, Option, Some, None, is_none, IsSome, IsTrue, not, refl, sym, ap, subst, ◌∙◌, inl, inr, arith}
+use Rattle.std.proofs.Common.{◌≡◌, ℕ, ◌-◌, ◌^◌, ◌<◌, ◌⊎◌, ◌&&◌, ◌↔◌, Bool, true, false, List, ◌∷◌, length, Option, Some, None, is_none, IsSome, IsTrue, not, refl, sym, ap, subst, ◌∙◌, inl, inr, arith}
 use Rattle.std.specs.Option.{SomeIff}
 use Rattle.std.proofs.lemmas.Bool.{cases_Bool, cases_lt, false≢true}
 use Rattle.twp_grid.specs.declared.block.Side.{Side}
 use Rattle.twp_grid.specs.declared.block.Corner.{Corner}
 use Rattle.twp_grid.specs.Blocks.{half_of, quarter_of, CanHalve, CanQuarter}
-use Rattle.twp_grid.specs.Cuts.{rows_asked, columns_asked, AreWithin, reached}
-use Rattle.twp_grid.specs.Places.{is_place, IsPlace}
-use Rattle.twp_grid.specs.Spans.{Rectangle, in_rectangle, whole_block}
+use Rattle.twp_grid.specs.Cuts.{rows_asked, columns_asked}
+use Rattle.twp_grid.specs.Places.{is_place}
+use Rattle.twp_grid.specs.Spans.{Rectangle, in_rectangle}
 use Rattle.twp_grid.proofs.CutFacts.{held_as_asked, sides_as_asked}
 use Rattle.twp_land.specs.Lands.{Meets, HoldsAll}
 use Rattle.twp_land.specs.WholeLots.{lot_of_place}
-use Rattle.twp_text.specs.ItemPlaces.{cuts_of, in_chain}
+use Rattle.twp_text.specs.ItemPlaces.{cuts_of}
 use Rattle.twp_text.specs.Taking.{HoldsLotPlace}
 use Rattle.twp_text.specs.WrittenParts.{Part, steps_of_part, IsInPart, IsFull}
 use Rattle.twp_text.specs.WrittenParts.Part.{square, half_of_square}

@@ -1,6 +1,5 @@
 -- Parts that were appended to a text.
-use Rattle.std.proofs.Common.{◌≡◌, ℕ, ◌<◌, ◌≤◌, ◌⊎◌, Bool, true, false, List, [], ◌∷◌, ◌++◌, length, Option, Some, None, Result, Ok, Err, OnOk, ◌&&◌, is_none, refl, sym, ap, subst, ◌∙◌, inl, inr, arith, codes}
-use Rattle.std.specs.List.{flat_map}
+use Rattle.std.proofs.Common.{◌≡◌, ℕ, ◌<◌, ◌⊎◌, Bool, true, false, List, [], ◌∷◌, ◌++◌, length, Option, Some, None, Result, Ok, Err, OnOk, ◌&&◌, is_none, refl, sym, ap, subst, ◌∙◌, inl, inr, arith, codes}
 use Rattle.std.proofs.lemmas.Bool.{cases_lt}
 use Rattle.std.proofs.lemmas.Grind.{flat_map-append}
 use Rattle.std.proofs.lemmas.List.{append-nil, append_assoc}
@@ -8,7 +7,7 @@ use Rattle.twp_grid.specs.declared.block.Side.{Side}
 use Rattle.twp_grid.specs.declared.block.Corner.{Corner}
 use Rattle.twp_grid.specs.declared.block.Corner.TheVariants.{NE, NW, SW, SE}
 use Rattle.twp_text.specs.declared.item.Step.TheVariants.{Half, Quarter}
-use Rattle.twp_text.specs.WrittenParts.{Part, IsInPart, IsFull, IsChosenHalf, IsOnSide, turn_of_quarter, AreWrittenParts}
+use Rattle.twp_text.specs.WrittenParts.{Part, IsFull, IsChosenHalf, IsOnSide, turn_of_quarter, AreWrittenParts}
 use Rattle.twp_text.specs.WrittenParts.Part.{square, half_of_square}
 use Rattle.twp_text.specs.CanonicalText.{step_text, part_text, off_lots, HoldsEach}
 use Rattle.twp_text.specs.Spelling.{quarter_on, AreOfSquare, AreOfQuarter, IsChoice, IsOffChosen, quarters_text, parts_text, AreWritten, IsBlockOf}
@@ -17,7 +16,7 @@ use Rattle.twp_land.specs.WholeLots.{lot_of_place}
 use Rattle.twp_text.proofs.SquareFacts.{square_within}
 use Rattle.twp_text.proofs.SquarePlaces.{same_quarter}
 use Rattle.twp_text.proofs.FullParts.{one_chosen}
-use Rattle.twp_text.proofs.DescentLists.{of_section, of_written, of_empty, of_first, of_second, of_quarter, of_quarters}
+use Rattle.twp_text.proofs.DescentLists.{of_section, of_written, of_first, of_second, of_quarter, of_quarters}
 
 -- the text of parts
 one_text : (part : Part) → parts_text (part ∷ []) ≡ codes ", " ++ part_text part

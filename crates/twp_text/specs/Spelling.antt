@@ -31,8 +31,8 @@ quarter_on S = SW
 quarter_on E = NE
 quarter_on W = NW
 
--- A part of a square begins in a quarter: it lies in the quarter, or is the half of which this quarter
--- is the first.
+-- A part of a square begins in a quarter: it lies in the quarter, or is the half whose first quarter
+-- this is.
 abbrev pub BeginsIn : List Corner → Corner → Part → Type 0
 BeginsIn parent corner part = IsUnder (corner ∷ parent) (square_quarters part)
     ⊎ ((side : Side) × (part ≡ half_of_square side parent) × (quarter_on side ≡ corner))

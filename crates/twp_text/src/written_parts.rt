@@ -8,7 +8,8 @@ ghost use Rattle.twp_text.specs.declared.item.Step.TheVariants.{Half, Quarter};
 ghost use Rattle.twp_text.specs.WrittenParts.{Part, IsFull, IsOnSide, AreWrittenParts};
 ghost use Rattle.twp_text.specs.WrittenParts.Part.{square, half_of_square};
 ghost use Rattle.twp_text.specs.CanonicalText.{step_text, off_lots, HoldsEach};
-ghost use Rattle.twp_text.specs.Spelling.{IsBlockOf, IsChoice, AreOfSquare, AreOfQuarter, AreWritten};
+ghost use Rattle.twp_text.specs.Spelling.{IsBlockOf, IsChoice, AreOfSquare, AreOfQuarter};
+ghost use Rattle.twp_text.specs.Spelling.{AreWritten};
 ghost use Rattle.twp_text.specs.Spelling.{quarter_on, quarters_text, IsOffChosen};
 
 use crate::chain::holds_of_lot;
@@ -16,8 +17,8 @@ use std::alloc::{AllocError, Global};
 use twp_grid::{Block, Corner, Section, Side};
 use twp_land::Land;
 
-/// Appends the written parts of what a land holds of a section off its lots, each behind a comma, where
-/// the section isn't held whole.
+/// Appends the written parts of what a land holds of a section off its lots, each behind a comma.
+/// The section isn't held whole.
 pub(crate) fn write_parts<L: Land>(
     alloc: Global,
     land: &L,
@@ -32,8 +33,8 @@ pub(crate) fn write_parts<L: Land>(
     write_square(alloc, land, section, Block::whole(), b"", text)
 }
 
-/// Appends the written parts of a square that isn't full, each behind a comma. The path is the square's
-/// quarters as they are written.
+/// Appends the written parts of a square that isn't full, each behind a comma. The path is the
+/// square's quarters as they are written.
 #[cycle(descent)]
 fn write_square<L: Land>(
     alloc: Global,
@@ -198,8 +199,8 @@ fn first_quarter(side: Side) -> Corner
     }
 }
 
-/// The half of a square that is written as one part: the first in the north, south, east and west of
-/// which each place is held and none is of a lot.
+/// The half of a square that is written as one part: the first in the north, south, east and west
+/// of which each place is held and none is of a lot.
 fn chosen_half<L: Land>(land: &L, section: Section, block: Block) -> Option<Side>
     requires { CanQuarter block }
     ensures { (quarters : List Corner) → IsBlockOf PLACE_DIGITS (square quarters) block
@@ -228,7 +229,8 @@ fn half_is_full<L: Land>(land: &L, section: Section, block: Block, side: Side) -
     requires { CanQuarter block }
     ensures { (quarters : List Corner) → IsBlockOf PLACE_DIGITS (square quarters) block
         → (IsTrue result ↔ IsFull PLACE_DIGITS
-        (off_lots PLACE_DIGITS section (L.places land.now section)) (half_of_square side quarters)) }
+        (off_lots PLACE_DIGITS section (L.places land.now section))
+        (half_of_square side quarters)) }
 {
     is_full(land, section, block.half(side).unwrap())
 }

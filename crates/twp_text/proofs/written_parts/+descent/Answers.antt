@@ -1,9 +1,7 @@
 -- What begins in each quarter of a square is written, one quarter behind the other.
-use Rattle.std.proofs.Common.{◌≡◌, ℕ, ◌<◌, ◌≤◌, Some, inl, inr, sym, ap, ◌∷◌, ◌++◌, ◌∙◌, arith, nat_eq}
+use Rattle.std.proofs.Common.{◌≡◌, ◌<◌, inl, inr, sym, ap, ◌∷◌, ◌++◌, ◌∙◌, arith}
 use Rattle.std.proofs.lemmas.Bool.{false≢true}
 use Rattle.std.proofs.lemmas.Bool.Decides.{nat_tests}
-use Rattle.twp_grid.specs.declared.block.Corner.TheVariants.{NE, NW, SW, SE}
-use Rattle.twp_grid.specs.Blocks.{CanQuarter}
 use Rattle.twp_grid.specs.Places.{PLACE_DIGITS}
 use Rattle.twp_text.specs.WrittenParts.Part.{square}
 use Rattle.twp_text.specs.CanonicalText.{off_lots, step_text}

@@ -1,5 +1,5 @@
 -- Each quarter is half as wide.
-use Rattle.std.proofs.Common.{◌+◌, ◌*◌, ◌-◌}
+use Rattle.std.proofs.Common.{◌*◌, ◌-◌}
 use Rattle.twp_text.proofs.written_parts.+descent.Given as goal
 
 abbrev pub decreases-write_square : goal.decreases-write_square
