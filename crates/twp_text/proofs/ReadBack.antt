@@ -128,3 +128,12 @@ one_text_for_each g township places other text other_text numbers land land' can
     by (nothing_held none empty) (names_it written names) = absurd (written empty)
     by (names_it written names) (nothing_held none empty) = absurd (written empty)
     by (names_it written names) (names_it written' names') = one_land g township text places other names names'
+
+-- a canonical text that is read again stays the same
+pub stays_the_same : (g : ℕ) (township : Designation) (places found : ℕ → ℕ → ℕ → Bool) (text again : List ℕ) (items : List Item) → HasTownshipNumbers township → IsTownshipLand g places → places ≢ no_places
+    → IsCanonicalText g township places text → IsReadAs text items → IsLandOfItems g township items found → IsCanonicalText g township found again → again ≡ text
+stays_the_same g township places found text again items numbers land some canonical read land_found canonical' =
+    let names = names_its_land g township places text numbers land some canonical in
+    let names' : NamesLand g township text found = record { tokens = read.tokens; items = items; cut = read.cut; named = read.named; land = land_found } in
+    let same : found ≡ places = one_land g township text found places names' names in
+    same_text g township places again text (subst (λ p. IsCanonicalText g township p again) same canonical') canonical

@@ -51,3 +51,11 @@ OneTextForEachLand = (g : ℕ) (township : Designation) (places other : ℕ → 
     → IsTownshipLand g places → IsTownshipLand g other
     → IsCanonicalText g township places text → IsCanonicalText g township other other_text
     → (text ≡ other_text) ↔ (places ≡ other)
+
+-- a canonical text that is read again is the canonical text of what was read
+abbrev pub CanonicalTextStaysTheSame : Type 0
+CanonicalTextStaysTheSame = (g : ℕ) (township : Designation) (places found : ℕ → ℕ → ℕ → Bool)
+    (text again : List ℕ) (items : List Item) → HasTownshipNumbers township
+    → IsTownshipLand g places → places ≢ no_places → IsCanonicalText g township places text
+    → IsReadAs text items → IsLandOfItems g township items found
+    → IsCanonicalText g township found again → again ≡ text

@@ -5,7 +5,8 @@ ghost use Rattle.twp_text.specs.Laws.{OnPlatHasNoFault, OnePlaceAnswer};
 ghost use Rattle.twp_text.specs.SpellingLaws.{OneListOfParts, WrittenPartsAreApart};
 ghost use Rattle.twp_text.specs.SpellingLaws.{WrittenPartsHoldAll, FinerPlacesSameParts};
 ghost use Rattle.twp_text.specs.SpellingLaws.{OneCanonicalText, EmptyLandHasEmptyText};
-ghost use Rattle.twp_text.specs.ReadBack.{CanonicalTextNamesItsLand, CanonicalTextIsReadBack, OneTextForEachLand};
+ghost use Rattle.twp_text.specs.ReadBack.{CanonicalTextNamesItsLand, CanonicalTextIsReadBack};
+ghost use Rattle.twp_text.specs.ReadBack.{OneTextForEachLand, CanonicalTextStaysTheSame};
 
 /// Every list of bytes is cut into tokens.
 pub fn has_token_list()
@@ -102,4 +103,9 @@ pub fn canonical_text_is_read_back()
 /// Two lands of one township have the same canonical text exactly if they are the same land.
 pub fn one_text_for_each_land()
     ensures { OneTextForEachLand }
+{}
+
+/// A canonical text that is read again is the canonical text of what was read.
+pub fn canonical_text_stays_the_same()
+    ensures { CanonicalTextStaysTheSame }
 {}
