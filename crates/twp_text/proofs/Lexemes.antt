@@ -1,13 +1,13 @@
 -- A derivation before it is known where in a text its tokens stand: each token with the white space before it.
 -- Where each is a token before what follows, the bytes of the whole have the tokens of the derivation.
-use Rattle.std.proofs.Common.{◌≡◌, ◌⊎◌, ℕ, ◌+◌, Bool, List, [], ◌∷◌, ◌++◌, length, refl, sym, ap, ◌∙◌, inl, inr}
+use Rattle.std.proofs.Common.{◌⊎◌, ℕ, ◌+◌, List, [], ◌∷◌, ◌++◌, length, refl, sym, ◌∙◌, inl, inr}
 use Rattle.std.specs.List.{AllPass}
 use Rattle.std.proofs.lemmas.List.{append-nil}
-use Rattle.twp_text.specs.Tokens.{Token, is_white, IsGoodToken, good, StartsWith, HasTokens}
+use Rattle.twp_text.specs.Tokens.{Token, is_white, IsGoodToken, good, HasTokens}
 use Rattle.twp_text.specs.Grammar.{Class, Value, kind_of, Ebnf, never, nothing, one, ◌⨾◌, ◌∣◌, many, description}
-use Rattle.twp_text.specs.Items.{Leaf, token_of, Then, ◌&◌, Tree, tokens, items}
+use Rattle.twp_text.specs.Items.{Then, ◌&◌, Tree, tokens, items}
 use Rattle.twp_text.specs.Sentences.{HasItems}
-use Rattle.twp_text.proofs.Walk.{each_onto, onto, onto_is}
+use Rattle.twp_text.proofs.Walk.{onto, onto_is}
 
 -- a token that is to be written: white space, and then the bytes of the token
 pub record Mark (class : Class) : Type 0 where

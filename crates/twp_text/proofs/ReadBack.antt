@@ -1,13 +1,10 @@
 -- The canonical text of a land is read back as that land, and there is one for each land.
-use Rattle.std.proofs.Common.{◌≡◌, ◌≢◌, ℕ, ◌<◌, ◌≤◌, ◌⊎◌, ◌↔◌, Bool, true, false, List, [], ◌∷◌, ◌++◌, map, length, refl, sym, ap, subst, ◌∙◌, inl, inr, arith}
+use Rattle.std.proofs.Common.{◌≡◌, ◌≢◌, ℕ, ◌<◌, ◌≤◌, ◌↔◌, Bool, List, [], ◌∷◌, map, length, refl, sym, ap, subst, ◌∙◌, arith}
 use Rattle.std.proofs.Math.Path.{fun_ext}
 use Rattle.std.proofs.lemmas.Bool.{false_from_ne_true}
-use Rattle.twp_grid.specs.Winding.{IsSection}
-use Rattle.twp_grid.specs.Places.{IsPlace}
 use Rattle.twp_grid.specs.Townships.{Designation}
 use Rattle.twp_land.specs.Lands.{no_places}
 use Rattle.twp_text.specs.declared.item.Item.{Item}
-use Rattle.twp_text.specs.Tokens.{HasTokens}
 use Rattle.twp_text.specs.Grammar.{description}
 use Rattle.twp_text.specs.Items.{items}
 use Rattle.twp_text.specs.Sentences.{HasItems}
@@ -24,8 +21,8 @@ use Rattle.twp_text.proofs.CanonicalFacts.{one_text}
 use Rattle.twp_text.proofs.Lexemes.{bytes, placed, IsDrafted, drafted}
 use Rattle.twp_text.proofs.SpelledTokens.{Line, line_text, land_draft, bytes_land}
 use Rattle.twp_text.proofs.SpelledWords.{AreSmallLines, fits_land, one_line_end}
-use Rattle.twp_text.proofs.SpelledItems.{unplaced, land_items, items_are}
-use Rattle.twp_text.proofs.SpelledParts.{IsMade, made_of, order_of_map, AreFine, fine_on_plat, same_land}
+use Rattle.twp_text.proofs.SpelledItems.{items_are}
+use Rattle.twp_text.proofs.SpelledParts.{made_of, order_of_map, AreFine, fine_on_plat, same_land}
 use Rattle.twp_text.proofs.SpelledLand.{AreLinesOf, lines_of_sections, NameLand, items_fine, items_land}
 
 abbrev section_of : Line → ℕ
@@ -64,7 +61,7 @@ told_of_lines g township places numbers (first ∷ more) land small =
     let draft = land_draft township first more in
     let its = items (placed description 0 draft) in
     let here : IsDrafted (bytes description draft line_end) draft =
-        drafted draft line_end (fits_land township first more (omega (arith, numbers.0.1)) (omega (arith, numbers.1.1)) small) one_line_end in
+    drafted draft line_end (fits_land township first more (omega (arith, numbers.0.1)) (omega (arith, numbers.1.1)) small) one_line_end in
     let same = items_are township first more in
     let spelt : NamesLand g township (bytes description draft line_end) places = record {
       tokens = here.tokens;
@@ -83,7 +80,7 @@ told : (g : ℕ) (township : Designation) (places : ℕ → ℕ → ℕ → Bool
     → Told g township text places
 told g township places text numbers land canonical =
     let found = lines_of_sections g township places land.whole_lots canonical.sections canonical.lines
-        (λ s there. (canonical.sections_are.listed s).1 (among_contains s canonical.sections there)) canonical.lines_are in
+    (λ s there. (canonical.sections_are.listed s).1 (among_contains s canonical.sections there)) canonical.lines_are in
     subst (λ t. Told g township t places) (sym (canonical.text_is ∙ ap (λ ls. land_lines township ls) (sym found.texts_are)))
     (told_of_lines g township places numbers found.lines (name_land g township places text land canonical found) found.small)
 
@@ -120,10 +117,11 @@ same_text g township places text other canonical canonical' =
 -- two lands have one text exactly if they are one land
 pub one_text_for_each : (g : ℕ) (township : Designation) (places other : ℕ → ℕ → ℕ → Bool) (text other_text : List ℕ) → HasTownshipNumbers township → IsTownshipLand g places → IsTownshipLand g other
     → IsCanonicalText g township places text → IsCanonicalText g township other other_text → (text ≡ other_text) ↔ (places ≡ other)
-one_text_for_each g township places other text other_text numbers land land' canonical canonical' =
-    ((λ same. by (told g township places text numbers land canonical)
-        (subst (λ t. Told g township t other) (sym same) (told g township other other_text numbers land' canonical'))),
-    λ same. same_text g township other text other_text (subst (λ p. IsCanonicalText g township p text) same canonical) canonical')
+one_text_for_each g township places other text other_text numbers land land' canonical canonical' = (
+  (λ same. by (told g township places text numbers land canonical)
+      (subst (λ t. Told g township t other) (sym same) (told g township other other_text numbers land' canonical'))),
+  λ same. same_text g township other text other_text (subst (λ p. IsCanonicalText g township p text) same canonical) canonical',
+)
   where
     by : Told g township text places → Told g township text other → places ≡ other
     by (nothing_held none empty) (nothing_held none' empty') = none ∙ sym none'

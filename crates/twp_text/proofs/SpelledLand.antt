@@ -1,25 +1,24 @@
 -- The lines of a canonical text name the land: its items lie on the plat without overlap, and their land is it.
-use Rattle.std.proofs.Common.{◌≡◌, ◌==◌, ℕ, ◌<◌, ◌≤◌, ◌&&◌, ◌||◌, Bool, true, false, List, [], ◌∷◌, ◌++◌, map, refl, sym, ap, subst, ◌∙◌, inl, inr, arith}
-use Rattle.std.specs.List.{flat_map, list_any, AllZip, AllPairs}
+use Rattle.std.proofs.Common.{◌≡◌, ℕ, ◌<◌, ◌&&◌, Bool, true, false, List, [], ◌∷◌, map, refl, sym, ap, subst, ◌∙◌, inl, inr, arith}
+use Rattle.std.specs.List.{AllZip}
 use Rattle.std.proofs.Math.Path.{fun_ext}
-use Rattle.std.proofs.lemmas.Bool.{cases_Bool, and_parts, false≢true}
+use Rattle.std.proofs.lemmas.Bool.{and_parts, false≢true}
 use Rattle.twp_grid.specs.Winding.{IsSection}
 use Rattle.twp_grid.specs.Places.{IsPlace, is_place}
-use Rattle.twp_grid.specs.Townships.{Designation, designation}
+use Rattle.twp_grid.specs.Townships.{Designation}
 use Rattle.twp_land.specs.WholeLots.{HasWholeLots}
 use Rattle.twp_text.specs.declared.item.Item.TheVariants.{Heading, Sections}
 use Rattle.twp_text.specs.ItemPlaces.{ItemOfSection, item_places, parts_of, land_of}
-use Rattle.twp_text.specs.PlaceFaults.{LiesOnPlat, SharePlace}
+use Rattle.twp_text.specs.PlaceFaults.{LiesOnPlat}
 use Rattle.twp_text.specs.Taking.{item_of}
-use Rattle.twp_text.specs.Listing.{AreListed}
 use Rattle.twp_text.specs.CanonicalText.{IsSectionText, IsSectionOfLand}
-use Rattle.twp_text.proofs.Listings.{Among, InOrder, among_contains, contains_among, pairs_order, among_left, among_right, among_either, order_both}
+use Rattle.twp_text.proofs.Listings.{Among, InOrder, among_left, among_right, among_either, order_both}
 use Rattle.twp_text.proofs.SpelledTokens.{Line, line_text}
 use Rattle.twp_text.proofs.SpelledWords.{AreSmallLines}
-use Rattle.twp_text.proofs.SpelledItems.{bare, land_items, line_items}
-use Rattle.twp_text.proofs.SpelledParts.{Passes, some_passes, passed, AreApart, AreFine, list_parts, lines_parts, parts_of_lines}
+use Rattle.twp_text.proofs.SpelledItems.{bare, land_items}
+use Rattle.twp_text.proofs.SpelledParts.{some_passes, passed, AreApart, AreFine, list_parts, lines_parts, parts_of_lines}
 use Rattle.twp_text.proofs.SpelledLists.{NameHeld}
-use Rattle.twp_text.proofs.SpelledLines.{IsLineOf, line_of_section}
+use Rattle.twp_text.proofs.SpelledLines.{line_of_section}
 
 -- sections' texts are those of lines, each of which names what is held of its section
 pub record AreLinesOf (g : ℕ) (township : Designation) (places : ℕ → ℕ → ℕ → Bool) (sections : List ℕ) (texts : List (List ℕ)) : Type 0 where
@@ -107,17 +106,18 @@ AreRising lines = InOrder (λ (line other : Line). line.section < other.section)
 lines_apart : (g : ℕ) (township : Designation) (places : ℕ → ℕ → ℕ → Bool) (lines : List Line) (earlier : ℕ) → NamesOf g township places lines → AreRising lines
     → InOrder (AreApart g) (lines_parts earlier lines)
 lines_apart g township places [] earlier names rising = tt
-lines_apart g township places (line ∷ lines) earlier names rising =
-    ((λ q there share. no_place g earlier line (sections_part earlier line) share.section share.column share.row refl share.in_first),
-    order_both (AreApart g) (list_parts line) (lines_parts line.section lines) (names line (inl refl)).apart
-    (lines_apart g township places lines line.section (λ l there. names l (inr there)) rising.1)
-    (λ p q there there' share.
-        let first = (names line (inl refl)).held p there share.section share.column share.row share.in_first in
-        let same = first.0 in
-        let second = held_in g township places lines (λ l there. names l (inr there)) q (of_lines lines line.section q there') share.section share.column share.row share.in_second in
-        let same' = second.same in
-        let less = rising.0 second.line second.there in
-        absurd (omega arith)))
+lines_apart g township places (line ∷ lines) earlier names rising = (
+  (λ q there share. no_place g earlier line (sections_part earlier line) share.section share.column share.row refl share.in_first),
+  order_both (AreApart g) (list_parts line) (lines_parts line.section lines) (names line (inl refl)).apart
+      (lines_apart g township places lines line.section (λ l there. names l (inr there)) rising.1)
+      (λ p q there there' share.
+      let first = (names line (inl refl)).held p there share.section share.column share.row share.in_first in
+      let same = first.0 in
+      let second = held_in g township places lines (λ l there. names l (inr there)) q (of_lines lines line.section q there') share.section share.column share.row share.in_second in
+      let same' = second.same in
+      let less = rising.0 second.line second.there in
+      absurd (omega arith)),
+)
 
 -- lines of a township's land, by rising section
 pub record NameLand (g : ℕ) (township : Designation) (places : ℕ → ℕ → ℕ → Bool) (lines : List Line) : Type 0 where
@@ -142,9 +142,10 @@ text_fine g township places lines land = record {
     | inl is ↦ subst (λ (q : ItemOfSection). LiesOnPlat g township q.section q.item) (sym is) refl
     | inr later ↦ lies p (of_lines lines 0 p later)
   ];
-  apart =
-      ((λ q there share. off (is_place g share.column share.row) share.in_first),
-      lines_apart g township places lines 0 land.names land.rising);
+  apart = (
+    (λ q there share. off (is_place g share.column share.row) share.in_first),
+    lines_apart g township places lines 0 land.names land.rising,
+  );
 }
   where
     lies : (p : ItemOfSection) → IsOfLines lines p → LiesOnPlat g township p.section p.item

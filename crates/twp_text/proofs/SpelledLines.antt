@@ -1,24 +1,22 @@
 -- The lines of the canonical text: a section's text as a line, and the land that the lines name.
-use Rattle.std.proofs.Common.{◌≡◌, ℕ, ◌<◌, ◌≤◌, Bool, true, false, List, [], ◌∷◌, ◌++◌, map, codes, decimal, refl, sym, ap, subst, ◌∙◌, inl, inr, arith}
-use Rattle.std.specs.List.{flat_map, AllZip}
-use Rattle.twp_grid.specs.Winding.{IsSection}
-use Rattle.twp_grid.specs.Places.{IsPlace}
+use Rattle.std.proofs.Common.{◌≡◌, ℕ, ◌<◌, Bool, List, [], ◌∷◌, ◌++◌, map, codes, decimal, refl, sym, ap, subst, ◌∙◌, inl, inr, arith}
+use Rattle.std.specs.List.{flat_map}
 use Rattle.twp_grid.specs.Townships.{Designation}
 use Rattle.twp_land.specs.WholeLots.{HasWholeLots}
 use Rattle.twp_text.specs.declared.item.Step.TheVariants.{Half, Quarter}
 use Rattle.twp_text.specs.ItemPlaces.{ItemOfSection}
 use Rattle.twp_text.specs.Taking.{item_of}
 use Rattle.twp_text.specs.WrittenParts.{Part, square, half_of_square, IsFull}
-use Rattle.twp_text.specs.CanonicalText.{part_text, with_commas, lots_entry, off_lots, HoldsSome, HoldsEach, IsLotHeld, IsSectionList, all, by_parts, IsSectionText, IsSectionOfLand}
+use Rattle.twp_text.specs.CanonicalText.{part_text, with_commas, lots_entry, off_lots, HoldsEach, IsSectionList, all, by_parts, IsSectionText, IsSectionOfLand}
 use Rattle.std.proofs.lemmas.Bool.{and_parts}
 use Rattle.twp_land.specs.WholeLots.{lot_of_place}
 use Rattle.std.specs.Prelude.{is_none}
-use Rattle.twp_text.proofs.Listings.{Among, contains_among, among_contains}
+use Rattle.twp_text.proofs.Listings.{Among, among_contains}
 use Rattle.twp_text.proofs.PartOrder.{full_part}
 use Rattle.twp_text.proofs.SpelledTokens.{Entry, every, lots, aliquot, Line, entry_text, line_text}
-use Rattle.twp_text.proofs.SpelledWords.{AreSmall, AreSmallEntries, IsSmallLine, AreSmallLines}
+use Rattle.twp_text.proofs.SpelledWords.{AreSmall, AreSmallEntries, IsSmallLine}
 use Rattle.twp_text.proofs.SpelledItems.{one_lot}
-use Rattle.twp_text.proofs.SpelledParts.{Passes, entry_parts, list_parts}
+use Rattle.twp_text.proofs.SpelledParts.{entry_parts, list_parts}
 use Rattle.twp_text.proofs.SpelledLists.{NameHeld, all_named, lot_part, aliquot_part, IsInLists, part_written, of_lists, lists_named, small_lot}
 
 -- a written part as an entry; no part of a list is the whole section

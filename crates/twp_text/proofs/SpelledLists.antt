@@ -1,7 +1,7 @@
 -- The list of a section: its lots and its written parts lie on the plat, share no place, and name what is held.
-use Rattle.std.proofs.Common.{◌≡◌, ◌==◌, ℕ, ◌<◌, ◌≤◌, ◌^◌, ◌&&◌, Bool, true, false, List, [], ◌∷◌, ◌++◌, Option, Some, None, IsSome, map, nat_le, nat_lt, refl, sym, ap, subst, ◌∙◌, inl, inr, arith}
+use Rattle.std.proofs.Common.{◌≡◌, ◌==◌, ℕ, ◌<◌, ◌^◌, ◌&&◌, Bool, true, List, [], ◌∷◌, ◌++◌, Option, Some, None, IsSome, map, nat_le, nat_lt, refl, sym, ap, subst, ◌∙◌, inl, inr, arith}
 use Rattle.std.specs.Prelude.{is_none}
-use Rattle.std.proofs.lemmas.Bool.{cases_Bool, and_parts, eqb-true, eq-eqb, false≢true}
+use Rattle.std.proofs.lemmas.Bool.{and_parts, eqb-true, eq-eqb}
 use Rattle.std.proofs.lemmas.Bool.Decides.{nat_tests}
 use Rattle.twp_grid.specs.Winding.{IsSection}
 use Rattle.twp_grid.specs.Lots.{position_of_lot}
@@ -11,16 +11,16 @@ use Rattle.twp_land.specs.WholeLots.{lot_of_place, HasWholeLots}
 use Rattle.twp_land.proofs.LotFacts.{fills, few_lots}
 use Rattle.twp_text.specs.declared.item.Item.TheVariants.{Chain, All}
 use Rattle.twp_text.specs.ItemPlaces.{ItemOfSection, is_lot_from, in_chain, item_places}
-use Rattle.twp_text.specs.PlaceFaults.{LiesOnPlat, SharePlace, HoldsOfLot}
+use Rattle.twp_text.specs.PlaceFaults.{LiesOnPlat, HoldsOfLot}
 use Rattle.twp_text.specs.Taking.{item_of}
 use Rattle.twp_text.specs.Listing.{AreListed}
 use Rattle.twp_text.specs.WrittenParts.{Part, steps_of_part, IsInPart, IsWritten, StandsAhead, AreWrittenParts}
 use Rattle.twp_text.specs.CanonicalText.{off_lots, HoldsEach, IsLotHeld}
 use Rattle.twp_text.proofs.Listings.{Among, InOrder, among_contains, contains_among, pairs_order, among_left, among_right, among_either, order_both}
-use Rattle.twp_text.proofs.WrittenFacts.{one_part, written_held, HasPart, has_part}
+use Rattle.twp_text.proofs.WrittenFacts.{one_part, written_held, has_part}
 use Rattle.twp_text.proofs.PartOrder.{among_map, full_part, ahead_once}
 use Rattle.twp_text.proofs.SpelledItems.{one_lot}
-use Rattle.twp_text.proofs.SpelledParts.{IsMade, made_of, order_map, order_weaker, Passes, AreApart}
+use Rattle.twp_text.proofs.SpelledParts.{made_of, order_map, order_weaker, Passes, AreApart}
 
 -- the parts of a section's list lie on the plat, share no place, and name what is held of the section
 pub record NameHeld (g : ℕ) (township : Designation) (places : ℕ → ℕ → ℕ → Bool) (section : ℕ) (parts : List ItemOfSection) : Type 0 where
@@ -145,15 +145,15 @@ lies g township places section lots parts lists p there = elim (among_either p (
       let held = lot_held g places section lots parts lists made.thing made.there in
       let there_is = fills section (position_along g held.column) (position_along g held.row) made.thing lists.range held.of_lot in
       let lies_there : LiesOnPlat g township section (one_lot made.thing) =
-          ((omega arith), λ lot least most. let same : made.thing ≡ lot = omega arith in subst (λ n. IsSome (position_of_lot section n)) same (rw there_is.position refl)) in
+      ((omega arith), λ lot least most. let same : made.thing ≡ lot = omega arith in subst (λ n. IsSome (position_of_lot section n)) same (rw there_is.position refl)) in
       subst (λ (q : ItemOfSection). LiesOnPlat g township q.section q.item) (sym made.is) lies_there
   | inr of_parts ↦
       let made = made_of (aliquot_part section) p parts of_parts in
       let written = part_written g places section lots parts lists made.thing made.there in
       let full = full_part g (off_lots g section (places section)) made.thing written in
       let clear : ¬ HoldsOfLot g (aliquot_part section made.thing) = λ of_lot.
-          let here = in_aliquot g section made.thing section of_lot.column of_lot.row of_lot.named in
-          off_some (lot_of_place g section of_lot.column of_lot.row) (part_off_lots g places section made.thing of_lot.column of_lot.row written here.inside).none of_lot.of_lot in
+      let here = in_aliquot g section made.thing section of_lot.column of_lot.row of_lot.named in
+      off_some (lot_of_place g section of_lot.column of_lot.row) (part_off_lots g places section made.thing of_lot.column of_lot.row written here.inside).none of_lot.of_lot in
       subst (λ (q : ItemOfSection). LiesOnPlat g township q.section q.item) (sym made.is) (full.within, clear)
 ]
 
@@ -180,7 +180,7 @@ apart g places section lots parts lists =
         let first = in_aliquot g section x share.section share.column share.row share.in_first in
         let second = in_aliquot g section y share.section share.column share.row share.in_second in
         let same : x ≡ y = one_part g (off_lots g section (places section)) share.column share.row x y
-            (part_written g places section lots parts lists x there) (part_written g places section lots parts lists y there') first.inside second.inside in
+        (part_written g places section lots parts lists x there) (part_written g places section lots parts lists y there') first.inside second.inside in
         ahead_once g x y ahead (subst (λ z. StandsAhead g y z) (sym same) (subst (λ z. StandsAhead g z y) same ahead))
 
     across : (p q : ItemOfSection) → Among p (map (lot_part section) lots) → Among q (map (aliquot_part section) parts) → AreApart g p q

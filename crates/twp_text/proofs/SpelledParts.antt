@@ -1,6 +1,6 @@
 -- The items of the canonical text with their sections, and what it takes that they lie on the plat.
-use Rattle.std.proofs.Common.{◌≡◌, ◌⊎◌, ℕ, ◌<◌, ◌||◌, Bool, true, false, List, [], ◌∷◌, ◌++◌, map, length, refl, sym, ap, subst, ◌∙◌, inl, inr, append_assoc}
-use Rattle.std.specs.List.{flat_map, list_any, AllPairs}
+use Rattle.std.proofs.Common.{◌≡◌, ℕ, ◌||◌, Bool, true, false, List, [], ◌∷◌, ◌++◌, map, refl, sym, ap, subst, ◌∙◌, inl, inr, append_assoc}
+use Rattle.std.specs.List.{flat_map, list_any}
 use Rattle.std.proofs.Math.Path.{fun_ext}
 use Rattle.std.proofs.Math.ListN.{get_or}
 use Rattle.std.proofs.lemmas.Bool.{cases_Bool}
@@ -30,9 +30,10 @@ made_of f made (first ∷ list) (inr later) =
 
 pub order_map : {T U : Type 0} (f : T → U) (before : U → U → Type 0) (list : List T) → InOrder (λ x y. before (f x) (f y)) list → InOrder before (map f list)
 order_map f before [] order = tt
-order_map f before (first ∷ list) order =
-    ((λ made there. let from = made_of f made list there in subst (λ z. before (f first) z) (sym from.is) (order.0 from.thing from.there)),
-    order_map f before list order.1)
+order_map f before (first ∷ list) order = (
+  (λ made there. let from = made_of f made list there in subst (λ z. before (f first) z) (sym from.is) (order.0 from.thing from.there)),
+  order_map f before list order.1,
+)
 
 pub order_of_map : {T U : Type 0} (f : T → U) (before : U → U → Type 0) (list : List T) → InOrder before (map f list) → InOrder (λ x y. before (f x) (f y)) list
 order_of_map f before [] order = tt

@@ -1,27 +1,18 @@
 -- The canonical text as a derivation whose tokens have no places yet: a heading, and a group for each section
 -- with all, lots and aliquot parts, from which each byte of the text is taken.
-use Rattle.std.proofs.Common.{◌≡◌, ◌≢◌, ◌==◌, ℕ, ◌+◌, ◌<◌, ◌≤◌, Bool, true, false, List, [], ◌∷◌, ◌++◌, map, codes, decimal, length, refl, sym, ap, subst, ◌∙◌, inl, inr, append_assoc, arith}
-use Rattle.std.specs.Char.{is_ascii_alphabetic, is_ascii_digit}
-use Rattle.std.specs.List.{flat_map, list_all}
-use Rattle.std.proofs.lemmas.List.Sums.{AllPass-from_list_all}
-use Rattle.std.proofs.lemmas.Fmt.{decimal_is_IsNumeral, length-decimal-le}
+use Rattle.std.proofs.Common.{◌≡◌, ℕ, List, [], ◌∷◌, ◌++◌, map, codes, decimal, refl, sym, ap, ◌∙◌, inl, inr, append_assoc}
+use Rattle.std.specs.List.{flat_map}
 use Rattle.twp_grid.specs.Townships.{Designation}
-use Rattle.twp_grid.specs.declared.township.NorthSouth.{NorthSouth}
 use Rattle.twp_grid.specs.declared.township.NorthSouth.TheVariants as ns
-use Rattle.twp_grid.specs.declared.township.EastWest.{EastWest}
 use Rattle.twp_grid.specs.declared.township.EastWest.TheVariants as ew
 use Rattle.twp_grid.specs.declared.block.Side.TheVariants.{N, S, E, W}
 use Rattle.twp_grid.specs.declared.block.Corner.TheVariants.{NE, NW, SW, SE}
-use Rattle.twp_text.specs.declared.kind.Kind.{Kind}
-use Rattle.twp_text.specs.declared.kind.Kind.TheVariants.{Number}
 use Rattle.twp_text.specs.declared.item.Step.{Step}
 use Rattle.twp_text.specs.declared.item.Step.TheVariants.{Half, Quarter}
-use Rattle.twp_text.specs.Tokens.{is_white, kind_of_word, begins_with, IsWholeRun, Begins, IsNumber, IsGoodToken, a_word, a_number, a_half, a_quarter, a_comma, a_semicolon, a_stop}
 use Rattle.twp_text.specs.Grammar.{sec, lot, all, t, r, north_south, east_west, corner, half, quarter, number, comma, semicolon, stop, Ebnf, ◌⨾◌, one, many, maybe, and, step, of, the, entry, separator, part, group, heading, description}
-use Rattle.twp_text.specs.Items.{Then, ◌&◌}
+use Rattle.twp_text.specs.Items.{◌&◌}
 use Rattle.twp_text.specs.CanonicalText.{step_text, with_commas, north_south_letter, east_west_letter, line_end, heading_line, land_lines}
-use Rattle.twp_text.proofs.Numerals.{digits_test}
-use Rattle.twp_text.proofs.Lexemes.{Mark, mark, Draft, bytes_each, bytes, fit_each, Fits}
+use Rattle.twp_text.proofs.Lexemes.{mark, Draft, bytes_each, bytes}
 
 -- an entry of a section's list: all of the section, some lots, or an aliquot part, smallest step first
 pub data Entry : Type 0 where

@@ -1,11 +1,11 @@
 -- Each word, number and sign of the canonical text is a token before what follows it.
-use Rattle.std.proofs.Common.{◌≡◌, ◌≢◌, ◌==◌, ℕ, ◌<◌, ◌^◌, Bool, true, false, List, [], ◌∷◌, ◌++◌, map, codes, decimal, length, refl, sym, ap, subst, ◌∙◌, inl, inr, arith}
+use Rattle.std.proofs.Common.{◌≡◌, ◌==◌, ℕ, ◌<◌, true, false, List, [], ◌∷◌, ◌++◌, map, decimal, length, refl, sym, ap, subst, arith}
 use Rattle.std.specs.Char.{is_ascii_alphabetic, is_ascii_digit}
 use Rattle.std.specs.List.{list_all, AllPass}
 use Rattle.std.proofs.lemmas.Bool.{and_parts, false≢true}
 use Rattle.std.proofs.lemmas.List.Sums.{AllPass-from_list_all}
 use Rattle.std.proofs.lemmas.Fmt.{decimal_is_IsNumeral, length-decimal-le}
-use Rattle.twp_grid.specs.Townships.{Designation, IsTownshipNumber}
+use Rattle.twp_grid.specs.Townships.{Designation}
 use Rattle.twp_grid.specs.declared.township.NorthSouth.{NorthSouth}
 use Rattle.twp_grid.specs.declared.township.NorthSouth.TheVariants as ns
 use Rattle.twp_grid.specs.declared.township.EastWest.{EastWest}
@@ -18,11 +18,11 @@ use Rattle.twp_text.specs.declared.kind.Kind.TheVariants as kind
 use Rattle.twp_text.specs.declared.item.Step.{Step}
 use Rattle.twp_text.specs.declared.item.Step.TheVariants.{Half, Quarter}
 use Rattle.twp_text.specs.Tokens.{is_white, kind_of_word, begins_with, Begins, IsGoodToken, a_word, a_number, a_half, a_quarter, a_comma, a_semicolon, a_stop}
-use Rattle.twp_text.specs.Grammar.{Ebnf, ◌⨾◌, one, semicolon, many, step, number, entry, separator, part, group, heading, description}
+use Rattle.twp_text.specs.Grammar.{◌⨾◌, one, many, step, number, entry, separator, part, group, heading, description}
 use Rattle.twp_text.specs.CanonicalText.{north_south_letter, east_west_letter, line_end}
 use Rattle.twp_text.proofs.Numerals.{digits_test}
-use Rattle.twp_text.proofs.Lexemes.{Draft, bytes, fit_each, Fits}
-use Rattle.twp_text.proofs.SpelledTokens.{Entry, every, lots, aliquot, Line, space, number_mark, step_draft, further_step_grammar, further_step, number_entry, further_number, entry_draft, further_entry, line_draft, further_line_grammar, further_line, heading_draft, land_draft}
+use Rattle.twp_text.proofs.Lexemes.{bytes, Fits}
+use Rattle.twp_text.proofs.SpelledTokens.{Entry, every, lots, aliquot, Line, space, number_mark, step_draft, further_step_grammar, further_step, further_number, entry_draft, further_entry, line_draft, further_line_grammar, further_line, heading_draft, land_draft}
 
 -- a comma, a semicolon or a full stop comes next
 pub data Stopped (rest : List ℕ) : Type 0 where
@@ -140,9 +140,10 @@ fits_entry : (e : Entry) (rest : List ℕ) → IsSmallEntry e → Stopped rest �
 fits_entry every rest small stopped = (one_space, word 97 (108 ∷ 108 ∷ []) rest _ refl (stopped_word rest stopped) refl)
 fits_entry (lots n []) rest small stopped =
     ((one_space, word 108 (111 ∷ 116 ∷ []) _ _ refl refl refl), (((one_space, stopped_number n rest small.0 stopped), tt), tt))
-fits_entry (lots n (m ∷ ns)) rest small stopped =
-    ((one_space, word 108 (111 ∷ 116 ∷ 115 ∷ []) _ _ refl refl refl),
-    (((one_space, stopped_number n _ small.0 (stopped_numbers (m ∷ ns) rest stopped)), tt), fits_numbers (m ∷ ns) rest small.1 stopped))
+fits_entry (lots n (m ∷ ns)) rest small stopped = (
+  (one_space, word 108 (111 ∷ 116 ∷ 115 ∷ []) _ _ refl refl refl),
+  (((one_space, stopped_number n _ small.0 (stopped_numbers (m ∷ ns) rest stopped)), tt), fits_numbers (m ∷ ns) rest small.1 stopped),
+)
 fits_entry (aliquot s ss) rest small stopped =
     (fits_step space s (bytes (many further_step_grammar) (map further_step ss) rest) one_space, fits_steps ss rest)
 
@@ -152,10 +153,19 @@ fits_entries (e ∷ es) rest small stopped =
     ((((no_white, a_comma refl refl), tt), fits_entry e _ small.0 (stopped_entries es rest stopped)), fits_entries es rest small.1 stopped)
 
 fits_line : (line : Line) (rest : List ℕ) → IsSmallLine line → Stopped rest → Fits group (line_draft line) rest
-fits_line line rest small stopped =
-    ((one_line_end, word 115 (101 ∷ 99 ∷ []) _ _ refl refl refl), ((no_white, a_stop refl refl),
-    (fits_number line.section 44 _ small.0 refl refl, ((no_white, a_comma refl refl),
-    (fits_entry line.first _ small.1.0 (stopped_entries line.more rest stopped), fits_entries line.more rest small.1.1 stopped)))))
+fits_line line rest small stopped = (
+  (one_line_end, word 115 (101 ∷ 99 ∷ []) _ _ refl refl refl),
+  (
+    (no_white, a_stop refl refl),
+    (
+      fits_number line.section 44 _ small.0 refl refl,
+      (
+        (no_white, a_comma refl refl),
+        (fits_entry line.first _ small.1.0 (stopped_entries line.more rest stopped), fits_entries line.more rest small.1.1 stopped),
+      ),
+    ),
+  ),
+)
 
 fits_lines : (lines : List Line) (rest : List ℕ) → AreSmallLines lines → Stopped rest → Fits (many further_line_grammar) (map further_line lines) rest
 fits_lines [] rest small stopped = tt
@@ -171,15 +181,42 @@ east_or_west ew.E rest = word 69 [] _ _ refl refl refl
 east_or_west ew.W rest = word 87 [] _ _ refl refl refl
 
 fits_heading : (township : Designation) (rest : List ℕ) → township.number < 10000 → township.range < 10000 → Fits heading (heading_draft township) rest
-fits_heading township rest small small' =
-    ((no_white, word 84 [] _ _ refl refl refl), ((no_white, a_stop refl refl), (fits_number township.number 32 _ small refl refl,
-    ((one_space, north_or_south township.north_south _), ((no_white, a_stop refl refl), ((no_white, a_comma refl refl),
-    ((one_space, word 82 [] _ _ refl refl refl), ((no_white, a_stop refl refl), (fits_number township.range 32 _ small' refl refl,
-    ((one_space, east_or_west township.east_west _), ((no_white, a_stop refl refl), (no_white, a_comma refl refl))))))))))))
+fits_heading township rest small small' = (
+  (no_white, word 84 [] _ _ refl refl refl),
+  (
+    (no_white, a_stop refl refl),
+    (
+      fits_number township.number 32 _ small refl refl,
+      (
+        (one_space, north_or_south township.north_south _),
+        (
+          (no_white, a_stop refl refl),
+          (
+            (no_white, a_comma refl refl),
+            (
+              (one_space, word 82 [] _ _ refl refl refl),
+              (
+                (no_white, a_stop refl refl),
+                (
+                  fits_number township.range 32 _ small' refl refl,
+                  ((one_space, east_or_west township.east_west _), ((no_white, a_stop refl refl), (no_white, a_comma refl refl))),
+                ),
+              ),
+            ),
+          ),
+        ),
+      ),
+    ),
+  ),
+)
 
 -- each token of the text is one
 pub fits_land : (township : Designation) (first : Line) (more : List Line) → township.number < 10000 → township.range < 10000
     → AreSmallLines (first ∷ more) → Fits description (land_draft township first more) line_end
-fits_land township first more few few' small =
-    (fits_heading township _ few few', (fits_line first _ small.0 (stopped_lines more _ (at_stop _ refl)),
-    (fits_lines more _ small.1 (at_stop _ refl), (no_white, a_stop refl refl))))
+fits_land township first more few few' small = (
+  fits_heading township _ few few',
+  (
+    fits_line first _ small.0 (stopped_lines more _ (at_stop _ refl)),
+    (fits_lines more _ small.1 (at_stop _ refl), (no_white, a_stop refl refl)),
+  ),
+)
