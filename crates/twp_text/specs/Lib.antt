@@ -6,7 +6,13 @@ pub mod Expected
 pub mod TextFaults
 pub mod ItemPlaces
 pub mod PlaceFaults
+pub mod Listing
+pub mod WrittenParts
+pub mod CanonicalText
+pub mod Spelling
+pub mod SpellingLaws
 pub mod Taking
 pub mod Cutting
 pub mod Machine
 pub mod Laws
+pub mod ReadBack
