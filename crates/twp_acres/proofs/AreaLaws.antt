@@ -1,5 +1,7 @@
 -- One land, one area; and the areas of disjoint lands add up.
-use Rattle.std.proofs.Common.{◌≡◌, ℕ, ◌+◌, ◌*◌, ◌/◌, ◌<◌, ◌≤◌, ◌||◌, Bool, true, false, ap, refl, sym, ◌∙◌, arith, if◌then◌else◌}
+use Rattle.std.proofs.Common.{◌≡◌, ℕ, ◌+◌, ◌*◌, ◌/◌, ◌<◌, ◌≤◌, ◌-◌, ◌||◌, ◌&&◌, not, Bool, true, false, ap, refl, sym, ◌∙◌, arith, if◌then◌else◌}
+use Rattle.std.proofs.Math.Nat.{le_of_mul-le-mul_left, mul-sub}
+use Rattle.std.proofs.lemmas.Bool.Decides.{nat_tests}
 use Rattle.std.proofs.lemmas.Nat.{mul-le}
 use Rattle.twp_measure.specs.Areas.{Fraction}
 use Rattle.twp_grid.specs.Winding.{SECTION_COUNT, IsSection}
@@ -13,8 +15,8 @@ use Rattle.twp_land.specs.Lands.{union}
 use Rattle.twp_plat.specs.Plats.{TownshipPlat}
 use Rattle.twp_plat.proofs.RatioFacts.{cancelled}
 use Rattle.twp_plat.specs.PlatAreas.{ArePieces}
-use Rattle.twp_acres.specs.LandAreas.{places_of_position, piece_where_held, township_sum}
-use Rattle.twp_acres.specs.Laws.{OneLandArea, DisjointAreasAdd}
+use Rattle.twp_acres.specs.LandAreas.{IsLandArea, places_of_position, piece_where_held, township_sum}
+use Rattle.twp_acres.specs.Laws.{OneLandArea, DisjointAreasAdd, township_places}
 use Rattle.twp_plat.proofs.SectionPieces.{same_pieces}
 
 -- sums over the places of a township of functions that agree there
@@ -53,6 +55,35 @@ some_places g fits = square (places_to_position g) (quarter (places_across g) fi
 
     square : (n : ℕ) → 0 < n → 0 < n * n
     square n some = let least = mul-le 1 1 n n some some in omega arith
+
+-- of a set's places in the township, the units are no more than the township's, and the others have the rest
+pub rest_of_places : (g : ℕ) → POSITIONS_ACROSS ≤ places_across g → (plat : TownshipPlat) (places : ℕ → ℕ → ℕ → Bool) (area whole : Fraction)
+    → IsLandArea g plat places area → IsLandArea g plat (township_places g) whole
+    → (area.units ≤ whole.units) × IsLandArea g plat (λ section column row. township_places g section column row && not (places section column row)) (record { units = whole.units - area.units; over = whole.over })
+rest_of_places g fits plat places area whole is all =
+    let in_set : ℕ → ℕ → ℕ → ℕ = λ section. piece_where_held g (all.pieces section) (places section) in
+    let outside : ℕ → ℕ → ℕ → Bool = λ section column row. township_places g section column row && not (places section column row) in
+    let in_others : ℕ → ℕ → ℕ → ℕ = λ section. piece_where_held g (all.pieces section) (outside section) in
+    let sum : township_sum g all.pieces (township_places g) ≡ township_sum g all.pieces places + township_sum g all.pieces outside =
+    township-ext g (λ section. piece_where_held g (all.pieces section) (township_places g section)) (λ section column row. in_set section column row + in_others section column row) (λ section column row range in_column in_row.
+    split (township_places g section column row) (places section column row) (all.pieces section (position_along g column) (position_along g row)) (is_place_of g section column row range in_column in_row))
+    ∙ township-both g in_set in_others in
+    let same = one_sum g fits plat places is.pieces all.pieces is.are all.are in
+    let rest = less (places_of_position g) area.units whole.units (township_sum g all.pieces places) (township_sum g all.pieces outside) (some_places g fits) (is.sum_is ∙ same) (all.sum_is ∙ sum) in
+    (rest.0, record { pieces = all.pieces; are = all.are; over_is = all.over_is; sum_is = rest.1 })
+  where
+    is_place_of : (g section column row : ℕ) → IsSection section → column < places_across g → row < places_across g → township_places g section column row ≡ true
+    is_place_of g section column row range in_column in_row = grind (arith, nat_tests)
+
+    split : (t a : Bool) (p : ℕ) → t ≡ true → (if t then p else 0) ≡ (if a then p else 0) + (if t && not a then p else 0)
+    split true true p is = omega arith
+    split true false p is = omega arith
+    split false a p is = cc is
+
+    less : (n u w s r : ℕ) → 0 < n → n * u ≡ s → n * w ≡ s + r → (u ≤ w) × (n * (w - u) ≡ r)
+    less n u w s r some e e' =
+        let within : u ≤ w = le_of_mul-le-mul_left {m = u} {n = w} {k = n} (omega arith) some in
+        (within, mul-sub n w u ∙ omega (arith, e, e'))
 
 pub one_land_area : OneLandArea
 one_land_area g fits plat places area area' is is' =

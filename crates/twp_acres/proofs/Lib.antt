@@ -10,3 +10,6 @@ pub mod RunFacts
 pub mod OneAnswer
 pub mod FigureFacts
 pub mod OnePlat
+pub mod TractFacts
+pub mod TallyFacts
+pub mod FirstTractFaults

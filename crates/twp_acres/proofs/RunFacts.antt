@@ -15,7 +15,7 @@ use Rattle.twp_text.specs.PlaceFaults.{IsFirstPlaceFault}
 use Rattle.twp_text.specs.declared.item.Item.{Item}
 use Rattle.twp_text.specs.declared.place_fault.PlaceFault.{PlaceFault}
 use Rattle.twp_acres.specs.Answers.{ArePlatted, IsNoDescription}
-use Rattle.twp_acres.specs.Stops.{IfRefused, IsPlatted, Settles}
+use Rattle.twp_acres.specs.Stops.{IfRefused, IfFailed, IsPlatted, Settles}
 use Rattle.twp_acres.specs.declared.stop.Stop.{Stop}
 use Rattle.twp_acres.specs.declared.stop.Stop.TheVariants as stop
 use Rattle.twp_acres.specs.declared.verdict.RunFault.{RunFault}
@@ -62,10 +62,10 @@ pub stopped_by_places : (township : Designation) (d : List ℕ) (is : List Item)
 stopped_by_places township d is fault (stop.Refused refusal) read first by = inr (record { items = is; read = read; fault = fault; first = first; refusal_is = by })
 stopped_by_places township d is fault (stop.Failed failed) read first by = tt
 
--- and by no failed writer
-pub places_never_write : (fault : PlaceFault) (stopped : Stop) → IsStopOfPlaces fault stopped → stopped ≢ stop.Failed Write
-places_never_write fault (stop.Refused refusal) by same = cc same
-places_never_write fault (stop.Failed failed) by same = absurd by
+-- and by nothing that failed
+pub places_never_fail : (fault : PlaceFault) (stopped : Stop) (Holds : RunFault → Type 0) → IsStopOfPlaces fault stopped → IfFailed stopped Holds
+places_never_fail fault (stop.Refused refusal) Holds by = tt
+places_never_fail fault (stop.Failed failed) Holds by = absurd by
 
 -- an answer was written, or a front of it
 pub written : (Answers : AnswerRelation) (old new : Option (List ℕ)) (text : List ℕ) (verdict : Verdict) (r : Result Verdict RunFault) → Answers text verdict

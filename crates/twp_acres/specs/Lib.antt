@@ -6,4 +6,9 @@ pub mod Runs
 pub mod Passing
 pub mod Stops
 pub mod PlatAnswers
+pub mod Names
+pub mod Tracts
+pub mod TractFaults
+pub mod ReportAnswers
+pub mod TractTaking
 pub mod Laws

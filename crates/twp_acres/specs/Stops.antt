@@ -5,6 +5,7 @@ use Rattle.twp_grid.specs.declared.refusal.Refusal.{Refusal}
 use Rattle.twp_plat.specs.Plats.{TownshipPlat}
 use Rattle.twp_acres.specs.Answers.{ArePlatted, IsNoPlat, Describe, IsNoDescription, IsRefusal}
 use Rattle.twp_acres.specs.AcresAnswers.{HasAcres}
+use Rattle.twp_acres.specs.declared.verdict.RunFault.{RunFault}
 use Rattle.twp_acres.specs.declared.stop.Stop.{Stop}
 use Rattle.twp_acres.specs.declared.stop.Stop.TheVariants as stop
 
@@ -12,6 +13,11 @@ use Rattle.twp_acres.specs.declared.stop.Stop.TheVariants as stop
 abbrev pub IfRefused : Stop → (Refusal → Type 0) → Type 0
 IfRefused (stop.Refused refusal) Holds = Holds refusal
 IfRefused (stop.Failed fault) Holds = ⊤
+
+-- the stop is a refusal, or its fault is such a one
+abbrev pub IfFailed : Stop → (RunFault → Type 0) → Type 0
+IfFailed (stop.Refused refusal) Holds = ⊤
+IfFailed (stop.Failed fault) Holds = Holds fault
 
 -- the plat that the bytes make as notes, or their refusal
 abbrev pub IsPlatted : List ℕ → Result TownshipPlat Stop → Type 0

@@ -1,9 +1,9 @@
-ghost use Rattle.std.specs.Prelude.{◌≡◌, IfOk, IfErr};
+ghost use Rattle.std.specs.Prelude.{◌≡◌, ◌++◌, OnOk, IfOk, IfErr};
 ghost use Rattle.twp_acres.specs.Answers.{refusal_line};
 
 use crate::verdict::{RunFault, Verdict};
 use itoa::Buffer;
-use std::alloc::Global;
+use std::alloc::{AllocError, Global};
 use twp_grid::Refusal;
 
 /// What a run answers.
@@ -19,14 +19,22 @@ pub fn refuse(alloc: Global, refusal: Refusal) -> Result<Answer, RunFault>
         (answer.text.items ≡ refusal_line refusal) × (answer.verdict ≡ Verdict.Refused refusal)) }
     ensures memory { IfErr result (λ fault. fault ≡ RunFault.Memory) }
 {
-    let mut buffer = Buffer::new();
-    let mut text = Vec::from_slice(alloc, b"refused ")?;
-    text.extend_from_slice(buffer.format(refusal.number).as_bytes())?;
-    text.extend_from_slice(b" at ")?;
-    text.extend_from_slice(buffer.format(refusal.at).as_bytes())?;
-    text.push(b'\n')?;
+    let mut text = Vec::new(alloc);
+    write_refusal(refusal, &mut text)?;
     Ok(Answer {
         text,
         verdict: Verdict::Refused(refusal),
     })
+}
+
+/// Appends the line of a refusal, as `refused 67 at 19`.
+pub fn write_refusal(refusal: Refusal, text: &mut Vec<u8>) -> Result<(), AllocError>
+    ensures ok { OnOk result (text.new.items ≡ text.old.items ++ refusal_line refusal) }
+{
+    let mut buffer = Buffer::new();
+    text.extend_from_slice(b"refused ")?;
+    text.extend_from_slice(buffer.format(refusal.number).as_bytes())?;
+    text.extend_from_slice(b" at ")?;
+    text.extend_from_slice(buffer.format(refusal.at).as_bytes())?;
+    text.extend_from_slice(b"\n")
 }

@@ -2,17 +2,23 @@
 //! with them, and writes one answer.
 #![tactic(auto)]
 
+mod account;
 mod acres_answer;
 mod answer;
 mod area;
 pub mod laws;
+mod names;
 mod plat_answer;
+mod report_answer;
 mod running;
 mod stages;
 mod stop;
+mod tract;
+mod tract_fault;
+mod tracts;
 mod verdict;
 mod writing;
 
 pub use area::area_of;
-pub use running::{run_acres, run_plat};
+pub use running::{run_acres, run_plat, run_report};
 pub use verdict::{RunFault, Verdict};

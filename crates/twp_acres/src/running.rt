@@ -7,12 +7,14 @@ ghost use Rattle.twp_text.specs.TextFaults.{TEXT_LIMIT};
 ghost use Rattle.twp_acres.specs.Answers.{MakePlat, IsRefusal, refusal_line};
 ghost use Rattle.twp_acres.specs.AcresAnswers.{HasAcres, IsAcresAnswer, acres_line};
 ghost use Rattle.twp_acres.specs.PlatAnswers.{IsPlatAnswer};
+ghost use Rattle.twp_acres.specs.ReportAnswers.{IsReportAnswer};
+ghost use Rattle.twp_acres.specs.Tracts.{TRACTS_LIMIT};
 ghost use Rattle.twp_acres.specs.Runs.{AnyFailed, AppendsFront, IsAnswered, IsRun, Reads, ReadsTwo};
 
 use crate::answer::Answer;
 use crate::verdict::{RunFault, Verdict};
 use crate::writing::write_whole;
-use crate::{acres_answer, plat_answer};
+use crate::{acres_answer, plat_answer, report_answer};
 use std::alloc::Global;
 use twp_grid::{Sink, Source};
 
@@ -110,6 +112,53 @@ pub fn run_plat<N: Source, W: Sink>(
         (N.remaining notes.new) (NOTES_MOST + 1) }
 {
     let answer = plat_answer::answer_of(alloc, notes)?;
+    write_answer(out, &answer)
+}
+
+/// Writes the account of a list of tracts, where the field notes make a plat and the list is one of
+/// tracts on it: of each tract its acres, then those of all places that are in a tract, and then those of
+/// all others. Each figure is an exact area, rounded once. Otherwise it writes the numbered refusal of
+/// the first fault, and of a description that is refused the refusal in it, on a second line.
+///
+/// The whole answer is made before its first byte is written.
+pub fn run_report<N: Source, T: Source, W: Sink>(
+    alloc: Global,
+    notes: &mut N,
+    tracts: &mut T,
+    out: &mut W,
+) -> Result<Verdict, RunFault>
+    requires notes { N.has_failed notes.old ≡ false }
+    requires tracts { T.has_failed tracts.old ≡ false }
+    requires out { W.has_failed out.old ≡ false }
+
+    // The account of told texts, or the refusal; a verdict where no device fails and no memory is
+    // refused.
+    ensures told { (n t : List ℕ)
+        → N.remaining notes.old ≡ Some n → T.remaining tracts.old ≡ Some t
+        → IsRun (IsReportAnswer n t) (W.contents out.old) (W.contents out.new) result }
+    ensures answers { N.has_failed notes.new ≡ false → T.has_failed tracts.new ≡ false
+        → W.has_failed out.new ≡ false → IsOkUnless result RunFault.Memory }
+
+    // The same whatever the devices tell of their bytes. The list is read only where the notes make a
+    // plat.
+    ensures ran { ReadsTwo (N.remaining notes.old) (T.remaining tracts.old)
+        MakePlat (tracts.new ≡ tracts.old)
+        (λ n t. IsRun (IsReportAnswer n t) (W.contents out.old) (W.contents out.new) result) }
+    ensures unread { (n : List ℕ) → N.remaining notes.old ≡ Some n → (MakePlat n → ⊥)
+        → tracts.new ≡ tracts.old }
+
+    // A fault of a device is answered exactly where that device failed in this call.
+    ensures read { IsErrOf result RunFault.Read
+        ↔ AnyFailed (N.has_failed notes.new) (T.has_failed tracts.new) }
+    ensures write { IsErrOf result RunFault.Write ↔ (W.has_failed out.new ≡ true) }
+
+    // Reading ends one byte past the limit, if not before.
+    ensures notes_most { TakesAtMost (N.remaining notes.old)
+        (N.remaining notes.new) (NOTES_MOST + 1) }
+    ensures tracts_most { TakesAtMost (T.remaining tracts.old)
+        (T.remaining tracts.new) (TRACTS_LIMIT + 1) }
+{
+    let answer = report_answer::answer_of(alloc, notes, tracts)?;
     write_answer(out, &answer)
 }
 

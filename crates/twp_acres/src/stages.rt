@@ -6,7 +6,7 @@ ghost use Rattle.twp_notes.specs.FieldNotes.{NOTES_MOST};
 ghost use Rattle.twp_land.specs.WholeLots.{HasWholeLots};
 ghost use Rattle.twp_text.specs.TextFaults.{TEXT_LIMIT};
 ghost use Rattle.twp_acres.specs.Runs.{Reads};
-ghost use Rattle.twp_acres.specs.Stops.{IsPlatted, IsDescribed};
+ghost use Rattle.twp_acres.specs.Stops.{IfFailed, IsPlatted, IsDescribed};
 ghost use Rattle.twp_acres.specs.declared.stop.Stop.TheVariants.{Failed};
 ghost use Rattle.twp_acres.specs.declared.verdict.RunFault.{RunFault};
 
@@ -49,6 +49,15 @@ pub fn read_land<D: Source, L: Land>(
     let Some(text) = read_whole(alloc, description, TEXT_LIMIT)? else {
         return Err(Stop::from(TextFault::TooLarge));
     };
-    let description = Description::read(alloc, text.as_slice())?;
+    land_of(alloc, township, text.as_slice())
+}
+
+/// The land of a description, on the plat of a township.
+pub fn land_of<L: Land>(alloc: Global, township: Township, text: &[u8]) -> Result<L, Stop>
+    ensures memory { IfErr result (λ stop. IfFailed stop (λ fault. fault ≡ RunFault.Memory)) }
+    ensures land { IsDescribed L.places township text.now result }
+    ensures whole_lots { IfOk result (λ land. HasWholeLots PLACE_DIGITS (L.places land)) }
+{
+    let description = Description::read(alloc, text)?;
     Ok(resolve(&description, township)?)
 }

@@ -1,15 +1,15 @@
 -- Sets of places as they are kept by section.
-use Rattle.std.proofs.Common.{get_or, sym, ◌∙◌, if◌then◌else◌, ◌≡◌, ◌≢◌, ◌==◌, ℕ, zero, suc, ◌-◌, ◌<◌, ◌&&◌, ◌||◌, Bool, true, false, List, [], ◌∷◌, length, Some, ap, refl, inl, inr, arith, replicate}
+use Rattle.std.proofs.Common.{get_or, sym, ◌∙◌, if◌then◌else◌, ◌≡◌, ◌≢◌, ◌==◌, ℕ, zero, suc, ◌-◌, ◌<◌, ◌≤◌, ◌+◌, ◌&&◌, ◌||◌, nat_le, Bool, true, false, List, [], ◌∷◌, length, Some, ap, refl, inl, inr, arith, replicate}
 use Rattle.std.proofs.Math.Path.{fun_ext}
 use Rattle.std.proofs.Math.ListN.{set}
 use Rattle.std.specs.List.{slice_get}
 use Rattle.std.specs.Option.{option_map_or}
-use Rattle.std.proofs.lemmas.Bool.{cases_eq, ne_eqb, eq-eqb, and_right}
+use Rattle.std.proofs.lemmas.Bool.{cases_eq, ne_eqb, eq-eqb, and_right, and_parts}
 use Rattle.std.proofs.lemmas.Bool.Decides.{nat_tests}
 use Rattle.twp_grid.specs.Winding.{SECTION_COUNT, IsSection}
 use Rattle.twp_grid.specs.Spans.{Rectangle}
-use Rattle.twp_land.specs.Lands.{no_places, union, block_places}
-use Rattle.twp_land.specs.Storage.{is_section, held_by_section, with_block, nothing_held}
+use Rattle.twp_land.specs.Lands.{no_places, union, block_places, SharePlace}
+use Rattle.twp_land.specs.Storage.{is_section, held_by_section, with_block, nothing_held, held_by_either, ShareHeld}
 
 -- the set with one section's part exchanged
 abbrev exchanged : (ℕ → ℕ → ℕ → Bool) → ℕ → (ℕ → ℕ → Bool) → ℕ → ℕ → ℕ → Bool
@@ -99,3 +99,132 @@ added_where_kept {P = P} held plots section block plot plot' range all added =
 
     kept : held_by_section held plots section ≡ held (get_or plots (section - 1) plot)
     kept = fun_ext (λ column. fun_ext (λ row. rw (number_is section range, found plots (section - 1) (omega (arith, range.0))) refl))
+
+-- what is kept at an index is the part of the section behind it
+kept_at : {P : Type 0} (held : P → ℕ → ℕ → Bool) (plots : List P) (index : ℕ) (plot : P) → index < SECTION_COUNT → length plots ≡ SECTION_COUNT
+    → held_by_section held plots (index + 1) ≡ held (get_or plots index plot)
+kept_at {P = P} held plots index plot below all =
+    let back : index + 1 - 1 ≡ index = omega arith in
+    let number : is_section (index + 1) ≡ true = number_is (index + 1) (omega arith, omega arith) in
+    fun_ext (λ column. fun_ext (λ row. rw (number, back, found plots index (omega arith)) refl))
+  where
+    found : (plots : List P) (i : ℕ) → i < length plots → slice_get plots i ≡ Some (get_or plots i plot)
+    found [] i inside = absurd (omega arith)
+    found (p ∷ plots) zero inside = refl
+    found (p ∷ plots) (suc i) inside = found plots i (omega arith)
+
+section_held : {P : Type 0} (held : P → ℕ → ℕ → Bool) (plots : List P) (section column row : ℕ) → held_by_section held plots section column row ≡ true → IsSection section
+section_held held plots section column row is =
+    let parts = and_parts (is_section section) _ is in
+    let sides = and_parts (nat_le 1 section) (nat_le section SECTION_COUNT) parts.0 in
+    (grind (arith, nat_tests), grind (arith, nat_tests))
+
+-- two sets share a place where two parts at one index do
+pub share_found : {P : Type 0} (held : P → ℕ → ℕ → Bool) (plots others : List P) (index : ℕ) (plot other : P) → index < SECTION_COUNT
+    → length plots ≡ SECTION_COUNT → length others ≡ SECTION_COUNT → ShareHeld (held (get_or plots index plot)) (held (get_or others index other))
+    → SharePlace (held_by_section held plots) (held_by_section held others)
+share_found held plots others index plot other below all all-others shared =
+    record {
+      section = index + 1;
+      column = shared.column;
+      row = shared.row;
+      in_first = ap (λ h. h shared.column shared.row) (kept_at held plots index plot below all) ∙ shared.in_first;
+      in_second = ap (λ h. h shared.column shared.row) (kept_at held others index other below all-others) ∙ shared.in_second;
+    }
+
+-- up to a section no place is in both sets
+abbrev pub AreApartTo : ℕ → (ℕ → ℕ → ℕ → Bool) → (ℕ → ℕ → ℕ → Bool) → Type 0
+AreApartTo most places more = (section column row : ℕ) → section ≤ most
+    → places section column row ≡ true → more section column row ≡ true → ⊥
+
+pub apart_first : {P : Type 0} (held : P → ℕ → ℕ → Bool) (plots others : List P) → AreApartTo 0 (held_by_section held plots) (held_by_section held others)
+apart_first held plots others section column row most is is' =
+    let range = section_held held plots section column row is in
+    omega arith
+
+pub apart_next : {P : Type 0} (held : P → ℕ → ℕ → Bool) (plots others : List P) (index : ℕ) (plot other : P) → index < SECTION_COUNT
+    → length plots ≡ SECTION_COUNT → length others ≡ SECTION_COUNT
+    → (ShareHeld (held (get_or plots index plot)) (held (get_or others index other)) → ⊥)
+    → AreApartTo index (held_by_section held plots) (held_by_section held others)
+    → AreApartTo (index + 1) (held_by_section held plots) (held_by_section held others)
+apart_next held plots others index plot other below all all-others apart before section column row most is is' = elim (cases_eq section (index + 1)) [
+  | inl here ↦
+      let first : held_by_section held plots (index + 1) column row ≡ true = ap (λ s. held_by_section held plots s column row) (sym here) ∙ is in
+      let second : held_by_section held others (index + 1) column row ≡ true = ap (λ s. held_by_section held others s column row) (sym here) ∙ is' in
+      apart (record {
+        column = column;
+        row = row;
+        in_first = sym (ap (λ h. h column row) (kept_at held plots index plot below all)) ∙ first;
+        in_second = sym (ap (λ h. h column row) (kept_at held others index other below all-others)) ∙ second;
+      })
+  | inr earlier ↦ before section column row (omega arith) is is'
+]
+
+pub apart_all : {P : Type 0} (held : P → ℕ → ℕ → Bool) (plots others : List P) → AreApartTo SECTION_COUNT (held_by_section held plots) (held_by_section held others)
+    → SharePlace (held_by_section held plots) (held_by_section held others) → ⊥
+apart_all held plots others apart shared =
+    let range = section_held held plots shared.section shared.column shared.row shared.in_first in
+    apart shared.section shared.column shared.row range.1 shared.in_first shared.in_second
+
+-- the places of both sets up to a section, and behind it those of the first
+abbrev pub joined_to : ℕ → (ℕ → ℕ → ℕ → Bool) → (ℕ → ℕ → ℕ → Bool) → ℕ → ℕ → ℕ → Bool
+joined_to most places more section column row = places section column row || (nat_le section most && more section column row)
+
+pub joined_first : {P : Type 0} (held : P → ℕ → ℕ → Bool) (plots others : List P)
+    → held_by_section held plots ≡ joined_to 0 (held_by_section held plots) (held_by_section held others)
+joined_first held plots others =
+    fun_ext (λ section. fun_ext (λ column. fun_ext (λ row. nothing section (held_by_section held plots section column row) column row)))
+  where
+    nothing : (section : ℕ) (b : Bool) (column row : ℕ) → b ≡ (b || (nat_le section 0 && held_by_section held others section column row))
+    nothing section true column row = refl
+    nothing zero false column row = refl
+    nothing (suc section) false column row = let none : nat_le (suc section) 0 ≡ false = grind (arith, nat_tests) in rw none refl
+
+pub joined_all : {P : Type 0} (held : P → ℕ → ℕ → Bool) (plots others : List P)
+    → joined_to SECTION_COUNT (held_by_section held plots) (held_by_section held others) ≡ union (held_by_section held plots) (held_by_section held others)
+joined_all held plots others =
+    fun_ext (λ section. fun_ext (λ column. fun_ext (λ row.
+    ap (λ b. held_by_section held plots section column row || b) (inside section column row (held_by_section held others section column row) refl))))
+  where
+    inside : (section column row : ℕ) (b : Bool) → held_by_section held others section column row ≡ b → (nat_le section SECTION_COUNT && b) ≡ b
+    inside section column row true is =
+        let range = section_held held others section column row is in
+        let most : nat_le section SECTION_COUNT ≡ true = grind (arith, nat_tests) in
+        rw most refl
+    inside section column row false is = and_right (nat_le section SECTION_COUNT) false refl
+
+pub joined_next : {P : Type 0} (held : P → ℕ → ℕ → Bool) (plots others now : List P) (index : ℕ) (plot other joined : P) → index < SECTION_COUNT
+    → length now ≡ SECTION_COUNT → length others ≡ SECTION_COUNT
+    → held joined ≡ held_by_either (held (get_or now index plot)) (held (get_or others index other))
+    → held_by_section held now ≡ joined_to index (held_by_section held plots) (held_by_section held others)
+    → held_by_section held (set now index joined) ≡ joined_to (index + 1) (held_by_section held plots) (held_by_section held others)
+joined_next held plots others now index plot other joined below all all-others is before =
+    let back : index + 1 - 1 ≡ index = omega arith in
+    let range : IsSection (index + 1) = (omega arith, omega arith) in
+    let put : held_by_section held (set now index joined) ≡ exchanged (held_by_section held now) (index + 1) (held joined) =
+    ap (λ i. held_by_section held (set now i joined)) (sym back) ∙ held_after held now (index + 1) joined range all in
+    let part : held joined ≡ held_by_either (held_by_section held now (index + 1)) (held_by_section held others (index + 1)) =
+    is ∙ (λ i. held_by_either (sym (kept_at held now index plot below all) i) (sym (kept_at held others index other below all-others) i)) in
+    put ∙ ap (λ h. exchanged (held_by_section held now) (index + 1) h) part
+    ∙ ap (λ p. exchanged p (index + 1) (held_by_either (p (index + 1)) (held_by_section held others (index + 1)))) before
+    ∙ exchange (held_by_section held plots) (held_by_section held others) index
+  where
+    both : (a b c : Bool) → c ≡ false → ((a || (c && b)) || b) ≡ (a || (true && b))
+    both true b c none = refl
+    both false b c none = rw none refl
+
+    exchange : (places more : ℕ → ℕ → ℕ → Bool) (index : ℕ)
+        → exchanged (joined_to index places more) (index + 1) (held_by_either (joined_to index places more (index + 1)) (more (index + 1)))
+        ≡ joined_to (index + 1) places more
+    exchange places more index =
+        fun_ext (λ section. fun_ext (λ column. fun_ext (λ row. elim (cases_eq (index + 1) section) [
+          | inl same ↦
+              let test : (index + 1 == section) ≡ true = eq-eqb (index + 1) section same in
+              let above : nat_le (index + 1) index ≡ false = grind (arith, nat_tests) in
+              let within : nat_le (index + 1) (index + 1) ≡ true = grind (arith, nat_tests) in
+              rw (test, ← same, within) (both (places (index + 1) column row) (more (index + 1) column row) (nat_le (index + 1) index) above)
+          | inr apart ↦
+              let test : (index + 1 == section) ≡ false = ne_eqb (index + 1) section apart in
+              let same : nat_le section index ≡ nat_le section (index + 1) = grind (arith, nat_tests) in
+              rw test (ap (λ b. places section column row || (b && more section column row)) same)
+        ])))

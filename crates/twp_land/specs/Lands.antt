@@ -31,3 +31,11 @@ HoldsAll held block =
 -- how many places of the block are held
 abbrev pub count_held : (ℕ → ℕ → Bool) → Rectangle → ℕ
 count_held held block = total_over block (λ column row. one_where (held column row))
+
+-- a place is in both sets
+pub record SharePlace (places more : ℕ → ℕ → ℕ → Bool) : Type 0 where
+  pub section : ℕ
+  pub column : ℕ
+  pub row : ℕ
+  pub in_first : places section column row ≡ true
+  pub in_second : more section column row ≡ true

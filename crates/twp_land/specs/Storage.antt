@@ -71,3 +71,30 @@ pub record AreFilled (rows : List (List Bool)) (block : Rectangle) (filled : Lis
       → IsFilled (slice_index_or rows row []) block.columns (slice_index_or filled row [])
   pub outside : (row : ℕ) → row < places_across PLACE_DIGITS → in_span block.rows row ≡ false
       → slice_index_or filled row [] ≡ slice_index_or rows row []
+
+-- a place of one section is in both sets
+pub record ShareHeld (held more : ℕ → ℕ → Bool) : Type 0 where
+  pub column : ℕ
+  pub row : ℕ
+  pub in_first : held column row ≡ true
+  pub in_second : more column row ≡ true
+
+-- the places of two sets of one section
+abbrev pub held_by_either : (ℕ → ℕ → Bool) → (ℕ → ℕ → Bool) → ℕ → ℕ → Bool
+held_by_either held more column row = held column row || more column row
+
+-- some test holds in both rows
+abbrev pub ShareInRow : List Bool → List Bool → Type 0
+ShareInRow row other = (column : ℕ) × (column < places_across PLACE_DIGITS)
+    × (slice_index_or row column false ≡ true) × (slice_index_or other column false ≡ true)
+
+-- each test holds where it does in either row
+abbrev pub IsJoined : List Bool → List Bool → List Bool → Type 0
+IsJoined row other joined = (column : ℕ) → column < places_across PLACE_DIGITS
+    → slice_index_or joined column false
+    ≡ (slice_index_or row column false || slice_index_or other column false)
+
+-- each lane has no more bits than there are columns
+abbrev pub AreLanes : List ℕ → Type 0
+AreLanes lanes =
+    (row : ℕ) → row < length lanes → slice_index_or lanes row 0 < 2 ^ places_across PLACE_DIGITS

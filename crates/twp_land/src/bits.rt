@@ -1,7 +1,7 @@
 ghost use Rattle.std.specs.Prelude.{◌≡◌, ◌+◌, ◌-◌, ◌^◌, ◌≤◌, length};
 ghost use Rattle.twp_grid.specs.Places.{PLACE_DIGITS, places_across};
 ghost use Rattle.twp_grid.specs.Spans.{IsDyadic};
-ghost use Rattle.twp_land.specs.Storage.{AreBlockLanes};
+ghost use Rattle.twp_land.specs.Storage.{AreBlockLanes, AreLanes};
 
 use std::simd::prelude::*;
 use twp_grid::{Block, PLACES_ACROSS};
@@ -20,7 +20,8 @@ const ONES: [u16; PLACES_ACROSS + 1] = [
 #[inline(always)]
 pub(crate) fn vector(lanes: &[u16]) -> u16x16
     requires { length lanes.now ≡ places_across PLACE_DIGITS }
-    ensures { result ≡ lanes.now }
+    ensures lanes { result ≡ lanes.now }
+    ensures below { AreLanes lanes.now }
 {
     u16x16::from_slice(lanes)
 }

@@ -56,4 +56,15 @@ impl Plot for LaneRows {
         let held = vector(&self.lanes) | block_lanes(block);
         held.copy_to_slice(&mut self.lanes);
     }
+
+    #[inline]
+    fn meets_plot(&self, other: &Self) -> bool {
+        (vector(&self.lanes) & vector(&other.lanes)).reduce_or() != 0
+    }
+
+    #[inline]
+    fn add_plot(&mut self, other: &Self) {
+        let held = vector(&self.lanes) | vector(&other.lanes);
+        held.copy_to_slice(&mut self.lanes);
+    }
 }

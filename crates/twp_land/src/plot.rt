@@ -1,7 +1,7 @@
 ghost use Rattle.std.specs.Prelude.{◌≡◌, ◌<◌, ◌↔◌, ℕ, Bool, true, IsTrue};
 ghost use Rattle.twp_grid.specs.Places.{PLACE_DIGITS, places_across, IsPlace};
 ghost use Rattle.twp_land.specs.Lands.{Meets, HoldsAll, count_held};
-ghost use Rattle.twp_land.specs.Storage.{nothing_held, with_block};
+ghost use Rattle.twp_land.specs.Storage.{nothing_held, with_block, held_by_either, ShareHeld};
 
 use twp_grid::Block;
 
@@ -35,6 +35,14 @@ pub trait Plot: Copy + Drop {
     /// Adds the places of a block.
     fn add(&mut self, block: Block)
         ensures { held self.new ≡ with_block (held self.old) block };
+
+    /// Whether some place is held by both.
+    fn meets_plot(&self, other: &Self) -> bool
+        ensures { IsTrue result ↔ ShareHeld (held self.now) (held other.now) };
+
+    /// Adds the places that another set holds.
+    fn add_plot(&mut self, other: &Self)
+        ensures { held self.new ≡ held_by_either (held self.old) (held other.now) };
 
     /// What is held is a place.
     ghost within: { (plot : Self) (column row : ℕ) → held plot column row ≡ true

@@ -1,6 +1,6 @@
 ghost use Rattle.std.specs.Prelude.{◌≡◌, ◌+◌, ◌≤◌, ◌↔◌, IsTrue};
 ghost use Rattle.twp_grid.specs.Places.{PLACE_DIGITS, places_across};
-ghost use Rattle.twp_land.specs.Storage.{SomeHeld, EachHeld, count_in_row, IsFilled};
+ghost use Rattle.twp_land.specs.Storage.{SomeHeld, EachHeld, count_in_row, IsFilled, ShareInRow, IsJoined};
 
 use twp_grid::PLACES_ACROSS;
 
@@ -58,4 +58,27 @@ pub(crate) fn filled(row: &Row, start: usize, len: usize) -> Row
         filled[start + along] = true;
     }
     filled
+}
+
+/// Whether some place is held in both rows.
+pub(crate) fn share(row: &Row, other: &Row) -> bool
+    ensures { IsTrue result ↔ ShareInRow row.now other.now }
+{
+    for column in 0..PLACES_ACROSS {
+        if row[column] && other[column] {
+            return true;
+        }
+    }
+    false
+}
+
+/// The row with the places of another held too.
+pub(crate) fn joined(row: &Row, other: &Row) -> Row
+    ensures { IsJoined row.now other.now result }
+{
+    let mut joined = *row;
+    for column in 0..PLACES_ACROSS {
+        joined[column] = row[column] || other[column];
+    }
+    joined
 }

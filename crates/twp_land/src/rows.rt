@@ -1,7 +1,7 @@
 ghost use Rattle.twp_land.specs.Storage.{held_by_row};
 
 use crate::plot::Plot;
-use crate::row::{Row, count_held, each_held, filled, some_held};
+use crate::row::{Row, count_held, each_held, filled, joined, share, some_held};
 use crate::sections::Sections;
 use crate::window::Window;
 use twp_grid::{Block, PLACES_ACROSS};
@@ -69,6 +69,21 @@ impl Plot for Rows {
                 window.column,
                 window.width,
             );
+        }
+    }
+
+    fn meets_plot(&self, other: &Self) -> bool {
+        for row in 0..PLACES_ACROSS {
+            if share(&self.rows[row], &other.rows[row]) {
+                return true;
+            }
+        }
+        false
+    }
+
+    fn add_plot(&mut self, other: &Self) {
+        for row in 0..PLACES_ACROSS {
+            self.rows[row] = joined(&self.rows[row], &other.rows[row]);
         }
     }
 }

@@ -56,4 +56,19 @@ impl<P: Plot> Land for Sections<P> {
     fn add(&mut self, section: Section, block: Block) {
         self.plots[usize::from(section.number() - 1)].add(block);
     }
+
+    fn meets_land(&self, other: &Self) -> bool {
+        for index in 0..SECTIONS {
+            if self.plots[index].meets_plot(&other.plots[index]) {
+                return true;
+            }
+        }
+        false
+    }
+
+    fn add_land(&mut self, other: &Self) {
+        for index in 0..SECTIONS {
+            self.plots[index].add_plot(&other.plots[index]);
+        }
+    }
 }

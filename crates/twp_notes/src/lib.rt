@@ -18,4 +18,5 @@ mod writing;
 pub use fault::NotesFault;
 pub use notes::Notes;
 pub use reading::{ReadFault, read_up_to, read_whole};
+pub use records::{Records, field};
 pub use returned::Returned;

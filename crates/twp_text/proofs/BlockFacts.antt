@@ -6,10 +6,9 @@ use Rattle.twp_grid.specs.Winding.{IsSection}
 use Rattle.twp_grid.specs.Lots.{position_of_lot, number_of_lots}
 use Rattle.twp_grid.specs.Places.{PLACE_DIGITS, position_along}
 use Rattle.twp_grid.specs.Spans.{Span, in_span, Rectangle, in_rectangle, position_block}
-use Rattle.twp_land.specs.Lands.{Meets, block_places}
+use Rattle.twp_land.specs.Lands.{Meets, block_places, SharePlace}
 use Rattle.twp_land.specs.WholeLots.{lot_of_place}
 use Rattle.twp_land.proofs.LotFacts.{fills, block_of, in_lot, lot_inside}
-use Rattle.twp_text.specs.PlaceFaults.{SharePlace}
 use Rattle.twp_text.specs.Taking.{Cross, HoldsLotPlace}
 
 -- a column or row of both spans

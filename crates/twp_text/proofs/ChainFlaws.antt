@@ -5,13 +5,13 @@ use Rattle.twp_grid.specs.Cuts.{AreWithin, reached}
 use Rattle.twp_grid.specs.Places.{PLACE_DIGITS}
 use Rattle.twp_grid.specs.Spans.{Rectangle, in_rectangle}
 use Rattle.twp_grid.specs.Townships.{Designation}
-use Rattle.twp_land.specs.Lands.{Meets, block_places, union}
+use Rattle.twp_land.specs.Lands.{Meets, block_places, union, SharePlace}
 use Rattle.twp_text.specs.declared.item.Step.{Step}
 use Rattle.twp_text.specs.declared.item.Item.TheVariants.{Chain}
 use Rattle.twp_text.specs.declared.place_fault.PlaceFault.{PlaceFault}
 use Rattle.twp_text.specs.declared.place_fault.PlaceFault.TheVariants as fault
 use Rattle.twp_text.specs.ItemPlaces.{cuts_of, item_places}
-use Rattle.twp_text.specs.PlaceFaults.{HoldsOfLot, SharePlace, Flaw, HasFlaw, turn_of}
+use Rattle.twp_text.specs.PlaceFaults.{HoldsOfLot, Flaw, HasFlaw, turn_of}
 use Rattle.twp_text.specs.PlaceFaults.Flaw.{other_township, no_first_section, no_last_section, backward, no_first_lot, no_last_lot, too_fine, on_lot, overlap}
 use Rattle.twp_text.specs.Taking.{item_of, HoldsLotPlace, IsTaken, IsFirstFlaw}
 use Rattle.twp_text.proofs.BlockFacts.{same_section, share_of_meets, meets_of_share}

@@ -6,11 +6,11 @@ use Rattle.twp_grid.specs.Spans.{whole_block}
 use Rattle.twp_grid.specs.Townships.{Designation, designation}
 use Rattle.twp_grid.specs.declared.township.NorthSouth.{NorthSouth}
 use Rattle.twp_grid.specs.declared.township.EastWest.{EastWest}
-use Rattle.twp_land.specs.Lands.{Meets, block_places, union}
+use Rattle.twp_land.specs.Lands.{Meets, block_places, union, SharePlace}
 use Rattle.twp_text.specs.declared.item.Item.TheVariants.{Heading, All}
 use Rattle.twp_text.specs.declared.place_fault.PlaceFault.TheVariants as fault
 use Rattle.twp_text.specs.ItemPlaces.{item_places}
-use Rattle.twp_text.specs.PlaceFaults.{SharePlace, Flaw, HasFlaw, turn_of}
+use Rattle.twp_text.specs.PlaceFaults.{Flaw, HasFlaw, turn_of}
 use Rattle.twp_text.specs.PlaceFaults.Flaw.{other_township, no_first_section, no_last_section, backward, no_first_lot, no_last_lot, too_fine, on_lot, overlap}
 use Rattle.twp_text.specs.Taking.{item_of, AreAdded, IsTaken, IsFirstFlaw}
 use Rattle.twp_text.proofs.BlockFacts.{share_of_meets, meets_of_share}

@@ -8,7 +8,8 @@ use Rattle.twp_text.specs.declared.item.Item.{Item}
 use Rattle.twp_text.specs.declared.item.Item.TheVariants as item
 use Rattle.twp_text.specs.declared.place_fault.PlaceFault.{PlaceFault}
 use Rattle.twp_text.specs.ItemPlaces.{ItemOfSection, item_places, parts_of, land_of}
-use Rattle.twp_text.specs.PlaceFaults.{LiesOnPlat, SharePlace, AreOnPlat, Flaw, HasFlaw, turn_of, HasFlawAt, IsFrom, fault_of_flaw, offset_of_flaw, IsFirstPlaceFault, AnswersPlaces}
+use Rattle.twp_land.specs.Lands.{SharePlace}
+use Rattle.twp_text.specs.PlaceFaults.{LiesOnPlat, AreOnPlat, Flaw, HasFlaw, turn_of, HasFlawAt, IsFrom, fault_of_flaw, offset_of_flaw, IsFirstPlaceFault, AnswersPlaces}
 use Rattle.twp_text.specs.PlaceFaults.Flaw.{other_township, no_first_section, no_last_section, backward, no_first_lot, no_last_lot, too_fine, on_lot, overlap}
 use Rattle.twp_text.specs.Taking.{item_of}
 

@@ -8,11 +8,11 @@ use Rattle.twp_grid.specs.Lots.{position_of_lot, number_of_lots}
 use Rattle.twp_grid.specs.Places.{PLACE_DIGITS, places_across, is_place, position_along}
 use Rattle.twp_grid.specs.Spans.{Rectangle, in_rectangle, whole_block}
 use Rattle.twp_grid.proofs.LotFacts.{count_by_code, position_by_code, position_of_lot_is, lot_count_is}
-use Rattle.twp_land.specs.Lands.{no_places, union, block_places, Meets}
+use Rattle.twp_land.specs.Lands.{no_places, union, block_places, Meets, SharePlace}
 use Rattle.twp_land.specs.WholeLots.{lot_of_place}
 use Rattle.twp_land.proofs.LotFacts.{fills, block_of}
 use Rattle.twp_text.specs.ItemPlaces.{is_lot_from}
-use Rattle.twp_text.specs.PlaceFaults.{HasLot, SharePlace}
+use Rattle.twp_text.specs.PlaceFaults.{HasLot}
 use Rattle.twp_text.specs.Taking.{sections_from, lots_from, AreAdded}
 use Rattle.twp_text.proofs.BlockFacts.{in_lot_block, share_of_meets, meets_of_share}
 

@@ -7,7 +7,8 @@ use Rattle.twp_text.specs.declared.item.Item.TheVariants.{Sections, Lots}
 use Rattle.twp_text.specs.declared.item.Numeral.{Numeral}
 use Rattle.twp_text.specs.declared.place_fault.PlaceFault.{PlaceFault}
 use Rattle.twp_text.specs.declared.place_fault.PlaceFault.TheVariants as fault
-use Rattle.twp_text.specs.PlaceFaults.{HasLot, SharePlace, Flaw, HasFlaw, turn_of}
+use Rattle.twp_land.specs.Lands.{SharePlace}
+use Rattle.twp_text.specs.PlaceFaults.{HasLot, Flaw, HasFlaw, turn_of}
 use Rattle.twp_text.specs.PlaceFaults.Flaw.{other_township, no_first_section, no_last_section, backward, no_first_lot, no_last_lot, too_fine, on_lot, overlap}
 use Rattle.twp_text.specs.Taking.{sections_from, lots_from, AreAdded, IsTaken, IsFirstFlaw}
 use Rattle.twp_text.proofs.RangeFacts.{has_lot_between}

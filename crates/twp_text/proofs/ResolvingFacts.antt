@@ -9,13 +9,13 @@ use Rattle.std.proofs.lemmas.Option.{slice_get-get_or}
 use Rattle.twp_grid.specs.Townships.{Designation}
 use Rattle.twp_grid.specs.declared.township.NorthSouth.{NorthSouth}
 use Rattle.twp_grid.specs.declared.township.EastWest.{EastWest}
-use Rattle.twp_land.specs.Lands.{no_places}
+use Rattle.twp_land.specs.Lands.{no_places, SharePlace}
 use Rattle.twp_text.specs.declared.item.Item.{Item}
 use Rattle.twp_text.specs.declared.item.Item.TheVariants as item
 use Rattle.twp_text.specs.declared.place_fault.PlaceFault.{PlaceFault}
 use Rattle.twp_text.specs.Items.{BeginWithSections}
 use Rattle.twp_text.specs.ItemPlaces.{ItemOfSection, item_places, section_behind, with_sections, parts_of, land_of}
-use Rattle.twp_text.specs.PlaceFaults.{LiesOnPlat, SharePlace, IsLandOfItems, Flaw, HasFlaw, HasFlawAt, IsFrom, IsFirstPlaceFault}
+use Rattle.twp_text.specs.PlaceFaults.{LiesOnPlat, IsLandOfItems, Flaw, HasFlaw, HasFlawAt, IsFrom, IsFirstPlaceFault}
 use Rattle.twp_text.specs.Taking.{item_of, IsTaken, IsFirstFlaw, IsBeforeParts, number_of_section}
 use Rattle.twp_text.proofs.PlaceAnswers.{no_flaw, pairs_of_apart}
 

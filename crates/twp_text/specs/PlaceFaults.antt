@@ -6,6 +6,7 @@ use Rattle.twp_grid.specs.Lots.{position_of_lot}
 use Rattle.twp_grid.specs.Cuts.{AreWithin}
 use Rattle.twp_grid.specs.Townships.{Designation, designation}
 use Rattle.twp_grid.specs.declared.refusal.Refusal.{Refusal}
+use Rattle.twp_land.specs.Lands.{SharePlace}
 use Rattle.twp_land.specs.WholeLots.{lot_of_place}
 use Rattle.twp_text.specs.declared.item.Item.{Item}
 use Rattle.twp_text.specs.declared.item.Item.TheVariants as item
@@ -24,14 +25,6 @@ pub record HoldsOfLot (g : ℕ) (part : ItemOfSection) : Type 0 where
   pub row : ℕ
   pub named : item_places g part part.section column row ≡ true
   pub of_lot : IsSome (lot_of_place g part.section column row)
-
--- a place is in both sets
-pub record SharePlace (places more : ℕ → ℕ → ℕ → Bool) : Type 0 where
-  pub section : ℕ
-  pub column : ℕ
-  pub row : ℕ
-  pub in_first : places section column row ≡ true
-  pub in_second : more section column row ≡ true
 
 -- The item lies on the plat: a heading is of the plat's township, sections are the township's and lots
 -- their section's, no range runs backward, and no aliquot part is too fine or holds a place of a lot.

@@ -8,14 +8,14 @@ use Rattle.twp_grid.specs.Cuts.Cut.{half, quarter}
 use Rattle.twp_grid.specs.Places.{is_place}
 use Rattle.twp_grid.specs.Spans.{Span, Rectangle, in_rectangle}
 use Rattle.twp_grid.specs.Townships.{Designation}
-use Rattle.twp_land.specs.Lands.{union}
+use Rattle.twp_land.specs.Lands.{union, SharePlace}
 use Rattle.twp_land.specs.WholeLots.{lot_of_place}
 use Rattle.twp_text.specs.declared.item.Item.{Item}
 use Rattle.twp_text.specs.declared.item.Item.TheVariants as item
 use Rattle.twp_text.specs.declared.place_fault.PlaceFault.{PlaceFault}
 use Rattle.twp_text.specs.declared.item.Step.{Step}
 use Rattle.twp_text.specs.ItemPlaces.{ItemOfSection, cuts_of, is_lot_from, item_places}
-use Rattle.twp_text.specs.PlaceFaults.{LiesOnPlat, SharePlace, Flaw, HasFlaw, turn_of, fault_of_flaw, offset_of_flaw}
+use Rattle.twp_text.specs.PlaceFaults.{LiesOnPlat, Flaw, HasFlaw, turn_of, fault_of_flaw, offset_of_flaw}
 
 -- an item of a section
 abbrev pub item_of : ℕ → Item → ItemOfSection

@@ -3,7 +3,8 @@ ghost use Rattle.std.specs.Option.{SomeIff};
 ghost use Rattle.twp_grid.specs.Places.{PLACE_DIGITS};
 ghost use Rattle.twp_grid.specs.Townships.{Designation};
 ghost use Rattle.twp_grid.specs.Winding.{IsSection};
-ghost use Rattle.twp_text.specs.PlaceFaults.{HasLot, SharePlace};
+ghost use Rattle.twp_land.specs.Lands.{SharePlace};
+ghost use Rattle.twp_text.specs.PlaceFaults.{HasLot};
 ghost use Rattle.twp_text.specs.Taking.{sections_from, lots_from, AreAdded, IsTaken, IsFirstFlaw};
 ghost use Rattle.twp_text.specs.declared.item.Item.TheVariants.{Sections, Lots};
 

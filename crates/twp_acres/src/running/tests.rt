@@ -8,6 +8,7 @@ mod acres;
 mod devices;
 mod plat;
 mod refusals;
+mod report;
 mod worst;
 
 /// A line's index, and the distances to its quarter corner and to its end.

@@ -4,7 +4,7 @@ use crate::rows::Grid;
 use std::alloc::Global;
 use std::process::Abort;
 use std::test::Fail;
-use twp_grid::Side;
+use twp_grid::{Corner, Side};
 
 // The lengths of the sides that halving 16 places gives, and how many such sides there are: 31 in all, and
 // 31 times 31 blocks.
@@ -153,6 +153,48 @@ fn lanes_answer_as_a_grid_does(rt: HostRuntime) -> Result<(), Fail> {
             }
         }
     }
+    Ok(())
+}
+
+#[test]
+fn grids_share_and_join(rt: HostRuntime) -> Result<(), Fail> {
+    check_joined::<Grid>(&rt)
+}
+
+#[test]
+fn lanes_share_and_join(rt: HostRuntime) -> Result<(), Fail> {
+    check_joined::<Lanes>(&rt)
+}
+
+// The north-east quarter of section 14 and the south-west one have no place in common; each has 8 by 8
+// places.
+fn check_joined<L: Land>(rt: &impl Abort) -> Result<(), Fail> {
+    let section = Section::new(14).ok_or("a section")?;
+    let last = Section::new(36).ok_or("a section")?;
+    let whole = Block::whole();
+    let mut first = L::empty();
+    first.add(section, whole.quarter(Corner::NE).ok_or("a quarter")?);
+    let mut second = L::empty();
+    second.add(section, whole.quarter(Corner::SW).ok_or("a quarter")?);
+    second.add(last, whole);
+    assert!(rt; !first.meets_land(&second) && !second.meets_land(&first));
+    assert!(rt; second.meets_land(&second) && !L::empty().meets_land(&second));
+    first.add_land(&second);
+    assert!(rt; first.meets_land(&second) && second.meets_land(&first));
+    assert_eq!(rt; first.count(section, whole), 128);
+    assert_eq!(rt; first.count(last, whole), 256);
+    assert_eq!(rt; second.count(section, whole), 64);
+    assert!(rt; first.holds(section, 7, 15) && first.holds(section, 8, 0));
+    assert!(rt; !first.holds(section, 8, 15) && !first.holds(section, 7, 0));
+
+    // One place in the corner of section 36 is enough.
+    let mut corner = L::empty();
+    for column in 0..16u8 {
+        corner.add(section, reach(column, 1, 15, 1).ok_or("a place")?);
+    }
+    assert!(rt; !corner.meets_land(&second));
+    corner.add(last, reach(15, 1, 15, 1).ok_or("a place")?);
+    assert!(rt; corner.meets_land(&second) && second.meets_land(&corner));
     Ok(())
 }
 

@@ -6,4 +6,4 @@ use Rattle.twp_land.proofs.lanes.LaneRowsPlot.meets.Goals as goal
 pub returns : goal.returns
 returns c =
     let of = c.block_lanes.ensures in
-    rw c.vector.ensures (lanes_meet c.args.self.now.lanes c.block_lanes.result c.args.block (omega arith) of.lanes (dyadic_in_section c.args.block of.rows of.columns))
+    rw c.vector.ensures.lanes (lanes_meet c.args.self.now.lanes c.block_lanes.result c.args.block (omega arith) of.lanes (dyadic_in_section c.args.block of.rows of.columns))

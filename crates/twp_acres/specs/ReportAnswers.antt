@@ -1,0 +1,111 @@
+-- The answer of the report run: the account of the tracts, or the refusal. Each figure is the exact area
+-- of what it stands for, rounded once, in hundredths of an acre.
+use Rattle.std.specs.Prelude.{◌≡◌, ◌⊎◌, ℕ, ◌<◌, ◌&&◌, Bool, List, [], ◌∷◌, ◌++◌, length, Some, IfSome, codes, not, slice_index_or}
+use Rattle.std.specs.List.{flat_map}
+use Rattle.twp_grid.specs.Places.{PLACE_DIGITS}
+use Rattle.twp_grid.specs.declared.refusal.Refusal.{Refusal}
+use Rattle.twp_notes.specs.Records.{Fields, record_at}
+use Rattle.twp_plat.specs.Plats.{TownshipPlat}
+use Rattle.twp_acres.specs.Answers.{ArePlatted, Describe, IsNoPlat, refusal_line}
+use Rattle.twp_acres.specs.AcresAnswers.{AreHundredthsOf, acres_line}
+use Rattle.twp_acres.specs.Laws.{township_places}
+use Rattle.twp_acres.specs.Tracts.{name_in, description_in, tract_records, IsTractList, IsLandOfTracts}
+use Rattle.twp_acres.specs.TractFaults.{IsFirstTractFault, verdict_of}
+use Rattle.twp_acres.specs.declared.tract_fault.TractFault.{TractFault}
+use Rattle.twp_acres.specs.declared.verdict.Verdict.{Verdict}
+use Rattle.twp_acres.specs.declared.verdict.Verdict.TheVariants.{Accepted, Refused, TractRefused}
+
+-- as `tract A: 39.18 acres`
+abbrev pub tract_line : List ℕ → ℕ → List ℕ
+tract_line name hundredths = codes "tract " ++ name ++ codes ": " ++ acres_line hundredths
+
+-- the line of a tract's record: its name, and the acres of its land
+pub record IsTractLine (plat : TownshipPlat) (fields : Fields) (line : List ℕ) : Type 0 where
+  pub places : ℕ → ℕ → ℕ → Bool
+  pub land : Describe plat.township (description_in fields) places
+  pub hundredths : ℕ
+  pub acres : AreHundredthsOf plat places hundredths
+  pub line_is : line ≡ tract_line (name_in fields) hundredths
+
+-- the first so many of these records have these lines
+pub record AreTractLines (plat : TownshipPlat) (rows : List Fields) (count : ℕ)
+    (lines : List (List ℕ)) : Type 0 where
+  pub count_is : length lines ≡ count
+  pub each : (index : ℕ) → index < count
+      → IsTractLine plat (record_at rows index) (slice_index_or lines index [])
+
+-- the lines, one behind the other
+abbrev pub text_of : List (List ℕ) → List ℕ
+text_of lines = flat_map (λ line. line) lines
+
+-- all other places of the township
+abbrev pub other_places : (ℕ → ℕ → ℕ → Bool) → ℕ → ℕ → ℕ → Bool
+other_places places section column row =
+    township_places PLACE_DIGITS section column row && not (places section column row)
+
+-- as `total: 78.20 acres` and `remaining: 22959.37 acres`
+abbrev pub total_lines : ℕ → ℕ → List ℕ
+total_lines total remaining =
+    codes "total: " ++ acres_line total ++ codes "remaining: " ++ acres_line remaining
+
+-- The account of tracts on a plat: a line for each, and then the acres of all places that are in a
+-- tract, and the acres of all others.
+pub record IsAccount (plat : TownshipPlat) (rows : List Fields) (text : List ℕ) : Type 0 where
+  pub lines : List (List ℕ)
+  pub lines_are : AreTractLines plat rows (length rows) lines
+  pub places : ℕ → ℕ → ℕ → Bool
+  pub land : IsLandOfTracts plat.township rows (length rows) places
+  pub total : ℕ
+  pub total_is : AreHundredthsOf plat places total
+  pub remaining : ℕ
+  pub remaining_is : AreHundredthsOf plat (other_places places) remaining
+  pub text_is : text ≡ text_of lines ++ total_lines total remaining
+
+-- the bytes are a list of tracts on the plat, and this is its account
+pub record IsAccountOf (plat : TownshipPlat) (bytes text : List ℕ) : Type 0 where
+  pub list : IsTractList plat.township bytes
+  pub account : IsAccount plat (tract_records bytes) text
+
+-- the fault is the first one of the list, or no fault of a list
+abbrev pub AnswersFault : TownshipPlat → List ℕ → TractFault → Type 0
+AnswersFault plat bytes tract_fault =
+    IfSome (verdict_of tract_fault) (λ _. IsFirstTractFault plat.township bytes tract_fault)
+
+-- the lines of the refusal of a list of tracts: one, or two where a tract's description is refused
+abbrev pub refusal_lines : Verdict → List ℕ
+refusal_lines Accepted = []
+refusal_lines (Refused refusal) = refusal_line refusal
+refusal_lines (TractRefused at_ inner) =
+    refusal_line (record { number = 83; at = at_ }) ++ refusal_line inner
+
+-- the verdict is that on the first fault of the list, and these are its lines
+pub record IsListRefused (plat : TownshipPlat) (bytes answer : List ℕ) (verdict : Verdict)
+    : Type 0 where
+  pub tract_fault : TractFault
+  pub first : IsFirstTractFault plat.township bytes tract_fault
+  pub verdict_is : verdict_of tract_fault ≡ Some verdict
+  pub lines_are : answer ≡ refusal_lines verdict
+
+-- on a plat: the account of the list, or its refusal
+abbrev pub AnswersList : TownshipPlat → List ℕ → List ℕ → Verdict → Type 0
+AnswersList plat bytes answer Accepted = IsAccountOf plat bytes answer
+AnswersList plat bytes answer other = IsListRefused plat bytes answer other
+
+-- the notes make a plat, and this is the answer of the list of tracts on it
+pub record IsAnswerOnPlat (notes tracts answer : List ℕ) (verdict : Verdict) : Type 0 where
+  pub plat : TownshipPlat
+  pub platted : ArePlatted notes plat
+  pub answers : AnswersList plat tracts answer verdict
+
+-- the notes make no plat, and are refused
+abbrev pub IsPlatRefused : List ℕ → List ℕ → Verdict → Type 0
+IsPlatRefused notes answer (Refused refusal) =
+    IsNoPlat notes refusal × (answer ≡ refusal_line refusal)
+IsPlatRefused notes answer other = ⊥
+
+-- The account, where the notes make a plat and the list is one of tracts on it, of which no two have a
+-- place in common. Else the refusal of the first fault; where a tract's description is refused itself,
+-- a second line has that refusal.
+abbrev pub IsReportAnswer : List ℕ → List ℕ → List ℕ → Verdict → Type 0
+IsReportAnswer notes tracts answer verdict =
+    IsPlatRefused notes answer verdict ⊎ IsAnswerOnPlat notes tracts answer verdict

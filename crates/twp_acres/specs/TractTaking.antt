@@ -1,0 +1,112 @@
+-- How an account grows by one tract, and for what the next record is refused.
+use Rattle.std.specs.Prelude.{◌≡◌, ℕ, ◌+◌, ◌≤◌, ◌<◌, ◌||◌, Bool, true, false, List, ◌++◌, length, ⊤}
+use Rattle.std.specs.Str.{bytes_eq}
+use Rattle.twp_grid.specs.Places.{PLACE_DIGITS}
+use Rattle.twp_grid.specs.Townships.{Designation}
+use Rattle.twp_land.specs.Lands.{union, SharePlace}
+use Rattle.twp_land.specs.WholeLots.{HasWholeLots}
+use Rattle.twp_notes.specs.Records.{Fields, record_at}
+use Rattle.twp_plat.specs.Plats.{TownshipPlat}
+use Rattle.twp_acres.specs.Answers.{Describe, IsNoDescription}
+use Rattle.twp_acres.specs.AcresAnswers.{AreHundredthsOf}
+use Rattle.twp_acres.specs.Names.{has_name}
+use Rattle.twp_acres.specs.Tracts.{TRACTS_MOST, name_in, description_in, IsTractRecord, AreTracts, IsLandOfTracts}
+use Rattle.twp_acres.specs.TractFaults.{HasAt, turn_of}
+use Rattle.twp_acres.specs.ReportAnswers.{tract_line, AreTractLines, text_of, other_places, total_lines}
+use Rattle.twp_acres.specs.declared.names.Names.{Names}
+use Rattle.twp_acres.specs.declared.tract_fault.TractFault.{TractFault}
+use Rattle.twp_acres.specs.declared.tract_fault.TractFault.TheVariants as fault
+
+-- what an account of tracts has: their names, all their places, and their lines
+pub record Tally : Type 0 where
+  pub names : Names
+  pub places : ℕ → ℕ → ℕ → Bool
+  pub text : List ℕ
+
+-- the tally grew by the tract of the record
+pub record TakesTract (plat : TownshipPlat) (fields : Fields) (old new : Tally) : Type 0 where
+  pub is_record : IsTractRecord fields
+  pub is_new : has_name old.names (name_in fields) ≡ false
+  pub names_are : (other : List ℕ)
+      → has_name new.names other ≡ (bytes_eq (name_in fields) other || has_name old.names other)
+  pub more : ℕ → ℕ → ℕ → Bool
+  pub land : Describe plat.township (description_in fields) more
+  pub whole : HasWholeLots PLACE_DIGITS more
+  pub apart : ¬ SharePlace old.places more
+  pub places_are : new.places ≡ union old.places more
+  pub hundredths : ℕ
+  pub acres : AreHundredthsOf plat more hundredths
+  pub text_is : new.text ≡ old.text ++ tract_line (name_in fields) hundredths
+
+-- a place that the tally has is in the record's land
+pub record OverlapsTally (township : Designation) (fields : Fields) (tally : Tally) : Type 0 where
+  pub more : ℕ → ℕ → ℕ → Bool
+  pub land : Describe township (description_in fields) more
+  pub shared : SharePlace tally.places more
+
+-- the record is a tract's, with a name that the tally doesn't have
+abbrev pub IsNamedAnew : Fields → Tally → Type 0
+IsNamedAnew fields tally =
+    IsTractRecord fields × (has_name tally.names (name_in fields) ≡ false)
+
+-- the numbered record isn't taken, for this fault and none before it
+abbrev pub IsTractRefused : Designation → Fields → Tally → ℕ → TractFault → Type 0
+IsTractRefused township fields tally number (fault.Row at_) =
+    (at_ ≡ number) × ¬ IsTractRecord fields
+IsTractRefused township fields tally number (fault.NameRepeated at_) =
+    (at_ ≡ number) × IsTractRecord fields × (has_name tally.names (name_in fields) ≡ true)
+IsTractRefused township fields tally number (fault.Description at_ inner) =
+    (at_ ≡ number) × IsNamedAnew fields tally
+    × IsNoDescription township (description_in fields) inner
+IsTractRefused township fields tally number (fault.Overlap at_) =
+    (at_ ≡ number) × IsNamedAnew fields tally × OverlapsTally township fields tally
+IsTractRefused township fields tally number fault.Memory = ⊤
+IsTractRefused township fields tally number other = ⊥
+
+-- the description of the numbered record is refused, or there was no memory
+abbrev pub IsDescriptionRefused : Designation → List ℕ → ℕ → TractFault → Type 0
+IsDescriptionRefused township description number (fault.Description at_ inner) =
+    (at_ ≡ number) × IsNoDescription township description inner
+IsDescriptionRefused township description number fault.Memory = ⊤
+IsDescriptionRefused township description number other = ⊥
+
+-- the tally is that of the first so many records, which are tracts
+pub record IsTallyOf (plat : TownshipPlat) (rows : List Fields) (count : ℕ) (tally : Tally)
+    : Type 0 where
+  pub tracts : AreTracts plat.township rows count
+  pub named : (index : ℕ) → index < count
+      → has_name tally.names (name_in (record_at rows index)) ≡ true
+  pub names : (name : List ℕ) → has_name tally.names name ≡ true
+      → (index : ℕ) × (index < count) × (name_in (record_at rows index) ≡ name)
+  pub land : IsLandOfTracts plat.township rows count tally.places
+  pub whole : HasWholeLots PLACE_DIGITS tally.places
+  pub lines : List (List ℕ)
+  pub lines_are : AreTractLines plat rows count lines
+  pub text_is : tally.text ≡ text_of lines
+
+-- the lines of the figures of all tracts and of the other places were appended
+pub record EndsAccount (plat : TownshipPlat) (places : ℕ → ℕ → ℕ → Bool) (old new : List ℕ)
+    : Type 0 where
+  pub total : ℕ
+  pub total_is : AreHundredthsOf plat places total
+  pub remaining : ℕ
+  pub remaining_is : AreHundredthsOf plat (other_places places) remaining
+  pub text_is : new ≡ old ++ total_lines total remaining
+
+-- so many of the records are tracts, and the next one isn't taken, for its first fault
+pub record IsNextRefused (township : Designation) (rows : List Fields) (tract_fault : TractFault)
+    : Type 0 where
+  pub index : ℕ
+  pub within : index < length rows
+  pub below : index < TRACTS_MOST
+  pub tracts : AreTracts township rows index
+  pub has : HasAt township rows index tract_fault
+  pub first : (other : TractFault) → HasAt township rows index other
+      → turn_of tract_fault ≤ turn_of other
+
+-- the records are one tract too many, or one of them is refused, or there was no memory
+abbrev pub AreTractsRefused : Designation → List Fields → TractFault → Type 0
+AreTractsRefused township rows fault.TooMany =
+    (TRACTS_MOST < length rows) × AreTracts township rows TRACTS_MOST
+AreTractsRefused township rows fault.Memory = ⊤
+AreTractsRefused township rows other = IsNextRefused township rows other

@@ -1,0 +1,98 @@
+//! The answer of the report run.
+ghost use Rattle.std.specs.Prelude.{◌≡◌, ◌≢◌, ◌+◌, ◌↔◌, Some, true, false, IfOk, IfErr, IsErrOf};
+ghost use Rattle.twp_grid.specs.Devices.{TakesAtMost};
+ghost use Rattle.twp_notes.specs.FieldNotes.{NOTES_MOST};
+ghost use Rattle.twp_acres.specs.Answers.{MakePlat};
+ghost use Rattle.twp_acres.specs.Tracts.{TRACTS_LIMIT};
+ghost use Rattle.twp_acres.specs.TractFaults.{verdict_of};
+ghost use Rattle.twp_acres.specs.ReportAnswers.{IsReportAnswer, AnswersList, refusal_lines};
+ghost use Rattle.twp_acres.specs.Runs.{AnyFailed, Reads, ReadsTwo};
+
+use crate::answer::{Answer, refuse, write_refusal};
+use crate::stages::read_plat;
+use crate::stop::Stop;
+use crate::tract_fault::{TRACTS_LIMIT, TractFault};
+use crate::tracts::account_of;
+use crate::verdict::{RunFault, Verdict};
+use std::alloc::Global;
+use twp_grid::{Refusal, Source};
+use twp_notes::read_whole;
+use twp_plat::Plat;
+
+/// The answer of field notes and a list of tracts. The list is read only where the notes make a plat.
+pub fn answer_of<N: Source, T: Source>(
+    alloc: Global,
+    notes: &mut N,
+    tracts: &mut T,
+) -> Result<Answer, RunFault>
+    requires notes { N.has_failed notes.old ≡ false }
+    requires tracts { T.has_failed tracts.old ≡ false }
+    ensures read { IsErrOf result RunFault.Read
+        ↔ AnyFailed (N.has_failed notes.new) (T.has_failed tracts.new) }
+    ensures no_write { IfErr result (λ fault. fault ≢ RunFault.Write) }
+    ensures notes_most { TakesAtMost (N.remaining notes.old)
+        (N.remaining notes.new) (NOTES_MOST + 1) }
+    ensures tracts_most { TakesAtMost (T.remaining tracts.old)
+        (T.remaining tracts.new) (TRACTS_LIMIT + 1) }
+    ensures answer { ReadsTwo (N.remaining notes.old) (T.remaining tracts.old)
+        MakePlat (tracts.new ≡ tracts.old)
+        (λ n t. IfOk result (λ answer. IsReportAnswer n t answer.text.items answer.verdict)) }
+{
+    match read_plat(alloc, notes) {
+        Ok(plat) => report_on(alloc, &plat, tracts),
+        Err(Stop::Refused(refusal)) => refuse(alloc, refusal),
+        Err(Stop::Failed(fault)) => Err(fault),
+    }
+}
+
+/// The answer of a list of tracts on a plat.
+fn report_on<T: Source>(alloc: Global, plat: &Plat, tracts: &mut T) -> Result<Answer, RunFault>
+    requires { T.has_failed tracts.old ≡ false }
+    ensures read { IsErrOf result RunFault.Read ↔ (T.has_failed tracts.new ≡ true) }
+    ensures no_write { IfErr result (λ fault. fault ≢ RunFault.Write) }
+    ensures most { TakesAtMost (T.remaining tracts.old)
+        (T.remaining tracts.new) (TRACTS_LIMIT + 1) }
+    ensures answer { Reads (T.remaining tracts.old) (λ t.
+        IfOk result (λ answer. AnswersList plat.now t answer.text.items answer.verdict)) }
+{
+    let Some(bytes) = read_whole(alloc, tracts, TRACTS_LIMIT as usize)? else {
+        return refuse_list(alloc, TractFault::TooLarge);
+    };
+    match account_of(alloc, plat, bytes.as_slice()) {
+        Ok(text) => Ok(Answer {
+            text,
+            verdict: Verdict::Accepted,
+        }),
+        Err(fault) => refuse_list(alloc, fault),
+    }
+}
+
+/// The answer of a list that has a fault.
+fn refuse_list(alloc: Global, fault: TractFault) -> Result<Answer, RunFault>
+    ensures answer { IfOk result (λ answer. (verdict_of fault ≡ Some answer.verdict)
+        × (answer.verdict ≢ Verdict.Accepted)
+        × (answer.text.items ≡ refusal_lines answer.verdict)) }
+    ensures memory { IfErr result (λ failed. failed ≡ RunFault.Memory) }
+{
+    match fault.verdict() {
+        Some(Verdict::Refused(refusal)) => refuse(alloc, refusal),
+        Some(Verdict::TractRefused { at, inner }) => refuse_tract(alloc, at, inner),
+        _ => Err(RunFault::Memory),
+    }
+}
+
+/// The answer of a tract whose description is refused: its record's refusal, and the description's.
+fn refuse_tract(alloc: Global, at: u32, inner: Refusal) -> Result<Answer, RunFault>
+    ensures answer { IfOk result (λ answer.
+        (answer.verdict ≡ Verdict.TractRefused at inner)
+        × (answer.text.items ≡ refusal_lines answer.verdict)) }
+    ensures memory { IfErr result (λ failed. failed ≡ RunFault.Memory) }
+{
+    let mut text = Vec::new(alloc);
+    write_refusal(Refusal { number: 83, at }, &mut text)?;
+    write_refusal(inner, &mut text)?;
+    Ok(Answer {
+        text,
+        verdict: Verdict::TractRefused { at, inner },
+    })
+}

@@ -1,0 +1,82 @@
+use crate::verdict::Verdict;
+use std::alloc::{AllocError, AllocFailed};
+use thiserror::Error;
+use twp_grid::Refusal;
+
+/// The most bytes of a list of tracts, which is also the place of the refusal of more.
+pub const TRACTS_LIMIT: u32 = 1_048_576;
+
+/// The most tracts of a list.
+pub const TRACTS_MOST: u32 = 1_000;
+
+/// Why bytes are no list of tracts on a plat. Records are numbered from 1, as `csv` gives them, and the
+/// first one is the heading; the layout of the list is this project's rule.
+#[derive(Clone, Copy, Debug, PartialEq, Eq, Hash, Error)]
+pub enum TractFault {
+    /// 80, at the limit: there are more bytes than a list may have.
+    #[error("the list of tracts has more than 1,048,576 bytes")]
+    TooLarge,
+    /// 81, at the record: it isn't a name and a description, or record 1 isn't the heading.
+    #[error("record {0} isn't a name of 1 to 64 printed ASCII characters and a description")]
+    Row(u32),
+    /// 82, at the record: an earlier tract has its name.
+    #[error("record {0} has the name of an earlier tract")]
+    NameRepeated(u32),
+    /// 83, at the record: its description is refused itself.
+    #[error("record {at} has a description that is refused: {} at {}", inner.number, inner.at)]
+    Description { at: u32, inner: Refusal },
+    /// 84, at the record: a place of the tract is in an earlier one.
+    #[error("record {0} has a place that an earlier tract has")]
+    Overlap(u32),
+    /// 85, at the first record too many.
+    #[error("there are more than 1,000 tracts")]
+    TooMany,
+    /// There was no memory.
+    #[error("out of memory")]
+    Memory,
+}
+
+impl TractFault {
+    ghost use Rattle.std.specs.Prelude.{◌≡◌};
+    ghost use Rattle.twp_acres.specs.TractFaults.{verdict_of};
+
+    /// The verdict on a list that has the fault. None for `Memory`.
+    pub fn verdict(&self) -> Option<Verdict>
+        ensures { result ≡ verdict_of self.now }
+    {
+        let (number, at) = match *self {
+            TractFault::TooLarge => (80, TRACTS_LIMIT),
+            TractFault::Row(record) => (81, record),
+            TractFault::NameRepeated(record) => (82, record),
+            TractFault::Description { at, inner } => {
+                return Some(Verdict::TractRefused { at, inner });
+            }
+            TractFault::Overlap(record) => (84, record),
+            TractFault::TooMany => (85, TRACTS_MOST + 2),
+            TractFault::Memory => return None,
+        };
+        Some(Verdict::Refused(Refusal { number, at }))
+    }
+}
+
+impl From<AllocError> for TractFault {
+    ghost use Rattle.std.specs.Prelude.{◌≡◌};
+    ghost use Rattle.twp_acres.specs.declared.tract_fault.TractFault.TheVariants.{Memory};
+
+    ghost from_gives = { λ _ fault. fault ≡ Memory };
+
+    fn from(_fault: AllocError) -> TractFault {
+        TractFault::Memory
+    }
+}
+
+impl<T: Drop> From<AllocFailed<T>> for TractFault {
+    ghost use Rattle.std.specs.Prelude.{◌≡◌};
+    ghost use Rattle.twp_acres.specs.declared.tract_fault.TractFault.TheVariants.{Memory};
+
+    ghost from_gives = { λ _ fault. fault ≡ Memory };
+
+    fn from(_fault: AllocFailed<T>) -> TractFault {
+        TractFault::Memory
+    }
+}
