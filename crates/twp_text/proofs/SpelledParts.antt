@@ -8,7 +8,8 @@ use Rattle.twp_grid.specs.Townships.{Designation}
 use Rattle.twp_text.specs.declared.item.Item.{Item}
 use Rattle.twp_text.specs.declared.item.Item.TheVariants.{Heading, Sections, Lots, Chain, All}
 use Rattle.twp_text.specs.ItemPlaces.{ItemOfSection, item_places, section_behind, with_sections, parts_of, land_of}
-use Rattle.twp_text.specs.PlaceFaults.{LiesOnPlat, SharePlace, AreOnPlat}
+use Rattle.twp_land.specs.Lands.{SharePlace}
+use Rattle.twp_text.specs.PlaceFaults.{LiesOnPlat, AreOnPlat}
 use Rattle.twp_text.specs.Taking.{item_of}
 use Rattle.twp_text.proofs.Listings.{Among, InOrder, among_at, order_pairs}
 use Rattle.twp_text.proofs.PartOrder.{among_map}
