@@ -13,3 +13,4 @@ pub mod OnePlat
 pub mod TractFacts
 pub mod TallyFacts
 pub mod FirstTractFaults
+pub mod TractAreas

@@ -11,4 +11,5 @@ pub mod Tracts
 pub mod TractFaults
 pub mod ReportAnswers
 pub mod TractTaking
+pub mod TractLaws
 pub mod Laws

@@ -2,6 +2,7 @@
 //! nothing to do.
 ghost use Rattle.twp_acres.specs.Laws.{OneLandArea, DisjointAreasAdd};
 ghost use Rattle.twp_acres.specs.Laws.{SectionAreaIsOfLand, TownshipAreaIsOfLand};
+ghost use Rattle.twp_acres.specs.TractLaws.{RestAddsUp};
 ghost use Rattle.twp_acres.specs.Laws.{OneAnswer, OneAnswerOfLand, OnePlatAnswer};
 
 /// A set of places has one area on a plat.
@@ -25,6 +26,11 @@ pub fn section_area_is_of_land()
 #[tactic(auto, using(crate::proofs::WholeAreas::township_area_is_of_land))]
 pub fn township_area_is_of_land()
     ensures { TownshipAreaIsOfLand }
+{}
+
+/// The area of a set of places and that of all others are together the township's.
+pub fn rest_adds_up()
+    ensures { RestAddsUp }
 {}
 
 /// Two texts, the field notes and the description, have one answer and one verdict.

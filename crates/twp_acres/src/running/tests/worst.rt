@@ -45,15 +45,17 @@ fn names_one_place_each_time(rt: HostRuntime) -> Result<(), Fail> {
     let (text, last) = each_place(alloc)?;
     // 11 times 256 places of 2.5 acres.
     let answer = answer_to(alloc, notes.as_slice(), text.as_slice())?;
-    assert_eq!(rt; answer, expected(alloc, Acres("7040.00"))?);
+    assert_eq!(&rt; answer, expected(alloc, Acres("7040.00"))?);
     // Instead of the last place of section 20 its first one, once more.
+    assert!(&rt; last <= text.len());
     let (front, rest) = text.as_slice().split_at(last);
+    assert!(&rt; rest.len() >= 20);
     let mut twice = Vec::from_slice(alloc, front)?;
     twice.extend_from_slice(b"NE1/4NE1/4NE1/4NE1/4")?;
     twice.extend_from_slice(rest.split_at(20).1)?;
-    assert_eq!(rt; twice.len(), LIMIT);
+    assert_eq!(&rt; twice.len(), LIMIT);
     let answer = answer_to(alloc, notes.as_slice(), twice.as_slice())?;
-    assert_eq!(rt; answer, expected(alloc, Refused(67, last as u32))?);
+    assert_eq!(&rt; answer, expected(alloc, Refused(67, last as u32))?);
     Ok(())
 }
 
