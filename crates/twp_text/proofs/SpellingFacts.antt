@@ -4,7 +4,7 @@ use Rattle.std.specs.List.{AllZip, Contains, join_by}
 use Rattle.std.proofs.Math.ListN.{get_or, take}
 use Rattle.std.proofs.lemmas.Bool.{cases_lt, false≢true}
 use Rattle.std.proofs.lemmas.Grind.{flat_map-append}
-use Rattle.std.proofs.lemmas.List.{append-nil, append_assoc, flat_map_more, take_more, take_all, map-append}
+use Rattle.std.proofs.lemmas.List.{append-nil, append_assoc, flat_map_more, take_all}
 use Rattle.std.proofs.lemmas.List.Folds.{flat_map-map}
 use Rattle.twp_grid.specs.Townships.{Designation}
 use Rattle.twp_grid.specs.Winding.{IsSection}
@@ -56,40 +56,14 @@ below_more has number list are it =
 pub below_all : (has : ℕ → Type 0) (number : ℕ) (list : List ℕ) → AreListed (Below has number) ◌<◌ list → ((n : ℕ) → has n → n < number) → AreListed has ◌<◌ list
 below_all has number list are all_below = listed_as (Below has number) has ◌<◌ list (λ n it. it.0) (λ n it. (it, all_below n it)) are
 
--- one text more behind a comma
-commas_more : (texts : List (List ℕ)) (text : List ℕ) → 0 < length texts → with_commas (texts ++ text ∷ []) ≡ with_commas texts ++ (codes ", " ++ text)
-commas_more [] text some = absurd (omega arith)
-commas_more (first ∷ texts) text some = sym (flat_map_more (λ y. codes ", " ++ y) first texts text)
-
 -- the numbers of a section's lots
 abbrev pub numbers_text : List ℕ → List ℕ
 numbers_text lots = with_commas (map decimal lots)
-
-numbers_more : (lots : List ℕ) (lot : ℕ) → 0 < length lots → numbers_text (lots ++ lot ∷ []) ≡ numbers_text lots ++ (codes ", " ++ decimal lot)
-numbers_more [] lot some = absurd (omega arith)
-numbers_more (first ∷ lots) lot some =
-    ap with_commas (map-append decimal (first ∷ lots) (lot ∷ [])) ∙ commas_more (map decimal (first ∷ lots)) (decimal lot) (omega arith)
-
-some_taken : (lots : List ℕ) (i : ℕ) → 1 ≤ i → i < length lots → 0 < length (take i lots)
-some_taken [] i first within = absurd (omega arith)
-some_taken (lot ∷ lots) zero first within = absurd (omega arith)
-some_taken (lot ∷ lots) (suc i) first within = omega arith
 
 pub numbers_begin : (old lead mid new lots : List ℕ) (d : ℕ) → 0 < length lots → mid ≡ old ++ lead → new ≡ mid ++ decimal (get_or lots 0 d) → new ≡ old ++ (lead ++ numbers_text (take 1 lots))
 numbers_begin old lead mid new [] d some is is' = absurd (omega arith)
 numbers_begin old lead mid new (lot ∷ lots) d some is is' =
     is' ∙ ap (λ t. t ++ decimal lot) is ∙ append_assoc old lead (decimal lot) ∙ ap (λ t. old ++ (lead ++ t)) (sym (append-nil (decimal lot)))
-
-pub numbers_grow : (old lead now mid new lots : List ℕ) (i d : ℕ) → 1 ≤ i → i < length lots → now ≡ old ++ (lead ++ numbers_text (take i lots))
-    → mid ≡ now ++ codes ", " → new ≡ mid ++ decimal (get_or lots i d) → new ≡ old ++ (lead ++ numbers_text (take (i + 1) lots))
-numbers_grow old lead now mid new lots i d first within is is' is'' =
-    let taken = numbers_text (take i lots) in
-    let more = decimal (get_or lots i d) in
-    is'' ∙ ap (λ t. t ++ more) (is' ∙ ap (λ t. t ++ codes ", ") is)
-    ∙ append_assoc (old ++ (lead ++ taken)) (codes ", ") more
-    ∙ append_assoc old (lead ++ taken) (codes ", " ++ more)
-    ∙ ap (λ t. old ++ t) (append_assoc lead taken (codes ", " ++ more))
-    ∙ ap (λ t. old ++ (lead ++ t)) (sym (ap numbers_text (take_more lots i d within) ∙ numbers_more (take i lots) (get_or lots i d) (some_taken lots i first within)))
 
 -- what stands ahead of so many lots' numbers
 pub lead_of : ℕ → List ℕ
@@ -115,9 +89,6 @@ pub lots_end : (old new lots : List ℕ) (i : ℕ) → 1 ≤ i → i ≡ length 
 lots_end old new lots i first count is =
     lots_done old new lots (omega arith)
     (is ∙ ap (λ t. old ++ (lead_of (length lots) ++ numbers_text t)) (take_all i lots (omega arith)))
-
-pub no_lots_done : (old lots : List ℕ) → lots ≡ [] → old ≡ old ++ entries_text (lots_entry lots)
-no_lots_done old lots none = sym (ap (λ l. old ++ entries_text (lots_entry l)) none ∙ append-nil old)
 
 -- a section that is held whole
 pub all_done : (g : ℕ) (places : ℕ → ℕ → ℕ → Bool) (section : ℕ) (old mid named new : List ℕ) → HoldsEach g (places section)

@@ -7,6 +7,6 @@ use Rattle.twp_text.proofs.spelling.write_lots.Given as goal
 abbrev pub invariant-loop-index : goal.invariant-loop-index
 invariant-loop-index l = record {
   written : l.text.items ≡ l.fn.text.items ++ (lead_of (length l.lots) ++ numbers_text (take l.index l.lots));
-  first : 1 ≤ l.index;
   within : l.index ≤ length l.lots;
+  first : 1 ≤ l.index;
 }
