@@ -46,3 +46,5 @@ pub mod SpelledLists
 pub mod SpelledLines
 pub mod SpelledLand
 pub mod ReadBack
+pub mod SpellingFacts
+pub mod HeldFacts

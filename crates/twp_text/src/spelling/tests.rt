@@ -1,0 +1,68 @@
+use super::*;
+use std::process::Abort;
+use std::test::Fail;
+use twp_grid::{Corner, Side};
+use twp_land::Grid;
+
+/// A township of which texts are written.
+fn township() -> Result<Township, Fail> {
+    Ok(Township::new(2, NorthSouth::N, 3, EastWest::W).ok_or("a township")?)
+}
+
+/// Adds a lot of a section.
+fn add_lot(land: &mut Grid, number: u8, lot: u8) -> Result<(), Fail> {
+    let section = Section::new(number).ok_or("a section")?;
+    land.add(section, Block::of_lot(section, lot).ok_or("a lot")?);
+    Ok(())
+}
+
+/// Three quarters of a section.
+#[test]
+fn spells_three_quarters(rt: HostRuntime) -> Result<(), Fail> {
+    let section = Section::new(14).ok_or("a section")?;
+    let whole = Block::whole();
+    let mut land = Grid::empty();
+    land.add(section, whole.quarter(Corner::SE).ok_or("a quarter")?);
+    land.add(section, whole.half(Side::N).ok_or("a half")?);
+    let text = spell(rt.alloc(), &land, township()?)?;
+    assert_eq!(rt; text[..], b"T. 2 N., R. 3 W.,\nsec. 14, N1/2, SE1/4.\n"[..]);
+    Ok(())
+}
+
+/// The empty land has no heading.
+#[test]
+fn spells_the_empty_land(rt: HostRuntime) -> Result<(), Fail> {
+    let text = spell(rt.alloc(), &Grid::empty(), township()?)?;
+    assert_eq!(rt; text[..], b""[..]);
+    Ok(())
+}
+
+/// Lots stand ahead of parts, whatever they were added as.
+#[test]
+fn spells_lots_and_parts(rt: HostRuntime) -> Result<(), Fail> {
+    let section = Section::new(5).ok_or("a section")?;
+    let mut land = Grid::empty();
+    land.add(section, Block::whole().half(Side::S).ok_or("a half")?);
+    add_lot(&mut land, 5, 4)?;
+    add_lot(&mut land, 5, 1)?;
+    add_lot(&mut land, 5, 2)?;
+    let text = spell(rt.alloc(), &land, township()?)?;
+    assert_eq!(rt;
+        text[..],
+        b"T. 2 N., R. 3 W.,\nsec. 5, lots 1, 2, 4, S1/2.\n"[..]
+    );
+    Ok(())
+}
+
+/// A lot alone, a whole section of lots, and the last section.
+#[test]
+fn spells_several_sections(rt: HostRuntime) -> Result<(), Fail> {
+    let mut land = Grid::empty();
+    land.add(Section::new(36).ok_or("a section")?, Block::whole());
+    land.add(Section::new(6).ok_or("a section")?, Block::whole());
+    add_lot(&mut land, 1, 3)?;
+    let text = spell(rt.alloc(), &land, township()?)?;
+    let lines = b"T. 2 N., R. 3 W.,\nsec. 1, lot 3;\nsec. 6, all;\nsec. 36, all.\n";
+    assert_eq!(rt; text[..], lines[..]);
+    Ok(())
+}
