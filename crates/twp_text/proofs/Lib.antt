@@ -23,3 +23,13 @@ pub mod ItemFlaws
 pub mod PlaceAnswers
 pub mod ResolvingFacts
 pub mod LandLots
+pub mod SquareFacts
+pub mod SquarePlaces
+pub mod HalfPlaces
+pub mod FullParts
+pub mod WrittenFacts
+pub mod PartOrder
+pub mod FinerParts
+pub mod PartLaws
+pub mod CanonicalFacts
+pub mod Listings

@@ -6,6 +6,10 @@ pub mod Expected
 pub mod TextFaults
 pub mod ItemPlaces
 pub mod PlaceFaults
+pub mod Listing
+pub mod WrittenParts
+pub mod CanonicalText
+pub mod SpellingLaws
 pub mod Taking
 pub mod Cutting
 pub mod Machine

@@ -2,6 +2,8 @@
 //! to do.
 ghost use Rattle.twp_text.specs.Laws.{HasTokenList, OneTokenList, OneItemList, ShortCompletion, SeveralAreEntries, OneReading, ReadHasNoFault, OneTextFault};
 ghost use Rattle.twp_text.specs.Laws.{OnPlatHasNoFault, OnePlaceAnswer};
+ghost use Rattle.twp_text.specs.SpellingLaws.{OneListOfParts, WrittenPartsAreApart, WrittenPartsHoldAll, FinerPlacesSameParts};
+ghost use Rattle.twp_text.specs.SpellingLaws.{OneCanonicalText, EmptyLandHasEmptyText};
 
 /// Every list of bytes is cut into tokens.
 pub fn has_token_list()
@@ -51,4 +53,34 @@ pub fn on_plat_has_no_fault()
 /// Items have one land, or one first fault, and not both.
 pub fn one_place_answer()
     ensures { OnePlaceAnswer }
+{}
+
+/// What is held of a section is written as one list of parts: squares and halves of squares.
+pub fn one_list_of_parts()
+    ensures { OneListOfParts }
+{}
+
+/// No place lies in two written parts.
+pub fn written_parts_are_apart()
+    ensures { WrittenPartsAreApart }
+{}
+
+/// A place is held exactly where a written part holds it.
+pub fn written_parts_hold_all()
+    ensures { WrittenPartsHoldAll }
+{}
+
+/// Where each place is cut into four, the written parts are the same.
+pub fn finer_places_same_parts()
+    ensures { FinerPlacesSameParts }
+{}
+
+/// Each land of a township has one canonical text.
+pub fn one_canonical_text()
+    ensures { OneCanonicalText }
+{}
+
+/// The canonical text of the empty land is empty.
+pub fn empty_land_has_empty_text()
+    ensures { EmptyLandHasEmptyText }
 {}

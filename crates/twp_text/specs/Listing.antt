@@ -1,0 +1,9 @@
+-- Lists of all things that have a property.
+use Rattle.std.specs.Prelude.{◌↔◌, List}
+use Rattle.std.specs.List.{Contains, AllPairs}
+
+-- The list of all that have a property, and of nothing else: each comes before all that stand behind it.
+pub record AreListed {T : Type 0} (has : T → Type 0) (before : T → T → Type 0) (list : List T)
+    : Type 0 where
+  pub listed : (thing : T) → has thing ↔ Contains list thing
+  pub ordered : AllPairs before list
