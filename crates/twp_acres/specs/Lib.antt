@@ -6,4 +6,5 @@ pub mod Runs
 pub mod Passing
 pub mod Stops
 pub mod PlatAnswers
+pub mod NormalAnswers
 pub mod Laws
