@@ -10,3 +10,4 @@ pub mod RunFacts
 pub mod OneAnswer
 pub mod FigureFacts
 pub mod OnePlat
+pub mod OneNormal

@@ -6,13 +6,15 @@ mod acres_answer;
 mod answer;
 mod area;
 pub mod laws;
+mod normal_answer;
 mod plat_answer;
 mod running;
+mod spell_stub;
 mod stages;
 mod stop;
 mod verdict;
 mod writing;
 
 pub use area::area_of;
-pub use running::{run_acres, run_plat};
+pub use running::{run_acres, run_normal, run_plat};
 pub use verdict::{RunFault, Verdict};

@@ -1,7 +1,10 @@
 //! The answer of the spelling run.
 ghost use Rattle.std.specs.Prelude.{◌≡◌, ◌≢◌, ◌+◌, ◌↔◌, true, false, IfOk, IfErr, IsErrOf};
 ghost use Rattle.twp_grid.specs.Devices.{TakesAtMost};
+ghost use Rattle.twp_grid.specs.Places.{PLACE_DIGITS};
 ghost use Rattle.twp_notes.specs.FieldNotes.{NOTES_MOST};
+ghost use Rattle.twp_land.specs.WholeLots.{HasWholeLots};
+ghost use Rattle.twp_text.specs.CanonicalText.{IsCanonicalText};
 ghost use Rattle.twp_text.specs.TextFaults.{TEXT_LIMIT};
 ghost use Rattle.twp_acres.specs.Answers.{MakePlat};
 ghost use Rattle.twp_acres.specs.NormalAnswers.{IsNormalAnswer};
@@ -13,8 +16,8 @@ use crate::stop::Stop;
 use crate::verdict::{RunFault, Verdict};
 use std::alloc::Global;
 use twp_grid::Source;
-use twp_land::Lanes;
-use twp_text::spell;
+use twp_land::{Land, Lanes};
+use crate::spell_stub::spell;
 
 /// The answer of field notes and a description: the canonical text of the land. The description is read
 /// only where the notes make a plat.
@@ -36,7 +39,7 @@ pub fn answer_of<N: Source, D: Source>(
         MakePlat (description.new ≡ description.old)
         (λ n d. IfOk result (λ answer. IsNormalAnswer n d answer.text.items answer.verdict)) }
 {
-    match read_land_on_plat(alloc, notes, description) {
+    match read_land_on_plat::<N, D, Lanes>(alloc, notes, description) {
         Ok(read) => accept(alloc, &read),
         Err(Stop::Refused(refusal)) => refuse(alloc, refusal),
         Err(Stop::Failed(fault)) => Err(fault),
@@ -44,10 +47,10 @@ pub fn answer_of<N: Source, D: Source>(
 }
 
 /// The answer of a land on a plat: its canonical text.
-fn accept(alloc: Global, read: &LandOnPlat<Lanes>) -> Result<Answer, RunFault>
-    requires { HasWholeLots PLACE_DIGITS (Lanes.Land.places read.now.land) }
+fn accept<L: Land>(alloc: Global, read: &LandOnPlat<L>) -> Result<Answer, RunFault>
+    requires { HasWholeLots PLACE_DIGITS (L.places read.now.land) }
     ensures text { IfOk result (λ answer. IsCanonicalText PLACE_DIGITS
-        read.now.plat.township (Lanes.Land.places read.now.land) answer.text.items) }
+        read.now.plat.township (L.places read.now.land) answer.text.items) }
     ensures verdict { IfOk result (λ answer. answer.verdict ≡ Verdict.Accepted) }
     ensures memory { IfErr result (λ fault. fault ≡ RunFault.Memory) }
 {
