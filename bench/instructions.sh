@@ -1,6 +1,7 @@
 #!/bin/sh
 # Prints how many instructions the whole process of ./township takes, from its start to its end: of joined
-# input on the sample and on the longest that is refused, and of each subcommand on the sample.
+# input on the sample, on the longest that is refused and on one of fine parts; of each subcommand on the
+# sample.
 set -eu
 # What is counted stands on standard input, or is named by words.
 count() {
@@ -18,10 +19,26 @@ cat samples/description.txt samples/b1.csv > "$work/sample"
     cat samples/b1.csv
     spaces $((65536 - $(wc -c < samples/b1.csv))) '\n'
 } > "$work/longest"
+# A description that names each place of eleven sections, 2,816 of them, and the sample's notes.
+{
+    awk 'BEGIN {
+        split("8 9 10 11 12 13 14 15 16 17 20", sections, " ")
+        split("NE1/4 NW1/4 SW1/4 SE1/4", corners, " ")
+        for (s = 1; s <= 11; s++) {
+            printf "%ssec. %s", (s > 1 ? "; " : ""), sections[s]
+            for (p = 0; p < 256; p++)
+                printf ", %s%s%s%s", corners[int(p / 64) + 1], corners[int(p / 16) % 4 + 1],
+                    corners[int(p / 4) % 4 + 1], corners[p % 4 + 1]
+        }
+        printf ".\n"
+    }'
+    cat samples/b1.csv
+} > "$work/places"
 : > "$work/empty"
 printf '%-44s %12s\n' 'input' 'instructions'
 printf '%-44s %12s\n' 'the sample (1,653 bytes, accepted)' "$(count < "$work/sample")"
 printf '%-44s %12s\n' 'the longest refused (131,073 bytes)' "$(count < "$work/longest")"
+printf '%-44s %12s\n' "places ($(wc -c < "$work/places") bytes, accepted)" "$(count < "$work/places")"
 printf '%-44s %12s\n' 'nothing (the start of the process)' "$(count < "$work/empty")"
 printf 'secs. 1 thru 36.' > "$work/all"
 printf '%-44s %12s\n' 'acres of all 36 sections' "$(count acres samples/b1.csv "$work/all")"

@@ -85,4 +85,5 @@ IsRefusal notes description refusal =
 -- as `refused 67 at 19`
 abbrev pub refusal_line : Refusal → List ℕ
 refusal_line refusal =
-    codes "refused " ++ decimal refusal.number ++ codes " at " ++ decimal refusal.at ++ line_feed ∷ []
+    codes "refused " ++ decimal refusal.number ++ codes " at " ++ decimal refusal.at
+        ++ line_feed ∷ []

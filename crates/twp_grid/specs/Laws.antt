@@ -53,7 +53,8 @@ OneLotOrRegular = (section column row : ℕ) → IsSection section → IsPositio
 -- the lot at a position is the lot that fills it
 abbrev pub LotsMatchPositions : Type 0
 LotsMatchPositions = (section column row number : ℕ) → IsSection section
-    → (lot_at_position section column row ≡ Some number) ↔ (position_of_lot section number ≡ Some (column, row))
+    → (lot_at_position section column row ≡ Some number)
+    ↔ (position_of_lot section number ≡ Some (column, row))
 
 -- a section's lots and regular positions hold each of its places once
 abbrev pub HeldOnce : Type 0

@@ -52,8 +52,10 @@ pub record IsSide (section index : ℕ) : Type 0 where
 
 -- the line lies between two different sections, or on the township's boundary beside one
 abbrev pub LiesBeside : ℕ → Option ℕ → ℕ → Type 0
-LiesBeside section (Some other) index = (section ≢ other) × IsSide section index × IsSide other index
-LiesBeside section None index = IsSide section index × ((other : ℕ) → IsSide other index → other ≡ section)
+LiesBeside section (Some other) index = (section ≢ other) × IsSide section index
+    × IsSide other index
+LiesBeside section None index =
+    IsSide section index × ((other : ℕ) → IsSide other index → other ≡ section)
 
 -- a run's line between two sections, or beside one
 abbrev pub IsLineOf : Run → ℕ → Option ℕ → ℕ → Type 0

@@ -20,7 +20,8 @@ pub record Lot : Type 0 where
 
 -- a row of the table
 abbrev pub lot : ℕ → ℕ → ℕ → ℕ → Lot
-lot section number column row = record { section = section; number = number; column = column; row = row }
+lot section number column row =
+    record { section = section; number = number; column = column; row = row }
 
 -- the 47 lots: along the north of sections 1 to 5, down the west of the western column, and both in section 6
 unfoldable pub lots : List Lot
@@ -30,7 +31,8 @@ lots =
     ∷ lot 3 1 0 3 ∷ lot 3 2 1 3 ∷ lot 3 3 2 3 ∷ lot 3 4 3 3
     ∷ lot 4 1 0 3 ∷ lot 4 2 1 3 ∷ lot 4 3 2 3 ∷ lot 4 4 3 3
     ∷ lot 5 1 0 3 ∷ lot 5 2 1 3 ∷ lot 5 3 2 3 ∷ lot 5 4 3 3
-    ∷ lot 6 1 0 3 ∷ lot 6 2 1 3 ∷ lot 6 3 2 3 ∷ lot 6 4 3 3 ∷ lot 6 5 3 2 ∷ lot 6 6 3 1 ∷ lot 6 7 3 0
+    ∷ lot 6 1 0 3 ∷ lot 6 2 1 3 ∷ lot 6 3 2 3 ∷ lot 6 4 3 3 ∷ lot 6 5 3 2
+    ∷ lot 6 6 3 1 ∷ lot 6 7 3 0
     ∷ lot 7 1 3 3 ∷ lot 7 2 3 2 ∷ lot 7 3 3 1 ∷ lot 7 4 3 0
     ∷ lot 18 1 3 3 ∷ lot 18 2 3 2 ∷ lot 18 3 3 1 ∷ lot 18 4 3 0
     ∷ lot 19 1 3 3 ∷ lot 19 2 3 2 ∷ lot 19 3 3 1 ∷ lot 19 4 3 0
@@ -57,4 +59,5 @@ number_of_lots section = count_by (λ (l : Lot). l.section == section) lots
 -- the sections of the western column
 abbrev pub is_western_number : ℕ → Bool
 is_western_number section =
-    (section == 6) || (section == 7) || (section == 18) || (section == 19) || (section == 30) || (section == 31)
+    (section == 6) || (section == 7) || (section == 18) || (section == 19)
+    || (section == 30) || (section == 31)

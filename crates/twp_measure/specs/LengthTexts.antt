@@ -52,7 +52,8 @@ pub record IsPointed (text : List ℕ) (v : ℕ) : Type 0 where
 
 -- the text is a length of v thousandths: whole chains alone, or with decimals
 abbrev pub IsLengthText : List ℕ → ℕ → Type 0
-IsLengthText text v = ((chains : ℕ) × IsShortNumber text chains × (v ≡ 1000 * chains)) ⊎ IsPointed text v
+IsLengthText text v = ((chains : ℕ) × IsShortNumber text chains × (v ≡ 1000 * chains))
+    ⊎ IsPointed text v
 
 -- the byte of a digit
 abbrev pub digit_byte : ℕ → ℕ
@@ -64,4 +65,5 @@ third_decimal v = if v % 10 == 0 then [] else digit_byte (v % 10) ∷ []
 
 -- the text that is written of a length: whole chains, a point, two decimals or three
 abbrev pub length_text : ℕ → List ℕ
-length_text v = decimal (v / 1000) ++ point ∷ digit_byte (v / 100 % 10) ∷ digit_byte (v / 10 % 10) ∷ third_decimal v
+length_text v = decimal (v / 1000)
+    ++ point ∷ digit_byte (v / 100 % 10) ∷ digit_byte (v / 10 % 10) ∷ third_decimal v

@@ -97,7 +97,8 @@ IsLineNumber records number = (3 ≤ number) × (number ≤ length records)
 
 -- one of the records of lines names the line
 abbrev pub IsNamed : List Fields → ℕ → Type 0
-IsNamed records line = (number : ℕ) × IsLineNumber records number × NamesLine (record_numbered records number) line
+IsNamed records line = (number : ℕ) × IsLineNumber records number
+    × NamesLine (record_numbered records number) line
 
 -- The records are these notes: the heading, the township, and for each line one record and no more.
 pub record AreNoteRecords (records : List Fields) (notes : FieldNotes) : Type 0 where
@@ -106,7 +107,8 @@ pub record AreNoteRecords (records : List Fields) (notes : FieldNotes) : Type 0 
   pub each : (number : ℕ) → IsLineNumber records number
       → (line : ℕ) × IsLineRecord (record_numbered records number) line (returned_of notes line)
   pub once : (number other line : ℕ) → IsLineNumber records number → IsLineNumber records other
-      → NamesLine (record_numbered records number) line → NamesLine (record_numbered records other) line → number ≡ other
+      → NamesLine (record_numbered records number) line
+      → NamesLine (record_numbered records other) line → number ≡ other
   pub all : (line : ℕ) → IsLine line → IsNamed records line
   pub lines : length notes.lines ≡ LINE_COUNT
 

@@ -13,7 +13,8 @@ IsAnswered (Err fault) = IsSome (refusal_of fault)
 -- bytes are one list of notes, or have one first fault
 abbrev pub OneAnswer : Type 0
 OneAnswer = (bytes : List ℕ) (answer answer' : Result FieldNotes NotesFault)
-    → AnswersNotes bytes answer → AnswersNotes bytes answer' → IsAnswered answer → IsAnswered answer' → answer ≡ answer'
+    → AnswersNotes bytes answer → AnswersNotes bytes answer' → IsAnswered answer
+    → IsAnswered answer' → answer ≡ answer'
 
 -- the text of notes is those notes, so that it is read as them
 abbrev pub WrittenIsRead : Type 0

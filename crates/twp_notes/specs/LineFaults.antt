@@ -12,7 +12,8 @@ use Rattle.twp_notes.specs.declared.returned.Returned.{Returned}
 abbrev pub IsUnnamed : Fields → ℕ → NotesFault → Type 0
 IsUnnamed fields number (fault.Run at) = (at ≡ number) × HasNoRun fields
 IsUnnamed fields number (fault.Section at) = (at ≡ number) × HasNoSection fields × ¬ HasNoRun fields
-IsUnnamed fields number (fault.NoLine at) = (at ≡ number) × NamesNoLine fields × ¬ HasNoRun fields × ¬ HasNoSection fields
+IsUnnamed fields number (fault.NoLine at) = (at ≡ number) × NamesNoLine fields
+    × ¬ HasNoRun fields × ¬ HasNoSection fields
 IsUnnamed fields number other = ⊥
 
 -- the record names a line of which something was returned already
@@ -24,11 +25,16 @@ pub record IsOfReturnedLine (fields : Fields) (table : List (Option Returned)) :
 -- the numbered record isn't taken down, for this fault and none before it
 abbrev pub IsNotTaken : Fields → List (Option Returned) → ℕ → NotesFault → Type 0
 IsNotTaken fields table number (fault.Columns at) = (at ≡ number) × (length fields ≢ FIELDS)
-IsNotTaken fields table number (fault.Run at) = (length fields ≡ FIELDS) × IsUnnamed fields number (fault.Run at)
-IsNotTaken fields table number (fault.Section at) = (length fields ≡ FIELDS) × IsUnnamed fields number (fault.Section at)
-IsNotTaken fields table number (fault.NoLine at) = (length fields ≡ FIELDS) × IsUnnamed fields number (fault.NoLine at)
-IsNotTaken fields table number (fault.Length at) = (at ≡ number) × HasNoLength fields × ¬ NamesNoLine fields
-IsNotTaken fields table number (fault.Repeated at) = (at ≡ number) × IsOfReturnedLine fields table × ¬ HasNoLength fields
+IsNotTaken fields table number (fault.Run at) = (length fields ≡ FIELDS)
+    × IsUnnamed fields number (fault.Run at)
+IsNotTaken fields table number (fault.Section at) = (length fields ≡ FIELDS)
+    × IsUnnamed fields number (fault.Section at)
+IsNotTaken fields table number (fault.NoLine at) = (length fields ≡ FIELDS)
+    × IsUnnamed fields number (fault.NoLine at)
+IsNotTaken fields table number (fault.Length at) = (at ≡ number) × HasNoLength fields
+    × ¬ NamesNoLine fields
+IsNotTaken fields table number (fault.Repeated at) = (at ≡ number)
+    × IsOfReturnedLine fields table × ¬ HasNoLength fields
 IsNotTaken fields table number other = ⊥
 
 -- so many of the records were taken down, and the next one isn't

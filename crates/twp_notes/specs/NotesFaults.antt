@@ -37,7 +37,8 @@ HasNoRun fields = HasNone (λ (run : Run). field fields 0 ≡ run_text run)
 
 -- a record without a section, or whose neighbour is neither a section nor left empty
 abbrev pub HasNoSection : Fields → Type 0
-HasNoSection fields = HasNone (IsSectionText (field fields 1)) ⊎ HasNone (IsNeighbourText (field fields 2))
+HasNoSection fields = HasNone (IsSectionText (field fields 1))
+    ⊎ HasNone (IsNeighbourText (field fields 2))
 
 -- a record that names no line of the township
 abbrev pub NamesNoLine : Fields → Type 0
@@ -45,11 +46,13 @@ NamesNoLine fields = HasNone (NamesLine fields)
 
 -- a record with a distance that is no length
 abbrev pub HasNoLength : Fields → Type 0
-HasNoLength fields = HasNone (IsLengthText (field fields 3)) ⊎ HasNone (IsLengthText (field fields 4))
+HasNoLength fields = HasNone (IsLengthText (field fields 3))
+    ⊎ HasNone (IsLengthText (field fields 4))
 
 -- the numbered record is a line's, and has this fault
 abbrev pub HasOnLine : List ℕ → ℕ → (Fields → Type 0) → Type 0
-HasOnLine bytes number IsBad = IsLineNumber (records_of bytes) number × IsBad (record_numbered (records_of bytes) number)
+HasOnLine bytes number IsBad = IsLineNumber (records_of bytes) number
+    × IsBad (record_numbered (records_of bytes) number)
 
 -- the record's line is that of an earlier record
 pub record IsRepeated (records : List Fields) (number : ℕ) : Type 0 where
@@ -66,13 +69,15 @@ HasFault bytes fault.TooLarge = NOTES_MOST < length bytes
 HasFault bytes fault.Empty = records_of bytes ≡ []
 HasFault bytes fault.Heading = record_numbered (records_of bytes) 1 ≢ heading
 HasFault bytes (fault.Columns number) =
-    (2 ≤ number) × (number ≤ length (records_of bytes)) × (length (record_numbered (records_of bytes) number) ≢ FIELDS)
+    (2 ≤ number) × (number ≤ length (records_of bytes))
+        × (length (record_numbered (records_of bytes) number) ≢ FIELDS)
 HasFault bytes fault.Township = HasNone (IsTownshipRecord (record_numbered (records_of bytes) 2))
 HasFault bytes (fault.Run number) = HasOnLine bytes number HasNoRun
 HasFault bytes (fault.Section number) = HasOnLine bytes number HasNoSection
 HasFault bytes (fault.NoLine number) = HasOnLine bytes number NamesNoLine
 HasFault bytes (fault.Length number) = HasOnLine bytes number HasNoLength
-HasFault bytes (fault.Repeated number) = IsLineNumber (records_of bytes) number × IsRepeated (records_of bytes) number
+HasFault bytes (fault.Repeated number) = IsLineNumber (records_of bytes) number
+    × IsRepeated (records_of bytes) number
 HasFault bytes (fault.Missing line) = IsLine line × ¬ IsNamed (records_of bytes) line
 HasFault bytes fault.Read = ⊥
 HasFault bytes fault.Memory = ⊥
@@ -99,7 +104,8 @@ IsFrom stage place number fault =
 
 -- no fault among these comes before this one
 abbrev pub ComesFirst : (NotesFault → Type 0) → NotesFault → Type 0
-ComesFirst Has fault = (other : NotesFault) → Has other → IsFrom (stage_of fault) (place_of fault) (number_of fault) other
+ComesFirst Has fault = (other : NotesFault) → Has other
+    → IsFrom (stage_of fault) (place_of fault) (number_of fault) other
 
 -- the fault is there, and none that comes before it
 pub record IsFirstFault (bytes : List ℕ) (fault : NotesFault) : Type 0 where

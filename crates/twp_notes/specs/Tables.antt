@@ -12,7 +12,8 @@ entry_of table line = slice_index_or table line None
 -- all lines were returned, with these
 pub record AreEntries (table : List (Option Returned)) (lines : List Returned) : Type 0 where
   pub count : length lines ≡ LINE_COUNT
-  pub each : (line : ℕ) → IsLine line → entry_of table line ≡ Some (slice_index_or lines line nothing_returned)
+  pub each : (line : ℕ) → IsLine line
+      → entry_of table line ≡ Some (slice_index_or lines line nothing_returned)
 
 -- nothing was returned of this line, and of each before it something was
 pub record IsLeastMissing (table : List (Option Returned)) (line : ℕ) : Type 0 where
@@ -46,6 +47,7 @@ pub record IsNamedBy (records : List Fields) (count line : ℕ) : Type 0 where
 pub record AreTaken (records : List Fields) (count : ℕ) (table : List (Option Returned)) : Type 0 where
   pub each : (place : ℕ) → place < count → IsTaken (record_at records place) table
   pub once : (place other line : ℕ) → place < count → other < count
-      → NamesLine (record_at records place) line → NamesLine (record_at records other) line → place ≡ other
+      → NamesLine (record_at records place) line → NamesLine (record_at records other) line
+      → place ≡ other
   pub named : (line : ℕ) → IsSome (entry_of table line) → IsNamedBy records count line
   pub size : length table ≡ LINE_COUNT

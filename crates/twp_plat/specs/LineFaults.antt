@@ -13,5 +13,6 @@ pub record IsFirstLineFault (line : ℕ) (returned : Returned) (fault : PlatFaul
 
 -- the closing quarter of a line within its limits, or the line's first fault
 abbrev pub AnswersLine : ℕ → Returned → Result ℕ PlatFault → Type 0
-AnswersLine line returned (Ok quarter) = IsInLimits line returned × IsClosingQuarter line returned quarter
+AnswersLine line returned (Ok quarter) = IsInLimits line returned
+    × IsClosingQuarter line returned quarter
 AnswersLine line returned (Err fault) = IsFirstLineFault line returned fault

@@ -48,11 +48,13 @@ half_of other = 2
 
 -- the fault is at this line and half, or behind it
 abbrev pub IsFrom : ℕ → ℕ → PlatFault → Type 0
-IsFrom place half fault = (place < place_of fault) ⊎ ((place ≡ place_of fault) × (half ≤ half_of fault))
+IsFrom place half fault =
+    (place < place_of fault) ⊎ ((place ≡ place_of fault) × (half ≤ half_of fault))
 
 -- no fault among these comes before this one
 abbrev pub ComesFirst : (PlatFault → Type 0) → PlatFault → Type 0
-ComesFirst Has fault = (other : PlatFault) → Has other → IsFrom (place_of fault) (half_of fault) other
+ComesFirst Has fault = (other : PlatFault) → Has other
+    → IsFrom (place_of fault) (half_of fault) other
 
 -- the fault is there, and none that comes before it
 pub record IsFirstFault (notes : FieldNotes) (fault : PlatFault) : Type 0 where
