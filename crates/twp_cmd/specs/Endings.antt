@@ -1,6 +1,10 @@
 -- How the program ends, by the words of its command line.
-use Rattle.std.specs.Prelude.{◌≡◌, ◌⊎◌, List, ⊤}
+use Rattle.std.specs.Prelude.{◌≡◌, ◌⊎◌, ℕ, List, ⊤}
 use Rattle.clap.specs.Words.{Text}
+use Rattle.twp_acres.specs.AcresAnswers.{IsAcresAnswer}
+use Rattle.twp_acres.specs.NormalAnswers.{IsNormalAnswer}
+use Rattle.twp_acres.specs.PlatAnswers.{IsPlatAnswer}
+use Rattle.twp_acres.specs.declared.verdict.Verdict.{Verdict}
 use Rattle.clap.specs.declared.error.kind.ErrorKind.TheVariants.{DisplayHelp}
 use Rattle.twp_cmd.specs.Tasks.{HasKindAt, IsFaultOf, IsTaskOf}
 use Rattle.twp_cmd.specs.declared.ending.Ending.{Ending}
@@ -22,10 +26,18 @@ abbrev pub FailsOn : Task → Failure → Type 0
 FailsOn task (Open name) = IsFileOf task name
 FailsOn task (Run fault) = ⊤
 
+-- The verdict is one of the task's run, on some bytes: files tell none, so it isn't said on which.
+abbrev pub IsVerdictOf : Task → Verdict → Type 0
+IsVerdictOf (Plat notes) verdict = (n answer : List ℕ) × IsPlatAnswer n answer verdict
+IsVerdictOf (Acres notes description) verdict =
+    (n d answer : List ℕ) × IsAcresAnswer n d answer verdict
+IsVerdictOf (Normal notes description) verdict =
+    (n d answer : List ℕ) × IsNormalAnswer n d answer verdict
+
 -- An answer comes only where the words ask for a task, help only where they ask for help, and usage
 -- only where they misuse the command.
 abbrev pub EndsAs : List Text → Ending → Type 0
-EndsAs words (Answered verdict) = (task : Task) × IsTaskOf words task
+EndsAs words (Answered verdict) = (task : Task) × IsTaskOf words task × IsVerdictOf task verdict
 EndsAs words Helped = HasKindAt words DisplayHelp
 EndsAs words (Misused text) = IsFaultOf words (Usage text)
 EndsAs words (Failed (Open name)) = (task : Task) × IsTaskOf words task × IsFileOf task name
