@@ -86,4 +86,4 @@ IsRefusal notes description refusal =
 abbrev pub refusal_line : Refusal → List ℕ
 refusal_line refusal =
     codes "refused " ++ decimal refusal.number ++ codes " at " ++ decimal refusal.at
-        ++ line_feed ∷ []
+    ++ line_feed ∷ []

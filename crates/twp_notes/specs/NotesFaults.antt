@@ -70,7 +70,7 @@ HasFault bytes fault.Empty = records_of bytes ≡ []
 HasFault bytes fault.Heading = record_numbered (records_of bytes) 1 ≢ heading
 HasFault bytes (fault.Columns number) =
     (2 ≤ number) × (number ≤ length (records_of bytes))
-        × (length (record_numbered (records_of bytes) number) ≢ FIELDS)
+    × (length (record_numbered (records_of bytes) number) ≢ FIELDS)
 HasFault bytes fault.Township = HasNone (IsTownshipRecord (record_numbered (records_of bytes) 2))
 HasFault bytes (fault.Run number) = HasOnLine bytes number HasNoRun
 HasFault bytes (fault.Section number) = HasOnLine bytes number HasNoSection

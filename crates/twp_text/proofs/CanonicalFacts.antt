@@ -1,19 +1,18 @@
 -- Each land has one canonical text.
-use Rattle.std.proofs.Common.{◌≡◌, ◌==◌, ℕ, zero, suc, ◌+◌, ◌<◌, ◌≤◌, ◌⊎◌, ◌&&◌, Bool, true, false, List, [], ◌∷◌, ◌++◌, Option, Some, None, map, refl, sym, ap, subst, ◌∙◌, inl, inr, arith, not, cond, option_map, find, codes, decimal}
+use Rattle.std.proofs.Common.{◌≡◌, ◌==◌, ℕ, zero, suc, ◌<◌, ◌⊎◌, ◌&&◌, Bool, true, false, List, [], ◌∷◌, ◌++◌, Option, Some, None, map, refl, sym, ap, subst, ◌∙◌, inl, inr, arith, not, cond, option_map, find, codes, decimal}
 use Rattle.std.specs.List.{AllZip}
-use Rattle.std.proofs.lemmas.Bool.{cases_Bool, cases_lt, and_parts, eqb-true, eq-eqb, false≢true}
+use Rattle.std.proofs.lemmas.Bool.{cases_lt, and_parts, eqb-true, eq-eqb, false≢true}
 use Rattle.twp_grid.specs.Winding.{IsSection}
 use Rattle.twp_grid.specs.Lots.{Lot, lots, lot_at_position}
-use Rattle.twp_grid.specs.Places.{IsPlace, position_along}
+use Rattle.twp_grid.specs.Places.{position_along}
 use Rattle.twp_grid.specs.Townships.{Designation}
 use Rattle.twp_land.specs.Lands.{no_places}
 use Rattle.twp_land.specs.WholeLots.{lot_of_place}
 use Rattle.twp_text.specs.Listing.{AreListed}
-use Rattle.twp_text.specs.WrittenParts.{Part, AreWrittenParts}
 use Rattle.twp_text.specs.CanonicalText.{part_text, with_commas, lots_entry, off_lots, HoldsSome, HoldsEach, IsLotHeld, IsSectionList, IsSectionText, land_lines, IsSectionOfLand, IsCanonicalText}
 use Rattle.twp_text.specs.CanonicalText.IsSectionList.{all, by_parts}
 use Rattle.twp_text.proofs.Listings.{Among, AreCompared, one_listing, has_listing}
-use Rattle.twp_text.proofs.FullParts.{Found, search_places}
+use Rattle.twp_text.proofs.FullParts.{search_places}
 use Rattle.twp_text.proofs.PartOrder.{has_parts, one_parts}
 
 -- numbers in their order
@@ -191,7 +190,7 @@ one_text g township places =
     let sections = has_sections g places in
     let lines = has_lines g places sections.0 in
     let is : IsCanonicalText g township places (land_lines township lines.0) =
-        record { sections = sections.0; lines = lines.0; sections_are = sections.1; lines_are = lines.1; text_is = refl } in
+    record { sections = sections.0; lines = lines.0; sections_are = sections.1; lines_are = lines.1; text_is = refl } in
     (land_lines township lines.0, is, λ other is'. one_text_only g township places other (land_lines township lines.0) is' is)
 
 pub empty_text : (g : ℕ) (township : Designation) → IsCanonicalText g township no_places []

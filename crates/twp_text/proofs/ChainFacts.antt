@@ -23,11 +23,11 @@ use Rattle.twp_text.specs.ItemPlaces.{cut_of, cuts_of, item_places}
 use Rattle.twp_text.specs.Taking.{item_of, CanCut, IsCutTo}
 
 -- a side of so many digits is more than one place where a digit is left
-more_left : (k : ℕ) → 1 < 2 ^ k → 0 < k
+pub more_left : (k : ℕ) → 1 < 2 ^ k → 0 < k
 more_left zero more = absurd (omega arith)
 more_left (suc k) more = omega arith
 
-more_than_one : (k : ℕ) → 0 < k → 1 < 2 ^ k
+pub more_than_one : (k : ℕ) → 0 < k → 1 < 2 ^ k
 more_than_one zero some = absurd (omega arith)
 more_than_one (suc k) some = let power = pow-succ' 2 k in let least = pow_pos k in omega arith
 
@@ -143,7 +143,7 @@ and_false : (a : Bool) → (a && false) ≡ false
 and_false true = refl
 and_false false = refl
 
-outside : (g : ℕ) (cuts : List Cut) (column row : ℕ) → AreWithin g cuts → is_place g column row ≡ false → in_rectangle (reached g cuts) column row ≡ false
+pub outside : (g : ℕ) (cuts : List Cut) (column row : ℕ) → AreWithin g cuts → is_place g column row ≡ false → in_rectangle (reached g cuts) column row ≡ false
 outside g cuts column row within not = elim (cases_Bool (nat_lt column (2 ^ g))) [
   | inl in-column ↦
       let out : nat_lt row (2 ^ g) ≡ false = rw in-column at not in
@@ -156,7 +156,7 @@ outside g cuts column row within not = elim (cases_Bool (nat_lt column (2 ^ g)))
       rw columns_out refl
 ]
 
-inside : (g column row : ℕ) → is_place g column row ≡ true → IsPlace g column row
+pub inside : (g column row : ℕ) → is_place g column row ≡ true → IsPlace g column row
 inside g column row place =
     let parts = and_parts (nat_lt column (2 ^ g)) (nat_lt row (2 ^ g)) place in
     (grind (arith, nat_tests, parts.0), grind (arith, nat_tests, parts.1))

@@ -1,5 +1,5 @@
 -- Where each place is cut into four, the written parts are the same.
-use Rattle.std.proofs.Common.{◌≡◌, ℕ, zero, suc, ◌+◌, ◌*◌, ◌/◌, ◌%◌, ◌^◌, ◌<◌, ◌≤◌, ◌⊎◌, ◌↔◌, Bool, true, List, [], ◌∷◌, length, refl, sym, ap, subst, ◌∙◌, inl, inr, arith}
+use Rattle.std.proofs.Common.{◌≡◌, ℕ, suc, ◌*◌, ◌/◌, ◌%◌, ◌<◌, ◌↔◌, Bool, true, List, [], ◌∷◌, length, sym, ap, subst, ◌∙◌, inl, inr, arith}
 use Rattle.std.proofs.Math.Nat.{pow-succ'}
 use Rattle.std.proofs.lemmas.Bool.{cases_lt}
 use Rattle.twp_grid.specs.declared.block.Side.{Side}
@@ -7,15 +7,15 @@ use Rattle.twp_grid.specs.declared.block.Corner.{Corner}
 use Rattle.twp_grid.specs.Cuts.{AreWithin}
 use Rattle.twp_grid.specs.Places.{IsPlace}
 use Rattle.twp_text.specs.ItemPlaces.{cuts_of, in_chain}
-use Rattle.twp_text.specs.WrittenParts.{Part, steps_of_part, IsInPart, IsFull, preference, IsChosenHalf, IsOnSide, IsWritten, quarter_named, turn_of_quarter, address, StandsAhead, AreWrittenParts}
+use Rattle.twp_text.specs.WrittenParts.{Part, steps_of_part, IsInPart, IsFull, IsChosenHalf, IsWritten, quarter_named, address, StandsAhead, AreWrittenParts}
 use Rattle.twp_text.specs.WrittenParts.Part.{square, half_of_square}
 use Rattle.twp_text.specs.SpellingLaws.{cut_in_four}
-use Rattle.twp_text.proofs.Listings.{Among, contains_among, among_contains, other_pairs}
+use Rattle.twp_text.proofs.Listings.{Among, among_contains, other_pairs}
 use Rattle.twp_text.proofs.SquareFacts.{chain_coarser, within_greater, square_within, square_fits, half_within, half_fits}
 use Rattle.twp_text.proofs.SquarePlaces.{up, in_square, square_in, up_all, one_place, turn_small}
 use Rattle.twp_text.proofs.HalfPlaces.{in_half}
 use Rattle.twp_text.proofs.WrittenFacts.{parent_of}
-use Rattle.twp_text.proofs.PartOrder.{Inside, some_place, full_part, has_parts, one_parts}
+use Rattle.twp_text.proofs.PartOrder.{some_place, full_part, has_parts, one_parts}
 
 -- the places of a part that isn't finer than the greater places
 place_coarser : (g column row : ℕ) → IsPlace (suc g) column row → IsPlace g (column / 2) (row / 2)
@@ -58,8 +58,8 @@ full_coarser : (g : ℕ) (held : ℕ → ℕ → Bool) (part : Part) → AreWith
 full_coarser g held part within full = record {
   within = within;
   each = λ column row inside.
-    ap (λ n. held n row) (sym (twice column)) ∙ ap (λ n. held (2 * column / 2) n) (sym (twice row))
-    ∙ full.each (2 * column) (2 * row) (in_finer g part column row within inside);
+      ap (λ n. held n row) (sym (twice column)) ∙ ap (λ n. held (2 * column / 2) n) (sym (twice row))
+      ∙ full.each (2 * column) (2 * row) (in_finer g part column row within inside);
 }
 
 -- a greater place of which one of the four is held is held whole
@@ -77,7 +77,7 @@ whole_place g held quarters column row level place there is = record { within = 
         let path_first = subst (λ k. up g k (column / 2) (row / 2) ≡ quarters) level (in_square g quarters (column / 2) (row / 2) (omega arith) first.asked) in
         let path_second = subst (λ k. up g k (column' / 2) (row' / 2) ≡ quarters) level (in_square g quarters (column' / 2) (row' / 2) (omega arith) second.asked) in
         let one = one_place g (column' / 2) (row' / 2) (column / 2) (row / 2) second.place first.place
-            (sym (up_all g (column' / 2) (row' / 2)) ∙ path_second ∙ sym path_first ∙ up_all g (column / 2) (row / 2)) in
+        (sym (up_all g (column' / 2) (row' / 2)) ∙ path_second ∙ sym path_first ∙ up_all g (column / 2) (row / 2)) in
         ap (λ n. held n (row' / 2)) one.0 ∙ ap (λ n. held (column / 2) n) one.1 ∙ is
 
 finest_square : (g : ℕ) (held : ℕ → ℕ → Bool) (corner : Corner) (parent : List Corner) → length parent ≡ g
@@ -116,8 +116,7 @@ written_finer : (g : ℕ) (held : ℕ → ℕ → Bool) (part : Part) → IsWrit
 written_finer g held (half_of_square side quarters) chosen = chosen_finer g held quarters side chosen
 written_finer g held (square []) full = full_finer g held (square []) full
 written_finer g held (square (corner ∷ parent)) written =
-    let less = square_fits g (corner ∷ parent) written.0.within in
-    (
+    let less = square_fits g (corner ∷ parent) written.0.within in (
       full_finer g held (square (corner ∷ parent)) written.0,
       (λ full. written.1 (full_coarser g held (square parent) (square_within g parent (omega arith)) full)),
       (λ side chosen on. written.2 side (chosen_coarser g held parent side less chosen) on),
@@ -135,10 +134,10 @@ written_coarser g held (square (corner ∷ parent)) written =
     let fits = square_fits (suc g) (corner ∷ parent) written.0.within in
     elim (cases_lt (length parent) g) [
       | inl less ↦ (
-          full_coarser g held (square (corner ∷ parent)) (square_within g (corner ∷ parent) (omega arith)) written.0,
-          (λ full. written.1 (full_finer g held (square parent) full)),
-          (λ side chosen on. written.2 side (chosen_finer g held parent side chosen) on),
-        )
+        full_coarser g held (square (corner ∷ parent)) (square_within g (corner ∷ parent) (omega arith)) written.0,
+        (λ full. written.1 (full_finer g held (square parent) full)),
+        (λ side chosen on. written.2 side (chosen_finer g held parent side chosen) on),
+      )
       | inr last ↦ absurd (written.1 (finest_square g held corner parent (omega arith) written.0))
     ]
 
@@ -149,11 +148,11 @@ ahead_finer g part other within within' ahead = record {
   row = 2 * ahead.row;
   inside = in_finer g part ahead.column ahead.row within ahead.inside;
   lower = λ column' row' inside.
-    let less = ahead.lower (column' / 2) (row' / 2) (in_coarser g other column' row' within' inside) in
-    let small = turn_small (quarter_named (2 * ahead.column % 2) (2 * ahead.row % 2)) in
-    let same : address g (2 * ahead.column / 2) (2 * ahead.row / 2) ≡ address g ahead.column ahead.row =
-        ap (λ n. address g n (2 * ahead.row / 2)) (twice ahead.column) ∙ ap (λ n. address g ahead.column n) (twice ahead.row) in
-    omega arith;
+      let less = ahead.lower (column' / 2) (row' / 2) (in_coarser g other column' row' within' inside) in
+      let small = turn_small (quarter_named (2 * ahead.column % 2) (2 * ahead.row % 2)) in
+      let same : address g (2 * ahead.column / 2) (2 * ahead.row / 2) ≡ address g ahead.column ahead.row =
+      ap (λ n. address g n (2 * ahead.row / 2)) (twice ahead.column) ∙ ap (λ n. address g ahead.column n) (twice ahead.row) in
+      omega arith;
 }
 
 parts_finer : (g : ℕ) (held : ℕ → ℕ → Bool) (parts : List Part) → AreWrittenParts g held parts → AreWrittenParts (suc g) (cut_in_four held) parts

@@ -1,18 +1,18 @@
 -- Full parts and chosen halves: each part is full or not, and a square has at most one chosen half.
-use Rattle.std.proofs.Common.{◌≡◌, ℕ, zero, suc, ◌+◌, ◌-◌, ◌/◌, ◌^◌, ◌<◌, ◌≤◌, ◌⊎◌, ◌&&◌, Bool, true, false, List, [], ◌∷◌, length, refl, sym, ap, subst, ◌∙◌, inl, inr, arith, not}
-use Rattle.std.proofs.lemmas.Bool.{cases_Bool, cases_lt, and_parts, false≢true}
+use Rattle.std.proofs.Common.{◌≡◌, ℕ, zero, suc, ◌+◌, ◌-◌, ◌/◌, ◌^◌, ◌<◌, ◌≤◌, ◌⊎◌, ◌&&◌, Bool, true, false, List, length, refl, sym, ap, subst, ◌∙◌, inl, inr, arith, not}
+use Rattle.std.proofs.lemmas.Bool.{cases_Bool, cases_lt, false≢true}
 use Rattle.twp_grid.specs.declared.block.Side.{Side}
 use Rattle.twp_grid.specs.declared.block.Side.TheVariants.{N, S, E, W}
 use Rattle.twp_grid.specs.declared.block.Corner.{Corner}
 use Rattle.twp_grid.specs.declared.block.Corner.TheVariants.{NE, NW, SW, SE}
 use Rattle.twp_grid.specs.Cuts.{rows_asked, columns_asked, AreWithin}
-use Rattle.twp_grid.specs.Places.{IsPlace, places_across}
+use Rattle.twp_grid.specs.Places.{IsPlace}
 use Rattle.twp_text.specs.ItemPlaces.{cuts_of, in_chain}
-use Rattle.twp_text.specs.WrittenParts.{Part, steps_of_part, IsInPart, IsFull, preference, IsChosenHalf, IsOnSide}
+use Rattle.twp_text.specs.WrittenParts.{Part, steps_of_part, IsFull, preference, IsChosenHalf, IsOnSide}
 use Rattle.twp_text.specs.WrittenParts.Part.{square, half_of_square}
-use Rattle.twp_text.proofs.SquareFacts.{square_within, square_fits, half_within, half_fits}
+use Rattle.twp_text.proofs.SquareFacts.{square_within}
 use Rattle.twp_text.proofs.SquarePlaces.{path, first_of, up, corner_at, up_next, in_square, square_in}
-use Rattle.twp_text.proofs.HalfPlaces.{in_half, half_in}
+use Rattle.twp_text.proofs.HalfPlaces.{half_in}
 
 -- a test of numbers below a bound holds of one, or of none
 search : (n : ℕ) (test : ℕ → Bool) → ((k : ℕ) × (k < n) × (test k ≡ true)) ⊎ ((k : ℕ) → k < n → test k ≡ false)
@@ -81,8 +81,11 @@ is_full g held part = elim (is_within g part) [
     | inl found ↦
         let is = open_place (in_chain g (steps_of_part part) found.column found.row) (held found.column found.row) found.here in
         inr (λ full. false≢true (sym is.1 ∙ full.each found.column found.row (record { place = found.place; asked = is.0 })))
-    | inr none ↦ inl (record { within = within; each = λ column row inside.
-      closed_place (in_chain g (steps_of_part part) column row) (held column row) (none column row inside.place) inside.asked })
+    | inr none ↦ inl (record {
+      within = within;
+      each = λ column row inside.
+          closed_place (in_chain g (steps_of_part part) column row) (held column row) (none column row inside.place) inside.asked;
+    })
   ]
 ]
 
@@ -198,11 +201,11 @@ pub full_below : (g : ℕ) (held : ℕ → ℕ → Bool) (k j column row : ℕ) 
 full_below g held k j column row more fits full = record {
   within = square_within g (up g j column row) (rw (length_up g j column row) fits);
   each = λ column' row' inside.
-    let there = in_square g (up g j column row) column' row' (rw (length_up g j column row) fits) inside.asked in
-    let same : up g j column' row' ≡ up g j column row = subst (λ n. up g n column' row' ≡ up g j column row) (length_up g j column row) there in
-    let above : up g k column' row' ≡ up g k column row = up_same (j - k) g k j column' row' column row (omega arith) fits same in
-    let level : up g (length (up g k column row)) column' row' ≡ up g k column row = subst (λ n. up g n column' row' ≡ up g k column row) (sym (length_up g k column row)) above in
-    full.each column' row' (record { place = inside.place; asked = square_in g (up g k column row) column' row' (rw (length_up g k column row) (omega arith)) level });
+      let there = in_square g (up g j column row) column' row' (rw (length_up g j column row) fits) inside.asked in
+      let same : up g j column' row' ≡ up g j column row = subst (λ n. up g n column' row' ≡ up g j column row) (length_up g j column row) there in
+      let above : up g k column' row' ≡ up g k column row = up_same (j - k) g k j column' row' column row (omega arith) fits same in
+      let level : up g (length (up g k column row)) column' row' ≡ up g k column row = subst (λ n. up g n column' row' ≡ up g k column row) (sym (length_up g k column row)) above in
+      full.each column' row' (record { place = inside.place; asked = square_in g (up g k column row) column' row' (rw (length_up g k column row) (omega arith)) level });
 }
 
 -- so does its square in a half
@@ -211,11 +214,11 @@ pub half_below : (g : ℕ) (held : ℕ → ℕ → Bool) (side : Side) (k column
 half_below g held side k column row less on full = record {
   within = square_within g (up g (suc k) column row) (rw (length_up g (suc k) column row) (omega arith));
   each = λ column' row' inside.
-    let there = in_square g (up g (suc k) column row) column' row' (rw (length_up g (suc k) column row) (omega arith)) inside.asked in
-    let same : up g (suc k) column' row' ≡ up g (suc k) column row = subst (λ n. up g n column' row' ≡ up g (suc k) column row) (length_up g (suc k) column row) there in
-    let both = up_parent g k column' row' column row less same in
-    let level : up g (length (up g k column row)) column' row' ≡ up g k column row = subst (λ n. up g n column' row' ≡ up g k column row) (sym (length_up g k column row)) both.1 in
-    let corner : IsOnSide side (corner_at g (length (up g k column row)) column' row') =
-        subst (λ n. IsOnSide side (corner_at g n column' row')) (sym (length_up g k column row)) (subst (λ c. IsOnSide side c) (sym both.0) on) in
-    full.each column' row' (record { place = inside.place; asked = half_in g side (up g k column row) column' row' (rw (length_up g k column row) less) level corner });
+      let there = in_square g (up g (suc k) column row) column' row' (rw (length_up g (suc k) column row) (omega arith)) inside.asked in
+      let same : up g (suc k) column' row' ≡ up g (suc k) column row = subst (λ n. up g n column' row' ≡ up g (suc k) column row) (length_up g (suc k) column row) there in
+      let both = up_parent g k column' row' column row less same in
+      let level : up g (length (up g k column row)) column' row' ≡ up g k column row = subst (λ n. up g n column' row' ≡ up g k column row) (sym (length_up g k column row)) both.1 in
+      let corner : IsOnSide side (corner_at g (length (up g k column row)) column' row') =
+      subst (λ n. IsOnSide side (corner_at g n column' row')) (sym (length_up g k column row)) (subst (λ c. IsOnSide side c) (sym both.0) on) in
+      full.each column' row' (record { place = inside.place; asked = half_in g side (up g k column row) column' row' (rw (length_up g k column row) less) level corner });
 }

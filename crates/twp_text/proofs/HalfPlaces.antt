@@ -1,5 +1,5 @@
 -- The places that halves of squares hold.
-use Rattle.std.proofs.Common.{◌≡◌, ◌==◌, ℕ, zero, suc, ◌+◌, ◌-◌, ◌/◌, ◌%◌, ◌^◌, ◌<◌, ◌≤◌, ◌&&◌, Bool, true, false, List, [], ◌∷◌, ◌++◌, length, refl, sym, ap, ◌∙◌, arith}
+use Rattle.std.proofs.Common.{◌≡◌, ◌==◌, ℕ, zero, suc, ◌-◌, ◌/◌, ◌%◌, ◌^◌, ◌<◌, ◌&&◌, Bool, true, List, length, refl, sym, ap, ◌∙◌, arith}
 use Rattle.std.proofs.lemmas.Bool.{eqb-true, eq-eqb, and_parts}
 use Rattle.twp_grid.specs.declared.block.Side.{Side}
 use Rattle.twp_grid.specs.declared.block.Side.TheVariants.{N, S, E, W}
@@ -7,7 +7,7 @@ use Rattle.twp_grid.specs.declared.block.Corner.{Corner}
 use Rattle.twp_grid.specs.Cuts.{rows_asked, columns_asked}
 use Rattle.twp_grid.specs.Places.{binary, begins}
 use Rattle.twp_text.specs.ItemPlaces.{cuts_of, in_chain}
-use Rattle.twp_text.specs.WrittenParts.{Part, steps_of_part, IsOnSide, quarter_named}
+use Rattle.twp_text.specs.WrittenParts.{steps_of_part, IsOnSide, quarter_named}
 use Rattle.twp_text.specs.WrittenParts.Part.{half_of_square}
 use Rattle.twp_text.proofs.SquareFacts.{halved_last, axis_last, axis_none, chain_up, quarter_steps, columns_long, rows_long, half_within}
 use Rattle.twp_text.proofs.SquarePlaces.{path, square_reached, reached_square, even_or_odd, up, corner_at}

@@ -1,5 +1,5 @@
 -- Lists of all that has a property: there is one.
-use Rattle.std.proofs.Common.{◌≡◌, ℕ, zero, suc, ◌+◌, ◌<◌, ◌⊎◌, ◌↔◌, List, [], ◌∷◌, length, refl, sym, ap, ◌∙◌, inl, inr, arith}
+use Rattle.std.proofs.Common.{◌≡◌, ℕ, zero, suc, ◌<◌, ◌⊎◌, List, [], ◌∷◌, ◌++◌, length, refl, sym, ap, ◌∙◌, inl, inr, arith}
 use Rattle.std.specs.List.{Contains, AllPairs}
 use Rattle.std.proofs.Math.ListN.{get_or}
 use Rattle.twp_text.specs.Listing.{AreListed}
@@ -159,12 +159,12 @@ insert has before through compare thing it (first ∷ list) sound order = elim (
   | inl less ↦ insert_here before through thing first list less order
   | inr others ↦ elim others [
     | inl same ↦ record {
-        all = first ∷ list;
-        order = order;
-        new = λ x there. inr there;
-        here = inl same;
-        kept = λ x there. there;
-      }
+      all = first ∷ list;
+      order = order;
+      new = λ x there. inr there;
+      here = inl same;
+      kept = λ x there. there;
+    }
     | inr more ↦ insert_later before thing first list more order (insert has before through compare thing it list (λ x there. sound x (inr there)) order.1)
   ]
 ]
@@ -202,13 +202,75 @@ collect has before through compare decide (first ∷ candidates) =
 pub has_listing : {T : Type 0} (has : T → Type 0) (before : T → T → Type 0) → ((x y z : T) → before x y → before y z → before x z) → AreCompared has before
     → ((x : T) → has x ⊎ ¬ has x) → (candidates : List T) → ((x : T) → has x → Among x candidates) → (list : List T) × AreListed has before list
 has_listing has before through compare decide candidates complete =
-    let found = collect has before through compare decide candidates in
-    (found.list, record {
-      listed = λ x. ((λ it. among_contains x found.list (found.whole x (complete x it) it)), λ there. found.sound x (contains_among x found.list there));
-      ordered = order_pairs before found.list found.order;
-    })
+    let found = collect has before through compare decide candidates in (
+      found.list,
+      record {
+        listed = λ x. ((λ it. among_contains x found.list (found.whole x (complete x it) it)), λ there. found.sound x (contains_among x found.list there));
+        ordered = order_pairs before found.list found.order;
+      },
+    )
 
 -- what follows from an order for things of a list
 pub other_pairs : {T : Type 0} (before after : T → T → Type 0) (list : List T) → AllPairs before list → ((x y : T) → Among x list → Among y list → before x y → after x y) → AllPairs after list
 other_pairs before after list pairs follows i j d less within =
     follows (get_or list i d) (get_or list j d) (among_at list i d (omega arith)) (among_at list j d within) (pairs i j d less within)
+
+-- a list behind another
+pub among_either : {T : Type 0} (thing : T) (list more : List T) → Among thing (list ++ more) → Among thing list ⊎ Among thing more
+among_either thing [] more there = inr there
+among_either thing (first ∷ list) more (inl here) = inl (inl here)
+among_either thing (first ∷ list) more (inr later) = elim (among_either thing list more later) [ inl there ↦ inl (inr there) | inr there ↦ inr there ]
+
+pub among_left : {T : Type 0} (thing : T) (list more : List T) → Among thing list → Among thing (list ++ more)
+among_left thing [] more there = absurd there
+among_left thing (first ∷ list) more (inl here) = inl here
+among_left thing (first ∷ list) more (inr later) = inr (among_left thing list more later)
+
+pub among_right : {T : Type 0} (thing : T) (list more : List T) → Among thing more → Among thing (list ++ more)
+among_right thing [] more there = there
+among_right thing (first ∷ list) more there = inr (among_right thing list more there)
+
+pub order_both : {T : Type 0} (before : T → T → Type 0) (list more : List T) → InOrder before list → InOrder before more → ((x y : T) → Among x list → Among y more → before x y) → InOrder before (list ++ more)
+order_both before [] more order order' across = order'
+order_both {T = T} before (first ∷ list) more order order' across =
+    (ahead, order_both before list more order.1 order' (λ x y there there'. across x y (inr there) there'))
+  where
+    ahead : (thing : T) → Among thing (list ++ more) → before first thing
+    ahead thing there = elim (among_either thing list more there) [ inl here ↦ order.0 thing here | inr behind ↦ across first thing (inl refl) behind ]
+
+pub listed_both : {T : Type 0} (has has' : T → Type 0) (before : T → T → Type 0) (list more : List T) → AreListed has before list → AreListed has' before more
+    → ((x y : T) → has x → has' y → before x y) → AreListed (λ x. has x ⊎ has' x) before (list ++ more)
+listed_both {T = T} has has' before list more are are' across = record {
+  listed = λ x. (to x, from x);
+  ordered = order_pairs before (list ++ more) (order_both before list more (pairs_order before list are.ordered) (pairs_order before more are'.ordered)
+      (λ x y there there'. across x y ((are.listed x).1 (among_contains x list there)) ((are'.listed y).1 (among_contains y more there'))));
+}
+  where
+    to : (x : T) → has x ⊎ has' x → Contains (list ++ more) x
+    to x (inl it) = among_contains x (list ++ more) (among_left x list more (contains_among x list ((are.listed x).0 it)))
+    to x (inr it) = among_contains x (list ++ more) (among_right x list more (contains_among x more ((are'.listed x).0 it)))
+
+    from : (x : T) → Contains (list ++ more) x → has x ⊎ has' x
+    from x there = elim (among_either x list more (contains_among x (list ++ more) there)) [
+      | inl here ↦ inl ((are.listed x).1 (among_contains x list here))
+      | inr behind ↦ inr ((are'.listed x).1 (among_contains x more behind))
+    ]
+
+-- another name of the property
+pub listed_as : {T : Type 0} (has has' : T → Type 0) (before : T → T → Type 0) (list : List T) → ((x : T) → has x → has' x) → ((x : T) → has' x → has x) → AreListed has before list → AreListed has' before list
+listed_as has has' before list to from are = record {
+  listed = λ x. ((λ it. (are.listed x).0 (from x it)), (λ there. to x ((are.listed x).1 there)));
+  ordered = are.ordered;
+}
+
+pub listed_none : {T : Type 0} (has : T → Type 0) (before : T → T → Type 0) → ((x : T) → ¬ has x) → AreListed has before []
+listed_none has before none = record {
+  listed = λ x. ((λ it. absurd (none x it)), (λ there. let within = there.1 in absurd (omega arith)));
+  ordered = λ i j d less within. absurd (omega arith);
+}
+
+pub listed_one : {T : Type 0} (has : T → Type 0) (before : T → T → Type 0) (only : T) → has only → ((x : T) → has x → x ≡ only) → AreListed has before (only ∷ [])
+listed_one has before only it one = record {
+  listed = λ x. ((λ is. among_contains x (only ∷ []) (inl (one x is))), (λ there. elim (contains_among x (only ∷ []) there) [ inl same ↦ rw same it | inr none ↦ absurd none ]));
+  ordered = λ i j d less within. absurd (omega arith);
+}

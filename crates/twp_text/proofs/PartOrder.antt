@@ -1,21 +1,20 @@
 -- The order of written parts, and the list of them all.
-use Rattle.std.proofs.Common.{◌≡◌, ℕ, zero, suc, ◌+◌, ◌<◌, ◌≤◌, ◌⊎◌, ◌&&◌, Bool, true, false, List, [], ◌∷◌, ◌++◌, map, length, refl, sym, ap, subst, ◌∙◌, inl, inr, arith, nat_lt}
+use Rattle.std.proofs.Common.{◌≡◌, ℕ, zero, suc, ◌<◌, ◌≤◌, ◌⊎◌, ◌&&◌, Bool, false, List, [], ◌∷◌, ◌++◌, map, length, refl, sym, ap, subst, ◌∙◌, inl, inr, arith, nat_lt}
 use Rattle.std.proofs.lemmas.Bool.{cases_lt, and_parts}
 use Rattle.std.proofs.lemmas.Bool.Decides.{nat_tests}
 use Rattle.twp_grid.specs.declared.block.Side.{Side}
 use Rattle.twp_grid.specs.declared.block.Side.TheVariants.{N, S, E, W}
 use Rattle.twp_grid.specs.declared.block.Corner.{Corner}
 use Rattle.twp_grid.specs.declared.block.Corner.TheVariants.{NE, NW, SW, SE}
-use Rattle.twp_grid.specs.Places.{IsPlace}
 use Rattle.twp_text.specs.ItemPlaces.{in_chain}
-use Rattle.twp_text.specs.Listing.{AreListed}
 use Rattle.twp_text.specs.WrittenParts.{Part, steps_of_part, IsInPart, IsFull, preference, IsChosenHalf, IsOnSide, IsWritten, address, StandsAhead, AreWrittenParts}
 use Rattle.twp_text.specs.WrittenParts.Part.{square, half_of_square}
-use Rattle.twp_text.proofs.Listings.{Among, AreCompared, one_listing, has_listing}
+use Rattle.twp_text.specs.Spelling.{quarter_on}
+use Rattle.twp_text.proofs.Listings.{Among, AreCompared, one_listing, has_listing, among_left, among_right}
 use Rattle.twp_text.proofs.SquareFacts.{square_fits, half_fits}
-use Rattle.twp_text.proofs.SquarePlaces.{first_of, up, corner_at, up_next, square_in, PlaceOf, place_of, one_place, one_address}
+use Rattle.twp_text.proofs.SquarePlaces.{first_of, up, corner_at, up_next, square_in, place_of, one_place, one_address}
 use Rattle.twp_text.proofs.HalfPlaces.{half_in}
-use Rattle.twp_text.proofs.FullParts.{Found, search_places, is_full, chosen_half, one_chosen, same_side, on_side}
+use Rattle.twp_text.proofs.FullParts.{search_places, is_full, chosen_half, one_chosen, same_side, on_side}
 use Rattle.twp_text.proofs.WrittenFacts.{one_part}
 
 -- the order is strict
@@ -31,9 +30,9 @@ ahead_through g part middle last ahead behind = record {
   row = ahead.row;
   inside = ahead.inside;
   lower = λ column' row' inside.
-    let less = ahead.lower behind.column behind.row behind.inside in
-    let more = behind.lower column' row' inside in
-    omega arith;
+      let less = ahead.lower behind.column behind.row behind.inside in
+      let more = behind.lower column' row' inside in
+      omega arith;
 }
 
 -- a part that is full holds a place
@@ -42,13 +41,7 @@ pub record Inside (g : ℕ) (part : Part) : Type 0 where
   pub row : ℕ
   pub inside : IsInPart g part column row
 
-quarter_on : Side → Corner
-quarter_on N = NE
-quarter_on S = SW
-quarter_on E = NE
-quarter_on W = NW
-
-is_quarter_on : (side : Side) → IsOnSide side (quarter_on side)
+pub is_quarter_on : (side : Side) → IsOnSide side (quarter_on side)
 unfolding quarter_on
 is_quarter_on N = tt
 is_quarter_on S = tt
@@ -64,7 +57,7 @@ some_place g held (half_of_square side quarters) full =
     let fits = half_fits g side quarters full.within in
     let there = place_of g (quarter_on side ∷ quarters) fits in
     let both = first_of (corner_at g (length quarters) there.column there.row) (quarter_on side) (up g (length quarters) there.column there.row) quarters
-        (sym (up_next g (length quarters) there.column there.row fits) ∙ there.is) in
+    (sym (up_next g (length quarters) there.column there.row fits) ∙ there.is) in
     let on : IsOnSide side (corner_at g (length quarters) there.column there.row) = subst (λ c. IsOnSide side c) (sym both.0) (is_quarter_on side) in
     record { column = there.column; row = there.row; inside = record { place = there.place; asked = half_in g side quarters there.column there.row fits both.1 on } }
 
@@ -88,13 +81,13 @@ least_place (suc fuel) g part column row inside few = elim (search_places g (λ 
       let less : address g found.column found.row < address g column row = grind (arith, nat_tests, both.1) in
       least_place fuel g part found.column found.row (record { place = found.place; asked = both.0 }) (omega arith)
   | inr none ↦ record {
-      column = column;
-      row = row;
-      inside = inside;
-      least = λ column' row' there.
+    column = column;
+    row = row;
+    inside = inside;
+    least = λ column' row' there.
         let closed : nat_lt (address g column' row') (address g column row) ≡ false = rw there.asked at (none column' row' there.place) in
         grind (arith, nat_tests, closed);
-    }
+  }
 ]
 
 least_of : (g : ℕ) (held : ℕ → ℕ → Bool) (part : Part) → IsWritten g held part → Least g part
@@ -121,9 +114,9 @@ compared g held part other written written' =
         | inl less ↦ inr (inr (ahead_of g other part second first less))
         | inr not_less ↦
             let one = one_place g first.column first.row second.column second.row first.inside.place second.inside.place
-                (one_address g first.column first.row second.column second.row first.inside.place second.inside.place (omega arith)) in
+            (one_address g first.column first.row second.column second.row first.inside.place second.inside.place (omega arith)) in
             let there : IsInPart g part second.column second.row =
-                subst (λ r. IsInPart g part second.column r) one.1 (subst (λ c. IsInPart g part c first.row) one.0 first.inside) in
+            subst (λ r. IsInPart g part second.column r) one.1 (subst (λ c. IsInPart g part c first.row) one.0 first.inside) in
             inr (inl (one_part g held second.column second.row part other written written' there second.inside))
       ]
     ]
@@ -162,16 +155,7 @@ is_written g held (square (corner ∷ parent)) = elim (is_full g held (square (c
 ]
 
 -- all parts that are no finer than places
-among_left : {T : Type 0} (thing : T) (list more : List T) → Among thing list → Among thing (list ++ more)
-among_left thing [] more there = absurd there
-among_left thing (first ∷ list) more (inl here) = inl here
-among_left thing (first ∷ list) more (inr later) = inr (among_left thing list more later)
-
-among_right : {T : Type 0} (thing : T) (list more : List T) → Among thing more → Among thing (list ++ more)
-among_right thing [] more there = there
-among_right thing (first ∷ list) more there = inr (among_right thing list more there)
-
-among_map : {T U : Type 0} (f : T → U) (thing : T) (list : List T) → Among thing list → Among (f thing) (map f list)
+pub among_map : {T U : Type 0} (f : T → U) (thing : T) (list : List T) → Among thing list → Among (f thing) (map f list)
 among_map f thing [] there = absurd there
 among_map f thing (first ∷ list) (inl here) = inl (ap f here)
 among_map f thing (first ∷ list) (inr later) = inr (among_map f thing list later)

@@ -1,8 +1,6 @@
 -- Squares of a section and their halves: which places they hold.
-use Rattle.std.proofs.Common.{◌≡◌, ◌==◌, ℕ, zero, suc, ◌+◌, ◌-◌, ◌*◌, ◌/◌, ◌%◌, ◌^◌, ◌<◌, ◌≤◌, ◌&&◌, ◌↔◌, Bool, true, false, List, [], ◌∷◌, ◌++◌, length, map, refl, sym, ap, subst, ◌∙◌, arith, length-append}
-use Rattle.std.proofs.Math.Nat.{pow-succ', div-div-eq-div-mul, div-one, mul-div_cancel}
-use Rattle.std.proofs.lemmas.Nat.{pow_pos}
-use Rattle.std.proofs.lemmas.Bool.{eqb-true, eq-eqb, and_parts}
+use Rattle.std.proofs.Common.{◌≡◌, ◌==◌, ℕ, zero, suc, ◌+◌, ◌/◌, ◌%◌, ◌^◌, ◌<◌, ◌≤◌, ◌&&◌, Bool, true, false, List, [], ◌∷◌, ◌++◌, length, map, refl, sym, ap, ◌∙◌, arith, length-append}
+use Rattle.std.proofs.Math.Nat.{pow-succ', div-div-eq-div-mul, div-one}
 use Rattle.std.proofs.lemmas.List.{append-nil}
 use Rattle.twp_grid.specs.declared.block.Side.{Side}
 use Rattle.twp_grid.specs.declared.block.Side.TheVariants.{N, S, E, W}
@@ -10,12 +8,12 @@ use Rattle.twp_grid.specs.declared.block.Corner.{Corner}
 use Rattle.twp_grid.specs.declared.block.Corner.TheVariants.{NE, NW, SW, SE}
 use Rattle.twp_grid.specs.Cuts.{row_asked, column_asked, rows_asked, columns_asked, AreWithin}
 use Rattle.twp_grid.specs.Cuts.Cut.{half, quarter}
-use Rattle.twp_grid.specs.Places.{IsPlace, binary, begins}
+use Rattle.twp_grid.specs.Places.{binary, begins}
 use Rattle.twp_text.specs.declared.item.Step.{Step}
-use Rattle.twp_text.specs.declared.item.Step.TheVariants.{Half, Quarter}
+use Rattle.twp_text.specs.declared.item.Step.TheVariants.{Quarter}
 use Rattle.twp_text.specs.ItemPlaces.{cuts_of, in_chain}
-use Rattle.twp_text.specs.WrittenParts.{Part, steps_of_part, IsOnSide, quarter_named, turn_of_quarter, address}
-use Rattle.twp_text.specs.WrittenParts.Part.{square, half_of_square}
+use Rattle.twp_text.specs.WrittenParts.{steps_of_part, quarter_named}
+use Rattle.twp_text.specs.WrittenParts.Part.{half_of_square}
 
 -- the digits of a number: those of its half, and whether it is odd
 pub halved : (n h : ℕ) → n / 2 ^ suc h ≡ n / 2 / 2 ^ h

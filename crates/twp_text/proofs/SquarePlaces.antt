@@ -1,21 +1,16 @@
 -- The square of each level that a place lies in.
-use Rattle.std.proofs.Common.{◌≡◌, ◌==◌, ℕ, zero, suc, ◌+◌, ◌-◌, ◌*◌, ◌/◌, ◌%◌, ◌^◌, ◌<◌, ◌≤◌, ◌&&◌, ◌↔◌, Bool, true, false, List, [], ◌∷◌, ◌++◌, length, map, refl, sym, ap, subst, ◌∙◌, arith, length-append}
+use Rattle.std.proofs.Common.{◌≡◌, ◌==◌, ℕ, zero, suc, ◌+◌, ◌-◌, ◌*◌, ◌/◌, ◌%◌, ◌^◌, ◌<◌, ◌≤◌, ◌&&◌, true, List, [], ◌∷◌, ◌++◌, length, refl, sym, ap, ◌∙◌, arith}
 use Rattle.std.proofs.Math.Nat.{pow-succ', div-one, mul-div_cancel}
 use Rattle.std.proofs.lemmas.Nat.{pow_pos}
 use Rattle.std.proofs.lemmas.Bool.{eqb-true, eq-eqb, and_parts}
-use Rattle.twp_grid.specs.declared.block.Side.{Side}
-use Rattle.twp_grid.specs.declared.block.Side.TheVariants.{N, S, E, W}
 use Rattle.twp_grid.specs.declared.block.Corner.{Corner}
 use Rattle.twp_grid.specs.declared.block.Corner.TheVariants.{NE, NW, SW, SE}
-use Rattle.twp_grid.specs.Cuts.{row_asked, column_asked, rows_asked, columns_asked, AreWithin}
-use Rattle.twp_grid.specs.Cuts.Cut.{half, quarter}
+use Rattle.twp_grid.specs.Cuts.{row_asked, rows_asked, columns_asked}
+use Rattle.twp_grid.specs.Cuts.Cut.{quarter}
 use Rattle.twp_grid.specs.Places.{IsPlace, binary, begins}
-use Rattle.twp_text.specs.declared.item.Step.{Step}
-use Rattle.twp_text.specs.declared.item.Step.TheVariants.{Half, Quarter}
 use Rattle.twp_text.specs.ItemPlaces.{cuts_of, in_chain}
-use Rattle.twp_text.specs.WrittenParts.{steps_of_part, IsOnSide, quarter_named, turn_of_quarter, address}
-use Rattle.twp_text.specs.WrittenParts.Part.{half_of_square}
-use Rattle.twp_text.proofs.SquareFacts.{halved_last, axis_last, axis_none, chain_up, column_digit, row_digit, asks_column, asks_row, digits_small, named_by_digits, column_of_named, row_of_named, quarter_steps, columns_long, rows_long, square_within, half_within}
+use Rattle.twp_text.specs.WrittenParts.{quarter_named, turn_of_quarter, address}
+use Rattle.twp_text.proofs.SquareFacts.{halved_last, axis_last, chain_up, column_digit, row_digit, asks_column, asks_row, digits_small, named_by_digits, column_of_named, row_of_named, quarter_steps, columns_long, rows_long, square_within}
 
 -- the quarters that reach a place of a section whose sides are halved k times, the smallest first
 unfoldable pub path : ℕ → ℕ → ℕ → List Corner
@@ -72,7 +67,7 @@ reached_square (corner ∷ quarters) column row is =
     let x : column_digit corner ≡ column % 2 = ap column_digit (sym both.0) ∙ column_of_named (column % 2) (row % 2) (even_or_odd column) in
     let y : row_digit corner ≡ row % 2 = ap row_digit (sym both.0) ∙ row_of_named (column % 2) (row % 2) (even_or_odd row) in
     let parent = and_parts (begins (columns_asked (cuts_of (quarter_steps quarters))) (binary k (column / 2))) (begins (rows_asked (cuts_of (quarter_steps quarters))) (binary k (row / 2)))
-        (reached_square quarters (column / 2) (row / 2) both.1) in
+    (reached_square quarters (column / 2) (row / 2) both.1) in
     quarter_chain corner quarters column row
     ∙ rw (parent.0, parent.1, eq-eqb (column_digit corner) (column % 2) x, eq-eqb (row_digit corner) (row % 2) y) refl
 
@@ -213,6 +208,9 @@ turn_back NE = refl
 turn_back NW = refl
 turn_back SW = refl
 turn_back SE = refl
+
+pub same_quarter : (corner other : Corner) → turn_of_quarter corner ≡ turn_of_quarter other → corner ≡ other
+same_quarter corner other same = sym (turn_back corner) ∙ ap quarter_of_turn same ∙ turn_back other
 
 pub turn_small : (corner : Corner) → turn_of_quarter corner < 4
 turn_small NE = omega arith

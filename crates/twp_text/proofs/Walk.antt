@@ -23,11 +23,11 @@ run (Some s) is [] = Some (s, is)
 run (Some s) is (token ∷ ts) = run (next s (class_of token.kind)) (take_token s token.kind token.at is) ts
 
 -- the tokens of trees, before others
-abbrev each_onto : {A : Type 0} → (A → List Token → List Token) → List A → List Token → List Token
+abbrev pub each_onto : {A : Type 0} → (A → List Token → List Token) → List A → List Token → List Token
 each_onto f [] ts = ts
 each_onto f (v ∷ vs) ts = f v (each_onto f vs ts)
 
-abbrev onto : (g : Ebnf) → Tree g → List Token → List Token
+abbrev pub onto : (g : Ebnf) → Tree g → List Token → List Token
 onto never v ts = ts
 onto nothing v ts = ts
 onto (one class) leaf ts = token_of class leaf ∷ ts
@@ -41,7 +41,7 @@ each_onto_is f spelt each [] ts = refl
 each_onto_is f spelt each (v ∷ vs) ts =
     each v (each_onto f vs ts) ∙ ap (λ us. spelt v ++ us) (each_onto_is f spelt each vs ts) ∙ sym (append_assoc (spelt v) (flat_map spelt vs) ts)
 
-onto_is : (g : Ebnf) (v : Tree g) (ts : List Token) → onto g v ts ≡ tokens g v ++ ts
+pub onto_is : (g : Ebnf) (v : Tree g) (ts : List Token) → onto g v ts ≡ tokens g v ++ ts
 onto_is never v ts = refl
 onto_is nothing v ts = refl
 onto_is (one class) leaf ts = refl

@@ -1,13 +1,14 @@
 -- The written parts of what is held: they share no place, and hold all of it.
-use Rattle.std.proofs.Common.{◌≡◌, ℕ, zero, suc, ◌+◌, ◌-◌, ◌<◌, ◌≤◌, ◌⊎◌, Bool, true, false, List, [], ◌∷◌, length, refl, sym, ap, subst, ◌∙◌, inl, inr, arith}
+use Rattle.std.proofs.Common.{◌≡◌, ℕ, zero, suc, ◌<◌, ◌≤◌, Bool, true, List, [], ◌∷◌, length, sym, ap, subst, ◌∙◌, inl, inr, arith}
 use Rattle.std.proofs.lemmas.Bool.{cases_lt}
 use Rattle.twp_grid.specs.declared.block.Side.{Side}
 use Rattle.twp_grid.specs.declared.block.Corner.{Corner}
 use Rattle.twp_grid.specs.Places.{IsPlace}
 use Rattle.twp_text.specs.WrittenParts.{Part, IsInPart, IsFull, IsChosenHalf, IsOnSide, IsWritten}
 use Rattle.twp_text.specs.WrittenParts.Part.{square, half_of_square}
-use Rattle.twp_text.proofs.SquareFacts.{square_within, square_fits, half_within, half_fits}
-use Rattle.twp_text.proofs.SquarePlaces.{path, first_of, up, corner_at, up_none, up_next, in_square, square_in, up_all, one_place}
+use Rattle.twp_text.specs.Spelling.{square_quarters}
+use Rattle.twp_text.proofs.SquareFacts.{square_within, square_fits, half_fits}
+use Rattle.twp_text.proofs.SquarePlaces.{first_of, up, corner_at, up_none, up_next, in_square, square_in, up_all, one_place}
 use Rattle.twp_text.proofs.HalfPlaces.{in_half, half_in}
 use Rattle.twp_text.proofs.FullParts.{is_full, chosen_half, one_chosen, on_side, length_up, full_below, half_below}
 
@@ -81,10 +82,6 @@ not_deeper g held column row part (square (corner ∷ parent)) written written' 
         written'.2 side (subst (λ q. IsChosenHalf g held q side) is chosen) (subst (λ c. IsOnSide side c) corner_is half.1)
 
 -- the square of a written part that holds a place
-square_quarters : Part → List Corner
-square_quarters (square quarters) = quarters
-square_quarters (half_of_square side quarters) = quarters
-
 its_square : (g : ℕ) (held : ℕ → ℕ → Bool) (column row : ℕ) (part : Part) → IsWritten g held part → IsInPart g part column row → up g (level part) column row ≡ square_quarters part
 unfolding level square_quarters
 its_square g held column row (half_of_square side quarters) chosen inside = (in_half g side quarters column row (half_fits g side quarters chosen.full.within) inside.asked).0

@@ -74,8 +74,8 @@ pub record IsLotHeld (g section : ℕ) (held : ℕ → ℕ → Bool) (lot : ℕ)
   pub of_lot : lot_of_place g section column row ≡ Some lot
   pub is_held : held column row ≡ true
 
--- A section's list: `all` where each place is held; else the lots that are held, by rising number, and
--- then the written parts of what is held off the lots.
+-- A section's list: `all` where each place is held; else the lots that are held, by rising number,
+-- and then the written parts of what is held off the lots.
 pub data IsSectionList (g section : ℕ) (held : ℕ → ℕ → Bool) (text : List ℕ) : Type 0 where
   all : HoldsEach g held → text ≡ codes "all" → IsSectionList g section held text
   by_parts : ¬ HoldsEach g held → (lots : List ℕ) (parts : List Part)

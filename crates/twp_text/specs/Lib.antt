@@ -9,8 +9,10 @@ pub mod PlaceFaults
 pub mod Listing
 pub mod WrittenParts
 pub mod CanonicalText
+pub mod Spelling
 pub mod SpellingLaws
 pub mod Taking
 pub mod Cutting
 pub mod Machine
 pub mod Laws
+pub mod ReadBack

@@ -1,5 +1,5 @@
--- The parts that a section's land is written as: squares, which quarters reach from the section, and
--- halves of squares. Held is a test of column and row: the places that are to be written.
+-- The parts that a section's land is written as: squares, which quarters reach from the section,
+-- and halves of squares. Held is a test of column and row: the places that are to be written.
 use Rattle.std.specs.Prelude.{◌≡◌, ℕ, zero, suc, ◌+◌, ◌*◌, ◌/◌, ◌%◌, ◌<◌, Bool, true, List, [], ◌∷◌, map}
 use Rattle.twp_grid.specs.Places.{IsPlace}
 use Rattle.twp_grid.specs.Cuts.{AreWithin}
@@ -12,8 +12,8 @@ use Rattle.twp_text.specs.declared.item.Step.TheVariants.{Half, Quarter}
 use Rattle.twp_text.specs.ItemPlaces.{cuts_of, in_chain}
 use Rattle.twp_text.specs.Listing.{AreListed}
 
--- A square, or a half of one: the square's quarters are listed as they are written, the smallest first, so
--- what stands behind a square's own quarter reaches its parent. No quarters reach the whole section.
+-- A square, or a half of one. A square's quarters are listed as they are written, smallest first:
+-- those behind the first reach its parent. No quarters reach the whole section.
 pub data Part : Type 0 where
   square : List Corner → Part
   half_of_square : Side → List Corner → Part
@@ -60,8 +60,8 @@ IsOnSide W NW = Unit {0}
 IsOnSide W SW = Unit {0}
 IsOnSide side corner = ⊥
 
--- Written are the chosen halves, the section where it is full, and each other full square whose parent
--- isn't full and that doesn't lie in its parent's chosen half.
+-- Written are the chosen halves, the section where it is full, and each other full square whose
+-- parent isn't full and that doesn't lie in its parent's chosen half.
 abbrev pub IsWritten : ℕ → (ℕ → ℕ → Bool) → Part → Type 0
 IsWritten g held (half_of_square side quarters) = IsChosenHalf g held quarters side
 IsWritten g held (square []) = IsFull g held (square [])
@@ -84,13 +84,13 @@ turn_of_quarter NW = 1
 turn_of_quarter SW = 2
 turn_of_quarter SE = 3
 
--- A place's address, in base 4: a digit for each quarter that reaches it, the greatest quarter's first.
+-- A place's address in base 4: a digit for each quarter that reaches it, the greatest one's first.
 abbrev pub address : ℕ → ℕ → ℕ → ℕ
 address zero column row = 0
 address (suc g) column row =
     4 * address g (column / 2) (row / 2) + turn_of_quarter (quarter_named (column % 2) (row % 2))
 
--- a part comes before another where some place of it has a lower address than each place of the other
+-- a part stands ahead of another: some place of it has a lower address than each place of the other
 pub record StandsAhead (g : ℕ) (part other : Part) : Type 0 where
   pub column : ℕ
   pub row : ℕ

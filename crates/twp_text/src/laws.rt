@@ -2,8 +2,10 @@
 //! to do.
 ghost use Rattle.twp_text.specs.Laws.{HasTokenList, OneTokenList, OneItemList, ShortCompletion, SeveralAreEntries, OneReading, ReadHasNoFault, OneTextFault};
 ghost use Rattle.twp_text.specs.Laws.{OnPlatHasNoFault, OnePlaceAnswer};
-ghost use Rattle.twp_text.specs.SpellingLaws.{OneListOfParts, WrittenPartsAreApart, WrittenPartsHoldAll, FinerPlacesSameParts};
+ghost use Rattle.twp_text.specs.SpellingLaws.{OneListOfParts, WrittenPartsAreApart};
+ghost use Rattle.twp_text.specs.SpellingLaws.{WrittenPartsHoldAll, FinerPlacesSameParts};
 ghost use Rattle.twp_text.specs.SpellingLaws.{OneCanonicalText, EmptyLandHasEmptyText};
+ghost use Rattle.twp_text.specs.ReadBack.{CanonicalTextNamesItsLand, CanonicalTextIsReadBack, OneTextForEachLand};
 
 /// Every list of bytes is cut into tokens.
 pub fn has_token_list()
@@ -83,4 +85,21 @@ pub fn one_canonical_text()
 /// The canonical text of the empty land is empty.
 pub fn empty_land_has_empty_text()
     ensures { EmptyLandHasEmptyText }
+{}
+
+/// The canonical text of a land that isn't empty is a sentence that lies on the plat without overlap and
+/// names that land.
+pub fn canonical_text_names_its_land()
+    ensures { CanonicalTextNamesItsLand }
+{}
+
+/// The canonical text of a land that isn't empty, where it is no longer than a description may be, is read
+/// as items whose land is that land.
+pub fn canonical_text_is_read_back()
+    ensures { CanonicalTextIsReadBack }
+{}
+
+/// Two lands of one township have the same canonical text exactly if they are the same land.
+pub fn one_text_for_each_land()
+    ensures { OneTextForEachLand }
 {}

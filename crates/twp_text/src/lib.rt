@@ -20,6 +20,7 @@ mod taking;
 mod token;
 mod transition;
 mod word;
+mod written_parts;
 
 pub use description::Description;
 pub use expected::Expected;

@@ -1,5 +1,5 @@
 -- A step that is taken leaves the next block, and one that can't be taken says that the part is too fine.
-use Rattle.std.proofs.Common.{◌≡◌, ◌-◌, Some, slice_get, ◌∙◌, arith}
+use Rattle.std.proofs.Common.{◌-◌, ◌∙◌, arith}
 use Rattle.std.proofs.lemmas.Option.{slice_get-get_or}
 use Rattle.twp_grid.specs.Places.{PLACE_DIGITS}
 use Rattle.twp_text.proofs.ChainFacts.{cut_next, cut_stuck}
