@@ -14,3 +14,4 @@ pub mod TractFacts
 pub mod TallyFacts
 pub mod FirstTractFaults
 pub mod TractAreas
+pub mod OneNormal

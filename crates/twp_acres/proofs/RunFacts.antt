@@ -14,8 +14,8 @@ use Rattle.twp_text.specs.TextFaults.{IsReadAs}
 use Rattle.twp_text.specs.PlaceFaults.{IsFirstPlaceFault}
 use Rattle.twp_text.specs.declared.item.Item.{Item}
 use Rattle.twp_text.specs.declared.place_fault.PlaceFault.{PlaceFault}
-use Rattle.twp_acres.specs.Answers.{ArePlatted, IsNoDescription}
-use Rattle.twp_acres.specs.Stops.{IfRefused, IfFailed, IsPlatted, Settles}
+use Rattle.twp_acres.specs.Answers.{ArePlatted, IsNoDescription, IsNoPlat, IsRefusal}
+use Rattle.twp_acres.specs.Stops.{IfRefused, IfFailed}
 use Rattle.twp_acres.specs.declared.stop.Stop.{Stop}
 use Rattle.twp_acres.specs.declared.stop.Stop.TheVariants as stop
 use Rattle.twp_acres.specs.declared.verdict.RunFault.{RunFault}
@@ -46,15 +46,14 @@ pub if_ok : {T E : Type 0} (r : Result T E) (P Q : T → Type 0) → IfOk r P �
 if_ok (Ok x) P Q h f = f x h
 if_ok (Err e) P Q h f = tt
 
--- notes that make no plat settle the run
-pub settles_platted : (n d : List ℕ) (is : Stop) → IsPlatted n (Err is) → Settles n d (Err is)
-settles_platted n d (stop.Refused refusal) none = inl none
-settles_platted n d (stop.Failed fault) platted = tt
+-- what the notes stop, and what the description stops on their plat, is refused of both
+pub refused_of_notes : (n d : List ℕ) (is : Stop) → IfRefused is (IsNoPlat n) → IfRefused is (IsRefusal n d)
+refused_of_notes n d (stop.Refused refusal) none = inl none
+refused_of_notes n d (stop.Failed fault) none = tt
 
--- on a plat, what is no description of land settles the run
-pub settles_described : (n d : List ℕ) (plat : TownshipPlat) (is : Stop) → ArePlatted n plat → IfRefused is (IsNoDescription plat.township d) → Settles n d (Err is)
-settles_described n d plat (stop.Refused refusal) platted none = inr (record { plat = plat; platted = platted; refused = none })
-settles_described n d plat (stop.Failed fault) platted none = tt
+pub refused_on_plat : (n d : List ℕ) (plat : TownshipPlat) (is : Stop) → ArePlatted n plat → IfRefused is (IsNoDescription plat.township d) → IfRefused is (IsRefusal n d)
+refused_on_plat n d plat (stop.Refused refusal) platted none = inr (record { plat = plat; platted = platted; refused = none })
+refused_on_plat n d plat (stop.Failed fault) platted none = tt
 
 -- items that don't lie on the plat stop the run by their refusal
 pub stopped_by_places : (township : Designation) (d : List ℕ) (is : List Item) (fault : PlaceFault) (stopped : Stop) → IsReadAs d is

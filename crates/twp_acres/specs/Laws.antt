@@ -12,6 +12,7 @@ use Rattle.twp_acres.specs.LandAreas.{IsLandArea}
 use Rattle.twp_acres.specs.Answers.{IsLandOnPlat}
 use Rattle.twp_acres.specs.AcresAnswers.{IsAcresAnswer}
 use Rattle.twp_acres.specs.PlatAnswers.{IsPlatAnswer}
+use Rattle.twp_acres.specs.NormalAnswers.{IsNormalAnswer}
 use Rattle.twp_acres.specs.declared.verdict.Verdict.{Verdict}
 
 -- no place is held by both
@@ -72,4 +73,11 @@ OneAnswerOfLand = (notes description description' answer answer' : List ℕ)
 abbrev pub OnePlatAnswer : Type 0
 OnePlatAnswer = (notes answer answer' : List ℕ) (verdict verdict' : Verdict)
     → IsPlatAnswer notes answer verdict → IsPlatAnswer notes answer' verdict'
+    → (answer ≡ answer') × (verdict ≡ verdict')
+
+-- two texts, the field notes and the description, have one canonical text, or one refusal
+abbrev pub OneNormalAnswer : Type 0
+OneNormalAnswer = (notes description answer answer' : List ℕ) (verdict verdict' : Verdict)
+    → IsNormalAnswer notes description answer verdict
+    → IsNormalAnswer notes description answer' verdict'
     → (answer ≡ answer') × (verdict ≡ verdict')

@@ -12,4 +12,5 @@ pub mod TractFaults
 pub mod ReportAnswers
 pub mod TractTaking
 pub mod TractLaws
+pub mod NormalAnswers
 pub mod Laws

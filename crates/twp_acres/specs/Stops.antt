@@ -3,8 +3,7 @@ use Rattle.std.specs.Prelude.{ℕ, Bool, List, Result, Ok, Err, ⊤}
 use Rattle.twp_grid.specs.Townships.{Designation}
 use Rattle.twp_grid.specs.declared.refusal.Refusal.{Refusal}
 use Rattle.twp_plat.specs.Plats.{TownshipPlat}
-use Rattle.twp_acres.specs.Answers.{ArePlatted, IsNoPlat, Describe, IsNoDescription, IsRefusal}
-use Rattle.twp_acres.specs.AcresAnswers.{HasAcres}
+use Rattle.twp_acres.specs.Answers.{ArePlatted, IsNoPlat, Describe, IsNoDescription, IsLandOnPlat, IsRefusal}
 use Rattle.twp_acres.specs.declared.verdict.RunFault.{RunFault}
 use Rattle.twp_acres.specs.declared.stop.Stop.{Stop}
 use Rattle.twp_acres.specs.declared.stop.Stop.TheVariants as stop
@@ -31,7 +30,10 @@ IsDescribed places township description (Ok land) = Describe township descriptio
 IsDescribed places township description (Err stopped) =
     IfRefused stopped (IsNoDescription township description)
 
--- the hundredths of an acre of two texts, or the refusal that stops the run
-abbrev pub Settles : List ℕ → List ℕ → Result ℕ Stop → Type 0
-Settles notes description (Ok hundredths) = HasAcres notes description hundredths
-Settles notes description (Err stopped) = IfRefused stopped (IsRefusal notes description)
+-- the plat of the notes and the land described on it, or the refusal of the two texts
+abbrev pub IsRead : {D : Type 0} → (D → TownshipPlat) → (D → ℕ → ℕ → ℕ → Bool) → List ℕ → List ℕ
+    → Result D Stop → Type 0
+IsRead plat places notes description (Ok read) =
+    IsLandOnPlat notes description (plat read) (places read)
+IsRead plat places notes description (Err stopped) =
+    IfRefused stopped (IsRefusal notes description)

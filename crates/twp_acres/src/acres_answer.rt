@@ -6,12 +6,10 @@ ghost use Rattle.twp_text.specs.TextFaults.{TEXT_LIMIT};
 ghost use Rattle.twp_acres.specs.Answers.{MakePlat};
 ghost use Rattle.twp_acres.specs.AcresAnswers.{IsAcresAnswer, acres_line};
 ghost use Rattle.twp_acres.specs.Runs.{AnyFailed, ReadsTwo};
-ghost use Rattle.twp_acres.specs.Stops.{Settles};
-ghost use Rattle.twp_acres.specs.declared.stop.Stop.TheVariants.{Failed};
 
 use crate::answer::{Answer, refuse};
 use crate::area::area_of;
-use crate::stages::{read_land, read_plat};
+use crate::stages::read_land_on_plat;
 use crate::stop::Stop;
 use crate::verdict::{RunFault, Verdict};
 use std::alloc::Global;
@@ -39,35 +37,11 @@ pub fn answer_of<N: Source, D: Source>(
         MakePlat (description.new ≡ description.old)
         (λ n d. IfOk result (λ answer. IsAcresAnswer n d answer.text.items answer.verdict)) }
 {
-    match hundredths_of(alloc, notes, description) {
-        Ok(hundredths) => accept(alloc, hundredths),
+    match read_land_on_plat::<N, D, Lanes>(alloc, notes, description) {
+        Ok(read) => accept(alloc, area_of(&read.plat, &read.land).hundredths()),
         Err(Stop::Refused(refusal)) => refuse(alloc, refusal),
         Err(Stop::Failed(fault)) => Err(fault),
     }
-}
-
-/// The hundredths of an acre of the land described: exact, and rounded once.
-fn hundredths_of<N: Source, D: Source>(
-    alloc: Global,
-    notes: &mut N,
-    description: &mut D,
-) -> Result<u64, Stop>
-    requires notes { N.has_failed notes.old ≡ false }
-    requires description { D.has_failed description.old ≡ false }
-    ensures read { IsErrOf result (Failed RunFault.Read)
-        ↔ AnyFailed (N.has_failed notes.new) (D.has_failed description.new) }
-    ensures no_write { IfErr result (λ stop. stop ≢ Failed RunFault.Write) }
-    ensures notes_most { TakesAtMost (N.remaining notes.old)
-        (N.remaining notes.new) (NOTES_MOST + 1) }
-    ensures description_most { TakesAtMost (D.remaining description.old)
-        (D.remaining description.new) (TEXT_LIMIT + 1) }
-    ensures settles { ReadsTwo (N.remaining notes.old) (D.remaining description.old)
-        MakePlat (description.new ≡ description.old)
-        (λ n d. Settles n d result) }
-{
-    let plat = read_plat(alloc, notes)?;
-    let land: Lanes = read_land(alloc, plat.township(), description)?;
-    Ok(area_of(&plat, &land).hundredths())
 }
 
 /// The answer of so many hundredths of an acre.

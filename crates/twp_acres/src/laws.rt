@@ -3,7 +3,7 @@
 ghost use Rattle.twp_acres.specs.Laws.{OneLandArea, DisjointAreasAdd};
 ghost use Rattle.twp_acres.specs.Laws.{SectionAreaIsOfLand, TownshipAreaIsOfLand};
 ghost use Rattle.twp_acres.specs.TractLaws.{RestAddsUp};
-ghost use Rattle.twp_acres.specs.Laws.{OneAnswer, OneAnswerOfLand, OnePlatAnswer};
+ghost use Rattle.twp_acres.specs.Laws.{OneAnswer, OneAnswerOfLand, OnePlatAnswer, OneNormalAnswer};
 
 /// A set of places has one area on a plat.
 pub fn one_land_area()
@@ -46,4 +46,9 @@ pub fn one_answer_of_land()
 /// Field notes have one printed plat and one verdict.
 pub fn one_plat_answer()
     ensures { OnePlatAnswer }
+{}
+
+/// Field notes and a description have one canonical text and one verdict.
+pub fn one_normal_answer()
+    ensures { OneNormalAnswer }
 {}

@@ -8,6 +8,7 @@ mod answer;
 mod area;
 pub mod laws;
 mod names;
+mod normal_answer;
 mod plat_answer;
 mod report_answer;
 mod running;
@@ -20,5 +21,5 @@ mod verdict;
 mod writing;
 
 pub use area::area_of;
-pub use running::{run_acres, run_plat, run_report};
+pub use running::{run_acres, run_normal, run_plat, run_report};
 pub use verdict::{RunFault, Verdict};

@@ -7,11 +7,13 @@ ghost use Rattle.twp_text.specs.TextFaults.{TEXT_LIMIT};
 ghost use Rattle.twp_acres.specs.Answers.{MakePlat, IsRefusal, refusal_line};
 ghost use Rattle.twp_acres.specs.AcresAnswers.{HasAcres, IsAcresAnswer, acres_line};
 ghost use Rattle.twp_acres.specs.PlatAnswers.{IsPlatAnswer};
+ghost use Rattle.twp_acres.specs.NormalAnswers.{IsNormalAnswer};
 ghost use Rattle.twp_acres.specs.ReportAnswers.{IsReportAnswer};
 ghost use Rattle.twp_acres.specs.Tracts.{TRACTS_LIMIT};
 ghost use Rattle.twp_acres.specs.Runs.{AnyFailed, AppendsFront, IsAnswered, IsRun, Reads, ReadsTwo};
 
 use crate::answer::Answer;
+use crate::normal_answer;
 use crate::verdict::{RunFault, Verdict};
 use crate::writing::write_whole;
 use crate::{acres_answer, plat_answer, report_answer};
@@ -159,6 +161,52 @@ pub fn run_report<N: Source, T: Source, W: Sink>(
         (T.remaining tracts.new) (TRACTS_LIMIT + 1) }
 {
     let answer = report_answer::answer_of(alloc, notes, tracts)?;
+    write_answer(out, &answer)
+}
+
+/// Writes the canonical text of the land described: one text for each land, however it was spelled. Where
+/// the notes make no plat, or the description is of no land on it, it writes the numbered refusal of the
+/// first fault, at its place.
+///
+/// The whole answer is made before its first byte is written.
+pub fn run_normal<N: Source, D: Source, W: Sink>(
+    alloc: Global,
+    notes: &mut N,
+    description: &mut D,
+    out: &mut W,
+) -> Result<Verdict, RunFault>
+    requires notes { N.has_failed notes.old ≡ false }
+    requires description { D.has_failed description.old ≡ false }
+    requires out { W.has_failed out.old ≡ false }
+
+    // The canonical text of the land that told texts describe, or the refusal; a verdict where no device
+    // fails and no memory is refused.
+    ensures told { (n d : List ℕ)
+        → N.remaining notes.old ≡ Some n → D.remaining description.old ≡ Some d
+        → IsRun (IsNormalAnswer n d) (W.contents out.old) (W.contents out.new) result }
+    ensures answers { N.has_failed notes.new ≡ false → D.has_failed description.new ≡ false
+        → W.has_failed out.new ≡ false → IsOkUnless result RunFault.Memory }
+
+    // The same whatever the devices tell of their bytes. The description is read only where the notes
+    // make a plat.
+    ensures ran { ReadsTwo (N.remaining notes.old) (D.remaining description.old)
+        MakePlat (description.new ≡ description.old)
+        (λ n d. IsRun (IsNormalAnswer n d) (W.contents out.old) (W.contents out.new) result) }
+    ensures unread { (n : List ℕ) → N.remaining notes.old ≡ Some n → (MakePlat n → ⊥)
+        → description.new ≡ description.old }
+
+    // A fault of a device is answered exactly where that device failed in this call.
+    ensures read { IsErrOf result RunFault.Read
+        ↔ AnyFailed (N.has_failed notes.new) (D.has_failed description.new) }
+    ensures write { IsErrOf result RunFault.Write ↔ (W.has_failed out.new ≡ true) }
+
+    // Reading ends one byte past the limit, if not before.
+    ensures notes_most { TakesAtMost (N.remaining notes.old)
+        (N.remaining notes.new) (NOTES_MOST + 1) }
+    ensures description_most { TakesAtMost (D.remaining description.old)
+        (D.remaining description.new) (TEXT_LIMIT + 1) }
+{
+    let answer = normal_answer::answer_of(alloc, notes, description)?;
     write_answer(out, &answer)
 }
 

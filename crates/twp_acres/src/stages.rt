@@ -5,8 +5,9 @@ ghost use Rattle.twp_grid.specs.Places.{PLACE_DIGITS};
 ghost use Rattle.twp_notes.specs.FieldNotes.{NOTES_MOST};
 ghost use Rattle.twp_land.specs.WholeLots.{HasWholeLots};
 ghost use Rattle.twp_text.specs.TextFaults.{TEXT_LIMIT};
-ghost use Rattle.twp_acres.specs.Runs.{Reads};
-ghost use Rattle.twp_acres.specs.Stops.{IfFailed, IsPlatted, IsDescribed};
+ghost use Rattle.twp_acres.specs.Answers.{MakePlat};
+ghost use Rattle.twp_acres.specs.Runs.{AnyFailed, Reads, ReadsTwo};
+ghost use Rattle.twp_acres.specs.Stops.{IfFailed, IsPlatted, IsDescribed, IsRead};
 ghost use Rattle.twp_acres.specs.declared.stop.Stop.TheVariants.{Failed};
 ghost use Rattle.twp_acres.specs.declared.verdict.RunFault.{RunFault};
 
@@ -60,4 +61,38 @@ pub fn land_of<L: Land>(alloc: Global, township: Township, text: &[u8]) -> Resul
 {
     let description = Description::read(alloc, text)?;
     Ok(resolve(&description, township)?)
+}
+
+/// The plat of field notes, and the land of a description on it.
+#[derive(Drop)]
+pub struct LandOnPlat<L: Land> {
+    pub plat: Plat,
+    pub land: L,
+}
+
+/// The plat of the notes that a source gives, and the land on it of the description that another gives,
+/// which is read only where the notes make a plat.
+pub fn read_land_on_plat<N: Source, D: Source, L: Land>(
+    alloc: Global,
+    notes: &mut N,
+    description: &mut D,
+) -> Result<LandOnPlat<L>, Stop>
+    requires notes { N.has_failed notes.old ≡ false }
+    requires description { D.has_failed description.old ≡ false }
+    ensures read { IsErrOf result (Failed RunFault.Read)
+        ↔ AnyFailed (N.has_failed notes.new) (D.has_failed description.new) }
+    ensures no_write { IfErr result (λ stop. stop ≢ Failed RunFault.Write) }
+    ensures notes_most { TakesAtMost (N.remaining notes.old)
+        (N.remaining notes.new) (NOTES_MOST + 1) }
+    ensures description_most { TakesAtMost (D.remaining description.old)
+        (D.remaining description.new) (TEXT_LIMIT + 1) }
+    ensures land { ReadsTwo (N.remaining notes.old) (D.remaining description.old)
+        MakePlat (description.new ≡ description.old)
+        (λ n d. IsRead (λ read. read.plat) (λ read. L.places read.land) n d result) }
+    ensures whole_lots { IfOk result
+        (λ read. HasWholeLots PLACE_DIGITS (L.places read.land)) }
+{
+    let plat = read_plat(alloc, notes)?;
+    let land = read_land(alloc, plat.township(), description)?;
+    Ok(LandOnPlat { plat, land })
 }

@@ -6,6 +6,7 @@ use twp_notes::{Notes, Returned};
 
 mod acres;
 mod devices;
+mod normal;
 mod plat;
 mod refusals;
 mod report;

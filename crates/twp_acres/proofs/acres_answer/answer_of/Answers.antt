@@ -4,7 +4,7 @@ use Rattle.twp_acres.proofs.acres_answer.answer_of.Goals as goal
 
 pub returns-in-Err-Refused-clause-answer : goal.returns-in-Err-Refused-clause-answer
 returns-in-Err-Refused-clause-answer g c =
-    let settled = c.in-Err-Refused.ensures.settles in
+    let settled = c.in-Err-Refused.ensures.land in
     let refusal = rw c.in-Err-Refused.field-0-is at settled.holds in
     record {
       first_bytes = settled.first_bytes;

@@ -1,0 +1,23 @@
+-- The answer of the spelling run: the canonical text of the land described, or the refusal.
+use Rattle.std.specs.Prelude.{◌≡◌, ℕ, List, Bool}
+use Rattle.twp_grid.specs.Places.{PLACE_DIGITS}
+use Rattle.twp_plat.specs.Plats.{TownshipPlat}
+use Rattle.twp_text.specs.CanonicalText.{IsCanonicalText}
+use Rattle.twp_acres.specs.Answers.{IsLandOnPlat, IsRefusal, refusal_line}
+use Rattle.twp_acres.specs.declared.verdict.Verdict.{Verdict}
+use Rattle.twp_acres.specs.declared.verdict.Verdict.TheVariants.{Accepted, Refused, TractRefused}
+
+-- the notes make a plat, the description is of land on it, and this is the land's canonical text
+pub record IsNormalForm (notes description text : List ℕ) : Type 0 where
+  pub plat : TownshipPlat
+  pub places : ℕ → ℕ → ℕ → Bool
+  pub land : IsLandOnPlat notes description plat places
+  pub text_is : IsCanonicalText PLACE_DIGITS plat.township places text
+
+-- The canonical text of the land described, where the notes make a plat and the description's parts lie
+-- on it without overlap. Else the refusal of the first fault.
+abbrev pub IsNormalAnswer : List ℕ → List ℕ → List ℕ → Verdict → Type 0
+IsNormalAnswer notes description answer Accepted = IsNormalForm notes description answer
+IsNormalAnswer notes description answer (Refused refusal) =
+    IsRefusal notes description refusal × (answer ≡ refusal_line refusal)
+IsNormalAnswer notes description answer (TractRefused at inner) = ⊥
