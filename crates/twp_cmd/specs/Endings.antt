@@ -1,10 +1,6 @@
 -- How the program ends, by the words of its command line.
-use Rattle.std.specs.Prelude.{◌≡◌, ◌⊎◌, ℕ, List, ⊤}
+use Rattle.std.specs.Prelude.{◌≡◌, ◌⊎◌, List, ⊤}
 use Rattle.clap.specs.Words.{Text}
-use Rattle.twp_acres.specs.AcresAnswers.{IsAcresAnswer}
-use Rattle.twp_acres.specs.NormalAnswers.{IsNormalAnswer}
-use Rattle.twp_acres.specs.PlatAnswers.{IsPlatAnswer}
-use Rattle.twp_acres.specs.declared.verdict.Verdict.{Verdict}
 use Rattle.clap.specs.declared.error.kind.ErrorKind.TheVariants.{DisplayHelp}
 use Rattle.twp_cmd.specs.Tasks.{HasKindAt, IsFaultOf, IsTaskOf}
 use Rattle.twp_cmd.specs.declared.ending.Ending.{Ending}
@@ -12,32 +8,23 @@ use Rattle.twp_cmd.specs.declared.ending.Ending.TheVariants.{Answered, Helped, M
 use Rattle.twp_cmd.specs.declared.ending.Failure.{Failure}
 use Rattle.twp_cmd.specs.declared.ending.Failure.TheVariants.{Open, Run}
 use Rattle.twp_cmd.specs.declared.task.Task.{Task}
-use Rattle.twp_cmd.specs.declared.task.Task.TheVariants.{Plat, Acres, Normal}
+use Rattle.twp_cmd.specs.declared.task.Task.TheVariants.{Plat, Acres}
 use Rattle.twp_cmd.specs.declared.task.TaskFault.TheVariants.{Usage}
 
 -- the task is given this file
 abbrev pub IsFileOf : Task → Text → Type 0
 IsFileOf (Plat notes) name = name ≡ notes
 IsFileOf (Acres notes description) name = (name ≡ notes) ⊎ (name ≡ description)
-IsFileOf (Normal notes description) name = (name ≡ notes) ⊎ (name ≡ description)
 
 -- a task fails on a file that can't be opened, which is its own, or in its run
 abbrev pub FailsOn : Task → Failure → Type 0
 FailsOn task (Open name) = IsFileOf task name
 FailsOn task (Run fault) = ⊤
 
--- The verdict is one of the task's run, on some bytes: files tell none, so it isn't said on which.
-abbrev pub IsVerdictOf : Task → Verdict → Type 0
-IsVerdictOf (Plat notes) verdict = (n answer : List ℕ) × IsPlatAnswer n answer verdict
-IsVerdictOf (Acres notes description) verdict =
-    (n d answer : List ℕ) × IsAcresAnswer n d answer verdict
-IsVerdictOf (Normal notes description) verdict =
-    (n d answer : List ℕ) × IsNormalAnswer n d answer verdict
-
 -- An answer comes only where the words ask for a task, help only where they ask for help, and usage
 -- only where they misuse the command.
 abbrev pub EndsAs : List Text → Ending → Type 0
-EndsAs words (Answered verdict) = (task : Task) × IsTaskOf words task × IsVerdictOf task verdict
+EndsAs words (Answered verdict) = (task : Task) × IsTaskOf words task
 EndsAs words Helped = HasKindAt words DisplayHelp
 EndsAs words (Misused text) = IsFaultOf words (Usage text)
 EndsAs words (Failed (Open name)) = (task : Task) × IsTaskOf words task × IsFileOf task name

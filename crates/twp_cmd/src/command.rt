@@ -1,8 +1,7 @@
 ghost use Rattle.std.specs.Prelude.{◌≡◌, ◌∷◌, [], IfOk, false, codes};
 ghost use Rattle.clap.specs.Words.{app_of, rule_of, shape_of};
 ghost use Rattle.clap.specs.declared.builder.command.Command.TheViews.{out-Command as fields_of};
-ghost use Rattle.twp_cmd.specs.Commands.{IsTownship, described, required_word, township_with};
-ghost use Rattle.twp_cmd.specs.Commands.{plat as the_plat};
+ghost use Rattle.twp_cmd.specs.Commands.{IsTownship, required_word, subcommand_with};
 
 use clap::{Arg, Command};
 use std::alloc::{AllocError, Global};
@@ -13,14 +12,6 @@ const NAME: &str = "township";
 /// The command line of the program: one of its subcommands, with its files.
 pub(crate) fn township<'a>(alloc: Global) -> Result<Command<'a>, AllocError>
     ensures { IfOk result (λ command. IsTownship (app_of command)) }
-{
-    measures(alloc)?.subcommand(normal(alloc)?)
-}
-
-/// The command line with the subcommands that write acres.
-fn measures<'a>(alloc: Global) -> Result<Command<'a>, AllocError>
-    ensures { IfOk result (λ command. app_of command
-        ≡ township_with (the_plat ∷ described (codes "acres") ∷ [])) }
 {
     Command::new(alloc, NAME)
         .about(
@@ -36,7 +27,7 @@ fn measures<'a>(alloc: Global) -> Result<Command<'a>, AllocError>
 fn plat<'a>(alloc: Global) -> Result<Command<'a>, AllocError>
     ensures local { IfOk result (λ command. (fields_of command).has_globals ≡ false) }
     ensures shape { IfOk result (λ command. shape_of command
-        ≡ the_plat) }
+        ≡ subcommand_with (codes "plat") (codes "NOTES" ∷ [])) }
 {
     Command::new(alloc, "plat")
         .about("Writes the acres of each lot, of each section and of the whole township")
@@ -47,22 +38,10 @@ fn plat<'a>(alloc: Global) -> Result<Command<'a>, AllocError>
 fn acres<'a>(alloc: Global) -> Result<Command<'a>, AllocError>
     ensures local { IfOk result (λ command. (fields_of command).has_globals ≡ false) }
     ensures shape { IfOk result (λ command. shape_of command
-        ≡ described (codes "acres")) }
+        ≡ subcommand_with (codes "acres") (codes "NOTES" ∷ codes "DESCRIPTION" ∷ [])) }
 {
     Command::new(alloc, "acres")
         .about("Writes the acres of the land that a description names")
-        .arg(notes(alloc))?
-        .arg(description(alloc))
-}
-
-/// `normal NOTES DESCRIPTION`
-fn normal<'a>(alloc: Global) -> Result<Command<'a>, AllocError>
-    ensures local { IfOk result (λ command. (fields_of command).has_globals ≡ false) }
-    ensures shape { IfOk result (λ command. shape_of command
-        ≡ described (codes "normal")) }
-{
-    Command::new(alloc, "normal")
-        .about("Writes the one canonical spelling of the land that a description names")
         .arg(notes(alloc))?
         .arg(description(alloc))
 }
