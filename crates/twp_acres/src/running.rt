@@ -13,10 +13,9 @@ ghost use Rattle.twp_acres.specs.Tracts.{TRACTS_LIMIT};
 ghost use Rattle.twp_acres.specs.Runs.{AnyFailed, AppendsFront, IsAnswered, IsRun, Reads, ReadsTwo};
 
 use crate::answer::Answer;
-use crate::normal_answer;
 use crate::verdict::{RunFault, Verdict};
 use crate::writing::write_whole;
-use crate::{acres_answer, plat_answer, report_answer};
+use crate::{acres_answer, normal_answer, plat_answer, report_answer};
 use std::alloc::Global;
 use twp_grid::{Sink, Source};
 

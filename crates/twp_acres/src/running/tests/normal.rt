@@ -21,7 +21,10 @@ fn spells_each_land_in_one_way(rt: HostRuntime) -> Result<(), Fail> {
     for (description, canonical) in [
         // The north half is the first full half; the north-east and north-west quarters lie in it.
         ("sec. 14, SE1/4, NE1/4, NW1/4.", "sec. 14, N1/2, SE1/4.\n"),
-        ("sec. 14, N1/2, N1/2SE1/4, S1/2SE1/4.", "sec. 14, N1/2, SE1/4.\n"),
+        (
+            "sec. 14, N1/2, N1/2SE1/4, S1/2SE1/4.",
+            "sec. 14, N1/2, SE1/4.\n",
+        ),
         // A section that is held whole, by whatever parts.
         ("sec. 14, S1/2N1/2, N1/2N1/2, and S1/2.", "sec. 14, all.\n"),
         ("sec. 14", "sec. 14, all.\n"),
@@ -59,7 +62,11 @@ fn refuses_as_the_acreage_run_does(rt: HostRuntime) -> Result<(), Fail> {
         (b"".as_slice(), "sec. 14.", Refused(2, 1)),
         (notes.as_slice(), "sec. 14,", Refused(44, 8)),
         (notes.as_slice(), "sec. 5, N1/2.", Refused(66, 8)),
-        (notes.as_slice(), "sec. 14, NE1/4 and N1/2.", Refused(67, 19)),
+        (
+            notes.as_slice(),
+            "sec. 14, NE1/4 and N1/2.",
+            Refused(67, 19),
+        ),
     ] {
         let answer = normal_of(alloc, bytes, description.as_bytes())?;
         assert_eq!(rt; answer, expected(alloc, said)?, "{description}");
