@@ -101,6 +101,15 @@ township total 23037.57' ''
 run plat empty; ended 'a refused plat' $? 1 'refused 2 at 1' ''
 run plat /dev/stdin < edited; ended 'the plat of a device' $? 1 'refused 23 at 53' ''
 
+# The canonical spelling, which is spelled as it is.
+printf 'sec. 14, SE1/4, NE1/4, NW1/4.' > parts
+run normal n.csv parts; ended 'normal' $? 0 'T. 2 N., R. 3 W.,
+sec. 14, N1/2, SE1/4.' ''
+cp out canonical
+run normal n.csv canonical; ended 'normal, once more' $? 0 "$(cat canonical)" ''
+run acres n.csv canonical; ended 'its acres' $? 0 '480.00 acres' ''
+run normal empty parts; ended 'normal, refused' $? 1 'refused 2 at 1' ''
+
 # Without a word: standard input.
 run < joined; ended 'joined input' $? 0 '40.45 acres' ''
 cat joined | run; ended 'joined input on a pipe' $? 0 '40.45 acres' ''
@@ -114,9 +123,10 @@ help_text="Protracts a township from its field notes, and gives the acres of lan
 Usage: township <COMMAND>
 
 Commands:
-  plat   Writes the acres of each lot, of each section and of the whole township
-  acres  Writes the acres of the land that a description names
-  help   Print this message or the help of the given subcommand(s)
+  plat    Writes the acres of each lot, of each section and of the whole township
+  acres   Writes the acres of the land that a description names
+  normal  Writes the one canonical spelling of the land that a description names
+  help    Print this message or the help of the given subcommand(s)
 
 Options:
   -h, --help  Print help"
@@ -153,7 +163,7 @@ $usage"
 run n.csv d.txt; ended 'no subcommand' $? 2 '' "error: unrecognized subcommand 'n.csv'
 
 $usage"
-run normal n.csv d.txt; ended 'a subcommand to come' $? 2 '' "error: unrecognized subcommand 'normal'
+run report n.csv t.csv; ended 'a subcommand to come' $? 2 '' "error: unrecognized subcommand 'report'
 
 $usage"
 run acres n.csv; ended 'a word too few' $? 2 '' "error: the following required arguments were not provided:

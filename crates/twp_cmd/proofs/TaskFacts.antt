@@ -14,7 +14,7 @@ use Rattle.twp_cmd.specs.Commands.{IsTownship, township}
 use Rattle.twp_cmd.specs.Parses.{HasValue, IsTaskIn, IsWhole, ShowsAs}
 use Rattle.twp_cmd.specs.Tasks.{HasGiven, IsFaultOf, IsTaskOf, given_description, given_notes}
 use Rattle.twp_cmd.specs.declared.task.Task.{Task}
-use Rattle.twp_cmd.specs.declared.task.Task.TheVariants.{Plat, Acres}
+use Rattle.twp_cmd.specs.declared.task.Task.TheVariants.{Plat, Acres, Normal}
 use Rattle.twp_cmd.specs.declared.task.TaskFault.{TaskFault}
 use Rattle.twp_cmd.specs.declared.task.TaskFault.TheVariants.{Usage, Help, Memory}
 use Rattle.twp_cmd.proofs.TownshipWords.{township_whole}
@@ -28,18 +28,26 @@ module _ {Z : Type 0} where
 pub entered_name : (m : ArgMatches) → option_map (λ p. p.0) (subcommand_rows_of m) ≡ subcommand_name_of m
 entered_name m = entered_names (out-ArgMatches m).subcommand
 
--- what isn't `plat` is `acres`
-pub acres_words : (entered : Option (Text × List Row)) (name : Text) (rows : List Row) → IsWhole entered
+-- what isn't `plat` is `acres` or `normal`
+pub described_words : (entered : Option (Text × List Row)) (name : Text) (rows : List Row) → IsWhole entered
     → option_map (λ p. p.0) entered ≡ Some name → option_map (λ p. p.1) entered ≡ Some rows
-    → (name ≡ codes "plat" → ⊥) → (name ≡ codes "acres") × HasValue (codes "DESCRIPTION") rows
-acres_words None name rows whole named found other = absurd whole
-acres_words (Some e) name rows whole named found other =
+    → (name ≡ codes "plat" → ⊥) → ((name ≡ codes "acres") ⊎ (name ≡ codes "normal")) × HasValue (codes "DESCRIPTION") rows
+described_words None name rows whole named found other = absurd whole
+described_words (Some e) name rows whole named found other =
     let same : e.0 ≡ name = cc in
     let those : e.1 ≡ rows = cc in
     elim whole [
       | inl h ↦ absurd (other (sym same ∙ h.0))
-      | inr h ↦ (sym same ∙ h.0, subst (HasValue (codes "DESCRIPTION")) those h.2)
+      | inr h ↦ (elim h.0 [
+        | inl is ↦ inl (sym same ∙ is)
+        | inr is ↦ inr (sym same ∙ is)
+      ], subst (HasValue (codes "DESCRIPTION")) those h.2)
     ]
+
+-- and what isn't `acres` either is `normal`
+pub normal_words : (name : Text) → (name ≡ codes "acres") ⊎ (name ≡ codes "normal") → (name ≡ codes "acres" → ⊥) → name ≡ codes "normal"
+normal_words name (inl is) other = absurd (other is)
+normal_words name (inr is) other = is
 
 simple : is_simple township ≡ true
 simple = refl
@@ -75,6 +83,15 @@ parse_task app words rows entered task is taken matches asks = go task asks
       values_are = All-cons (HasGiven h.0) (given_notes notes) [] h.2 (All-nil (HasGiven h.0));
     }
     go (Acres notes description) h = record {
+      app = app;
+      is_township = is;
+      taken = taken (rw is simple_and_free);
+      rows = h.0;
+      subcommand_is = sym (matches (rw is simple)).1 ∙ h.1;
+      values_are = All-cons (HasGiven h.0) (given_notes notes) (given_description description ∷ []) h.2
+          (All-cons (HasGiven h.0) (given_description description) [] h.3 (All-nil (HasGiven h.0)));
+    }
+    go (Normal notes description) h = record {
       app = app;
       is_township = is;
       taken = taken (rw is simple_and_free);

@@ -92,34 +92,45 @@ plat_whole words e =
     let given = leaf_given plat words (inl refl, (inr (refl, refl), tt)) refl e in
     inl (refl, has_value (codes "NOTES") (rows_after plat.rules [] words) _ given.0 given.1)
 
+abbrev normal : Shape
+normal = leaf (subcommand_with (codes "normal") (codes "NOTES" ∷ codes "DESCRIPTION" ∷ []))
+
 acres_whole : (words : List Text) → level_fault acres [] nothing_held words false [] ≡ [] → IsWhole (Some (rows_at acres words))
 acres_whole words e =
     let given = leaf_given acres words (inl refl, (inl refl, (inr (refl, refl), tt))) refl e in
     let rows = rows_after acres.rules [] words in
-    inr (refl, has_value (codes "NOTES") rows _ given.0 given.1, has_value (codes "DESCRIPTION") rows _ given.0 (rest_of _ _ given.1))
+    inr (inl refl, has_value (codes "NOTES") rows _ given.0 given.1, has_value (codes "DESCRIPTION") rows _ given.0 (rest_of _ _ given.1))
+
+normal_whole : (words : List Text) → level_fault normal [] nothing_held words false [] ≡ [] → IsWhole (Some (rows_at normal words))
+normal_whole words e =
+    let given = leaf_given normal words (inl refl, (inl refl, (inr (refl, refl), tt))) refl e in
+    let rows = rows_after normal.rules [] words in
+    inr (inr refl, has_value (codes "NOTES") rows _ given.0 given.1, has_value (codes "DESCRIPTION") rows _ given.0 (rest_of _ _ given.1))
 
 abbrev named : List Shape → Text → Option Shape
 named subs name = find (λ s. answers_to name (label_of s)) subs
 
-abbrev pick : Shape → Shape → Shape → Bool → Bool → Bool → Option Shape
-pick x y z a b c = if a then Some x else (if b then Some y else (if c then Some z else None))
+abbrev pick : Shape → Shape → Shape → Shape → Bool → Bool → Bool → Bool → Option Shape
+pick w x y z d a b c = if d then Some w else (if a then Some x else (if b then Some y else (if c then Some z else None)))
 
 -- a subcommand that was entered is one of those that take files
-one_of_two : (x y z : Shape) (name : Text) (words : List Text) → (answers_to name (label_of z) ≡ true → ⊥)
+one_of_three : (w x y z : Shape) (name : Text) (words : List Text) → (answers_to name (label_of z) ≡ true → ⊥)
+    → (level_fault w [] nothing_held words false [] ≡ [] → IsWhole (Some (rows_at w words)))
     → (level_fault x [] nothing_held words false [] ≡ [] → IsWhole (Some (rows_at x words)))
     → (level_fault y [] nothing_held words false [] ≡ [] → IsWhole (Some (rows_at y words)))
-    → option_map_or (λ s. level_fault s [] nothing_held words false []) (named (x ∷ y ∷ z ∷ []) name) [] ≡ []
-    → is_some (option_map (λ s. rows_at s words) (named (x ∷ y ∷ z ∷ []) name)) ≡ true
-    → IsWhole (option_map (λ s. rows_at s words) (named (x ∷ y ∷ z ∷ []) name))
-one_of_two x y z name words other first second e some =
-    go (answers_to name (label_of x)) (answers_to name (label_of y)) (answers_to name (label_of z)) other e some
+    → option_map_or (λ s. level_fault s [] nothing_held words false []) (named (w ∷ x ∷ y ∷ z ∷ []) name) [] ≡ []
+    → is_some (option_map (λ s. rows_at s words) (named (w ∷ x ∷ y ∷ z ∷ []) name)) ≡ true
+    → IsWhole (option_map (λ s. rows_at s words) (named (w ∷ x ∷ y ∷ z ∷ []) name))
+one_of_three w x y z name words other first second third e some =
+    go (answers_to name (label_of w)) (answers_to name (label_of x)) (answers_to name (label_of y)) (answers_to name (label_of z)) other e some
   where
-    go : (a b c : Bool) → (c ≡ true → ⊥) → option_map_or (λ s. level_fault s [] nothing_held words false []) (pick x y z a b c) [] ≡ []
-        → is_some (option_map (λ s. rows_at s words) (pick x y z a b c)) ≡ true → IsWhole (option_map (λ s. rows_at s words) (pick x y z a b c))
-    go true b c other e some = first e
-    go false true c other e some = second e
-    go false false true other e some = absurd (other refl)
-    go false false false other e some = cc
+    go : (d a b c : Bool) → (c ≡ true → ⊥) → option_map_or (λ s. level_fault s [] nothing_held words false []) (pick w x y z d a b c) [] ≡ []
+        → is_some (option_map (λ s. rows_at s words) (pick w x y z d a b c)) ≡ true → IsWhole (option_map (λ s. rows_at s words) (pick w x y z d a b c))
+    go true a b c other e some = first e
+    go false true b c other e some = second e
+    go false false true c other e some = third e
+    go false false false true other e some = absurd (other refl)
+    go false false false false other e some = cc
 
 no_answer : (name : Text) → IsNoHelp name → answers_to name (label_of help) ≡ true → ⊥
 no_answer name free answers = go (bytes_eq (codes "help") name) refl
@@ -134,7 +145,7 @@ no_answer name free answers = go (bytes_eq (codes "help") name) refl
 entered_whole : (stop : Option (Text × List Text)) → StoppedWell stop → entered_fault (built township) stop ≡ []
     → is_some (entered (built township) stop) ≡ true → IsWhole (entered (built township) stop)
 entered_whole None well e some = cc
-entered_whole (Some p) well e some = one_of_two plat acres help p.0 p.1 (no_answer p.0 well) (plat_whole p.1) (acres_whole p.1) e some
+entered_whole (Some p) well e some = one_of_three plat acres normal help p.0 p.1 (no_answer p.0 well) (plat_whole p.1) (acres_whole p.1) (normal_whole p.1) e some
 
 was_entered : (b : Bool) → not b && true ≡ false → b ≡ true
 was_entered true e = refl

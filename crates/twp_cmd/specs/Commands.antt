@@ -11,13 +11,24 @@ required_word id = record (new_rule id) { required = true }
 abbrev pub subcommand_with : Text → List Text → Shape
 subcommand_with name ids = record (new_shape name) { rules = map required_word ids }
 
--- the command `township`, which requires one of its subcommands
-abbrev pub township : App
-township = record {
+-- the command `township`, which requires one of these subcommands
+abbrev pub township_with : List Shape → App
+township_with subcommands = record {
   top = record (new_shape (codes "township")) { is_leaf = false; subcommand_required = true };
-  subs = subcommand_with (codes "plat") (codes "NOTES" ∷ [])
-      ∷ subcommand_with (codes "acres") (codes "NOTES" ∷ codes "DESCRIPTION" ∷ []) ∷ [];
+  subs = subcommands;
 }
+
+-- the subcommand that writes a plat
+abbrev pub plat : Shape
+plat = subcommand_with (codes "plat") (codes "NOTES" ∷ [])
+
+-- a subcommand that speaks of a description of land on a plat
+abbrev pub described : Text → Shape
+described name = subcommand_with name (codes "NOTES" ∷ codes "DESCRIPTION" ∷ [])
+
+-- the command `township`, with its subcommands in their order
+abbrev pub township : App
+township = township_with (plat ∷ described (codes "acres") ∷ described (codes "normal") ∷ [])
 
 -- the program's command
 abbrev pub IsTownship : App → Type 0

@@ -4,7 +4,7 @@ use Rattle.clap.specs.Words.{Row, Text, first_of}
 use Rattle.clap.specs.declared.error.kind.ErrorKind.{ErrorKind}
 use Rattle.clap.specs.declared.error.kind.ErrorKind.TheVariants.{DisplayHelp, OutOfMemory}
 use Rattle.twp_cmd.specs.declared.task.Task.{Task}
-use Rattle.twp_cmd.specs.declared.task.Task.TheVariants.{Plat, Acres}
+use Rattle.twp_cmd.specs.declared.task.Task.TheVariants.{Plat, Acres, Normal}
 use Rattle.twp_cmd.specs.declared.task.TaskFault.{TaskFault}
 use Rattle.twp_cmd.specs.declared.task.TaskFault.TheVariants.{Usage, Help, Memory}
 
@@ -16,8 +16,8 @@ HasValue word rows = (value : Text) × (first_of word rows ≡ Some value)
 abbrev pub IsWhole : Option (Text × List Row) → Type 0
 IsWhole None = ⊥
 IsWhole (Some entered) = ((entered.0 ≡ codes "plat") × HasValue (codes "NOTES") entered.1)
-    ⊎ ((entered.0 ≡ codes "acres") × HasValue (codes "NOTES") entered.1
-    × HasValue (codes "DESCRIPTION") entered.1)
+    ⊎ (((entered.0 ≡ codes "acres") ⊎ (entered.0 ≡ codes "normal"))
+    × HasValue (codes "NOTES") entered.1 × HasValue (codes "DESCRIPTION") entered.1)
 
 -- the subcommand that a parse entered, with the values of its words, is the task
 abbrev pub IsTaskIn : Option (Text × List Row) → Task → Type 0
@@ -25,6 +25,9 @@ IsTaskIn entered (Plat notes) = (rows : List Row) × (entered ≡ Some (codes "p
     × (first_of (codes "NOTES") rows ≡ Some notes)
 IsTaskIn entered (Acres notes description) = (rows : List Row)
     × (entered ≡ Some (codes "acres", rows)) × (first_of (codes "NOTES") rows ≡ Some notes)
+    × (first_of (codes "DESCRIPTION") rows ≡ Some description)
+IsTaskIn entered (Normal notes description) = (rows : List Row)
+    × (entered ≡ Some (codes "normal", rows)) × (first_of (codes "NOTES") rows ≡ Some notes)
     × (first_of (codes "DESCRIPTION") rows ≡ Some description)
 
 -- an error of this kind shows as the fault: want of memory as that alone, the others so or so

@@ -1,7 +1,8 @@
 ghost use Rattle.std.specs.Prelude.{◌≡◌, ◌∷◌, [], IfOk, false, codes};
 ghost use Rattle.clap.specs.Words.{app_of, rule_of, shape_of};
 ghost use Rattle.clap.specs.declared.builder.command.Command.TheViews.{out-Command as fields_of};
-ghost use Rattle.twp_cmd.specs.Commands.{IsTownship, required_word, subcommand_with};
+ghost use Rattle.twp_cmd.specs.Commands.{IsTownship, described, required_word, township_with};
+ghost use Rattle.twp_cmd.specs.Commands.{plat as the_plat};
 
 use clap::{Arg, Command};
 use std::alloc::{AllocError, Global};
@@ -12,6 +13,14 @@ const NAME: &str = "township";
 /// The command line of the program: one of its subcommands, with its files.
 pub(crate) fn township<'a>(alloc: Global) -> Result<Command<'a>, AllocError>
     ensures { IfOk result (λ command. IsTownship (app_of command)) }
+{
+    measures(alloc)?.subcommand(normal(alloc)?)
+}
+
+/// The command line with the subcommands that write acres.
+fn measures<'a>(alloc: Global) -> Result<Command<'a>, AllocError>
+    ensures { IfOk result (λ command. app_of command
+        ≡ township_with (the_plat ∷ described (codes "acres") ∷ [])) }
 {
     Command::new(alloc, NAME)
         .about(
@@ -27,7 +36,7 @@ pub(crate) fn township<'a>(alloc: Global) -> Result<Command<'a>, AllocError>
 fn plat<'a>(alloc: Global) -> Result<Command<'a>, AllocError>
     ensures local { IfOk result (λ command. (fields_of command).has_globals ≡ false) }
     ensures shape { IfOk result (λ command. shape_of command
-        ≡ subcommand_with (codes "plat") (codes "NOTES" ∷ [])) }
+        ≡ the_plat) }
 {
     Command::new(alloc, "plat")
         .about("Writes the acres of each lot, of each section and of the whole township")
@@ -38,10 +47,22 @@ fn plat<'a>(alloc: Global) -> Result<Command<'a>, AllocError>
 fn acres<'a>(alloc: Global) -> Result<Command<'a>, AllocError>
     ensures local { IfOk result (λ command. (fields_of command).has_globals ≡ false) }
     ensures shape { IfOk result (λ command. shape_of command
-        ≡ subcommand_with (codes "acres") (codes "NOTES" ∷ codes "DESCRIPTION" ∷ [])) }
+        ≡ described (codes "acres")) }
 {
     Command::new(alloc, "acres")
         .about("Writes the acres of the land that a description names")
+        .arg(notes(alloc))?
+        .arg(description(alloc))
+}
+
+/// `normal NOTES DESCRIPTION`
+fn normal<'a>(alloc: Global) -> Result<Command<'a>, AllocError>
+    ensures local { IfOk result (λ command. (fields_of command).has_globals ≡ false) }
+    ensures shape { IfOk result (λ command. shape_of command
+        ≡ described (codes "normal")) }
+{
+    Command::new(alloc, "normal")
+        .about("Writes the one canonical spelling of the land that a description names")
         .arg(notes(alloc))?
         .arg(description(alloc))
 }

@@ -17,6 +17,8 @@ pub enum Task {
     Plat { notes: Name },
     /// Write the acres of a description of land on the plat of field notes.
     Acres { notes: Name, description: Name },
+    /// Write the canonical spelling of a description of land on the plat of field notes.
+    Normal { notes: Name, description: Name },
 }
 
 /// Why the words of a command line give no task.
@@ -66,7 +68,10 @@ fn task_of(alloc: Global, matches: &ArgMatches<'_>) -> Result<Task, AllocError>
         return Ok(Task::Plat { notes });
     }
     let description = name_of(alloc, found, "DESCRIPTION")?;
-    Ok(Task::Acres { notes, description })
+    if name == "acres" {
+        return Ok(Task::Acres { notes, description });
+    }
+    Ok(Task::Normal { notes, description })
 }
 
 /// The value of a word, which has one.

@@ -9,9 +9,10 @@ const PROGRAM_HELP: &str =
 Usage: township <COMMAND>
 
 Commands:
-  plat   Writes the acres of each lot, of each section and of the whole township
-  acres  Writes the acres of the land that a description names
-  help   Print this message or the help of the given subcommand(s)
+  plat    Writes the acres of each lot, of each section and of the whole township
+  acres   Writes the acres of the land that a description names
+  normal  Writes the one canonical spelling of the land that a description names
+  help    Print this message or the help of the given subcommand(s)
 
 Options:
   -h, --help  Print help
@@ -33,6 +34,19 @@ Options:
 const ACRES_HELP: &str = "Writes the acres of the land that a description names
 
 Usage: township acres <NOTES> <DESCRIPTION>
+
+Arguments:
+  <NOTES>        field notes of the township's 84 section lines, CSV
+  <DESCRIPTION>  description of land, as: sec. 5, lot 1.
+
+Options:
+  -h, --help  Print help
+";
+
+/// What `township normal --help` says.
+const NORMAL_HELP: &str = "Writes the one canonical spelling of the land that a description names
+
+Usage: township normal <NOTES> <DESCRIPTION>
 
 Arguments:
   <NOTES>        field notes of the township's 84 section lines, CSV
@@ -74,13 +88,18 @@ fn fault_text(alloc: Global, line: &[&str]) -> Result<String, Fail> {
 #[test]
 fn a_task_is_a_subcommand_with_its_files(rt: HostRuntime) -> Result<(), Fail> {
     // The subcommand, NOTES, and DESCRIPTION where the subcommand has it.
-    let lines: [(&[&str], &str, Option<&str>); 9] = [
+    let lines: [(&[&str], &str, Option<&str>); 10] = [
         (
             &["township", "acres", "n.csv", "d.txt"],
             "n.csv",
             Some("d.txt"),
         ),
         (&["township", "plat", "n.csv"], "n.csv", None),
+        (
+            &["township", "normal", "n.csv", "d.txt"],
+            "n.csv",
+            Some("d.txt"),
+        ),
         // Whatever the program was called by.
         (&["/usr/local/bin/tw", "plat", "n.csv"], "n.csv", None),
         (&["", "plat", "n.csv"], "n.csv", None),
@@ -109,6 +128,7 @@ fn a_task_is_a_subcommand_with_its_files(rt: HostRuntime) -> Result<(), Fail> {
         let (notes, description) = match read(rt.alloc(), line)? {
             Ok(Task::Plat { notes }) => (notes, None),
             Ok(Task::Acres { notes, description }) => (notes, Some(description)),
+            Ok(Task::Normal { notes, description }) => (notes, Some(description)),
             Err(fault) => {
                 assert!(rt; false, "{line:?}: {fault}");
                 continue;
@@ -124,8 +144,18 @@ fn a_task_is_a_subcommand_with_its_files(rt: HostRuntime) -> Result<(), Fail> {
 }
 
 #[test]
+fn a_task_is_of_its_subcommand(rt: HostRuntime) -> Result<(), Fail> {
+    let alloc = rt.alloc();
+    let acres = read(alloc, &["township", "acres", "n.csv", "d.txt"])?;
+    assert!(rt; matches!(acres, Ok(Task::Acres { .. })));
+    let normal = read(alloc, &["township", "normal", "n.csv", "d.txt"])?;
+    assert!(rt; matches!(normal, Ok(Task::Normal { .. })));
+    Ok(())
+}
+
+#[test]
 fn help_is_shown_where_it_is_asked_for(rt: HostRuntime) -> Result<(), Fail> {
-    let lines: [(&[&str], &str); 10] = [
+    let lines: [(&[&str], &str); 11] = [
         (&["township", "--help"], PROGRAM_HELP),
         (&["township", "-h"], PROGRAM_HELP),
         (&["township", "help"], PROGRAM_HELP),
@@ -134,6 +164,7 @@ fn help_is_shown_where_it_is_asked_for(rt: HostRuntime) -> Result<(), Fail> {
         (&["township", "plat", "--help"], PLAT_HELP),
         (&["township", "help", "acres"], ACRES_HELP),
         (&["township", "acres", "-h"], ACRES_HELP),
+        (&["township", "normal", "--help"], NORMAL_HELP),
         // Also where the other words are misused.
         (&["tw", "acres", "n.csv", "--help"], ACRES_HELP),
         (&["township", "--help", "akres"], PROGRAM_HELP),
@@ -149,7 +180,7 @@ fn help_is_shown_where_it_is_asked_for(rt: HostRuntime) -> Result<(), Fail> {
 #[test]
 fn usage_says_what_was_wrong(rt: HostRuntime) -> Result<(), Fail> {
     let missing = "error: 'township' requires a subcommand but one was not provided
-  [subcommands: plat, acres, help]
+  [subcommands: plat, acres, normal, help]
 ";
     let lines: [(&[&str], &str, &str); 15] = [
         (&["township"], missing, USAGE),
@@ -165,8 +196,8 @@ fn usage_says_what_was_wrong(rt: HostRuntime) -> Result<(), Fail> {
             USAGE,
         ),
         (
-            &["township", "normal"],
-            "error: unrecognized subcommand 'normal'\n",
+            &["township", "report"],
+            "error: unrecognized subcommand 'report'\n",
             USAGE,
         ),
         (
