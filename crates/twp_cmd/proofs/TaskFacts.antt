@@ -38,10 +38,13 @@ described_words (Some e) name rows whole named found other =
     let those : e.1 ≡ rows = cc in
     elim whole [
       | inl h ↦ absurd (other (sym same ∙ h.0))
-      | inr h ↦ (elim h.0 [
-        | inl is ↦ inl (sym same ∙ is)
-        | inr is ↦ inr (sym same ∙ is)
-      ], subst (HasValue (codes "DESCRIPTION")) those h.2)
+      | inr h ↦ (
+        elim h.0 [
+          | inl is ↦ inl (sym same ∙ is)
+          | inr is ↦ inr (sym same ∙ is)
+        ],
+        subst (HasValue (codes "DESCRIPTION")) those h.2,
+      )
     ]
 
 -- and what isn't `acres` either is `normal`
