@@ -75,6 +75,7 @@ fn cut(block: Block, step: Step) -> Option<Block>
 }
 
 /// Whether a block of a section holds a place of a lot.
+#[inline(always)]
 pub(crate) fn holds_of_lot(section: Section, block: Block) -> bool
     ensures { IsTrue result ↔ HoldsLotPlace PLACE_DIGITS section block }
 {
