@@ -8,7 +8,7 @@ use Rattle.twp_cmd.specs.declared.ending.Ending.TheVariants.{Answered, Helped, M
 use Rattle.twp_cmd.specs.declared.ending.Failure.{Failure}
 use Rattle.twp_cmd.specs.declared.ending.Failure.TheVariants.{Open, Run}
 use Rattle.twp_cmd.specs.declared.task.Task.{Task}
-use Rattle.twp_cmd.specs.declared.task.Task.TheVariants.{Plat, Acres, Normal}
+use Rattle.twp_cmd.specs.declared.task.Task.TheVariants.{Plat, Acres, Normal, Report}
 use Rattle.twp_cmd.specs.declared.task.TaskFault.TheVariants.{Usage}
 
 -- the task is given this file
@@ -16,6 +16,7 @@ abbrev pub IsFileOf : Task → Text → Type 0
 IsFileOf (Plat notes) name = name ≡ notes
 IsFileOf (Acres notes description) name = (name ≡ notes) ⊎ (name ≡ description)
 IsFileOf (Normal notes description) name = (name ≡ notes) ⊎ (name ≡ description)
+IsFileOf (Report notes tracts) name = (name ≡ notes) ⊎ (name ≡ tracts)
 
 -- a task fails on a file that can't be opened, which is its own, or in its run
 abbrev pub FailsOn : Task → Failure → Type 0

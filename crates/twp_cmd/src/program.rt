@@ -12,7 +12,7 @@ use std::env::Env;
 use std::io::ErrorKind;
 use std::rt::Files;
 use std::{env, fs, io};
-use twp_acres::{RunFault, Verdict, run_acres, run_normal, run_plat};
+use twp_acres::{RunFault, Verdict, run_acres, run_normal, run_plat, run_report};
 use twp_grid::Device;
 
 /// Runs the program, tells on standard error why there is no answer, and gives the status.
@@ -83,6 +83,11 @@ fn run_task<R: Files + Print + AllocGlobal>(rt: &R, task: Task) -> Result<Verdic
             let mut notes = open(rt, notes)?;
             let mut description = open(rt, description)?;
             Ok(run_normal(rt.alloc(), &mut notes, &mut description, &mut out)?)
+        }
+        Task::Report { notes, tracts } => {
+            let mut notes = open(rt, notes)?;
+            let mut tracts = open(rt, tracts)?;
+            Ok(run_report(rt.alloc(), &mut notes, &mut tracts, &mut out)?)
         }
     }
 }
