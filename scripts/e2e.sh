@@ -141,11 +141,13 @@ run report n.csv n.csv; ended 'notes for a list' $? 1 'refused 81 at 1' ''
 run report n.csv d.txt; ended 'a description for a list' $? 1 'refused 81 at 1' ''
 run report t.csv n.csv; ended 'the files of report exchanged' $? 1 'refused 3 at 1' ''
 run report n.csv /dev/zero; ended 'an endless list' $? 1 'refused 80 at 1048576' ''
-line_feeds() { head -c "$1" /dev/zero | tr '\0' '\n'; }
-line_feeds 1048577 | run report n.csv /dev/stdin
-ended 'one byte too many' $? 1 'refused 80 at 1048576' ''
-line_feeds 1048576 | run report n.csv /dev/stdin
-ended 'as many bytes as may be' $? 1 'refused 81 at 1' ''
+many() { head -c "$1" /dev/zero | tr '\0' "$2"; }
+many 1048577 '\n' | run report n.csv /dev/stdin; ended 'one byte too many' $? 1 'refused 80 at 1048576' ''
+many 1048577 x | run report n.csv /dev/stdin; ended 'one more x' $? 1 'refused 80 at 1048576' ''
+many 1048576 x | run report n.csv /dev/stdin; ended 'as many bytes as may be' $? 1 'refused 81 at 1' ''
+echo 'C,' | cat t.csv - > third
+run report n.csv third; ended 'an empty description' $? 1 'refused 83 at 4
+refused 44 at 0' ''
 run report empty folder; ended 'no list is read after refused notes' $? 1 'refused 2 at 1' ''
 
 # A list of $1 tracts, each another place of 2.5 acres, of sections 8 to 11.
