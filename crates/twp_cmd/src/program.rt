@@ -1,7 +1,7 @@
 //! The program over the host's capabilities, which `main` gives it.
 ghost use Rattle.std.specs.Prelude.{◌≡◌, ◌⊎◌, false, map, string_bytes, IfErr, IfOk};
 ghost use Rattle.twp_grid.specs.Devices.{device_failed};
-ghost use Rattle.twp_cmd.specs.Endings.{EndsAs, FailsOn};
+ghost use Rattle.twp_cmd.specs.Endings.{EndsAs, FailsOn, IsVerdictOf};
 ghost use Rattle.twp_cmd.specs.Statuses.{status_of};
 
 use crate::ending::{Ending, Failure};
@@ -66,7 +66,8 @@ fn show_help<R: Print>(rt: &R, text: String) -> Ending
 
 /// Opens the files of a task, in their order, and runs it.
 fn run_task<R: Files + Print + AllocGlobal>(rt: &R, task: Task) -> Result<Verdict, Failure>
-    ensures { IfErr result (FailsOn task) }
+    ensures answers { IfOk result (IsVerdictOf task) }
+    ensures fails { IfErr result (FailsOn task) }
 {
     let mut out = Device::new(io::writer(rt));
     match task {
