@@ -148,6 +148,20 @@ many 1048576 x | run report n.csv /dev/stdin; ended 'as many bytes as may be' $?
 echo 'C,' | cat t.csv - > third
 run report n.csv third; ended 'an empty description' $? 1 'refused 83 at 4
 refused 44 at 0' ''
+# A tract's name has at most 64 bytes, its description 65,536.
+name=$(many 64 n)
+printf 'name,description\n%s,sec. 14.\n' "$name" | run report n.csv /dev/stdin
+ended 'the longest name' $? 0 "tract $name: 640.00 acres
+total: 640.00 acres
+remaining: 22397.57 acres" ''
+printf 'name,description\n%sn,sec. 14.\n' "$name" | run report n.csv /dev/stdin
+ended 'a longer name' $? 1 'refused 81 at 2' ''
+(cat heading; printf 'A,'; many 65536 ' ') | run report n.csv /dev/stdin
+ended 'the longest description' $? 1 'refused 83 at 2
+refused 44 at 65536' ''
+(cat heading; printf 'A,'; many 65537 ' ') | run report n.csv /dev/stdin
+ended 'a longer description' $? 1 'refused 83 at 2
+refused 41 at 65536' ''
 run report empty folder; ended 'no list is read after refused notes' $? 1 'refused 2 at 1' ''
 
 # A list of $1 tracts, each another place of 2.5 acres, of sections 8 to 11.
