@@ -1,7 +1,7 @@
 #!/bin/sh
 # Prints how many instructions the whole process of ./township takes, from its start to its end: of joined
-# input on the sample, on the longest that is refused and on one of fine parts; of each subcommand on the
-# sample.
+# input on the sample, on the longest that is refused and on one of fine parts; of subcommands on the sample,
+# and of a report on 1,000 tracts.
 set -eu
 # What is counted stands on standard input, or is named by words.
 count() {
@@ -34,6 +34,14 @@ cat samples/description.txt samples/b1.csv > "$work/sample"
     }'
     cat samples/b1.csv
 } > "$work/places"
+# A list of 1,000 tracts, each another place of sections 8 to 11.
+awk 'BEGIN {
+    split("NE1/4 NW1/4 SW1/4 SE1/4", corners, " ")
+    print "name,description"
+    for (n = 0; n < 1000; n++)
+        printf "%s,\"sec. %s, %s%s%s%s.\"\n", n + 1, 8 + int(n / 256), corners[int(n / 64) % 4 + 1],
+            corners[int(n / 16) % 4 + 1], corners[int(n / 4) % 4 + 1], corners[n % 4 + 1]
+}' > "$work/tracts"
 : > "$work/empty"
 printf '%-44s %12s\n' 'input' 'instructions'
 printf '%-44s %12s\n' 'the sample (1,653 bytes, accepted)' "$(count < "$work/sample")"
@@ -43,4 +51,7 @@ printf '%-44s %12s\n' 'nothing (the start of the process)' "$(count < "$work/emp
 printf 'secs. 1 thru 36.' > "$work/all"
 printf '%-44s %12s\n' 'acres of all 36 sections' "$(count acres samples/b1.csv "$work/all")"
 printf '%-44s %12s\n' 'plat' "$(count plat samples/b1.csv)"
+printf '%-44s %12s\n' 'report of the sample' "$(count report samples/b1.csv samples/tracts.csv)"
+printf '%-44s %12s\n' "report of 1,000 tracts ($(wc -c < "$work/tracts") bytes)" \
+    "$(count report samples/b1.csv "$work/tracts")"
 printf '%-44s %12s\n' 'help' "$(count --help)"

@@ -37,6 +37,7 @@ text() { [ -z "$1" ] || printf '%s\n' "$1"; }
 run() { "$program" "$@" > out 2> err; }
 
 cp "$root/samples/b1.csv" n.csv
+cp "$root/samples/tracts.csv" t.csv
 printf 'sec. 5, lot 1.' > d.txt
 printf 'sec. 5, lot 1.\n' | cat - n.csv > joined
 : > empty
@@ -83,7 +84,7 @@ awk -F ' [|] ' '/^[|] [4-9][0-9] / { print $4 }' "$root/docs/REFUSALS.md" |
 # The examples of docs/DESCRIPTIONS.md: a description, and its acres in the sample.
 awk -F ' [|] ' '/^[|] `/ { sub(/ [|]$/, "", $3); print $3 " acres|" $1 }' "$root/docs/DESCRIPTIONS.md" |
     sed -n 's/|[|] `\(.*\)`$/|\1/p' >> examples
-[ "$(wc -l < examples)" = 20 ]; : > out; : > err; ended 'twenty examples' $? 0 '' ''
+wc -l < examples > out; : > err; ended 'twenty examples' $? 0 20 ''
 while IFS='|' read -r answer description; do
     printf %s "$description" > description
     case $answer in refused*) wanted=1 ;; *) wanted=0 ;; esac
@@ -110,6 +111,97 @@ run normal n.csv canonical; ended 'normal, once more' $? 0 "$(cat canonical)" ''
 run acres n.csv canonical; ended 'its acres' $? 0 '480.00 acres' ''
 run normal empty parts; ended 'normal, refused' $? 1 'refused 2 at 1' ''
 
+# The account of tracts: lots 1 and 4 of section 7 have 39.175 and 39.025 acres, the township has
+# 23,037.56775..
+account='tract A: 39.18 acres
+tract B: 39.03 acres
+total: 78.20 acres
+remaining: 22959.37 acres'
+run report n.csv t.csv; ended 'report' $? 0 "$account" ''
+run report -- -h t.csv; ended 'report of a file called -h' $? 0 "$account" ''
+run report n.csv /dev/stdin < t.csv; ended 'tracts on a device' $? 0 "$account" ''
+cat t.csv | run report n.csv /dev/stdin; ended 'tracts on a pipe' $? 0 "$account" ''
+(sed 1q t.csv; sleep 1; sed 1d t.csv) | run report n.csv /dev/stdin
+ended 'tracts on a slow pipe' $? 0 "$account" ''
+cat n.csv | run report /dev/stdin t.csv; ended 'a report of notes on a pipe' $? 0 "$account" ''
+sed 's/.*/&\r/' t.csv > dos.csv
+run report n.csv dos.csv; ended 'tracts with CRLF' $? 0 "$account" ''
+sed 1q t.csv > heading
+run report "$root/samples/b0.csv" heading; ended 'no tract' $? 0 'total: 0.00 acres
+remaining: 23040.00 acres' ''
+printf 'name,description\nA,"sec. 6, lot 5."' > one
+run report n.csv one; ended 'one tract, no line end' $? 0 'tract A: 38.70 acres
+total: 38.70 acres
+remaining: 22998.86 acres' ''
+run report empty t.csv; ended 'report, refused notes' $? 1 'refused 2 at 1' ''
+run report edited t.csv; ended 'report, a refused plat' $? 1 'refused 23 at 53' ''
+run report n.csv empty; ended 'an empty list' $? 1 'refused 81 at 1' ''
+run report n.csv /dev/null; ended 'no list' $? 1 'refused 81 at 1' ''
+run report n.csv n.csv; ended 'notes for a list' $? 1 'refused 81 at 1' ''
+run report n.csv d.txt; ended 'a description for a list' $? 1 'refused 81 at 1' ''
+run report t.csv n.csv; ended 'the files of report exchanged' $? 1 'refused 3 at 1' ''
+run report n.csv /dev/zero; ended 'an endless list' $? 1 'refused 80 at 1048576' ''
+many() { head -c "$1" /dev/zero | tr '\0' "$2"; }
+many 1048577 '\n' | run report n.csv /dev/stdin; ended 'one byte too many' $? 1 'refused 80 at 1048576' ''
+many 1048577 x | run report n.csv /dev/stdin; ended 'one more x' $? 1 'refused 80 at 1048576' ''
+many 1048576 x | run report n.csv /dev/stdin; ended 'as many bytes as may be' $? 1 'refused 81 at 1' ''
+echo 'C,' | cat t.csv - > third
+run report n.csv third; ended 'an empty description' $? 1 'refused 83 at 4
+refused 44 at 0' ''
+# A tract's name has at most 64 bytes, its description 65,536.
+name=$(many 64 n)
+printf 'name,description\n%s,sec. 14.\n' "$name" | run report n.csv /dev/stdin
+ended 'the longest name' $? 0 "tract $name: 640.00 acres
+total: 640.00 acres
+remaining: 22397.57 acres" ''
+printf 'name,description\n%sn,sec. 14.\n' "$name" | run report n.csv /dev/stdin
+ended 'a longer name' $? 1 'refused 81 at 2' ''
+(cat heading; printf 'A,'; many 65536 ' ') | run report n.csv /dev/stdin
+ended 'the longest description' $? 1 'refused 83 at 2
+refused 44 at 65536' ''
+(cat heading; printf 'A,'; many 65537 ' ') | run report n.csv /dev/stdin
+ended 'a longer description' $? 1 'refused 83 at 2
+refused 41 at 65536' ''
+run report empty folder; ended 'no list is read after refused notes' $? 1 'refused 2 at 1' ''
+
+# A list of $1 tracts, each another place of 2.5 acres, of sections 8 to 11.
+places() {
+    awk -v count="$1" 'BEGIN {
+        split("NE1/4 NW1/4 SW1/4 SE1/4", corners, " ")
+        print "name,description"
+        for (n = 0; n < count; n++)
+            printf "%s,\"sec. %s, %s%s%s%s.\"\n", n + 1, 8 + int(n / 256), corners[int(n / 64) % 4 + 1],
+                corners[int(n / 16) % 4 + 1], corners[int(n / 4) % 4 + 1], corners[n % 4 + 1]
+    }'
+}
+places 1000 > many
+run report n.csv many; status=$?
+lines=$(wc -l < out)
+sed -n '1p;1000,$p' out > some; mv some out
+ended '1,000 tracts' "$status $lines" '0 1002' 'tract 1: 2.50 acres
+tract 1000: 2.50 acres
+total: 2500.00 acres
+remaining: 20537.57 acres' ''
+places 1001 > many
+run report n.csv many; ended '1,001 tracts' $? 1 'refused 85 at 1002' ''
+
+# The examples of docs/REFUSALS.md on lists: each puts a record into the sample.
+awk -F ' [|] ' '/^[|] 8[0-9] / { print $4 }' "$root/docs/REFUSALS.md" |
+    sed -n 's/^record \([0-9]\) `\(.*\)`: `\(refused [^`]*\)`\(, `\(refused [^`]*\)`\)*$/\1|\3|\5|\2/p' > examples
+wc -l < examples > out; : > err; ended 'four examples' $? 0 4 ''
+while IFS='|' read -r at first second record; do
+    awk -v at="$at" -v record="$record" 'NR == at { $0 = record } { print }' t.csv > list
+    wanted=$first
+    [ -z "$second" ] || wanted="$first
+$second"
+    run report n.csv list; ended "$record" $? 1 "$wanted" ''
+done < examples
+
+# The example of docs/TRACTS-FORMAT.md: a list, and its account.
+sed -n '/^    name,description$/,/^$/s/^    //p' "$root/docs/TRACTS-FORMAT.md" > list
+sed -n '/^    tract /,/^$/s/^    //p' "$root/docs/TRACTS-FORMAT.md" > account
+run report n.csv list; ended 'the list of tracts of the documents' $? 0 "$(cat account)" ''
+
 # Without a word: standard input.
 run < joined; ended 'joined input' $? 0 '40.45 acres' ''
 cat joined | run; ended 'joined input on a pipe' $? 0 '40.45 acres' ''
@@ -126,6 +218,7 @@ Commands:
   plat    Writes the acres of each lot, of each section and of the whole township
   acres   Writes the acres of the land that a description names
   normal  Writes the one canonical spelling of the land that a description names
+  report  Writes the account of a list of tracts: the acres of each, of all, and of the rest
   help    Print this message or the help of the given subcommand(s)
 
 Options:
@@ -148,6 +241,18 @@ Options:
 run acres --help; ended 'acres --help' $? 0 "$acres_text" ''
 run help acres; ended 'help acres' $? 0 "$acres_text" ''
 run acres missing --help; ended 'help before a missing file' $? 0 "$acres_text" ''
+report_text="Writes the account of a list of tracts: the acres of each, of all, and of the rest
+
+Usage: township report <NOTES> <TRACTS>
+
+Arguments:
+  <NOTES>   field notes of the township's 84 section lines, CSV
+  <TRACTS>  list of tracts, CSV: a name and a description in each record
+
+Options:
+  -h, --help  Print help"
+run report --help; ended 'report --help' $? 0 "$report_text" ''
+run help report; ended 'help report' $? 0 "$report_text" ''
 
 # Usage.
 more="For more information, try '--help'."
@@ -157,13 +262,16 @@ $more"
 acres_usage="Usage: township acres <NOTES> <DESCRIPTION>
 
 $more"
+report_usage="Usage: township report <NOTES> <TRACTS>
+
+$more"
 run ''; ended 'the empty word' $? 2 '' "error: unrecognized subcommand ''
 
 $usage"
 run n.csv d.txt; ended 'no subcommand' $? 2 '' "error: unrecognized subcommand 'n.csv'
 
 $usage"
-run report n.csv t.csv; ended 'a subcommand to come' $? 2 '' "error: unrecognized subcommand 'report'
+run deeds n.csv t.csv; ended 'an unknown subcommand' $? 2 '' "error: unrecognized subcommand 'deeds'
 
 $usage"
 run acres n.csv; ended 'a word too few' $? 2 '' "error: the following required arguments were not provided:
@@ -179,6 +287,13 @@ run plat; ended 'plat without notes' $? 2 '' "error: the following required argu
 Usage: township plat <NOTES>
 
 $more"
+run report n.csv; ended 'report without a list' $? 2 '' "error: the following required arguments were not provided:
+  <TRACTS>
+
+$report_usage"
+run report n.csv t.csv d.txt; ended 'a word too many for report' $? 2 '' "error: unexpected argument 'd.txt' found
+
+$report_usage"
 run -v; ended 'an unknown option' $? 2 '' "error: unexpected argument '-v' found
 
 $usage"
@@ -193,14 +308,22 @@ run acres '' d.txt; ended 'an empty name' $? 3 '' 'township: cannot open '
 run acres n.csv/n.csv d.txt; ended 'a file for a folder' $? 3 '' 'township: cannot open n.csv/n.csv'
 run acres 'no such file' d.txt; ended 'a missing name with spaces' $? 3 '' 'township: cannot open no such file'
 run plat missing; ended 'plat of missing notes' $? 3 '' 'township: cannot open missing'
+run report missing t.csv; ended 'report of missing notes' $? 3 '' 'township: cannot open missing'
+run report n.csv gone; ended 'a missing list' $? 3 '' 'township: cannot open gone'
+run report missing gone; ended 'both missing for report' $? 3 '' 'township: cannot open missing'
+run report empty gone; ended 'a list opened before notes are refused' $? 3 '' 'township: cannot open gone'
+run report folder gone; ended 'a list opened before a folder is read' $? 3 '' 'township: cannot open gone'
 
 # What can't be read.
 run acres folder d.txt; ended 'a folder for notes' $? 3 '' 'township: cannot read'
 run acres n.csv folder; ended 'a folder for a description' $? 3 '' 'township: cannot read'
 run plat folder; ended 'a folder for a plat' $? 3 '' 'township: cannot read'
+run report folder t.csv; ended 'a folder for the notes of a report' $? 3 '' 'township: cannot read'
+run report n.csv folder; ended 'a folder for a list' $? 3 '' 'township: cannot read'
 run < folder; ended 'a folder on standard input' $? 3 '' 'township: cannot read'
 run <&-; ended 'closed standard input' $? 3 '' 'township: cannot read'
 run acres "$bad_name" d.txt; ended 'a name that is no UTF-8' $? 3 '' 'township: cannot read'
+run report n.csv "$bad_name"; ended 'a list whose name is no UTF-8' $? 3 '' 'township: cannot read'
 run "$bad_name"; ended 'a subcommand that is no UTF-8' $? 3 '' 'township: cannot read'
 
 # What can't be written: a full device, closed standard output, and a pipe without a reader.
@@ -209,10 +332,13 @@ broken='township: cannot write'
 "$program" acres n.csv d.txt > /dev/full 2> err; ended 'acres, full' $? 3 '' "$broken"
 "$program" acres empty d.txt > /dev/full 2> err; ended 'a refusal, full' $? 3 '' "$broken"
 "$program" plat n.csv > /dev/full 2> err; ended 'plat, full' $? 3 '' "$broken"
+"$program" report n.csv t.csv > /dev/full 2> err; ended 'report, full' $? 3 '' "$broken"
+"$program" report n.csv empty > /dev/full 2> err; ended 'a refused list, full' $? 3 '' "$broken"
 "$program" < joined > /dev/full 2> err; ended 'joined, full' $? 3 '' "$broken"
 "$program" --help > /dev/full 2> err; ended 'help, full' $? 3 '' "$broken"
 "$program" acres n.csv d.txt >&- 2> err; ended 'acres, closed' $? 3 '' "$broken"
 "$program" plat n.csv >&- 2> err; ended 'plat, closed' $? 3 '' "$broken"
+"$program" report n.csv t.csv >&- 2> err; ended 'report, closed' $? 3 '' "$broken"
 "$program" < joined >&- 2> err; ended 'joined, closed' $? 3 '' "$broken"
 "$program" --help >&- 2> err; ended 'help, closed' $? 3 '' "$broken"
 "$program" acres n.csv d.txt <&- >&- 2> err; ended 'both closed' $? 3 '' "$broken"
@@ -221,6 +347,7 @@ mkfifo pipe
 unread() { (exec 3<> pipe 4> pipe 3>&-; exec "$program" "$@" >&4 2> err); }
 unread acres n.csv d.txt; ended 'acres, no reader' $? 3 '' "$broken"
 unread plat n.csv; ended 'plat, no reader' $? 3 '' "$broken"
+unread report n.csv t.csv; ended 'report, no reader' $? 3 '' "$broken"
 unread < joined; ended 'joined, no reader' $? 3 '' "$broken"
 unread help; ended 'help, no reader' $? 3 '' "$broken"
 

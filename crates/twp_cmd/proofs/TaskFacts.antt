@@ -11,10 +11,10 @@ use Rattle.clap.specs.declared.error.kind.ErrorKind.TheVariants.{DisplayHelp, Ou
 use Rattle.clap.specs.declared.parser.matches.ArgMatches.{ArgMatches}
 use Rattle.clap.specs.declared.parser.matches.ArgMatches.TheViews.{out-ArgMatches, out-SubCommand}
 use Rattle.twp_cmd.specs.Commands.{IsTownship, township}
-use Rattle.twp_cmd.specs.Parses.{HasValue, IsTaskIn, IsWhole, ShowsAs}
-use Rattle.twp_cmd.specs.Tasks.{HasGiven, IsFaultOf, IsTaskOf, given_description, given_notes}
+use Rattle.twp_cmd.specs.Parses.{HasValue, IsOfLand, IsTaskIn, IsWhole, ShowsAs}
+use Rattle.twp_cmd.specs.Tasks.{HasGiven, IsFaultOf, IsTaskOf, given_description, given_notes, given_tracts}
 use Rattle.twp_cmd.specs.declared.task.Task.{Task}
-use Rattle.twp_cmd.specs.declared.task.Task.TheVariants.{Plat, Acres, Normal}
+use Rattle.twp_cmd.specs.declared.task.Task.TheVariants.{Plat, Acres, Normal, Report}
 use Rattle.twp_cmd.specs.declared.task.TaskFault.{TaskFault}
 use Rattle.twp_cmd.specs.declared.task.TaskFault.TheVariants.{Usage, Help, Memory}
 use Rattle.twp_cmd.proofs.TownshipWords.{township_whole}
@@ -28,29 +28,19 @@ module _ {Z : Type 0} where
 pub entered_name : (m : ArgMatches) → option_map (λ p. p.0) (subcommand_rows_of m) ≡ subcommand_name_of m
 entered_name m = entered_names (out-ArgMatches m).subcommand
 
--- what isn't `plat` is `acres` or `normal`
-pub described_words : (entered : Option (Text × List Row)) (name : Text) (rows : List Row) → IsWhole entered
+-- what is neither `plat` nor `report` is `acres` or `normal`, and has a value for its description
+pub land_words : (entered : Option (Text × List Row)) (name : Text) (rows : List Row) → IsWhole entered
     → option_map (λ p. p.0) entered ≡ Some name → option_map (λ p. p.1) entered ≡ Some rows
-    → (name ≡ codes "plat" → ⊥) → ((name ≡ codes "acres") ⊎ (name ≡ codes "normal")) × HasValue (codes "DESCRIPTION") rows
-described_words None name rows whole named found other = absurd whole
-described_words (Some e) name rows whole named found other =
+    → (name ≡ codes "plat" → ⊥) → (name ≡ codes "report" → ⊥) → IsOfLand name × HasValue (codes "DESCRIPTION") rows
+land_words None name rows whole named found no_plat no_report = absurd whole
+land_words (Some e) name rows whole named found no_plat no_report =
     let same : e.0 ≡ name = cc in
     let those : e.1 ≡ rows = cc in
-    elim whole [
-      | inl h ↦ absurd (other (sym same ∙ h.0))
-      | inr h ↦ (
-        elim h.0 [
-          | inl is ↦ inl (sym same ∙ is)
-          | inr is ↦ inr (sym same ∙ is)
-        ],
-        subst (HasValue (codes "DESCRIPTION")) those h.2,
-      )
+    elim whole.1 [
+      | inl is ↦ absurd (no_plat (sym same ∙ is))
+      | inr (inl is) ↦ absurd (no_report (sym same ∙ is.0))
+      | inr (inr is) ↦ (subst IsOfLand same is.0, subst (HasValue (codes "DESCRIPTION")) those is.1)
     ]
-
--- and what isn't `acres` either is `normal`
-pub normal_words : (name : Text) → (name ≡ codes "acres") ⊎ (name ≡ codes "normal") → (name ≡ codes "acres" → ⊥) → name ≡ codes "normal"
-normal_words name (inl is) other = absurd (other is)
-normal_words name (inr is) other = is
 
 simple : is_simple township ≡ true
 simple = refl
@@ -102,6 +92,15 @@ parse_task app words rows entered task is taken matches asks = go task asks
       subcommand_is = sym (matches (rw is simple)).1 ∙ h.1;
       values_are = All-cons (HasGiven h.0) (given_notes notes) (given_description description ∷ []) h.2
           (All-cons (HasGiven h.0) (given_description description) [] h.3 (All-nil (HasGiven h.0)));
+    }
+    go (Report notes tracts) h = record {
+      app = app;
+      is_township = is;
+      taken = taken (rw is simple_and_free);
+      rows = h.0;
+      subcommand_is = sym (matches (rw is simple)).1 ∙ h.1;
+      values_are = All-cons (HasGiven h.0) (given_notes notes) (given_tracts tracts ∷ []) h.2
+          (All-cons (HasGiven h.0) (given_tracts tracts) [] h.3 (All-nil (HasGiven h.0)));
     }
 
 -- the error of a parse shows the fault of the words

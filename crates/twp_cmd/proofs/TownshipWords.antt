@@ -1,6 +1,6 @@
 -- Where clap's rule takes the words of the command line, the subcommand that they name has all its values.
 use Rattle.std.proofs.Common.{◌≡◌, ◌&&◌, ◌||◌, Bool, true, false, not, List, [], ◌∷◌, Option, Some, None, is_some, refl, inl, inr}
-use Rattle.std.specs.Prelude.{option_map, codes, find, if◌then◌else◌}
+use Rattle.std.specs.Prelude.{⊤, option_map, codes, find, if◌then◌else◌}
 use Rattle.std.specs.List.{list_any}
 use Rattle.std.specs.Option.{option_map_or}
 use Rattle.std.specs.Str.{bytes_eq}
@@ -12,8 +12,8 @@ use Rattle.clap.specs.Facts.{explicit_source}
 use Rattle.clap.specs.Simple.{argument_words, built_leaf, entered, help_shape, inherited, label_of, marked_built, names_of, rows_at, with_leaf_noted}
 use Rattle.clap.specs.Takes.{is_given}
 use Rattle.clap.specs.Faults.{check_fault, defaults_fault, entered_fault, level_fault, settle_fault, walk_fault}
-use Rattle.twp_cmd.specs.Commands.{subcommand_with, township}
-use Rattle.twp_cmd.specs.Parses.{HasValue, IsWhole}
+use Rattle.twp_cmd.specs.Commands.{described, plat, report, township}
+use Rattle.twp_cmd.specs.Parses.{HasValue, IsOfLand, IsWhole}
 use Rattle.twp_cmd.proofs.CommandWalk.{HasValues, IsNoHelp, OnlyHelpFlags, StoppedWell, finished_values, first_empty, given_value, is_walked, second_empty}
 
 nothing_wanted : (help subcommand argument : Bool) → check_kinds help subcommand argument ≡ [] → (subcommand ≡ false) × (argument ≡ false)
@@ -78,59 +78,58 @@ rest_of false y e = e
 abbrev leaf : Shape → Shape
 leaf s = built_leaf (inherited (with_leaf_noted (marked_built township.top)) s)
 
-abbrev plat : Shape
-plat = leaf (subcommand_with (codes "plat") (codes "NOTES" ∷ []))
-
-abbrev acres : Shape
-acres = leaf (subcommand_with (codes "acres") (codes "NOTES" ∷ codes "DESCRIPTION" ∷ []))
-
 abbrev help : Shape
 help = built_leaf help_shape
 
-plat_whole : (words : List Text) → level_fault plat [] nothing_held words false [] ≡ [] → IsWhole (Some (rows_at plat words))
+abbrev leaf_fault : Shape → List Text → Kinds
+leaf_fault s words = level_fault s [] nothing_held words false []
+
+-- what the words behind a subcommand give is whole, where none is a fault
+abbrev GivesWhole : List Text → Shape → Type 0
+GivesWhole words s = leaf_fault s words ≡ [] → IsWhole (Some (rows_at s words))
+
+plat_whole : (words : List Text) → GivesWhole words (leaf plat)
 plat_whole words e =
-    let given = leaf_given plat words (inl refl, (inr (refl, refl), tt)) refl e in
-    inl (refl, has_value (codes "NOTES") (rows_after plat.rules [] words) _ given.0 given.1)
+    let given = leaf_given (leaf plat) words (inl refl, (inr (refl, refl), tt)) refl e in
+    (has_value (codes "NOTES") (rows_after (leaf plat).rules [] words) _ given.0 given.1, inl refl)
 
-abbrev normal : Shape
-normal = leaf (subcommand_with (codes "normal") (codes "NOTES" ∷ codes "DESCRIPTION" ∷ []))
+land_whole : (name : Text) (words : List Text) → IsOfLand name → GivesWhole words (leaf (described name))
+land_whole name words of_land e =
+    let s = leaf (described name) in
+    let given = leaf_given s words (inl refl, (inl refl, (inr (refl, refl), tt))) refl e in
+    let rows = rows_after s.rules [] words in
+    (has_value (codes "NOTES") rows _ given.0 given.1, inr (inr (of_land, has_value (codes "DESCRIPTION") rows _ given.0 (rest_of _ _ given.1))))
 
-acres_whole : (words : List Text) → level_fault acres [] nothing_held words false [] ≡ [] → IsWhole (Some (rows_at acres words))
-acres_whole words e =
-    let given = leaf_given acres words (inl refl, (inl refl, (inr (refl, refl), tt))) refl e in
-    let rows = rows_after acres.rules [] words in
-    inr (inl refl, has_value (codes "NOTES") rows _ given.0 given.1, has_value (codes "DESCRIPTION") rows _ given.0 (rest_of _ _ given.1))
-
-normal_whole : (words : List Text) → level_fault normal [] nothing_held words false [] ≡ [] → IsWhole (Some (rows_at normal words))
-normal_whole words e =
-    let given = leaf_given normal words (inl refl, (inl refl, (inr (refl, refl), tt))) refl e in
-    let rows = rows_after normal.rules [] words in
-    inr (inr refl, has_value (codes "NOTES") rows _ given.0 given.1, has_value (codes "DESCRIPTION") rows _ given.0 (rest_of _ _ given.1))
+report_whole : (words : List Text) → GivesWhole words (leaf report)
+report_whole words e =
+    let given = leaf_given (leaf report) words (inl refl, (inl refl, (inr (refl, refl), tt))) refl e in
+    let rows = rows_after (leaf report).rules [] words in
+    (has_value (codes "NOTES") rows _ given.0 given.1, inr (inl (refl, has_value (codes "TRACTS") rows _ given.0 (rest_of _ _ given.1))))
 
 abbrev named : List Shape → Text → Option Shape
 named subs name = find (λ s. answers_to name (label_of s)) subs
 
-abbrev pick : Shape → Shape → Shape → Shape → Bool → Bool → Bool → Bool → Option Shape
-pick w x y z d a b c = if d then Some w else (if a then Some x else (if b then Some y else (if c then Some z else None)))
+-- each of these subcommands that answers to the name gives what is whole
+abbrev AllWhole : Text → List Text → List Shape → Type 0
+AllWhole name words [] = ⊤
+AllWhole name words (s ∷ rest) = (answers_to name (label_of s) ≡ true → GivesWhole words s) × AllWhole name words rest
 
--- a subcommand that was entered is one of those that take files
-one_of_three : (w x y z : Shape) (name : Text) (words : List Text) → (answers_to name (label_of z) ≡ true → ⊥)
-    → (level_fault w [] nothing_held words false [] ≡ [] → IsWhole (Some (rows_at w words)))
-    → (level_fault x [] nothing_held words false [] ≡ [] → IsWhole (Some (rows_at x words)))
-    → (level_fault y [] nothing_held words false [] ≡ [] → IsWhole (Some (rows_at y words)))
-    → option_map_or (λ s. level_fault s [] nothing_held words false []) (named (w ∷ x ∷ y ∷ z ∷ []) name) [] ≡ []
-    → is_some (option_map (λ s. rows_at s words) (named (w ∷ x ∷ y ∷ z ∷ []) name)) ≡ true
-    → IsWhole (option_map (λ s. rows_at s words) (named (w ∷ x ∷ y ∷ z ∷ []) name))
-one_of_three w x y z name words other first second third e some =
-    go (answers_to name (label_of w)) (answers_to name (label_of x)) (answers_to name (label_of y)) (answers_to name (label_of z)) other e some
+-- and so does the one that is entered
+one_of : (subs : List Shape) (name : Text) (words : List Text) → AllWhole name words subs
+    → option_map_or (λ s. leaf_fault s words) (named subs name) [] ≡ []
+    → is_some (option_map (λ s. rows_at s words) (named subs name)) ≡ true
+    → IsWhole (option_map (λ s. rows_at s words) (named subs name))
+one_of [] name words each e some = cc
+one_of (s ∷ rest) name words each e some = go (answers_to name (label_of s)) (named rest name) refl (one_of rest name words each.1) e some
   where
-    go : (d a b c : Bool) → (c ≡ true → ⊥) → option_map_or (λ s. level_fault s [] nothing_held words false []) (pick w x y z d a b c) [] ≡ []
-        → is_some (option_map (λ s. rows_at s words) (pick w x y z d a b c)) ≡ true → IsWhole (option_map (λ s. rows_at s words) (pick w x y z d a b c))
-    go true a b c other e some = first e
-    go false true b c other e some = second e
-    go false false true c other e some = third e
-    go false false false true other e some = absurd (other refl)
-    go false false false false other e some = cc
+    go : (t : Bool) (others : Option Shape) → answers_to name (label_of s) ≡ t
+        → (option_map_or (λ s. leaf_fault s words) others [] ≡ [] → is_some (option_map (λ s. rows_at s words) others) ≡ true
+        → IsWhole (option_map (λ s. rows_at s words) others))
+        → option_map_or (λ s. leaf_fault s words) (if t then Some s else others) [] ≡ []
+        → is_some (option_map (λ s. rows_at s words) (if t then Some s else others)) ≡ true
+        → IsWhole (option_map (λ s. rows_at s words) (if t then Some s else others))
+    go true others answers below e some = each.0 answers e
+    go false others answers below e some = below e some
 
 no_answer : (name : Text) → IsNoHelp name → answers_to name (label_of help) ≡ true → ⊥
 no_answer name free answers = go (bytes_eq (codes "help") name) refl
@@ -145,7 +144,17 @@ no_answer name free answers = go (bytes_eq (codes "help") name) refl
 entered_whole : (stop : Option (Text × List Text)) → StoppedWell stop → entered_fault (built township) stop ≡ []
     → is_some (entered (built township) stop) ≡ true → IsWhole (entered (built township) stop)
 entered_whole None well e some = cc
-entered_whole (Some p) well e some = one_of_three plat acres normal help p.0 p.1 (no_answer p.0 well) (plat_whole p.1) (acres_whole p.1) (normal_whole p.1) e some
+entered_whole (Some p) well e some =
+    one_of (leaf plat ∷ leaf (described (codes "acres")) ∷ leaf (described (codes "normal")) ∷ leaf report ∷ help ∷ []) p.0 p.1 (
+      λ _. plat_whole p.1,
+      (
+        λ _. land_whole (codes "acres") p.1 (inl refl),
+        (
+          λ _. land_whole (codes "normal") p.1 (inr refl),
+          (λ _. report_whole p.1, (λ answers. absurd (no_answer p.0 well answers), tt)),
+        ),
+      ),
+    ) e some
 
 was_entered : (b : Bool) → not b && true ≡ false → b ≡ true
 was_entered true e = refl

@@ -26,9 +26,14 @@ plat = subcommand_with (codes "plat") (codes "NOTES" ∷ [])
 abbrev pub described : Text → Shape
 described name = subcommand_with name (codes "NOTES" ∷ codes "DESCRIPTION" ∷ [])
 
+-- the subcommand that speaks of a list of tracts on a plat
+abbrev pub report : Shape
+report = subcommand_with (codes "report") (codes "NOTES" ∷ codes "TRACTS" ∷ [])
+
 -- the command `township`, with its subcommands in their order
 abbrev pub township : App
-township = township_with (plat ∷ described (codes "acres") ∷ described (codes "normal") ∷ [])
+township = township_with
+    (plat ∷ described (codes "acres") ∷ described (codes "normal") ∷ report ∷ [])
 
 -- the program's command
 abbrev pub IsTownship : App → Type 0

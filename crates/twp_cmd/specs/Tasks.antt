@@ -6,7 +6,7 @@ use Rattle.clap.specs.declared.error.kind.ErrorKind.{ErrorKind}
 use Rattle.clap.specs.declared.error.kind.ErrorKind.TheVariants.{DisplayHelp}
 use Rattle.twp_cmd.specs.Commands.{IsTownship}
 use Rattle.twp_cmd.specs.declared.task.Task.{Task}
-use Rattle.twp_cmd.specs.declared.task.Task.TheVariants.{Plat, Acres, Normal}
+use Rattle.twp_cmd.specs.declared.task.Task.TheVariants.{Plat, Acres, Normal, Report}
 use Rattle.twp_cmd.specs.declared.task.TaskFault.{TaskFault}
 use Rattle.twp_cmd.specs.declared.task.TaskFault.TheVariants.{Usage, Help, Memory}
 
@@ -34,6 +34,9 @@ given_notes name = record { word = codes "NOTES"; value = name }
 abbrev pub given_description : Text → Given
 given_description name = record { word = codes "DESCRIPTION"; value = name }
 
+abbrev pub given_tracts : Text → Given
+given_tracts name = record { word = codes "TRACTS"; value = name }
+
 -- the words ask for the task
 abbrev pub IsTaskOf : List Text → Task → Type 0
 IsTaskOf words (Plat notes) = Enters words (codes "plat") (given_notes notes ∷ [])
@@ -41,6 +44,8 @@ IsTaskOf words (Acres notes description) =
     Enters words (codes "acres") (given_notes notes ∷ given_description description ∷ [])
 IsTaskOf words (Normal notes description) =
     Enters words (codes "normal") (given_notes notes ∷ given_description description ∷ [])
+IsTaskOf words (Report notes tracts) =
+    Enters words (codes "report") (given_notes notes ∷ given_tracts tracts ∷ [])
 
 -- clap's rule has a fault of this kind at the words
 pub record HasKindAt (words : List Text) (kind : ErrorKind) : Type 0 where

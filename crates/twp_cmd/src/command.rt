@@ -2,7 +2,7 @@ ghost use Rattle.std.specs.Prelude.{◌≡◌, ◌∷◌, [], IfOk, false, codes
 ghost use Rattle.clap.specs.Words.{app_of, rule_of, shape_of};
 ghost use Rattle.clap.specs.declared.builder.command.Command.TheViews.{out-Command as fields_of};
 ghost use Rattle.twp_cmd.specs.Commands.{IsTownship, described, required_word, township_with};
-ghost use Rattle.twp_cmd.specs.Commands.{plat as the_plat};
+ghost use Rattle.twp_cmd.specs.Commands.{plat as the_plat, report as the_report};
 
 use clap::{Arg, Command};
 use std::alloc::{AllocError, Global};
@@ -14,10 +14,18 @@ const NAME: &str = "township";
 pub(crate) fn township<'a>(alloc: Global) -> Result<Command<'a>, AllocError>
     ensures { IfOk result (λ command. IsTownship (app_of command)) }
 {
+    without_report(alloc)?.subcommand(report(alloc)?)
+}
+
+/// The command line but for `report`.
+fn without_report<'a>(alloc: Global) -> Result<Command<'a>, AllocError>
+    ensures { IfOk result (λ command. app_of command
+        ≡ township_with (the_plat ∷ described (codes "acres") ∷ described (codes "normal") ∷ [])) }
+{
     measures(alloc)?.subcommand(normal(alloc)?)
 }
 
-/// The command line with the subcommands that write acres.
+/// The command line with the subcommands that write acres of the plat or of one land.
 fn measures<'a>(alloc: Global) -> Result<Command<'a>, AllocError>
     ensures { IfOk result (λ command. app_of command
         ≡ township_with (the_plat ∷ described (codes "acres") ∷ [])) }
@@ -67,6 +75,18 @@ fn normal<'a>(alloc: Global) -> Result<Command<'a>, AllocError>
         .arg(description(alloc))
 }
 
+/// `report NOTES TRACTS`
+fn report<'a>(alloc: Global) -> Result<Command<'a>, AllocError>
+    ensures local { IfOk result (λ command. (fields_of command).has_globals ≡ false) }
+    ensures shape { IfOk result (λ command. shape_of command
+        ≡ the_report) }
+{
+    Command::new(alloc, "report")
+        .about("Writes the account of a list of tracts: the acres of each, of all, and of the rest")
+        .arg(notes(alloc))?
+        .arg(tracts(alloc))
+}
+
 /// The file of field notes.
 fn notes<'a>(alloc: Global) -> Arg<'a>
     ensures local { result.global ≡ false }
@@ -85,4 +105,14 @@ fn description<'a>(alloc: Global) -> Arg<'a>
     Arg::new(alloc, "DESCRIPTION")
         .required(true)
         .help("description of land, as: sec. 5, lot 1.")
+}
+
+/// The file of a list of tracts.
+fn tracts<'a>(alloc: Global) -> Arg<'a>
+    ensures local { result.global ≡ false }
+    ensures rule { rule_of result ≡ required_word (codes "TRACTS") }
+{
+    Arg::new(alloc, "TRACTS").required(true).help(
+        "list of tracts, CSV: a name and a description in each record",
+    )
 }

@@ -1,7 +1,7 @@
 //! The program over the host's capabilities, which `main` gives it.
 ghost use Rattle.std.specs.Prelude.{◌≡◌, ◌⊎◌, false, map, string_bytes, IfErr, IfOk};
 ghost use Rattle.twp_grid.specs.Devices.{device_failed};
-ghost use Rattle.twp_cmd.specs.Endings.{EndsAs, FailsOn};
+ghost use Rattle.twp_cmd.specs.Endings.{EndsAs, FailsOn, IsVerdictOf};
 ghost use Rattle.twp_cmd.specs.Statuses.{status_of};
 
 use crate::ending::{Ending, Failure};
@@ -12,7 +12,7 @@ use std::env::Env;
 use std::io::ErrorKind;
 use std::rt::Files;
 use std::{env, fs, io};
-use twp_acres::{RunFault, Verdict, run_acres, run_normal, run_plat};
+use twp_acres::{RunFault, Verdict, run_acres, run_normal, run_plat, run_report};
 use twp_grid::Device;
 
 /// Runs the program, tells on standard error why there is no answer, and gives the status.
@@ -66,7 +66,8 @@ fn show_help<R: Print>(rt: &R, text: String) -> Ending
 
 /// Opens the files of a task, in their order, and runs it.
 fn run_task<R: Files + Print + AllocGlobal>(rt: &R, task: Task) -> Result<Verdict, Failure>
-    ensures { IfErr result (FailsOn task) }
+    ensures answers { IfOk result (IsVerdictOf task) }
+    ensures fails { IfErr result (FailsOn task) }
 {
     let mut out = Device::new(io::writer(rt));
     match task {
@@ -83,6 +84,11 @@ fn run_task<R: Files + Print + AllocGlobal>(rt: &R, task: Task) -> Result<Verdic
             let mut notes = open(rt, notes)?;
             let mut description = open(rt, description)?;
             Ok(run_normal(rt.alloc(), &mut notes, &mut description, &mut out)?)
+        }
+        Task::Report { notes, tracts } => {
+            let mut notes = open(rt, notes)?;
+            let mut tracts = open(rt, tracts)?;
+            Ok(run_report(rt.alloc(), &mut notes, &mut tracts, &mut out)?)
         }
     }
 }

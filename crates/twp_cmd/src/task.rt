@@ -19,6 +19,8 @@ pub enum Task {
     Acres { notes: Name, description: Name },
     /// Write the canonical spelling of a description of land on the plat of field notes.
     Normal { notes: Name, description: Name },
+    /// Write the account of a list of tracts on the plat of field notes.
+    Report { notes: Name, tracts: Name },
 }
 
 /// Why the words of a command line give no task.
@@ -66,6 +68,10 @@ fn task_of(alloc: Global, matches: &ArgMatches<'_>) -> Result<Task, AllocError>
     let notes = name_of(alloc, found, "NOTES")?;
     if name == "plat" {
         return Ok(Task::Plat { notes });
+    }
+    if name == "report" {
+        let tracts = name_of(alloc, found, "TRACTS")?;
+        return Ok(Task::Report { notes, tracts });
     }
     let description = name_of(alloc, found, "DESCRIPTION")?;
     if name == "acres" {

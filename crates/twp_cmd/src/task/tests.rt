@@ -12,6 +12,7 @@ Commands:
   plat    Writes the acres of each lot, of each section and of the whole township
   acres   Writes the acres of the land that a description names
   normal  Writes the one canonical spelling of the land that a description names
+  report  Writes the account of a list of tracts: the acres of each, of all, and of the rest
   help    Print this message or the help of the given subcommand(s)
 
 Options:
@@ -56,6 +57,20 @@ Options:
   -h, --help  Print help
 ";
 
+/// What `township report --help` says.
+const REPORT_HELP: &str =
+    "Writes the account of a list of tracts: the acres of each, of all, and of the rest
+
+Usage: township report <NOTES> <TRACTS>
+
+Arguments:
+  <NOTES>   field notes of the township's 84 section lines, CSV
+  <TRACTS>  list of tracts, CSV: a name and a description in each record
+
+Options:
+  -h, --help  Print help
+";
+
 /// How each text of usage ends, after what was wrong.
 const USAGE: &str = "\nUsage: township <COMMAND>\n\nFor more information, try '--help'.\n";
 
@@ -65,6 +80,10 @@ const PLAT_USAGE: &str = "\nUsage: township plat <NOTES>\n\nFor more information
 /// The same in `acres`.
 const ACRES_USAGE: &str =
     "\nUsage: township acres <NOTES> <DESCRIPTION>\n\nFor more information, try '--help'.\n";
+
+/// The same in `report`.
+const REPORT_USAGE: &str =
+    "\nUsage: township report <NOTES> <TRACTS>\n\nFor more information, try '--help'.\n";
 
 /// Reads a command line.
 fn read(alloc: Global, line: &[&str]) -> Result<Result<Task, TaskFault>, Fail> {
@@ -87,8 +106,8 @@ fn fault_text(alloc: Global, line: &[&str]) -> Result<String, Fail> {
 
 #[test]
 fn a_task_is_a_subcommand_with_its_files(rt: HostRuntime) -> Result<(), Fail> {
-    // The subcommand, NOTES, and DESCRIPTION where the subcommand has it.
-    let lines: [(&[&str], &str, Option<&str>); 10] = [
+    // The subcommand, NOTES, and DESCRIPTION or TRACTS where the subcommand has it.
+    let lines: [(&[&str], &str, Option<&str>); 13] = [
         (
             &["township", "acres", "n.csv", "d.txt"],
             "n.csv",
@@ -99,6 +118,11 @@ fn a_task_is_a_subcommand_with_its_files(rt: HostRuntime) -> Result<(), Fail> {
             &["township", "normal", "n.csv", "d.txt"],
             "n.csv",
             Some("d.txt"),
+        ),
+        (
+            &["township", "report", "n.csv", "t.csv"],
+            "n.csv",
+            Some("t.csv"),
         ),
         // Whatever the program was called by.
         (&["/usr/local/bin/tw", "plat", "n.csv"], "n.csv", None),
@@ -115,6 +139,12 @@ fn a_task_is_a_subcommand_with_its_files(rt: HostRuntime) -> Result<(), Fail> {
             Some("--"),
         ),
         (&["township", "plat", "--", "acres"], "acres", None),
+        (
+            &["township", "report", "--", "-h", "--help"],
+            "-h",
+            Some("--help"),
+        ),
+        (&["township", "report", "", "-"], "", Some("-")),
         // A hyphen alone is a value, and so is the empty word.
         (&["township", "acres", "-", ""], "-", Some("")),
         // A name is kept as it is written.
@@ -124,18 +154,19 @@ fn a_task_is_a_subcommand_with_its_files(rt: HostRuntime) -> Result<(), Fail> {
             Some("\u{e9}=1"),
         ),
     ];
-    for (line, wanted_notes, wanted_description) in lines {
-        let (notes, description) = match read(rt.alloc(), line)? {
+    for (line, wanted_notes, wanted_other) in lines {
+        let (notes, other) = match read(rt.alloc(), line)? {
             Ok(Task::Plat { notes }) => (notes, None),
             Ok(Task::Acres { notes, description }) => (notes, Some(description)),
             Ok(Task::Normal { notes, description }) => (notes, Some(description)),
+            Ok(Task::Report { notes, tracts }) => (notes, Some(tracts)),
             Err(fault) => {
                 assert!(rt; false, "{line:?}: {fault}");
                 continue;
             }
         };
         assert!(rt; notes.text() == wanted_notes, "{line:?}: {notes}");
-        match (description, wanted_description) {
+        match (other, wanted_other) {
             (Some(name), Some(wanted)) => assert!(rt; name.text() == wanted, "{line:?}: {name}"),
             (found, wanted) => assert!(rt; found.is_none() && wanted.is_none(), "{line:?}"),
         }
@@ -146,16 +177,20 @@ fn a_task_is_a_subcommand_with_its_files(rt: HostRuntime) -> Result<(), Fail> {
 #[test]
 fn a_task_is_of_its_subcommand(rt: HostRuntime) -> Result<(), Fail> {
     let alloc = rt.alloc();
+    let plat = read(alloc, &["township", "plat", "n.csv"])?;
+    assert!(rt; matches!(plat, Ok(Task::Plat { .. })));
     let acres = read(alloc, &["township", "acres", "n.csv", "d.txt"])?;
     assert!(rt; matches!(acres, Ok(Task::Acres { .. })));
     let normal = read(alloc, &["township", "normal", "n.csv", "d.txt"])?;
     assert!(rt; matches!(normal, Ok(Task::Normal { .. })));
+    let report = read(alloc, &["township", "report", "n.csv", "t.csv"])?;
+    assert!(rt; matches!(report, Ok(Task::Report { .. })));
     Ok(())
 }
 
 #[test]
 fn help_is_shown_where_it_is_asked_for(rt: HostRuntime) -> Result<(), Fail> {
-    let lines: [(&[&str], &str); 11] = [
+    let lines: [(&[&str], &str); 14] = [
         (&["township", "--help"], PROGRAM_HELP),
         (&["township", "-h"], PROGRAM_HELP),
         (&["township", "help"], PROGRAM_HELP),
@@ -165,8 +200,11 @@ fn help_is_shown_where_it_is_asked_for(rt: HostRuntime) -> Result<(), Fail> {
         (&["township", "help", "acres"], ACRES_HELP),
         (&["township", "acres", "-h"], ACRES_HELP),
         (&["township", "normal", "--help"], NORMAL_HELP),
+        (&["township", "report", "--help"], REPORT_HELP),
+        (&["township", "help", "report"], REPORT_HELP),
         // Also where the other words are misused.
         (&["tw", "acres", "n.csv", "--help"], ACRES_HELP),
+        (&["tw", "report", "n.csv", "t.csv", "-h"], REPORT_HELP),
         (&["township", "--help", "akres"], PROGRAM_HELP),
     ];
     for (line, wanted) in lines {
@@ -180,9 +218,9 @@ fn help_is_shown_where_it_is_asked_for(rt: HostRuntime) -> Result<(), Fail> {
 #[test]
 fn usage_says_what_was_wrong(rt: HostRuntime) -> Result<(), Fail> {
     let missing = "error: 'township' requires a subcommand but one was not provided
-  [subcommands: plat, acres, normal, help]
+  [subcommands: plat, acres, normal, report, help]
 ";
-    let lines: [(&[&str], &str, &str); 15] = [
+    let lines: [(&[&str], &str, &str); 21] = [
         (&["township"], missing, USAGE),
         (&[], missing, USAGE),
         (
@@ -196,13 +234,13 @@ fn usage_says_what_was_wrong(rt: HostRuntime) -> Result<(), Fail> {
             USAGE,
         ),
         (
-            &["township", "report"],
-            "error: unrecognized subcommand 'report'\n",
+            &["township", "deeds"],
+            "error: unrecognized subcommand 'deeds'\n",
             USAGE,
         ),
         (
-            &["township", "help", "report"],
-            "error: unrecognized subcommand 'report'\n",
+            &["township", "help", "deeds"],
+            "error: unrecognized subcommand 'deeds'\n",
             USAGE,
         ),
         (
@@ -255,6 +293,36 @@ fn usage_says_what_was_wrong(rt: HostRuntime) -> Result<(), Fail> {
             &["township", "acres", "-n.csv", "d.txt"],
             "error: unexpected argument '-n' found\n\n  tip: to pass '-n' as a value, use '-- -n'\n",
             ACRES_USAGE,
+        ),
+        (
+            &["township", "report"],
+            "error: the following required arguments were not provided:\n  <NOTES>\n  <TRACTS>\n",
+            REPORT_USAGE,
+        ),
+        (
+            &["township", "report", "n.csv"],
+            "error: the following required arguments were not provided:\n  <TRACTS>\n",
+            REPORT_USAGE,
+        ),
+        (
+            &["township", "report", "n.csv", "t.csv", "d.txt"],
+            "error: unexpected argument 'd.txt' found\n",
+            REPORT_USAGE,
+        ),
+        (
+            &["township", "report", "n.csv", "--", "--", "t.csv"],
+            "error: unexpected argument 't.csv' found\n",
+            REPORT_USAGE,
+        ),
+        (
+            &["township", "report", "n.csv", "-t"],
+            "error: unexpected argument '-t' found\n\n  tip: to pass '-t' as a value, use '-- -t'\n",
+            REPORT_USAGE,
+        ),
+        (
+            &["township", "reports", "n.csv", "t.csv"],
+            "error: unrecognized subcommand 'reports'\n\n  tip: a similar subcommand exists: 'report'\n",
+            USAGE,
         ),
     ];
     for (line, wrong, usage) in lines {
