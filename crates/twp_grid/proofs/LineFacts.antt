@@ -85,6 +85,9 @@ pub closing_test : (index : ℕ) → IsClosing index → (index < 7) ⊎ ((42 �
 closing_test index (inl (meridian, range, is)) = inl (omega arith)
 closing_test index (inr (tier, range, is)) = inr (omega arith, omega arith)
 
+-- a test of the index that tells the closing lines
+pub ruleset closing_lines = (closing_north, closing_west, closing_test)
+
 -- there is one line between two sections, and one of each run beside a section of the boundary
 pub one_line : (run : Run) (section : ℕ) (other : Option ℕ) (i j : ℕ) → IsLineOf run section other i → IsLineOf run section other j → i ≡ j
 one_line run.North a (Some b) i j is-i is-j =

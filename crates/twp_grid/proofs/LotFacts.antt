@@ -132,6 +132,9 @@ pub lot_outside : (s c r : ℕ) → (3 < c) ⊎ (3 < r) → lot_at_position s c 
 unfolding lot_at_position
 lot_outside s c r out = rw (none_outside s c r lots lots_within out) refl
 
+-- the lot at a position, by tests of the section
+pub ruleset lot_at_position_is = (lot_at_is, lot_outside, lot_count_is)
+
 pub position_of_lot_is : (s n : ℕ) → IsSection s → position_of_lot s n ≡ position_by_code s n
 unfolding position_of_lot
 position_of_lot_is s n range = elim (cases_lt n 8) [

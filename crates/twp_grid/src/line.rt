@@ -139,7 +139,7 @@ impl Line {
     /// Whether errors of measurement are thrown into the line's last half mile: the north-run lines of
     /// the northern row and the west-run lines of the western column (Manual of Surveying Instructions
     /// 2009, chapter 3).
-    #[tactic(auto, using(crate::proofs::LineFacts::closing_north, crate::proofs::LineFacts::closing_west, crate::proofs::LineFacts::closing_test))]
+    #[tactic(auto, using(crate::proofs::LineFacts::closing_lines))]
     pub fn is_closing(self) -> bool
         ensures { IsTrue result ↔ IsClosing self }
     {

@@ -1,15 +1,15 @@
 -- Sets of places as they are kept by section.
-use Rattle.std.proofs.Common.{get_or, sym, ◌∙◌, if◌then◌else◌, ◌≡◌, ◌≢◌, ◌==◌, ℕ, zero, suc, ◌-◌, ◌<◌, ◌≤◌, ◌+◌, ◌&&◌, ◌||◌, nat_le, Bool, true, false, List, [], ◌∷◌, length, Some, ap, refl, inl, inr, arith, replicate}
+use Rattle.std.proofs.Common.{get_or, sym, ◌∙◌, if◌then◌else◌, ◌≡◌, ◌≢◌, ◌==◌, ℕ, zero, suc, ◌-◌, ◌<◌, ◌≤◌, ◌+◌, ◌&&◌, ◌||◌, not, nat_le, Bool, true, false, List, [], ◌∷◌, length, Some, ap, refl, inl, inr, arith, replicate}
 use Rattle.std.proofs.Math.Path.{fun_ext}
 use Rattle.std.proofs.Math.ListN.{set}
 use Rattle.std.specs.List.{slice_get}
 use Rattle.std.specs.Option.{option_map_or}
-use Rattle.std.proofs.lemmas.Bool.{cases_eq, ne_eqb, eq-eqb, and_right, and_parts}
+use Rattle.std.proofs.lemmas.Bool.{cases_eq, cases_Bool, ne_eqb, eq-eqb, and_right, and_parts}
 use Rattle.std.proofs.lemmas.Bool.Decides.{nat_tests}
 use Rattle.twp_grid.specs.Winding.{SECTION_COUNT, IsSection}
 use Rattle.twp_grid.specs.Spans.{Rectangle}
-use Rattle.twp_land.specs.Lands.{no_places, union, block_places, SharePlace}
-use Rattle.twp_land.specs.Storage.{is_section, held_by_section, with_block, nothing_held, held_by_either, ShareHeld}
+use Rattle.twp_land.specs.Lands.{no_places, union, difference, block_places, SharePlace, SamePlaces}
+use Rattle.twp_land.specs.Storage.{is_section, held_by_section, with_block, without_block, nothing_held, held_by_either, ShareHeld, SameHeld}
 
 -- the set with one section's part exchanged
 abbrev exchanged : (ℕ → ℕ → ℕ → Bool) → ℕ → (ℕ → ℕ → Bool) → ℕ → ℕ → ℕ → Bool
@@ -72,6 +72,23 @@ exchanged_is_union places section block =
     or_false true = refl
     or_false false = refl
 
+-- to exchange it for itself without a block is to take the block away
+exchanged_is_difference : (places : ℕ → ℕ → ℕ → Bool) (section : ℕ) (block : Rectangle)
+    → exchanged places section (without_block (places section) block) ≡ difference places (block_places section block)
+exchanged_is_difference places section block =
+    fun_ext (λ other. fun_ext (λ column. fun_ext (λ row. elim (cases_eq section other) [
+      | inl same ↦
+          let test : (section == other) ≡ true = eq-eqb section other same in
+          rw (test, same) refl
+      | inr apart ↦
+          let test : (section == other) ≡ false = ne_eqb section other apart in
+          rw test (and_true (places other column row))
+    ])))
+  where
+    and_true : (b : Bool) → b ≡ (b && true)
+    and_true true = refl
+    and_true false = refl
+
 -- where each part is empty, so is the set
 pub held_nowhere : {P : Type 0} (held : P → ℕ → ℕ → Bool) (plot : P) (n : ℕ) → held plot ≡ nothing_held
     → held_by_section held (replicate n plot) ≡ no_places
@@ -84,13 +101,12 @@ held_nowhere {P = P} held plot n none =
     no_part (suc n) (suc i) column row = no_part n i column row
 
 -- a section's part, changed where it is kept
-pub added_where_kept : {P : Type 0} (held : P → ℕ → ℕ → Bool) (plots : List P) (section : ℕ) (block : Rectangle) (plot plot' : P) → IsSection section
-    → length plots ≡ SECTION_COUNT → held plot' ≡ with_block (held (get_or plots (section - 1) plot)) block
-    → held_by_section held (set plots (section - 1) plot') ≡ union (held_by_section held plots) (block_places section block)
-added_where_kept {P = P} held plots section block plot plot' range all added =
+changed_where_kept : {P : Type 0} (held : P → ℕ → ℕ → Bool) (change : (ℕ → ℕ → Bool) → ℕ → ℕ → Bool) (plots : List P) (section : ℕ) (plot plot' : P)
+    → IsSection section → length plots ≡ SECTION_COUNT → held plot' ≡ change (held (get_or plots (section - 1) plot))
+    → held_by_section held (set plots (section - 1) plot') ≡ exchanged (held_by_section held plots) section (change (held_by_section held plots section))
+changed_where_kept {P = P} held change plots section plot plot' range all changed =
     held_after held plots section plot' range all
-    ∙ ap (λ part. exchanged (held_by_section held plots) section part) (added ∙ ap (λ part. with_block part block) (sym kept))
-    ∙ exchanged_is_union (held_by_section held plots) section block
+    ∙ ap (λ part. exchanged (held_by_section held plots) section part) (changed ∙ ap (λ part. change part) (sym kept))
   where
     found : (plots : List P) (i : ℕ) → i < length plots → slice_get plots i ≡ Some (get_or plots i plot)
     found [] i inside = absurd (omega arith)
@@ -99,6 +115,20 @@ added_where_kept {P = P} held plots section block plot plot' range all added =
 
     kept : held_by_section held plots section ≡ held (get_or plots (section - 1) plot)
     kept = fun_ext (λ column. fun_ext (λ row. rw (number_is section range, found plots (section - 1) (omega (arith, range.0))) refl))
+
+pub added_where_kept : {P : Type 0} (held : P → ℕ → ℕ → Bool) (plots : List P) (section : ℕ) (block : Rectangle) (plot plot' : P) → IsSection section
+    → length plots ≡ SECTION_COUNT → held plot' ≡ with_block (held (get_or plots (section - 1) plot)) block
+    → held_by_section held (set plots (section - 1) plot') ≡ union (held_by_section held plots) (block_places section block)
+added_where_kept held plots section block plot plot' range all added =
+    changed_where_kept held (λ part. with_block part block) plots section plot plot' range all added
+    ∙ exchanged_is_union (held_by_section held plots) section block
+
+pub removed_where_kept : {P : Type 0} (held : P → ℕ → ℕ → Bool) (plots : List P) (section : ℕ) (block : Rectangle) (plot plot' : P) → IsSection section
+    → length plots ≡ SECTION_COUNT → held plot' ≡ without_block (held (get_or plots (section - 1) plot)) block
+    → held_by_section held (set plots (section - 1) plot') ≡ difference (held_by_section held plots) (block_places section block)
+removed_where_kept held plots section block plot plot' range all removed =
+    changed_where_kept held (λ part. without_block part block) plots section plot plot' range all removed
+    ∙ exchanged_is_difference (held_by_section held plots) section block
 
 -- what is kept at an index is the part of the section behind it
 kept_at : {P : Type 0} (held : P → ℕ → ℕ → Bool) (plots : List P) (index : ℕ) (plot : P) → index < SECTION_COUNT → length plots ≡ SECTION_COUNT
@@ -165,6 +195,50 @@ pub apart_all : {P : Type 0} (held : P → ℕ → ℕ → Bool) (plots others :
 apart_all held plots others apart shared =
     let range = section_held held plots shared.section shared.column shared.row shared.in_first in
     apart shared.section shared.column shared.row range.1 shared.in_first shared.in_second
+
+-- up to a section the same places are in both sets
+abbrev pub AreSameTo : ℕ → (ℕ → ℕ → ℕ → Bool) → (ℕ → ℕ → ℕ → Bool) → Type 0
+AreSameTo most places more = (section column row : ℕ) → section ≤ most → places section column row ≡ more section column row
+
+not_section : {P : Type 0} (held : P → ℕ → ℕ → Bool) (plots : List P) (section column row : ℕ) → is_section section ≡ false
+    → held_by_section held plots section column row ≡ false
+not_section held plots section column row none = rw none refl
+
+pub same_first : {P : Type 0} (held : P → ℕ → ℕ → Bool) (plots others : List P) → AreSameTo 0 (held_by_section held plots) (held_by_section held others)
+same_first held plots others section column row most =
+    let none : is_section section ≡ false = grind (arith, nat_tests) in
+    not_section held plots section column row none ∙ sym (not_section held others section column row none)
+
+pub same_next : {P : Type 0} (held : P → ℕ → ℕ → Bool) (plots others : List P) (index : ℕ) (plot other : P) → index < SECTION_COUNT
+    → length plots ≡ SECTION_COUNT → length others ≡ SECTION_COUNT
+    → SameHeld (held (get_or plots index plot)) (held (get_or others index other))
+    → AreSameTo index (held_by_section held plots) (held_by_section held others)
+    → AreSameTo (index + 1) (held_by_section held plots) (held_by_section held others)
+same_next held plots others index plot other below all all-others same before section column row most = elim (cases_eq section (index + 1)) [
+  | inl here ↦
+      ap (λ s. held_by_section held plots s column row) here
+      ∙ ap (λ h. h column row) (kept_at held plots index plot below all) ∙ same column row
+      ∙ sym (ap (λ h. h column row) (kept_at held others index other below all-others))
+      ∙ sym (ap (λ s. held_by_section held others s column row) here)
+  | inr earlier ↦ before section column row (omega arith)
+]
+
+pub same_all : {P : Type 0} (held : P → ℕ → ℕ → Bool) (plots others : List P) → AreSameTo SECTION_COUNT (held_by_section held plots) (held_by_section held others)
+    → SamePlaces (held_by_section held plots) (held_by_section held others)
+same_all held plots others same section column row = elim (cases_Bool (is_section section)) [
+  | inl is ↦
+      let sides = and_parts (nat_le 1 section) (nat_le section SECTION_COUNT) is in
+      same section column row (grind (arith, nat_tests))
+  | inr none ↦ not_section held plots section column row none ∙ sym (not_section held others section column row none)
+]
+
+-- where the sets are the same, so are the parts at one index
+pub same_at : {P : Type 0} (held : P → ℕ → ℕ → Bool) (plots others : List P) (index : ℕ) (plot other : P) → index < SECTION_COUNT
+    → length plots ≡ SECTION_COUNT → length others ≡ SECTION_COUNT → SamePlaces (held_by_section held plots) (held_by_section held others)
+    → SameHeld (held (get_or plots index plot)) (held (get_or others index other))
+same_at held plots others index plot other below all all-others same column row =
+    sym (ap (λ h. h column row) (kept_at held plots index plot below all)) ∙ same (index + 1) column row
+    ∙ ap (λ h. h column row) (kept_at held others index other below all-others)
 
 -- the places of both sets up to a section, and behind it those of the first
 abbrev pub joined_to : ℕ → (ℕ → ℕ → ℕ → Bool) → (ℕ → ℕ → ℕ → Bool) → ℕ → ℕ → ℕ → Bool

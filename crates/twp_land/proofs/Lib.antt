@@ -5,4 +5,6 @@ pub mod LandFacts
 pub mod JoinFacts
 pub mod LaneFacts
 pub mod LotFacts
+pub mod RemovalFacts
 pub mod RowFacts
+pub mod SameFacts

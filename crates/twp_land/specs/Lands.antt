@@ -1,6 +1,6 @@
 -- Lands: sets of places of a township. A set is a test of section, column and row; what of it lies in one
 -- section is a test of column and row.
-use Rattle.std.specs.Prelude.{◌≡◌, ◌==◌, ℕ, ◌&&◌, ◌||◌, Bool, true, false}
+use Rattle.std.specs.Prelude.{◌≡◌, ◌==◌, ℕ, ◌&&◌, ◌||◌, not, Bool, true, false}
 use Rattle.twp_grid.specs.Spans.{Rectangle, in_rectangle}
 use Rattle.twp_grid.specs.Totals.{total_over, one_where}
 
@@ -15,6 +15,11 @@ block_places section block other column row = (section == other) && in_rectangle
 -- the places of two sets
 abbrev pub union : (ℕ → ℕ → ℕ → Bool) → (ℕ → ℕ → ℕ → Bool) → ℕ → ℕ → ℕ → Bool
 union places more section column row = places section column row || more section column row
+
+-- the places of the first set without those of the second
+abbrev pub difference : (ℕ → ℕ → ℕ → Bool) → (ℕ → ℕ → ℕ → Bool) → ℕ → ℕ → ℕ → Bool
+difference places less section column row =
+    places section column row && not (less section column row)
 
 -- of one section's places, some place of the block is held
 pub record Meets (held : ℕ → ℕ → Bool) (block : Rectangle) : Type 0 where
@@ -39,3 +44,8 @@ pub record SharePlace (places more : ℕ → ℕ → ℕ → Bool) : Type 0 wher
   pub row : ℕ
   pub in_first : places section column row ≡ true
   pub in_second : more section column row ≡ true
+
+-- the same places are in both sets
+abbrev pub SamePlaces : (ℕ → ℕ → ℕ → Bool) → (ℕ → ℕ → ℕ → Bool) → Type 0
+SamePlaces places more =
+    (section column row : ℕ) → places section column row ≡ more section column row

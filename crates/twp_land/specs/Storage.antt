@@ -1,6 +1,6 @@
 -- How the sets are kept: a township's as one set for each section, by number; a section's by rows from
 -- the south, each by columns from the east, as tests or as the bits of a lane.
-use Rattle.std.specs.Prelude.{◌≡◌, ℕ, ◌+◌, ◌<◌, ◌-◌, ◌^◌, ◌==◌, ◌&&◌, ◌||◌, Bool, true, false, List, [], length, nat_le, slice_index_or}
+use Rattle.std.specs.Prelude.{◌≡◌, ℕ, ◌+◌, ◌<◌, ◌-◌, ◌^◌, ◌==◌, ◌&&◌, ◌||◌, not, Bool, true, false, List, [], length, nat_le, slice_index_or}
 use Rattle.std.specs.List.{slice_get}
 use Rattle.std.specs.Int.{bit_at}
 use Rattle.std.specs.Option.{option_map_or}
@@ -16,6 +16,10 @@ nothing_held column row = false
 -- the places of a set and of a block
 abbrev pub with_block : (ℕ → ℕ → Bool) → Rectangle → ℕ → ℕ → Bool
 with_block held block column row = held column row || in_rectangle block column row
+
+-- the places of a set without those of a block
+abbrev pub without_block : (ℕ → ℕ → Bool) → Rectangle → ℕ → ℕ → Bool
+without_block held block column row = held column row && not (in_rectangle block column row)
 
 -- a section's number, as a test
 abbrev pub is_section : ℕ → Bool
@@ -72,12 +76,31 @@ pub record AreFilled (rows : List (List Bool)) (block : Rectangle) (filled : Lis
   pub outside : (row : ℕ) → row < places_across PLACE_DIGITS → in_span block.rows row ≡ false
       → slice_index_or filled row [] ≡ slice_index_or rows row []
 
+-- the row's tests, and false in the span
+abbrev pub IsCleared : List Bool → Span → List Bool → Type 0
+IsCleared row span cleared = (column : ℕ) → column < places_across PLACE_DIGITS
+    → slice_index_or cleared column false
+    ≡ (slice_index_or row column false && not (in_span span column))
+
+-- the rows' tests, and false in the block
+pub record AreCleared (rows : List (List Bool)) (block : Rectangle) (cleared : List (List Bool))
+    : Type 0 where
+  pub count : length cleared ≡ places_across PLACE_DIGITS
+  pub inside : (row : ℕ) → row < places_across PLACE_DIGITS → in_span block.rows row ≡ true
+      → IsCleared (slice_index_or rows row []) block.columns (slice_index_or cleared row [])
+  pub outside : (row : ℕ) → row < places_across PLACE_DIGITS → in_span block.rows row ≡ false
+      → slice_index_or cleared row [] ≡ slice_index_or rows row []
+
 -- a place of one section is in both sets
 pub record ShareHeld (held more : ℕ → ℕ → Bool) : Type 0 where
   pub column : ℕ
   pub row : ℕ
   pub in_first : held column row ≡ true
   pub in_second : more column row ≡ true
+
+-- the same places of one section are in both sets
+abbrev pub SameHeld : (ℕ → ℕ → Bool) → (ℕ → ℕ → Bool) → Type 0
+SameHeld held more = (column row : ℕ) → held column row ≡ more column row
 
 -- the places of two sets of one section
 abbrev pub held_by_either : (ℕ → ℕ → Bool) → (ℕ → ℕ → Bool) → ℕ → ℕ → Bool
@@ -93,6 +116,11 @@ abbrev pub IsJoined : List Bool → List Bool → List Bool → Type 0
 IsJoined row other joined = (column : ℕ) → column < places_across PLACE_DIGITS
     → slice_index_or joined column false
     ≡ (slice_index_or row column false || slice_index_or other column false)
+
+-- each test is the same in both rows
+abbrev pub AreAlike : List Bool → List Bool → Type 0
+AreAlike row other = (column : ℕ) → column < places_across PLACE_DIGITS
+    → slice_index_or row column false ≡ slice_index_or other column false
 
 -- each lane has no more bits than there are columns
 abbrev pub AreLanes : List ℕ → Type 0

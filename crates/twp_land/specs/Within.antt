@@ -5,33 +5,42 @@ use Rattle.std.specs.Option.{option_map_or}
 use Rattle.std.proofs.lemmas.Bool.Decides.{nat_tests}
 use Rattle.std.proofs.lemmas.Bool.{and_parts}
 use Rattle.twp_grid.specs.Winding.{SECTION_COUNT, IsSection}
-use Rattle.twp_grid.specs.Places.{PLACE_DIGITS, places_across, IsPlace}
+use Rattle.twp_grid.specs.Places.{PLACE_DIGITS, places_across, is_place, IsPlace}
 use Rattle.twp_land.specs.Storage.{is_section, held_by_section, held_by_row, held_by_lane}
 
--- what is kept as rows lies in the section
-pub row_within : (rows : List (List Bool)) (column row : ℕ) → held_by_row rows column row ≡ true → IsPlace PLACE_DIGITS column row
-row_within rows column row held =
-    let place = and_parts (nat_lt column (places_across PLACE_DIGITS) && nat_lt row (places_across PLACE_DIGITS)) _ held in
-    let parts = and_parts (nat_lt column (places_across PLACE_DIGITS)) (nat_lt row (places_across PLACE_DIGITS)) place.0 in
+-- a place of the section, from its test
+place_of : (column row : ℕ) → is_place PLACE_DIGITS column row ≡ true
+    → IsPlace PLACE_DIGITS column row
+place_of column row place =
+    let below_width = nat_lt column (places_across PLACE_DIGITS) in
+    let below_height = nat_lt row (places_across PLACE_DIGITS) in
+    let parts = and_parts below_width below_height place in
     (grind (arith, nat_tests), grind (arith, nat_tests))
 
+-- what is kept as rows lies in the section
+pub row_within : (rows : List (List Bool)) (column row : ℕ)
+    → held_by_row rows column row ≡ true → IsPlace PLACE_DIGITS column row
+row_within rows column row held =
+    place_of column row (and_parts (is_place PLACE_DIGITS column row) _ held).0
+
 -- what is kept as lanes lies in the section
-pub lane_within : (lanes : List ℕ) (column row : ℕ) → held_by_lane lanes column row ≡ true → IsPlace PLACE_DIGITS column row
+pub lane_within : (lanes : List ℕ) (column row : ℕ)
+    → held_by_lane lanes column row ≡ true → IsPlace PLACE_DIGITS column row
 lane_within lanes column row held =
-    let place = and_parts (nat_lt column (places_across PLACE_DIGITS) && nat_lt row (places_across PLACE_DIGITS)) _ held in
-    let parts = and_parts (nat_lt column (places_across PLACE_DIGITS)) (nat_lt row (places_across PLACE_DIGITS)) place.0 in
-    (grind (arith, nat_tests), grind (arith, nat_tests))
+    place_of column row (and_parts (is_place PLACE_DIGITS column row) _ held).0
 
 -- what is kept by section is a section's, and what its part holds
 pub held_within : {P : Type 0} (held : P → ℕ → ℕ → Bool) (plots : List P) (section column row : ℕ)
     → ((plot : P) (column row : ℕ) → held plot column row ≡ true → IsPlace PLACE_DIGITS column row)
-    → held_by_section held plots section column row ≡ true → IsSection section × IsPlace PLACE_DIGITS column row
+    → held_by_section held plots section column row ≡ true
+    → IsSection section × IsPlace PLACE_DIGITS column row
 held_within {P = P} held plots section column row within is =
     let parts = and_parts (is_section section) _ is in
     let sides = and_parts (nat_le 1 section) (nat_le section SECTION_COUNT) parts.0 in
     let number : IsSection section = (grind (arith, nat_tests), grind (arith, nat_tests)) in
     (number, of_plot (slice_get plots (section - 1)) parts.1)
   where
-    of_plot : (found : Option P) → option_map_or (λ plot. held plot column row) found false ≡ true → IsPlace PLACE_DIGITS column row
+    of_plot : (found : Option P) → option_map_or (λ plot. held plot column row) found false ≡ true
+        → IsPlace PLACE_DIGITS column row
     of_plot None none = cc none
     of_plot (Some plot) held_there = within plot column row held_there

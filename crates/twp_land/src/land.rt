@@ -1,7 +1,7 @@
 ghost use Rattle.std.specs.Prelude.{◌≡◌, ◌<◌, ◌↔◌, ℕ, Bool, true, IsTrue};
 ghost use Rattle.twp_grid.specs.Winding.{IsSection};
 ghost use Rattle.twp_grid.specs.Places.{PLACE_DIGITS, places_across, IsPlace};
-ghost use Rattle.twp_land.specs.Lands.{no_places, union, block_places, Meets, HoldsAll, count_held, SharePlace};
+ghost use Rattle.twp_land.specs.Lands.{no_places, union, difference, block_places, Meets, HoldsAll, count_held, SharePlace, SamePlaces};
 
 use twp_grid::{Block, Section};
 
@@ -36,6 +36,14 @@ pub trait Land: Drop {
     /// Adds the places of a section's block.
     fn add(&mut self, section: Section, block: Block)
         ensures { places self.new ≡ union (places self.old) (block_places section block) };
+
+    /// Takes away the places of a section's block.
+    fn remove(&mut self, section: Section, block: Block)
+        ensures { places self.new ≡ difference (places self.old) (block_places section block) };
+
+    /// Whether both hold the same places.
+    fn same(&self, other: &Self) -> bool
+        ensures { IsTrue result ↔ SamePlaces (places self.now) (places other.now) };
 
     /// Whether some place is held by both.
     fn meets_land(&self, other: &Self) -> bool

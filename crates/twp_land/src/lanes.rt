@@ -58,6 +58,17 @@ impl Plot for LaneRows {
     }
 
     #[inline]
+    fn remove(&mut self, block: Block) {
+        let held = vector(&self.lanes) & !block_lanes(block);
+        held.copy_to_slice(&mut self.lanes);
+    }
+
+    #[inline]
+    fn same_plot(&self, other: &Self) -> bool {
+        (vector(&self.lanes) ^ vector(&other.lanes)).reduce_or() == 0
+    }
+
+    #[inline]
     fn meets_plot(&self, other: &Self) -> bool {
         (vector(&self.lanes) & vector(&other.lanes)).reduce_or() != 0
     }

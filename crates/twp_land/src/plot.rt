@@ -1,7 +1,7 @@
 ghost use Rattle.std.specs.Prelude.{◌≡◌, ◌<◌, ◌↔◌, ℕ, Bool, true, IsTrue};
 ghost use Rattle.twp_grid.specs.Places.{PLACE_DIGITS, places_across, IsPlace};
 ghost use Rattle.twp_land.specs.Lands.{Meets, HoldsAll, count_held};
-ghost use Rattle.twp_land.specs.Storage.{nothing_held, with_block, held_by_either, ShareHeld};
+ghost use Rattle.twp_land.specs.Storage.{nothing_held, with_block, without_block, held_by_either, ShareHeld, SameHeld};
 
 use twp_grid::Block;
 
@@ -35,6 +35,14 @@ pub trait Plot: Copy + Drop {
     /// Adds the places of a block.
     fn add(&mut self, block: Block)
         ensures { held self.new ≡ with_block (held self.old) block };
+
+    /// Takes away the places of a block.
+    fn remove(&mut self, block: Block)
+        ensures { held self.new ≡ without_block (held self.old) block };
+
+    /// Whether both hold the same places.
+    fn same_plot(&self, other: &Self) -> bool
+        ensures { IsTrue result ↔ SameHeld (held self.now) (held other.now) };
 
     /// Whether some place is held by both.
     fn meets_plot(&self, other: &Self) -> bool

@@ -1,6 +1,6 @@
 ghost use Rattle.std.specs.Prelude.{◌≡◌, ◌+◌, ◌≤◌, ◌↔◌, IsTrue};
 ghost use Rattle.twp_grid.specs.Places.{PLACE_DIGITS, places_across};
-ghost use Rattle.twp_land.specs.Storage.{SomeHeld, EachHeld, count_in_row, IsFilled, ShareInRow, IsJoined};
+ghost use Rattle.twp_land.specs.Storage.{SomeHeld, EachHeld, count_in_row, IsFilled, IsCleared, AreAlike, ShareInRow, IsJoined};
 
 use twp_grid::PLACES_ACROSS;
 
@@ -58,6 +58,30 @@ pub(crate) fn filled(row: &Row, start: usize, len: usize) -> Row
         filled[start + along] = true;
     }
     filled
+}
+
+/// The row with so many places from a start not held.
+pub(crate) fn cleared(row: &Row, start: usize, len: usize) -> Row
+    requires { start + len ≤ places_across PLACE_DIGITS }
+    ensures { IsCleared row.now (record { start = start; len = len }) result }
+{
+    let mut cleared = *row;
+    for along in 0..len {
+        cleared[start + along] = false;
+    }
+    cleared
+}
+
+/// Whether both rows hold the same places.
+pub(crate) fn alike(row: &Row, other: &Row) -> bool
+    ensures { IsTrue result ↔ AreAlike row.now other.now }
+{
+    for column in 0..PLACES_ACROSS {
+        if row[column] != other[column] {
+            return false;
+        }
+    }
+    true
 }
 
 /// Whether some place is held in both rows.

@@ -1,7 +1,7 @@
 ghost use Rattle.twp_land.specs.Storage.{held_by_row};
 
 use crate::plot::Plot;
-use crate::row::{Row, count_held, each_held, filled, joined, share, some_held};
+use crate::row::{Row, alike, cleared, count_held, each_held, filled, joined, share, some_held};
 use crate::sections::Sections;
 use crate::window::Window;
 use twp_grid::{Block, PLACES_ACROSS};
@@ -70,6 +70,26 @@ impl Plot for Rows {
                 window.width,
             );
         }
+    }
+
+    fn remove(&mut self, block: Block) {
+        let window = Window::of(block);
+        for up in 0..window.height {
+            self.rows[window.row + up] = cleared(
+                &self.rows[window.row + up],
+                window.column,
+                window.width,
+            );
+        }
+    }
+
+    fn same_plot(&self, other: &Self) -> bool {
+        for row in 0..PLACES_ACROSS {
+            if !alike(&self.rows[row], &other.rows[row]) {
+                return false;
+            }
+        }
+        true
     }
 
     fn meets_plot(&self, other: &Self) -> bool {

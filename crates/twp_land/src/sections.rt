@@ -57,6 +57,19 @@ impl<P: Plot> Land for Sections<P> {
         self.plots[usize::from(section.number() - 1)].add(block);
     }
 
+    fn remove(&mut self, section: Section, block: Block) {
+        self.plots[usize::from(section.number() - 1)].remove(block);
+    }
+
+    fn same(&self, other: &Self) -> bool {
+        for index in 0..SECTIONS {
+            if !self.plots[index].same_plot(&other.plots[index]) {
+                return false;
+            }
+        }
+        true
+    }
+
     fn meets_land(&self, other: &Self) -> bool {
         for index in 0..SECTIONS {
             if self.plots[index].meets_plot(&other.plots[index]) {

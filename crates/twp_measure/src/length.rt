@@ -87,7 +87,8 @@ impl Length {
     /// The whole chains that these digits spell.
     fn of_whole(digits: &[u8]) -> Result<Length, LengthFault>
         requires { IsNumeral 10 digits.now }
-        ensures ok { IfOk result (λ line. (length digits.now ≤ 2) × (line ≡ 1000 * digits_value 10 digits.now)) }
+        ensures ok { IfOk result (λ line. (length digits.now ≤ 2)
+            × (line ≡ 1000 * digits_value 10 digits.now)) }
         ensures err { IfErr result (λ fault. (2 < length digits.now) × (fault ≡ LengthFault.TooLong)) }
     {
         if digits.len() > 2 {

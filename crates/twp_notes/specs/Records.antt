@@ -33,7 +33,8 @@ bytes_ahead r = unwrap_or (source_of (λ (s : Bor (List ℕ)). Some s.now) r.rea
 
 -- the records that a reader has left
 abbrev pub records_left : Records → List Fields
-records_left r = records_from default_config (length (bytes_ahead r) + 1) (reader_state r.reader) (bytes_ahead r)
+records_left r =
+    records_from default_config (length (bytes_ahead r) + 1) (reader_state r.reader) (bytes_ahead r)
 
 -- the reader stands between two records
 pub record IsReading (r : Records) : Type 0 where

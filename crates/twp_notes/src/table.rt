@@ -36,11 +36,13 @@ impl LineTable {
         }
     }
 
-    /// Takes down what was returned of a line, and answers whether it is the first time.
+    /// Takes down what was returned of a line, and answers whether it is the first time. What was
+    /// returned before stays.
     pub fn take_down(&mut self, line: Line, returned: Returned) -> bool
         ensures first { OnTrue result (entry_of self.old line ≡ None) }
         ensures taken { OnTrue result (self.new ≡ slice_set self.old line (Some returned)) }
         ensures again { OnFalse result (IsSome (entry_of self.old line)) }
+        ensures kept { OnFalse result (self.new ≡ self.old) }
     {
         let index = usize::from(line.index());
         if self.entries[index].is_some() {

@@ -198,6 +198,49 @@ fn check_joined<L: Land>(rt: &impl Abort) -> Result<(), Fail> {
     Ok(())
 }
 
+#[test]
+fn grids_lose_what_is_removed(rt: HostRuntime) -> Result<(), Fail> {
+    check_removed::<Grid>(&rt)
+}
+
+#[test]
+fn lanes_lose_what_is_removed(rt: HostRuntime) -> Result<(), Fail> {
+    check_removed::<Lanes>(&rt)
+}
+
+// Of section 14's 256 places the S1/2 has 128, and the SW1/4 lies in it. What is left without the W1/2
+// is the NE1/4.
+fn check_removed<L: Land>(rt: &impl Abort) -> Result<(), Fail> {
+    let section = Section::new(14).ok_or("a section")?;
+    let last = Section::new(36).ok_or("a section")?;
+    let whole = Block::whole();
+    let mut land = L::empty();
+    land.add(section, whole);
+    land.add(last, whole);
+    land.remove(section, whole.half(Side::S).ok_or("a half")?);
+    assert_eq!(rt; land.count(section, whole), 128);
+    assert_eq!(rt; land.count(last, whole), 256);
+    assert!(rt; land.holds(section, 0, 8) && !land.holds(section, 0, 7));
+
+    // What isn't held stays so.
+    land.remove(section, whole.quarter(Corner::SW).ok_or("a quarter")?);
+    assert_eq!(rt; land.count(section, whole), 128);
+    land.remove(section, whole.half(Side::W).ok_or("a half")?);
+    let mut northeast = L::empty();
+    northeast.add(section, whole.quarter(Corner::NE).ok_or("a quarter")?);
+    assert!(rt; !land.same(&northeast) && !northeast.same(&land));
+    northeast.add(last, whole);
+    assert!(rt; land.same(&northeast) && northeast.same(&land));
+
+    // One place makes a difference, and two lands of no place make none.
+    northeast.remove(last, reach(15, 1, 15, 1).ok_or("a place")?);
+    assert!(rt; !land.same(&northeast) && !northeast.same(&land));
+    land.remove(last, whole);
+    land.remove(section, whole);
+    assert!(rt; land.same(&L::empty()) && L::empty().same(&land));
+    Ok(())
+}
+
 // All blocks that halving gives.
 fn blocks(alloc: Global, rt: &impl Abort) -> Result<Vec<Block>, Fail> {
     let mut blocks = Vec::new(alloc);
