@@ -35,12 +35,13 @@ column_asked (quarter corner.NW) = 1 ∷ []
 column_asked (quarter corner.SW) = 1 ∷ []
 column_asked (quarter corner.SE) = 0 ∷ []
 
--- the digits that cuts ask for, the highest first; cuts are listed as a description writes them, the last
--- one taken standing first
+-- the digits that cuts ask for of a row, the highest first; cuts are listed as a description writes them,
+-- the last one taken standing first
 abbrev pub rows_asked : List Cut → List ℕ
 rows_asked [] = []
 rows_asked (cut ∷ before) = rows_asked before ++ row_asked cut
 
+-- and those that they ask for of a column
 abbrev pub columns_asked : List Cut → List ℕ
 columns_asked [] = []
 columns_asked (cut ∷ before) = columns_asked before ++ column_asked cut

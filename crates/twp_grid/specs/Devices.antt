@@ -13,10 +13,11 @@ Tells (Some known) bytes = known ≡ bytes
 abbrev pub TakesAtMost : Option (List ℕ) → Option (List ℕ) → ℕ → Type 0
 TakesAtMost old new most = (taken : List ℕ) × Consumes old new taken × (length taken ≤ most)
 
--- the reader or writer of a device, and whether a call has failed
+-- the reader or writer of a device
 abbrev pub inner_of : {T : Type 0} → Device T → T
 inner_of device = device.inner
 
+-- whether a call of the device has failed
 abbrev pub device_failed : {T : Type 0} → Device T → Bool
 device_failed device = device.failed
 

@@ -12,18 +12,26 @@ use std::marker::Model;
 /// A side of a section or of a part of it.
 #[derive(Clone, Copy, Debug, PartialEq, Eq, Hash)]
 pub enum Side {
+    /// The north side.
     N,
+    /// The south side.
     S,
+    /// The east side.
     E,
+    /// The west side.
     W,
 }
 
 /// A corner of a section or of a part of it.
 #[derive(Clone, Copy, Debug, PartialEq, Eq, Hash)]
 pub enum Corner {
+    /// The north-east corner.
     NE,
+    /// The north-west corner.
     NW,
+    /// The south-west corner.
     SW,
+    /// The south-east corner.
     SE,
 }
 

@@ -9,7 +9,9 @@ use std::marker::Model;
 /// Which way a line is run, as its field notes are written.
 #[derive(Clone, Copy, Debug, PartialEq, Eq, Hash)]
 pub enum Run {
+    /// From the south end to the north end.
     North,
+    /// From the east end to the west end.
     West,
 }
 

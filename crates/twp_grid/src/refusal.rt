@@ -2,6 +2,8 @@
 /// bytes, as the number's fault says.
 #[derive(Clone, Copy, Debug, PartialEq, Eq, Hash)]
 pub struct Refusal {
+    /// What is wrong, as `docs/REFUSALS.md` numbers it.
     pub number: u8,
+    /// Where it is wrong, in what the number's fault counts.
     pub at: u32,
 }

@@ -6,14 +6,18 @@ use std::marker::Model;
 /// Which side of the base line a township lies on.
 #[derive(Clone, Copy, Debug, PartialEq, Eq, Hash)]
 pub enum NorthSouth {
+    /// North of the base line.
     N,
+    /// South of it.
     S,
 }
 
 /// Which side of the principal meridian a range lies on.
 #[derive(Clone, Copy, Debug, PartialEq, Eq, Hash)]
 pub enum EastWest {
+    /// East of the principal meridian.
     E,
+    /// West of it.
     W,
 }
 

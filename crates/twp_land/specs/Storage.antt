@@ -49,11 +49,12 @@ pub record AreBlockLanes (block : Rectangle) (lanes : List ℕ) : Type 0 where
   pub bits : (column row : ℕ) → row < places_across PLACE_DIGITS
       → bit_at (slice_index_or lanes row 0) column ≡ one_where (in_rectangle block column row)
 
--- of a row's tests from a start, some holds; each holds
+-- of a row's tests from a start, some holds
 abbrev pub SomeHeld : List Bool → ℕ → ℕ → Type 0
 SomeHeld row start len =
     (along : ℕ) × (along < len) × (slice_index_or row (start + along) false ≡ true)
 
+-- of a row's tests from a start, each holds
 abbrev pub EachHeld : List Bool → ℕ → ℕ → Type 0
 EachHeld row start len =
     (along : ℕ) → along < len → slice_index_or row (start + along) false ≡ true

@@ -42,7 +42,7 @@ pub enum LengthFault {
     #[error("a length has more than three decimals")]
     TooManyPlaces,
     /// More than two digits stand before the point.
-    #[error("a length has 100 chains or more")]
+    #[error("a length has more than two digits before its point")]
     TooLong,
 }
 
@@ -214,6 +214,8 @@ mod tests {
         assert_eq!(rt; fault(b"100.0000"), Err(LengthFault::TooManyPlaces));
         assert_eq!(rt; fault(b"100.5"), Err(LengthFault::TooLong));
         assert_eq!(rt; fault(b"100"), Err(LengthFault::TooLong));
+        // 5 chains, but in three digits.
+        assert_eq!(rt; fault(b"005"), Err(LengthFault::TooLong));
     }
 
     #[test]
@@ -239,7 +241,10 @@ mod tests {
                 LengthFault::TooManyPlaces,
                 "a length has more than three decimals",
             ),
-            (LengthFault::TooLong, "a length has 100 chains or more"),
+            (
+                LengthFault::TooLong,
+                "a length has more than two digits before its point",
+            ),
         ] {
             assert_eq!(rt; fault.to_string(rt.alloc())?.as_str(), text);
         }

@@ -1,23 +1,10 @@
--- Bytes that are read and written in pieces.
-use Rattle.std.proofs.Common.{◌≡◌, ℕ, ◌+◌, ◌-◌, ◌≤◌, List, [], ◌++◌, length, take, drop, Option, Some, None, refl, ap, sym, ◌∙◌, arith, append_assoc, length-append}
+-- Bytes that are read in pieces.
+use Rattle.std.proofs.Common.{◌≡◌, ℕ, ◌+◌, ◌≤◌, List, [], ◌++◌, length, take, Option, Some, None, refl, sym, arith, length-append}
 use Rattle.std.specs.Prelude.{unwrap_or}
-use Rattle.std.specs.Io.KnownBytes.{Appends, Consumes, IsAtEnd}
-use Rattle.std.proofs.lemmas.List.{append-nil, length-drop, take_all, take_at, length-take}
-use Rattle.std.proofs.Math.Seq.{take-add}
+use Rattle.std.specs.Io.KnownBytes.{Consumes, IsAtEnd}
+use Rattle.std.proofs.lemmas.List.{append-nil, take_all, take_at, length-take}
 use Rattle.std.proofs.KnownBytes.{Consumes-trans}
 use Rattle.twp_grid.specs.Devices.{Tells, TakesAtMost}
-
-take_piece : (bytes : List ℕ) (at n : ℕ) → take (at + n) bytes ≡ take at bytes ++ take n (take (length bytes - at) (drop at bytes))
-take_piece bytes at n = rw (take_all (length bytes - at) (drop at bytes) (simp length-drop (omega arith))) (take-add at n bytes)
-
--- one more piece was taken
-pub appends_piece : (old mid new : Option (List ℕ)) (bytes : List ℕ) (at n : ℕ) → Appends old mid (take at bytes)
-    → Appends mid new (take n (take (length bytes - at) (drop at bytes))) → Appends old new (take (at + n) bytes)
-appends_piece None mid new bytes at n before more = tt
-appends_piece (Some xs) None new bytes at n before more = absurd before
-appends_piece (Some xs) (Some ys) None bytes at n before more = absurd more
-appends_piece (Some xs) (Some ys) (Some zs) bytes at n before more =
-    more ∙ ap (λ t. t ++ take n (take (length bytes - at) (drop at bytes))) before ∙ append_assoc xs (take at bytes) (take n (take (length bytes - at) (drop at bytes))) ∙ ap (λ t. xs ++ t) (sym (take_piece bytes at n))
 
 -- what was read and what is left are the bytes of the source
 pub tells_read : (old new : Option (List ℕ)) (read : List ℕ) → Consumes old new read → Tells old (read ++ unwrap_or new [])

@@ -39,10 +39,12 @@ returned_of notes line = slice_index_or notes.lines line nothing_returned
 abbrev pub heading : Fields
 heading = codes "line" ∷ codes "between" ∷ codes "and" ∷ codes "quarter" ∷ codes "corner" ∷ []
 
+-- the letter of a side of the base line
 abbrev pub north_south_text : NorthSouth → List ℕ
 north_south_text ns.N = codes "N"
 north_south_text ns.S = codes "S"
 
+-- the letter of a side of the principal meridian
 abbrev pub east_west_text : EastWest → List ℕ
 east_west_text ew.E = codes "E"
 east_west_text ew.W = codes "W"

@@ -1,4 +1,5 @@
 pub mod Records
+pub mod ReadBytes
 pub mod FieldNotes
 pub mod NotesFaults
 pub mod Tables

@@ -89,9 +89,11 @@ stage_of fault.TooLarge = 0
 stage_of (fault.Missing line) = 2
 stage_of other = 1
 
+-- the number of a fault's refusal
 abbrev pub number_of : NotesFault → ℕ
 number_of fault = option_map_or (λ (refusal : Refusal). refusal.number) (refusal_of fault) 0
 
+-- the place of a fault's refusal
 abbrev pub place_of : NotesFault → ℕ
 place_of fault = option_map_or (λ (refusal : Refusal). refusal.at) (refusal_of fault) 0
 

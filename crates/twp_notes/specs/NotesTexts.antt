@@ -13,10 +13,11 @@ use Rattle.twp_notes.specs.declared.returned.Returned.{Returned}
 use Rattle.twp_notes.specs.declared.writing.Field.{Field}
 use Rattle.twp_notes.specs.declared.writing.Field.TheVariants as field
 
--- the bytes between two fields and behind a record
+-- the byte between two fields
 abbrev pub comma : ℕ
 comma = 44
 
+-- the byte behind a record
 abbrev pub line_feed : ℕ
 line_feed = 10
 

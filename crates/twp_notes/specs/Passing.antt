@@ -10,5 +10,6 @@ abbrev pub notes_fault_of : ReadFault → NotesFault
 notes_fault_of reading.Read = fault.Read
 notes_fault_of reading.Memory = fault.Memory
 
+-- the fault that is answered is that of the reading
 abbrev pub IsNotesFaultOf : ReadFault → NotesFault → Type 0
 IsNotesFaultOf reading answered = answered ≡ notes_fault_of reading

@@ -1,4 +1,5 @@
--- What was returned of lines so far, by their indexes.
+-- What was returned of lines so far, by their indexes. No public promise speaks of it; proofs/Taking and
+-- proofs/FirstFaults show that it leads to the notes and to their first fault.
 use Rattle.std.specs.Prelude.{slice_set, ◌≡◌, ℕ, ◌<◌, List, length, Option, Some, None, IsSome, slice_index_or}
 use Rattle.twp_grid.specs.Lines.{LINE_COUNT, IsLine}
 use Rattle.twp_notes.specs.Records.{Fields, record_at}

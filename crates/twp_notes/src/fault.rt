@@ -23,20 +23,20 @@ pub enum NotesFault {
     #[error("record {0} doesn't have five fields")]
     Columns(u32),
     /// 5, at record 2: this is no township, or is missing.
-    #[error("record 2 isn't a township, as `T,2,N,3,W` with numbers from 1 to 99")]
+    #[error("record 2 isn't a township, as `T,2,N,3,W`: numbers 1 to 99, in one or two digits")]
     Township,
     /// 6, at the record: its first field is no run.
     #[error("record {0} has no run: its first field is `N` or `W`")]
     Run(u32),
     /// 7, at the record: its second field is no section, or its third is neither a section nor empty.
-    #[error("record {0} has no sections: its second field is 1 to 36, its third is too, or is empty")]
+    #[error("record {0} has no sections: 1 to 36 in one or two digits; only field 3 may be empty")]
     Section(u32),
     /// 8, at the record: no line of that run lies between these sections, or on the township's
     /// boundary beside the one.
     #[error("record {0} names no line: its run has none between these sections")]
     NoLine(u32),
     /// 9, at the record: its fourth or fifth field is no length.
-    #[error("record {0} has a distance that isn't chains from 0 to 99.999, with at most three decimals")]
+    #[error("a distance of record {0} isn't chains: one or two digits, at most three decimals")]
     Length(u32),
     /// 10, at the record: an earlier one was of the same line.
     #[error("record {0} returns a line that an earlier record returned")]

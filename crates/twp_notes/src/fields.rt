@@ -1,4 +1,4 @@
-ghost use Rattle.std.specs.Prelude.{◌≡◌, ℕ, ◌<◌, ◌≤◌, ◌↔◌, length, IsTrue, IfOk, IfErr, IfSome, IfNone, MatchOption};
+ghost use Rattle.std.specs.Prelude.{◌≡◌, ℕ, ◌<◌, ◌↔◌, length, IsTrue, IfOk, IfErr, SomeIff, MatchOption};
 ghost use Rattle.std.specs.Char.{digit_value};
 ghost use Rattle.csv.specs.Records.{fields_of};
 ghost use Rattle.twp_measure.specs.LengthTexts.{IsShortNumber, IsLengthText};
@@ -6,7 +6,7 @@ ghost use Rattle.twp_grid.specs.declared.line.Run.{Run};
 ghost use Rattle.twp_grid.specs.declared.township.NorthSouth.{NorthSouth};
 ghost use Rattle.twp_grid.specs.declared.township.EastWest.{EastWest};
 ghost use Rattle.twp_grid.specs.Finding.{Finds};
-ghost use Rattle.twp_notes.specs.FieldNotes.{heading, IsTownshipRecord, north_south_text, east_west_text, run_text, IsSectionText, IsNeighbourText, NamesLine, Returns};
+ghost use Rattle.twp_notes.specs.FieldNotes.{FIELDS, heading, IsTownshipRecord, north_south_text, east_west_text, run_text, IsSectionText, IsNeighbourText, NamesLine, Returns};
 ghost use Rattle.twp_notes.specs.NotesFaults.{HasNoLength};
 ghost use Rattle.twp_notes.specs.LineFaults.{IsUnnamed};
 
@@ -39,7 +39,7 @@ pub fn is_heading(row: &ByteRecord) -> bool
 
 /// The township that a record designates.
 pub fn township_of(row: &ByteRecord) -> Option<Township>
-    requires { length (fields_of row.now) ≡ 5 }
+    requires { length (fields_of row.now) ≡ FIELDS }
     ensures { Finds result (IsTownshipRecord (fields_of row.now)) }
 {
     if !is_text(field(row, 0), "T") {
@@ -54,7 +54,7 @@ pub fn township_of(row: &ByteRecord) -> Option<Township>
 
 /// The line that the record of this number names.
 pub fn line_of(row: &ByteRecord, number: u32) -> Result<Line, NotesFault>
-    requires { length (fields_of row.now) ≡ 5 }
+    requires { length (fields_of row.now) ≡ FIELDS }
     ensures line { IfOk result (NamesLine (fields_of row.now)) }
     ensures fault { IfErr result (IsUnnamed (fields_of row.now) number) }
 {
@@ -75,7 +75,7 @@ pub fn line_of(row: &ByteRecord, number: u32) -> Result<Line, NotesFault>
 
 /// The distances that a record returns.
 pub fn returned_of(row: &ByteRecord) -> Option<Returned>
-    requires { length (fields_of row.now) ≡ 5 }
+    requires { length (fields_of row.now) ≡ FIELDS }
     ensures { MatchOption result (HasNoLength (fields_of row.now)) (Returns (fields_of row.now)) }
 {
     let Some(quarter) = length_of(field(row, 3)) else {
@@ -165,8 +165,7 @@ fn short_number(text: &[u8]) -> Option<u8>
 
 /// The value of a digit.
 fn digit(byte: u8) -> Option<u8>
-    ensures value { IfSome result (λ digit. (digit ≡ digit_value byte) × (digit < 10)) }
-    ensures none { IfNone result (10 ≤ digit_value byte) }
+    ensures { SomeIff result (digit_value byte < 10) (digit_value byte) }
 {
     if byte.is_ascii_digit() {
         Some(byte - b'0')

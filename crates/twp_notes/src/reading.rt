@@ -1,5 +1,7 @@
 ghost use Rattle.std.specs.Prelude.{◌≡◌, ℕ, ◌+◌, ◌^◌, ◌≤◌, ◌<◌, ◌↔◌, Bool, true, false, List, length, take, IfOk, IsErrOf, MatchOption};
+ghost use Rattle.std.specs.Io.KnownBytes.{Consumes, IsAtEnd};
 ghost use Rattle.twp_grid.specs.Devices.{Tells, TakesAtMost};
+ghost use Rattle.twp_notes.specs.ReadBytes.{TakesJust, TakesAll};
 
 use std::alloc::{AllocError, Global};
 use thiserror::Error;
@@ -50,6 +52,9 @@ pub fn read_whole<S: Source>(
     requires room { limit + 1 < 2 ^ 32 }
     ensures failed { IsErrOf result ReadFault.Read ↔ (S.has_failed source.new ≡ true) }
     ensures most { TakesAtMost (S.remaining source.old) (S.remaining source.new) (limit + 1) }
+    ensures left { IfOk result (λ read. MatchOption read
+        (TakesJust (S.remaining source.old) (S.remaining source.new) (limit + 1))
+        (λ v. TakesAll (S.remaining source.old) (S.remaining source.new) v.items)) }
     ensures bytes { IfOk result (λ read. (bytes : List ℕ) × Tells (S.remaining source.old) bytes
         × MatchOption read (limit < length bytes)
         (λ v. (v.items ≡ bytes) × (length bytes ≤ limit))) }
@@ -73,6 +78,10 @@ pub fn read_up_to<S: Source>(
     requires room { most < 2 ^ 32 }
     ensures failed { IsErrOf result ReadFault.Read ↔ (S.has_failed source.new ≡ true) }
     ensures most { TakesAtMost (S.remaining source.old) (S.remaining source.new) most }
+    ensures taken { IfOk result (λ read.
+        Consumes (S.remaining source.old) (S.remaining source.new) read.items) }
+    ensures end { IfOk result (λ read.
+        length read.items < most → IsAtEnd (S.remaining source.new)) }
     ensures bytes { IfOk result (λ read. (bytes : List ℕ)
         × Tells (S.remaining source.old) bytes × (read.items ≡ take most bytes)) }
 {

@@ -4,6 +4,8 @@ use twp_measure::Length;
 /// section corner or closing at its end.
 #[derive(Clone, Copy, Debug, Default, PartialEq, Eq, Hash)]
 pub struct Returned {
+    /// To the quarter corner.
     pub quarter: Length,
+    /// To the section corner or the closing.
     pub corner: Length,
 }

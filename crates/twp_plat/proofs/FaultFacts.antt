@@ -1,27 +1,22 @@
 -- The first fault, and the lines before it.
-use Rattle.std.proofs.Common.{◌≡◌, ℕ, ◌+◌, ◌<◌, List, length, get_or, Ok, ℤ, pos, ◌≤ℤ◌, ◌<ℤ◌, inl, inr, arith, below_more, set}
+use Rattle.std.proofs.Common.{◌≡◌, ℕ, ◌+◌, ◌<◌, List, length, get_or, Ok, pos, ◌≤ℤ◌, ◌<ℤ◌, inl, inr, arith, below_more, set}
 use Rattle.std.proofs.lemmas.Bool.{cases_lt}
 use Rattle.std.proofs.lemmas.Int.{ints}
 use Rattle.std.proofs.lemmas.List.{get_or-set_same, get_or-set_other}
 use Rattle.twp_grid.specs.Lines.{IsLine}
 use Rattle.twp_notes.specs.FieldNotes.{FieldNotes, returned_of}
 use Rattle.twp_notes.specs.declared.returned.Returned.{Returned}
-use Rattle.twp_plat.specs.Closing.{IsRegular, IsInLimits, first_half, second_half, last_quarter, CLOSING_LEAST, CLOSING_MOST}
-use Rattle.twp_plat.specs.PlatFaults.{place_of, IsIrregular, HasLineFault, IsFirstFault}
+use Rattle.twp_plat.specs.Closing.{IsInLimits, last_quarter, CLOSING_LEAST, CLOSING_MOST}
+use Rattle.twp_plat.specs.PlatFaults.{place_of, HasLineFault, IsFirstFault}
 use Rattle.twp_plat.specs.LineFaults.{IsFirstLineFault, AnswersLine}
 use Rattle.twp_plat.specs.declared.fault.HalfMile.TheVariants as half
 use Rattle.twp_plat.specs.declared.fault.PlatFault.{PlatFault}
 use Rattle.twp_plat.specs.declared.fault.PlatFault.TheVariants as fault
 
--- a regular half mile isn't irregular
-regular_not : (z : ℤ) → IsRegular z → IsIrregular z → ⊥
-regular_not z is (inl below) = let low = is.least in omega (arith, ints)
-regular_not z is (inr above) = let high = is.most in omega (arith, ints)
-
 -- a line within its limits has no fault
 pub no_line_fault : (line : ℕ) (returned : Returned) (fault : PlatFault) → IsInLimits line returned → HasLineFault line returned fault → ⊥
-no_line_fault line returned (fault.Irregular at half.First) is has = regular_not (first_half returned) is.first has
-no_line_fault line returned (fault.Irregular at half.Second) is has = regular_not (second_half returned) (is.second has.0) has.1
+no_line_fault line returned (fault.Irregular at half.First) is has = has is.first
+no_line_fault line returned (fault.Irregular at half.Second) is has = has.1 (is.second has.0)
 no_line_fault line returned (fault.ClosingShort at) is has =
     let low : pos CLOSING_LEAST ≤ℤ last_quarter returned = (is.closing has.0).least in
     let short : last_quarter returned <ℤ pos CLOSING_LEAST = has.1 in

@@ -6,9 +6,11 @@ use Rattle.twp_grid.specs.Lines.{IsLine, IsClosing}
 use Rattle.twp_notes.specs.FieldNotes.{FieldNotes, returned_of}
 use Rattle.twp_notes.specs.declared.returned.Returned.{Returned}
 
+-- a quarter mile: 20 chains
 abbrev pub QUARTER_MILE : ℕ
 QUARTER_MILE = 20000
 
+-- a half mile: 40 chains
 abbrev pub HALF_MILE : ℕ
 HALF_MILE = 2 * QUARTER_MILE
 
@@ -16,10 +18,11 @@ HALF_MILE = 2 * QUARTER_MILE
 abbrev pub TOLERANCE : ℕ
 TOLERANCE = 250
 
--- the least and the most of a closing quarter
+-- the least of a closing quarter
 abbrev pub CLOSING_LEAST : ℕ
 CLOSING_LEAST = 5000
 
+-- the most of a closing quarter
 abbrev pub CLOSING_MOST : ℕ
 CLOSING_MOST = 25000
 

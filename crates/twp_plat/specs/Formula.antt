@@ -5,10 +5,11 @@ use Rattle.twp_plat.specs.Plats.{ClosingQuarters}
 use Rattle.twp_plat.specs.Ratios.{Ratio, ratio}
 use Rattle.twp_plat.specs.Pieces.{line_length}
 
--- the lengths of a section's west line and of its north line
+-- the length of a section's west line
 abbrev pub west_length : ClosingQuarters → ℕ
 west_length q = line_length q.west
 
+-- the length of its north line
 abbrev pub north_length : ClosingQuarters → ℕ
 north_length q = line_length q.north
 

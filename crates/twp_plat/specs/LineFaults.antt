@@ -1,4 +1,5 @@
--- The answer for one line: its closing quarter, or its first fault.
+-- The answer for one line: its closing quarter, or its first fault. No public promise speaks of it;
+-- proofs/FaultFacts shows that the first such fault is the notes' first.
 use Rattle.std.specs.Prelude.{◌≡◌, ℕ, ◌≤◌, Result, Ok, Err}
 use Rattle.twp_notes.specs.declared.returned.Returned.{Returned}
 use Rattle.twp_plat.specs.Closing.{IsInLimits, IsClosingQuarter}

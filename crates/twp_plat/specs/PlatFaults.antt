@@ -1,10 +1,10 @@
 -- Why notes make no plat, each fault as a statement about a line, and which fault is answered.
-use Rattle.std.specs.Prelude.{◌≡◌, ◌⊎◌, ℕ, ◌+◌, ◌-◌, ◌≤◌, ◌<◌, ℤ, pos, ◌<ℤ◌, Option, Some, Result, Ok, Err}
+use Rattle.std.specs.Prelude.{◌≡◌, ◌⊎◌, ℕ, ◌≤◌, ◌<◌, pos, ◌<ℤ◌, Option, Some, Result, Ok, Err}
 use Rattle.twp_grid.specs.Lines.{IsLine, IsClosing}
 use Rattle.twp_grid.specs.declared.refusal.Refusal.{Refusal}
 use Rattle.twp_notes.specs.FieldNotes.{FieldNotes, returned_of}
 use Rattle.twp_notes.specs.declared.returned.Returned.{Returned}
-use Rattle.twp_plat.specs.Closing.{HALF_MILE, TOLERANCE, CLOSING_LEAST, CLOSING_MOST, first_half, second_half, last_quarter}
+use Rattle.twp_plat.specs.Closing.{CLOSING_LEAST, CLOSING_MOST, first_half, second_half, last_quarter, IsRegular}
 use Rattle.twp_plat.specs.Plats.{TownshipPlat, IsPlatOf}
 use Rattle.twp_plat.specs.declared.fault.HalfMile.TheVariants as half
 use Rattle.twp_plat.specs.declared.fault.PlatFault.{PlatFault}
@@ -22,15 +22,11 @@ refusal_of (fault.Irregular line which) = Some (record { number = 21; at = line 
 refusal_of (fault.ClosingShort line) = Some (record { number = 22; at = line })
 refusal_of (fault.ClosingLong line) = Some (record { number = 23; at = line })
 
--- a half mile that differs from 40 chains by more than the tolerance
-abbrev pub IsIrregular : ℤ → Type 0
-IsIrregular half = (half <ℤ pos (HALF_MILE - TOLERANCE)) ⊎ (pos (HALF_MILE + TOLERANCE) <ℤ half)
-
 -- the line's returned distances have the fault
 abbrev pub HasLineFault : ℕ → Returned → PlatFault → Type 0
-HasLineFault line returned (fault.Irregular at half.First) = IsIrregular (first_half returned)
+HasLineFault line returned (fault.Irregular at half.First) = ¬ IsRegular (first_half returned)
 HasLineFault line returned (fault.Irregular at half.Second) =
-    ¬ IsClosing line × IsIrregular (second_half returned)
+    ¬ IsClosing line × ¬ IsRegular (second_half returned)
 HasLineFault line returned (fault.ClosingShort at) =
     IsClosing line × (last_quarter returned <ℤ pos CLOSING_LEAST)
 HasLineFault line returned (fault.ClosingLong at) =

@@ -11,6 +11,7 @@ use Rattle.twp_text.specs.declared.lexeme.Lexeme.{Lexeme}
 use Rattle.twp_text.specs.declared.token.Token.{Token as Piece}
 use Rattle.twp_text.specs.Tokens.{Token, is_white, kind_of_word, seen, StartsWith}
 
+-- a kind of token, and how many bytes it takes
 abbrev pub lexeme : Kind → ℕ → Lexeme
 lexeme kind size = record { kind = kind; size = size }
 
@@ -22,6 +23,7 @@ small_letter byte = if is_ascii_alphabetic byte then Some (to_ascii_lowercase by
 abbrev pub letters_in_front : List ℕ → ℕ
 letters_in_front bytes = prefix_len is_ascii_alphabetic bytes
 
+-- the word of all the letters in front
 unfoldable pub cut_word : List ℕ → Lexeme
 cut_word bytes = lexeme (kind_of_word (take (letters_in_front bytes) bytes)) (letters_in_front bytes)
 
@@ -31,6 +33,7 @@ numeral_of size bytes =
     if nat_le size 4 then lexeme (Number (digits_value 10 (take size bytes))) size
     else lexeme BadNumber size
 
+-- the number of all the digits in front
 unfoldable pub cut_number : List ℕ → Lexeme
 cut_number bytes = numeral_of (prefix_len is_ascii_digit bytes) bytes
 
@@ -57,6 +60,7 @@ cut_mark byte behind =
     else if (byte == 194) && (behind == 188) then lexeme Quarter 2
     else lexeme BadByte 1
 
+-- the first token of bytes
 unfoldable pub cut : List ℕ → Lexeme
 cut bytes =
     if is_ascii_alphabetic (slice_index bytes 0) then cut_word bytes

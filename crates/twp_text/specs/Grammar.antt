@@ -42,6 +42,7 @@ Value corner = OneCorner
 Value number = ℕ
 Value _ = Unit {0}
 
+-- the class of a kind
 abbrev pub class_of : Kind → Class
 class_of Sec = sec
 class_of Lot = lot
@@ -129,6 +130,7 @@ entry = one number ⨾ maybe through
 abbrev pub separator : Ebnf
 separator = one comma ⨾ maybe (one and) ∣ one and
 
+-- one entry or more
 abbrev pub entries : Ebnf
 entries = entry ⨾ many (separator ⨾ entry)
 
@@ -136,9 +138,11 @@ entries = entry ⨾ many (separator ⨾ entry)
 abbrev pub several : Ebnf
 several = one number ⨾ (through ∣ separator ⨾ entry) ⨾ many (separator ⨾ entry)
 
+-- lots, an aliquot part, or all
 abbrev pub part : Ebnf
 part = one lot ⨾ entries ∣ chain ∣ one all
 
+-- one part or more
 abbrev pub parts : Ebnf
 parts = part ⨾ many (separator ⨾ part)
 
@@ -151,11 +155,13 @@ abbrev pub group : Ebnf
 group = one sec ⨾ maybe (one stop) ⨾ one number ⨾ maybe (comma_or_colon ⨾ parts)
     ∣ one sec ⨾ maybe (one stop) ⨾ several ⨾ maybe (comma_or_colon ⨾ one all)
 
+-- T. 2 N., R. 3 W.,
 abbrev pub heading : Ebnf
 heading =
     one t ⨾ maybe (one stop) ⨾ one number ⨾ one north_south ⨾ maybe (one stop) ⨾ maybe (one comma)
     ⨾ one r ⨾ maybe (one stop) ⨾ one number ⨾ one east_west ⨾ maybe (one stop) ⨾ maybe (one comma)
 
+-- a heading, if there is one, and groups
 abbrev pub description : Ebnf
 description =
     maybe heading ⨾ group ⨾ many (one semicolon ⨾ maybe (one and) ⨾ group) ⨾ maybe (one stop)

@@ -22,6 +22,7 @@ pub record Leaf (class : Class) : Type 0 where
   pub text : List ℕ
   pub at : ℕ
 
+-- the token of a leaf
 abbrev pub token_of : (class : Class) → Leaf class → Token
 token_of class leaf = record { kind = kind_of class leaf.value; text = leaf.text; at = leaf.at }
 
@@ -57,15 +58,17 @@ tokens (many g) vs = flat_map (λ v. tokens g v) vs
 abbrev pub numeral : Leaf number → Numeral
 numeral leaf = record { value = leaf.value; at = leaf.at }
 
--- the half that a letter of a chain names
+-- the half that N or S names in a chain
 abbrev pub north_or_south : NorthOrSouth → Side
 north_or_south ns.N = N
 north_or_south ns.S = S
 
+-- the half that E or W names in a chain
 abbrev pub east_or_west : EastOrWest → Side
 east_or_west ew.E = E
 east_or_west ew.W = W
 
+-- the half or the quarter that a step names
 abbrev pub step_of : Tree step → Step
 step_of (inl (inl side & _)) = Half (north_or_south side.value)
 step_of (inl (inr side & _)) = Half (east_or_west side.value)
@@ -95,9 +98,11 @@ abbrev pub range_of : Tree entry → Range
 range_of (first & inl thru) = record { first = numeral first; last = end_of thru }
 range_of (only & inr _) = record { first = numeral only; last = numeral only }
 
+-- the ranges of entries, in turn
 abbrev pub ranges_of : Tree entries → List Range
 ranges_of (first & more) = range_of first ∷ map (behind range_of) more
 
+-- the ranges of several entries, in turn
 abbrev pub ranges_of_several : Tree several → List Range
 ranges_of_several (first & inl thru & more) =
     record { first = numeral first; last = end_of thru } ∷ map (behind range_of) more
@@ -105,9 +110,11 @@ ranges_of_several (first & inr (_ & second) & more) =
     record { first = numeral first; last = numeral first } ∷ range_of second
     ∷ map (behind range_of) more
 
+-- the lots of a range
 abbrev pub lots_item : Range → Item
 lots_item range = Lots range.first range.last
 
+-- the sections of a range, whole
 abbrev pub whole_sections_item : Range → Item
 whole_sections_item range = Sections range.first range.last true
 
@@ -117,6 +124,7 @@ part_items (inl (_ & v)) = map lots_item (ranges_of v)
 part_items (inr (inl v)) = chain_item v ∷ []
 part_items (inr (inr word)) = All word.at ∷ []
 
+-- the items of parts, in turn
 abbrev pub parts_items : Tree parts → List Item
 parts_items (first & more) = part_items first ++ flat_map (behind part_items) more
 
@@ -132,6 +140,7 @@ abbrev pub heading_item : Tree heading → Item
 heading_item (letter & _ & township & side & _ & _ & _ & _ & range & way & _) =
     Heading township.value side.value range.value way.value letter.at
 
+-- the items of a description: its heading, and those of its groups in turn
 abbrev pub items : Tree description → List Item
 items (inl v & first & more & _) =
     heading_item v ∷ group_items first ++ flat_map (behind (behind group_items)) more

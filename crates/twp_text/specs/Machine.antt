@@ -197,19 +197,23 @@ is_in_chain past.Of = true
 is_in_chain past.OfThe = true
 is_in_chain _ = false
 
+-- a step: the next one of a chain, or the first of a new one
 abbrev pub take_step : State → Step → ℕ → List Item → List Item
 take_step state step at items =
     if is_in_chain state then with_newest (change.Grown step) items
     else item.Chain (step ∷ []) at ∷ before_parts state items
 
+-- N or S: the township's side, or the half of a step
 abbrev pub take_north_south : State → NorthOrSouth → ℕ → List Item → List Item
 take_north_south past.TownshipNumber side at items = with_newest (change.TownshipSide side) items
 take_north_south state side at items = take_step state (Half (north_or_south side)) at items
 
+-- E or W: the range's side, or the half of a step
 abbrev pub take_east_west : State → EastOrWest → ℕ → List Item → List Item
 take_east_west past.RangeNumber side at items = with_newest (change.RangeSide side) items
 take_east_west state side at items = take_step state (Half (east_or_west side)) at items
 
+-- a number: of the heading, the last one of a range, or that of a lot or a section
 abbrev pub take_number : State → Numeral → List Item → List Item
 take_number past.Township n items = with_newest (change.TownshipNumber n.value) items
 take_number past.TownshipStop n items = with_newest (change.TownshipNumber n.value) items
@@ -223,6 +227,7 @@ take_number past.LotLastComma n items = item.Lots n n ∷ items
 take_number past.LotAnd n items = item.Lots n n ∷ items
 take_number _ n items = item.Sections n n true ∷ items
 
+-- all: of several sections, which are whole anyhow, or of one
 abbrev pub take_all : State → ℕ → List Item → List Item
 take_all past.ListNumber at items = items
 take_all past.ListLast at items = items

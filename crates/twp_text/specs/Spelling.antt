@@ -1,4 +1,5 @@
--- How the parts of a section are written by descent from it: quarter by quarter.
+-- How the parts of a section are written by descent from it: quarter by quarter. No public promise speaks
+-- of it; proofs/DescentLists shows that they are the section's written parts.
 use Rattle.std.specs.Prelude.{◌≡◌, ◌⊎◌, ℕ, Bool, List, [], ◌∷◌, ◌++◌, Option, Some, None, map, codes}
 use Rattle.std.specs.List.{flat_map}
 use Rattle.twp_grid.specs.Cuts.{AreWithin, reached}

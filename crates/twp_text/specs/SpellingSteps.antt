@@ -1,4 +1,5 @@
--- How the canonical text of a land is written section by section.
+-- How the canonical text of a land is written section by section. No public promise speaks of it;
+-- proofs/SpellingFacts shows that it ends with the whole text.
 use Rattle.std.specs.Prelude.{◌≡◌, ℕ, ◌<◌, Bool, List, [], ◌∷◌, ◌++◌, codes}
 use Rattle.std.specs.List.{flat_map, join_by, AllZip}
 use Rattle.twp_grid.specs.Townships.{Designation}

@@ -23,6 +23,7 @@ pub record IsReadAs (text : List ℕ) (items : List Item) : Type 0 where
   pub cut : HasTokens 0 text tokens
   pub named : HasItems tokens items
 
+-- a refusal of a number, at a place
 abbrev pub refusal : ℕ → ℕ → Refusal
 refusal number at = record { number = number; at = at }
 

@@ -26,15 +26,17 @@ pub record Word : Type 0 where
   pub letters : List ℕ
   pub kind : Kind
 
+-- a word of these letters, of this kind
 abbrev pub word : List ℕ → Kind → Word
 word letters kind = record { letters = letters; kind = kind }
 
--- the words that a description is made of: those of four letters and more, and those of up to three
+-- the words of four letters and more that a description is made of
 abbrev pub long_words : List Word
 long_words =
     word (codes "secs") Sec ∷ word (codes "section") Sec ∷ word (codes "sections") Sec
     ∷ word (codes "lots") Lot ∷ word (codes "thru") To ∷ word (codes "through") To ∷ word (codes "inclusive") Inclusive ∷ []
 
+-- those of up to three letters
 abbrev pub short_words : List Word
 short_words =
     word (codes "sec") Sec ∷ word (codes "lot") Lot ∷ word (codes "all") All
@@ -45,6 +47,7 @@ short_words =
     ∷ word (codes "e") (EastWest ew.E) ∷ word (codes "w") (EastWest ew.W)
     ∷ word (codes "t") T ∷ word (codes "r") R ∷ []
 
+-- all words that a description is made of
 abbrev pub words : List Word
 words = long_words ++ short_words
 

@@ -17,7 +17,9 @@ pub struct Numeral {
 /// A step of an aliquot part: which half, or which quarter, of what the steps after it name.
 #[derive(Clone, Copy, Debug, PartialEq, Eq, Hash)]
 pub enum Step {
+    /// The half on this side.
     Half(Side),
+    /// The quarter in this corner.
     Quarter(Corner),
 }
 
@@ -121,33 +123,46 @@ impl Steps {
 /// What a description names, one after another. Places are offsets in the text.
 #[derive(Debug, Drop)]
 pub enum Item {
-    /// The township that the description is of. `at` is the place of its `T`.
+    /// The township that the description is of.
     Heading {
+        /// The township's number, 0 to 9999.
         number: u16,
+        /// The township's side of the base line.
         north_south: NorthSouth,
+        /// The range's number, 0 to 9999.
         range: u16,
+        /// The range's side of the principal meridian.
         east_west: EastWest,
+        /// The place of its `T`.
         at: u32,
     },
     /// The sections from `first` to `last`: whole, or the one section of which the parts that follow are
     /// parts.
     Sections {
+        /// The first section.
         first: Numeral,
+        /// The last one, which may be the first.
         last: Numeral,
+        /// Whether no parts follow.
         whole: bool,
     },
     /// The section's lots from `first` to `last`.
     Lots {
+        /// The first lot.
         first: Numeral,
+        /// The last one, which may be the first.
         last: Numeral,
     },
-    /// An aliquot part of the section. `at` is the place of its first token.
+    /// An aliquot part of the section.
     Chain {
+        /// Its halves and quarters.
         steps: Steps,
+        /// The place of its first token.
         at: u32,
     },
-    /// The whole section. `at` is the place of the word.
+    /// The whole section.
     All {
+        /// The place of the word.
         at: u32,
     },
 }

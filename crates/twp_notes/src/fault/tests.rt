@@ -19,7 +19,7 @@ fn tells_what_is_wrong_and_what_would_be_right(rt: HostRuntime) -> Result<(), Fa
         (NotesFault::Columns(2), "record 2 doesn't have five fields"),
         (
             NotesFault::Township,
-            "record 2 isn't a township, as `T,2,N,3,W` with numbers from 1 to 99",
+            "record 2 isn't a township, as `T,2,N,3,W`: numbers 1 to 99, in one or two digits",
         ),
         (
             NotesFault::Run(3),
@@ -27,7 +27,7 @@ fn tells_what_is_wrong_and_what_would_be_right(rt: HostRuntime) -> Result<(), Fa
         ),
         (
             NotesFault::Section(4),
-            "record 4 has no sections: its second field is 1 to 36, its third is too, or is empty",
+            "record 4 has no sections: 1 to 36 in one or two digits; only field 3 may be empty",
         ),
         (
             NotesFault::NoLine(5),
@@ -35,7 +35,7 @@ fn tells_what_is_wrong_and_what_would_be_right(rt: HostRuntime) -> Result<(), Fa
         ),
         (
             NotesFault::Length(86),
-            "record 86 has a distance that isn't chains from 0 to 99.999, with at most three decimals",
+            "a distance of record 86 isn't chains: one or two digits, at most three decimals",
         ),
         (
             NotesFault::Repeated(87),

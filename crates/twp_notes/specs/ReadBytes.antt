@@ -1,0 +1,11 @@
+-- What a reading took of the bytes that a source tells.
+use Rattle.std.specs.Prelude.{◌≡◌, ℕ, List, length, Option}
+use Rattle.std.specs.Io.KnownBytes.{Consumes, IsAtEnd}
+
+-- just so many bytes were taken
+abbrev pub TakesJust : Option (List ℕ) → Option (List ℕ) → ℕ → Type 0
+TakesJust old new count = (taken : List ℕ) × Consumes old new taken × (length taken ≡ count)
+
+-- these bytes were taken, and none is left
+abbrev pub TakesAll : Option (List ℕ) → Option (List ℕ) → List ℕ → Type 0
+TakesAll old new taken = Consumes old new taken × IsAtEnd new
