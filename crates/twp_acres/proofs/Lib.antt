@@ -15,3 +15,4 @@ pub mod TallyFacts
 pub mod FirstTractFaults
 pub mod TractAreas
 pub mod OneNormal
+pub mod OwnText

@@ -13,4 +13,5 @@ pub mod ReportAnswers
 pub mod TractTaking
 pub mod TractLaws
 pub mod NormalAnswers
+pub mod NormalLaws
 pub mod Laws

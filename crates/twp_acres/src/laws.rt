@@ -4,6 +4,7 @@ ghost use Rattle.twp_acres.specs.Laws.{OneLandArea, DisjointAreasAdd};
 ghost use Rattle.twp_acres.specs.Laws.{SectionAreaIsOfLand, TownshipAreaIsOfLand};
 ghost use Rattle.twp_acres.specs.TractLaws.{RestAddsUp};
 ghost use Rattle.twp_acres.specs.Laws.{OneAnswer, OneAnswerOfLand, OnePlatAnswer, OneNormalAnswer};
+ghost use Rattle.twp_acres.specs.NormalLaws.{NormalTextIsItsOwn, LongNormalTextIsRefused};
 
 /// A set of places has one area on a plat.
 pub fn one_land_area()
@@ -51,4 +52,16 @@ pub fn one_plat_answer()
 /// Field notes and a description have one canonical text and one verdict.
 pub fn one_normal_answer()
     ensures { OneNormalAnswer }
+{}
+
+/// The canonical text of a description, where it is no longer than a description may be, is its own
+/// canonical text: given back with the same notes, it is answered as it is.
+pub fn normal_text_is_its_own()
+    ensures { NormalTextIsItsOwn }
+{}
+
+/// A canonical text that is longer than a description may be is refused for its length where it is
+/// given back.
+pub fn long_normal_text_is_refused()
+    ensures { LongNormalTextIsRefused }
 {}

@@ -46,5 +46,6 @@ pub mod SpelledLists
 pub mod SpelledLines
 pub mod SpelledLand
 pub mod ReadBack
+pub mod DescribedLand
 pub mod SpellingFacts
 pub mod HeldFacts

@@ -70,3 +70,6 @@ many_digits bytes size is many =
   where
     not_le : (n : ℕ) → 4 < n → leb n 4 ≡ false
     not_le n many = elim (leb_tells n 4) [ inl (e, few) ↦ absurd (omega arith) | inr (e, more) ↦ e ]
+
+-- what digits in front of a text are
+pub ruleset numbers = (digits_in_front, few_digits, many_digits)

@@ -120,7 +120,7 @@ read_whole text at bytes state its f white final limit = record {
 behind_heading : (h : Tree heading) (first last : Numeral) (whole : Bool) (more : List Item) → BeginWithSections (heading_item h ∷ item.Sections first last whole ∷ more)
 behind_heading (letter & st & n & side & st2 & c & r & st3 & m & way & st4 & c2) first last whole more = tt
 
-tree_begins : (v : Tree description) → BeginWithSections (items v)
+pub tree_begins : (v : Tree description) → BeginWithSections (items v)
 tree_begins (inl h & inl (word & st & n & inl (mark & v)) & more & end) = behind_heading h (numeral n) (numeral n) false (parts_items v ++ flat_map (behind (behind group_items)) more)
 tree_begins (inl h & inl (word & st & n & inr _) & more & end) = behind_heading h (numeral n) (numeral n) true (flat_map (behind (behind group_items)) more)
 tree_begins (inl h & inr (word & st & (n & inl thru & others) & w) & more & end) = behind_heading h (numeral n) (end_of thru) true (map whole_sections_item (map (behind range_of) others) ++ flat_map (behind (behind group_items)) more)

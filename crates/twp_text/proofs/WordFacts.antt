@@ -154,3 +154,6 @@ long_word_is bytes kind size is long e =
     let fits : length text ≡ size = rw is (length-prefix_len is_ascii_alphabetic bytes) in
     let kind_is : kind ≡ kind_of_word text = e ∙ long_is_among text (rw fits long) in
     ap (λ k. lexeme k size) kind_is ∙ sym (word_to bytes size (sym is))
+
+-- what a word is, by its letters
+pub ruleset word_facts = (one_letter, two_letters, three_letters, long)

@@ -17,3 +17,4 @@ pub mod Cutting
 pub mod Machine
 pub mod Laws
 pub mod ReadBack
+pub mod DescribedLand

@@ -34,7 +34,8 @@ word letters kind = record { letters = letters; kind = kind }
 abbrev pub long_words : List Word
 long_words =
     word (codes "secs") Sec ∷ word (codes "section") Sec ∷ word (codes "sections") Sec
-    ∷ word (codes "lots") Lot ∷ word (codes "thru") To ∷ word (codes "through") To ∷ word (codes "inclusive") Inclusive ∷ []
+    ∷ word (codes "lots") Lot ∷ word (codes "thru") To ∷ word (codes "through") To
+    ∷ word (codes "inclusive") Inclusive ∷ []
 
 -- those of up to three letters
 abbrev pub short_words : List Word

@@ -7,6 +7,8 @@ ghost use Rattle.twp_text.specs.SpellingLaws.{WrittenPartsHoldAll, FinerPlacesSa
 ghost use Rattle.twp_text.specs.SpellingLaws.{OneCanonicalText, EmptyLandHasEmptyText};
 ghost use Rattle.twp_text.specs.ReadBack.{CanonicalTextNamesItsLand, CanonicalTextIsReadBack};
 ghost use Rattle.twp_text.specs.ReadBack.{OneTextForEachLand, CanonicalTextStaysTheSame};
+ghost use Rattle.twp_text.specs.DescribedLand.{DescribedLandIsOfTownship};
+ghost use Rattle.twp_text.specs.DescribedLand.{DescriptionNamesSomePlace};
 
 /// Every list of bytes is cut into tokens.
 pub fn has_token_list()
@@ -108,4 +110,15 @@ pub fn one_text_for_each_land()
 /// A canonical text that is read again is the canonical text of what was read.
 pub fn canonical_text_stays_the_same()
     ensures { CanonicalTextStaysTheSame }
+{}
+
+/// A description's land, where its items lie on the plat without overlap, is a land of the township:
+/// it holds places of its sections, and each lot whole or not at all.
+pub fn described_land_is_of_township()
+    ensures { DescribedLandIsOfTownship }
+{}
+
+/// A description whose items lie on the plat without overlap names some place.
+pub fn description_names_some_place()
+    ensures { DescriptionNamesSomePlace }
 {}

@@ -84,7 +84,7 @@ fn small_letter(byte: u8) -> Option<u8>
 
 /// A word, whose first letter is known.
 #[inline(always)]
-#[tactic(auto, using(crate::proofs::WordFacts::one_letter, crate::proofs::WordFacts::two_letters, crate::proofs::WordFacts::three_letters, crate::proofs::WordFacts::long))]
+#[tactic(auto, using(crate::proofs::WordFacts::word_facts))]
 fn word(text: &[u8], at: usize, first: u8) -> Lexeme
     requires place { at < length text.now }
     requires letter { small_letter (slice_index (drop at text.now) 0) ≡ Some first }
@@ -192,7 +192,7 @@ fn digits(text: &[u8], at: usize) -> Lexeme
 
 /// Digits: a number, or too many.
 #[inline(always)]
-#[tactic(auto, using(crate::proofs::Numerals::digits_in_front, crate::proofs::Numerals::few_digits, crate::proofs::Numerals::many_digits))]
+#[tactic(auto, using(crate::proofs::Numerals::numbers))]
 fn number(text: &[u8], at: usize) -> Lexeme
     requires { at ≤ length text.now }
     ensures { result ≡ cut_number (drop at text.now) }

@@ -286,31 +286,67 @@ fn takes_the_tokens_that_may_follow(rt: HostRuntime) -> Result<(), Fail> {
 /// A refusal of syntax says where the text goes wrong and what could stand there.
 #[test]
 fn tells_what_could_stand_there(rt: HostRuntime) -> Result<(), Fail> {
-    for (text, message) in [
+    for (text, at, wording) in [
+        ("lot 1.", 0, "`T.` of a heading, or `sec.`"),
+        ("T. N., R. 3 W., sec. 1.", 3, "the township's number"),
+        ("T. 2, R. 3 W., sec. 1.", 4, "`N` or `S`"),
+        ("T. 2 N., sec. 1.", 9, "`R.` of the range"),
+        ("T. 2 N., R. W., sec. 1.", 12, "the range's number"),
+        ("T. 2 N., R. 3 N., sec. 1.", 14, "`E` or `W`"),
+        ("T. 2 N. R. 3 W.", 15, "`sec.`"),
+        ("sec. lot 1.", 5, "a section's number"),
         (
-            "sec. 14, NE1/2.",
-            "the description goes wrong at 11: here could stand `1/4`",
+            "sec. 14 1/2.",
+            8,
+            "parts of the section, more sections, `;`, or the end",
         ),
+        (
+            "sec. 14,.",
+            8,
+            "a part of the section, or another section's number",
+        ),
+        (
+            "secs. 1 and 2 lot 1.",
+            14,
+            "more sections, `all`, `;`, or the end",
+        ),
+        ("secs. 1 to all.", 11, "the number of the last section"),
+        (
+            "secs. 1 and 2, lot 1.",
+            15,
+            "another section's number, or `all`",
+        ),
+        ("secs. 1 and 2: lot 1.", 15, "`all`"),
+        ("secs. 1 and 2: all, lot 1.", 18, "`;`, or the end"),
+        ("sec. 5, lot all.", 12, "a lot's number"),
+        (
+            "sec. 5, lots 1 2.",
+            15,
+            "more lots, another part, `;`, or the end",
+        ),
+        ("sec. 5, lots 1 to.", 17, "the number of the last lot"),
         (
             "sec. 14, lots 1 and.",
-            "the description goes wrong at 19: here could stand another lot's number, or another part",
+            19,
+            "another lot's number, or another part",
         ),
+        ("sec. 14: 1.", 9, "`lot`, an aliquot part, or `all`"),
+        ("sec. 14, N1/4.", 10, "`1/2`"),
+        ("sec. 14, NE1/2.", 11, "`1/4`"),
+        ("sec. 14, NE1/4 1.", 15, "another part, `;`, or the end"),
         (
-            "T. 2 N. R. 3 W.",
-            "the description goes wrong at 15: here could stand `sec.`",
+            "sec. 14, N1/2 of lot 1.",
+            17,
+            "what the aliquot part is of, as `NE1/4`",
         ),
-        (
-            "lot 1.",
-            "the description goes wrong at 0: here could stand `T.` of a heading, or `sec.`",
-        ),
-        (
-            "sec. 14. sec. 15.",
-            "the description goes wrong at 9: here could stand nothing more",
-        ),
+        ("sec. 14. sec. 15.", 9, "nothing more"),
     ] {
+        let message = format!(in rt.alloc();
+            "the description goes wrong at {at}: here could stand {wording}"
+        )?;
         match Description::read(rt.alloc(), text.as_bytes()) {
             Ok(_) => assert!(rt; false, "{text}"),
-            Err(fault) => assert_eq!(rt; fault.to_string(rt.alloc())?.as_str(), message),
+            Err(fault) => assert_eq!(rt; fault.to_string(rt.alloc())?.as_str(), message.as_str()),
         }
     }
     Ok(())

@@ -1,4 +1,6 @@
 use super::*;
+use crate::description::Description;
+use crate::resolving::resolve;
 use std::process::Abort;
 use std::test::Fail;
 use twp_grid::{Corner, Side};
@@ -64,5 +66,48 @@ fn spells_several_sections(rt: HostRuntime) -> Result<(), Fail> {
     let text = spell(rt.alloc(), &land, township()?)?;
     let lines = b"T. 2 N., R. 3 W.,\nsec. 1, lot 3;\nsec. 6, all;\nsec. 36, all.\n";
     assert_eq!(rt; text[..], lines[..]);
+    Ok(())
+}
+
+/// Whether a land holds each of 16 positions of a section, from the south-east one on, as the bits
+/// of a number say, and nothing else of it.
+fn holds_positions(land: &Grid, section: Section, bits: u32) -> Result<bool, Fail> {
+    for index in 0..16u8 {
+        let block = Block::position(index % 4, index / 4).ok_or("a position")?;
+        let held = bits >> index & 1 == 1;
+        if land.full(section, block) != held || land.meets(section, block) != held {
+            return Ok(false);
+        }
+    }
+    Ok(true)
+}
+
+/// Every 97th of the 65,535 lands of a section that are made of whole positions and aren't empty, in
+/// a section without lots and in one whose northern and western positions are lots: what is
+/// spelled names that land.
+#[test]
+fn spells_what_names_the_land(rt: HostRuntime) -> Result<(), Fail> {
+    let alloc = rt.alloc();
+    for number in [14, 6] {
+        let section = Section::new(number).ok_or("a section")?;
+        for bits in (1..65_536u32).step_by(97) {
+            let mut land = Grid::empty();
+            for index in 0..16u8 {
+                if bits >> index & 1 == 1 {
+                    land.add(
+                        section,
+                        Block::position(index % 4, index / 4).ok_or("a position")?,
+                    );
+                }
+            }
+            let text = spell(alloc, &land, township()?)?;
+            let description = Description::read(alloc, text.as_slice())?;
+            let named: Grid = resolve(&description, township()?)?;
+            assert!(&rt;
+                holds_positions(&named, section, bits)?,
+                "{bits} of {number}"
+            );
+        }
+    }
     Ok(())
 }
