@@ -9,13 +9,24 @@ use Rattle.twp_plat.specs.Plats.{TownshipPlat}
 use Rattle.twp_acres.specs.Names.{has_name}
 use Rattle.twp_acres.specs.Tracts.{TRACTS_LIMIT, TRACTS_MOST, tracts_heading, tract_records, name_in, description_in, IsTractRecord, AreTracts}
 use Rattle.twp_acres.specs.TractFaults.{HasAt, HasAtTract, HasNoHeading, HasTractFault, IsFirstTractFault, IsFrom, record_of, turn_of, verdict_of, IsNameRepeated}
-use Rattle.twp_acres.specs.TractTaking.{Tally, IsTallyOf, IsTractRefused, IsNextRefused, AreTractsRefused, OverlapsTally}
+use Rattle.twp_acres.specs.TractTaking.{Tally, IsTallyOf, IsNamedAnew, IsDescriptionRefused, IsTractRefused, IsNextRefused, AreTractsRefused, OverlapsTally}
 use Rattle.twp_acres.specs.ReportAnswers.{AnswersList, refusal_lines}
 use Rattle.twp_acres.specs.declared.verdict.Verdict.{Verdict}
 use Rattle.twp_acres.specs.declared.verdict.Verdict.TheVariants.{Accepted, Refused, TractRefused}
 use Rattle.twp_acres.specs.declared.tract_fault.TractFault.{TractFault}
 use Rattle.twp_acres.specs.declared.tract_fault.TractFault.TheVariants as fault
 use Rattle.twp_acres.proofs.OneAnswer.{not_described}
+
+-- a description that is refused is a tract's fault
+pub description_refused : (township : Designation) (fields : Fields) (tally : Tally) (number : ℕ) (tract_fault : TractFault) → IsNamedAnew fields tally
+    → IsDescriptionRefused township (description_in fields) number tract_fault → IsTractRefused township fields tally number tract_fault
+description_refused township fields tally number (fault.Description n inner) anew (at_record, none) = (at_record, anew, none)
+description_refused township fields tally number fault.Memory anew is = tt
+description_refused township fields tally number fault.TooLarge anew is = absurd is
+description_refused township fields tally number (fault.Row n) anew is = absurd is
+description_refused township fields tally number (fault.NameRepeated n) anew is = absurd is
+description_refused township fields tally number (fault.Overlap n) anew is = absurd is
+description_refused township fields tally number fault.TooMany anew is = absurd is
 
 -- the next record isn't taken: what is answered is its first fault
 module _ (plat : TownshipPlat) (rows : List Fields) (count : ℕ) (tally : Tally) (before : IsTallyOf plat rows count tally) (within : count < length rows) (below : count < TRACTS_MOST) where
@@ -134,7 +145,7 @@ large_first township bytes large = record { is = large; first = λ other has. fr
 
 module _ (township : Designation) (bytes : List ℕ) (size : length bytes ≤ TRACTS_LIMIT) (heading_is : record_numbered (records_of bytes) 1 ≡ tracts_heading) where
   -- of the tracts before no fault holds
-  none_before : (index : ℕ) → AreTracts township (tract_records bytes) index → (other : TractFault) (at_tract : HasAtTract township (tract_records bytes) other) → at_tract.index < index → ⊥
+  pub none_before : (index : ℕ) → AreTracts township (tract_records bytes) index → (other : TractFault) (at_tract : HasAtTract township (tract_records bytes) other) → at_tract.index < index → ⊥
   none_before index tracts other at_tract earlier = at_earlier other at_tract.has
     where
       at_earlier : (other : TractFault) → HasAt township (tract_records bytes) at_tract.index other → ⊥

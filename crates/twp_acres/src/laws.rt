@@ -2,7 +2,7 @@
 //! nothing to do.
 ghost use Rattle.twp_acres.specs.Laws.{OneLandArea, DisjointAreasAdd};
 ghost use Rattle.twp_acres.specs.Laws.{SectionAreaIsOfLand, TownshipAreaIsOfLand};
-ghost use Rattle.twp_acres.specs.TractLaws.{RestAddsUp};
+ghost use Rattle.twp_acres.specs.TractLaws.{RestAddsUp, TractsAddUp, OneReportAnswer};
 ghost use Rattle.twp_acres.specs.Laws.{OneAnswer, OneAnswerOfLand, OnePlatAnswer, OneNormalAnswer};
 
 /// A set of places has one area on a plat.
@@ -28,9 +28,14 @@ pub fn township_area_is_of_land()
     ensures { TownshipAreaIsOfLand }
 {}
 
-/// The area of a set of places and that of all others are together the township's.
+/// The area of a set of places and that of all others are together the township's, exactly.
 pub fn rest_adds_up()
     ensures { RestAddsUp }
+{}
+
+/// The area of all places that are in a tract of a list is the sum of the tracts' areas, exactly.
+pub fn tracts_add_up()
+    ensures { TractsAddUp }
 {}
 
 /// Two texts, the field notes and the description, have one answer and one verdict.
@@ -51,4 +56,9 @@ pub fn one_plat_answer()
 /// Field notes and a description have one canonical text and one verdict.
 pub fn one_normal_answer()
     ensures { OneNormalAnswer }
+{}
+
+/// Field notes and a list of tracts have one account and one verdict.
+pub fn one_report_answer()
+    ensures { OneReportAnswer }
 {}
