@@ -9,7 +9,11 @@ use Rattle.twp_plat.specs.Plats.{TownshipPlat}
 use Rattle.twp_acres.specs.Names.{has_name}
 use Rattle.twp_acres.specs.Tracts.{TRACTS_LIMIT, TRACTS_MOST, tracts_heading, tract_records, name_in, description_in, IsTractRecord, AreTracts}
 use Rattle.twp_acres.specs.TractFaults.{HasAt, HasAtTract, HasNoHeading, HasTractFault, IsFirstTractFault, IsFrom, record_of, turn_of, verdict_of, IsNameRepeated}
-use Rattle.twp_acres.specs.TractTaking.{Tally, IsTallyOf, IsNamedAnew, IsDescriptionRefused, IsTractRefused, IsNextRefused, AreTractsRefused, OverlapsTally}
+use Rattle.twp_acres.specs.TractTaking.{Tally, IsTallyOf, IsNamedAnew, fault_of_stop, IsTractRefused, IsNextRefused, AreTractsRefused, OverlapsTally}
+use Rattle.twp_acres.specs.Answers.{IsNoDescription}
+use Rattle.twp_acres.specs.Stops.{IfRefused}
+use Rattle.twp_acres.specs.declared.stop.Stop.{Stop}
+use Rattle.twp_acres.specs.declared.stop.Stop.TheVariants as stop
 use Rattle.twp_acres.specs.ReportAnswers.{AnswersList, refusal_lines}
 use Rattle.twp_acres.specs.declared.verdict.Verdict.{Verdict}
 use Rattle.twp_acres.specs.declared.verdict.Verdict.TheVariants.{Accepted, Refused, TractRefused}
@@ -18,15 +22,10 @@ use Rattle.twp_acres.specs.declared.tract_fault.TractFault.TheVariants as fault
 use Rattle.twp_acres.proofs.OneAnswer.{not_described}
 
 -- a description that is refused is a tract's fault
-pub description_refused : (township : Designation) (fields : Fields) (tally : Tally) (number : ℕ) (tract_fault : TractFault) → IsNamedAnew fields tally
-    → IsDescriptionRefused township (description_in fields) number tract_fault → IsTractRefused township fields tally number tract_fault
-description_refused township fields tally number (fault.Description n inner) anew (at_record, none) = (at_record, anew, none)
-description_refused township fields tally number fault.Memory anew is = tt
-description_refused township fields tally number fault.TooLarge anew is = absurd is
-description_refused township fields tally number (fault.Row n) anew is = absurd is
-description_refused township fields tally number (fault.NameRepeated n) anew is = absurd is
-description_refused township fields tally number (fault.Overlap n) anew is = absurd is
-description_refused township fields tally number fault.TooMany anew is = absurd is
+pub description_refused : (township : Designation) (fields : Fields) (tally : Tally) (number : ℕ) (stopped : Stop) → IsNamedAnew fields tally
+    → IfRefused stopped (IsNoDescription township (description_in fields)) → IsTractRefused township fields tally number (fault_of_stop stopped number)
+description_refused township fields tally number (stop.Refused inner) anew none = (refl, anew, none)
+description_refused township fields tally number (stop.Failed failed) anew is = tt
 
 -- the next record isn't taken: what is answered is its first fault
 module _ (plat : TownshipPlat) (rows : List Fields) (count : ℕ) (tally : Tally) (before : IsTallyOf plat rows count tally) (within : count < length rows) (below : count < TRACTS_MOST) where

@@ -21,6 +21,8 @@ use Rattle.twp_acres.specs.ReportAnswers.{other_places, total_lines}
 use Rattle.twp_acres.specs.declared.account.Account.{Account}
 use Rattle.twp_acres.specs.declared.names.Names.{Names}
 use Rattle.twp_acres.specs.declared.totals.Totals.{Totals}
+use Rattle.twp_acres.specs.declared.stop.Stop.{Stop}
+use Rattle.twp_acres.specs.declared.stop.Stop.TheVariants as stop
 use Rattle.twp_acres.specs.declared.tract_fault.TractFault.{TractFault}
 use Rattle.twp_acres.specs.declared.tract_fault.TractFault.TheVariants as fault
 
@@ -94,12 +96,10 @@ IsTractRefused township fields tally number (fault.Overlap at_) =
 IsTractRefused township fields tally number fault.Memory = ⊤
 IsTractRefused township fields tally number other = ⊥
 
--- the description of the numbered record is refused, or there was no memory
-abbrev pub IsDescriptionRefused : Designation → List ℕ → ℕ → TractFault → Type 0
-IsDescriptionRefused township description number (fault.Description at_ inner) =
-    (at_ ≡ number) × IsNoDescription township description inner
-IsDescriptionRefused township description number fault.Memory = ⊤
-IsDescriptionRefused township description number other = ⊥
+-- the fault of the numbered record whose description stopped for this
+abbrev pub fault_of_stop : Stop → ℕ → TractFault
+fault_of_stop (stop.Refused inner) number = fault.Description number inner
+fault_of_stop (stop.Failed failed) number = fault.Memory
 
 -- the tally is that of the first so many records, which are tracts
 pub record IsTallyOf (plat : TownshipPlat) (rows : List Fields) (count : ℕ) (tally : Tally)

@@ -1,14 +1,11 @@
 //! The account of tracts, which grows by one tract after another.
-ghost use Rattle.std.specs.Prelude.{◌≡◌, ◌++◌, ℕ, List, [], false, OnOk, IfOk, IfErr};
+ghost use Rattle.std.specs.Prelude.{◌≡◌, ◌++◌, ℕ, List, [], false, OnOk, IfErr};
 ghost use Rattle.csv.specs.Records.{fields_of};
-ghost use Rattle.twp_grid.specs.Places.{PLACE_DIGITS};
 ghost use Rattle.twp_land.specs.Lands.{no_places};
-ghost use Rattle.twp_land.specs.WholeLots.{HasWholeLots};
-ghost use Rattle.twp_acres.specs.Answers.{Describe};
 ghost use Rattle.twp_acres.specs.Names.{has_name};
 ghost use Rattle.twp_acres.specs.ReportAnswers.{tract_line};
 ghost use Rattle.twp_acres.specs.TractTaking.{tally_of, AreTotals, TakesTract};
-ghost use Rattle.twp_acres.specs.TractTaking.{IsTractRefused, IsDescriptionRefused};
+ghost use Rattle.twp_acres.specs.TractTaking.{IsTractRefused, fault_of_stop};
 
 use crate::answer::write_acres_line;
 use crate::area::area_of;
@@ -20,7 +17,6 @@ use crate::tract::tract_of;
 use crate::tract_fault::TractFault;
 use csv::ByteRecord;
 use std::alloc::{AllocError, Global};
-use twp_grid::Township;
 use twp_land::Land;
 use twp_plat::Plat;
 
@@ -69,7 +65,10 @@ impl<L: Land> Account<L> {
         if !self.names.add(alloc, tract.name)? {
             return Err(TractFault::NameRepeated(number));
         }
-        let land: L = land_of_tract(alloc, plat.township(), tract.description, number)?;
+        let land: L = match land_of(alloc, plat.township(), tract.description) {
+            Ok(land) => land,
+            Err(stop) => return Err(fault_of(stop, number)),
+        };
         if self.land.meets_land(&land) {
             return Err(TractFault::Overlap(number));
         }
@@ -81,21 +80,13 @@ impl<L: Land> Account<L> {
     }
 }
 
-/// The land of the description of the record of this number.
-fn land_of_tract<L: Land>(
-    alloc: Global,
-    township: Township,
-    description: &[u8],
-    number: u32,
-) -> Result<L, TractFault>
-    ensures land { IfOk result (λ land. Describe township description.now (L.places land)) }
-    ensures whole_lots { IfOk result (λ land. HasWholeLots PLACE_DIGITS (L.places land)) }
-    ensures fault { IfErr result (IsDescriptionRefused township description.now number) }
+/// The fault of the record of this number, whose description stopped for this.
+fn fault_of(stop: Stop, number: u32) -> TractFault
+    ensures { result ≡ fault_of_stop stop number }
 {
-    match land_of(alloc, township, description) {
-        Ok(land) => Ok(land),
-        Err(Stop::Refused(inner)) => Err(TractFault::Description { at: number, inner }),
-        Err(Stop::Failed(_)) => Err(TractFault::Memory),
+    match stop {
+        Stop::Refused(inner) => TractFault::Description { at: number, inner },
+        Stop::Failed(_) => TractFault::Memory,
     }
 }
 

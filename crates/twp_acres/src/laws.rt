@@ -1,5 +1,5 @@
-//! What holds of areas and answers as they are defined: each law is a contract, and its function has
-//! nothing to do.
+//! What holds of areas and answers as they are defined: each law is a contract, and its function
+//! has nothing to do.
 ghost use Rattle.twp_acres.specs.Laws.{OneLandArea, DisjointAreasAdd};
 ghost use Rattle.twp_acres.specs.Laws.{SectionAreaIsOfLand, TownshipAreaIsOfLand};
 ghost use Rattle.twp_acres.specs.TractLaws.{RestAddsUp, TractsAddUp, OneReportAnswer};

@@ -6,7 +6,8 @@ use std::alloc::Global;
 use std::test::Fail;
 use twp_grid::{Bytes, Device, Refusal};
 
-/// Lots of section 7 of the uneven township: 39.175 and 39.025 acres, each a tie, and 78.2 together.
+/// Lots of section 7 of the uneven township: 39.175 and 39.025 acres, each a tie, and 78.2
+/// together.
 const LIST: &str = "name,description\nA,\"sec. 7, lot 1.\"\nB,\"sec. 7, lot 4.\"\n";
 
 /// What a run of notes and a list of tracts writes, and its verdict.
@@ -37,7 +38,8 @@ fn adds_tracts_up(rt: HostRuntime) -> Result<(), Fail> {
     );
     assert_eq!(&rt; verdict, Verdict::Accepted);
 
-    // Lot 5 of section 6 has 38.70 acres: 23,037.56775.. less 38.70404.. are 22,998.86 and not 22,998.87.
+    // Lot 5 of section 6 has 38.70 acres: 23,037.56775.. less 38.70404.. are 22,998.86 and not
+    // 22,998.87.
     let one = "name,description\nA,\"sec. 6, lot 5.\"\n";
     let (text, _) = report_of(rt.alloc(), &notes, one.as_bytes())?;
     assert_eq!(&rt;
@@ -162,7 +164,8 @@ fn counts_tracts(rt: HostRuntime) -> Result<(), Fail> {
     let end = b"total: 2500.00 acres\nremaining: 20540.00 acres\n";
     assert!(&rt; text.ends_with(end));
 
-    // One more is refused, whatever it is: another place of section 11, one without a name, no tract.
+    // One more is refused, whatever it is: another place of section 11, one without a name, no
+    // tract.
     for more in [
         "1001,\"sec. 11, SE1/4SE1/4SE1/4SE1/4.\"\n",
         ",sec. 12.\n",
@@ -190,7 +193,8 @@ fn takes_names_to_their_limit(rt: HostRuntime) -> Result<(), Fail> {
         assert_eq!(&rt; str::from_utf8(&text)?, answer.as_str());
         assert_eq!(&rt; verdict, Verdict::Accepted);
     }
-    // No byte, one more than there may be, a delete, a unit separator, and a letter that isn't ASCII.
+    // No byte, one more than there may be, a delete, a unit separator, and a letter that isn't
+    // ASCII.
     let longer = "~".repeat(rt.alloc(), 65)?;
     for name in ["", longer.as_str(), "A\u{7f}", "A\u{1f}", "\u{e9}"] {
         let list = format!(in rt.alloc(); "name,description\n{name},sec. 14.\n")?;
@@ -243,7 +247,8 @@ fn reads_a_list_to_its_limit(rt: HostRuntime) -> Result<(), Fail> {
 
 #[test]
 fn leaves_the_list_unread_without_a_plat(rt: HostRuntime) -> Result<(), Fail> {
-    // No notes, and notes that make no plat: section 6 has a closing quarter of 4.99 chains on its north.
+    // No notes, and notes that make no plat: section 6 has a closing quarter of 4.99 chains on its
+    // north.
     let short = notes_of(rt.alloc(), &[(47, "40", "64.99")])?;
     for (notes, number, at) in [(b"".as_slice(), 2, 1), (short.as_slice(), 22, 47)] {
         let mut list = Bytes::new(LIST.as_bytes());

@@ -1,17 +1,15 @@
 -- The record is a tract's with a new name, and its land is taken, or has a place that was taken before.
 use Rattle.std.proofs.Common.{refl, sym, ◌∙◌}
-use Rattle.std.proofs.lemmas.Result.{err_from_is_err_and}
 use Rattle.twp_acres.proofs.FirstTractFaults.{description_refused}
 use Rattle.twp_acres.proofs.TractAreas.{taken_from, totals_next}
 use Rattle.twp_acres.proofs.TractFacts.{is_anew}
 use Rattle.twp_acres.proofs.account.Account.take.Goals as goal
 
-pub returns-in_err-land-clause-fault : goal.returns-in_err-land-clause-fault
-returns-in_err-land-clause-fault g c =
+pub returns-in-Err-clause-fault : goal.returns-in-Err-clause-fault
+returns-in-Err-clause-fault g c =
     let tract = c.in-Some.ensures in
     let anew = is_anew _ (rw (c.if-not-branch.false, tract.1) at c.in_ok-add.ensures.is_new) in
-    let gone = err_from_is_err_and c.from_residual-in_err-land.result c.from_residual-in_err-land.ensures.1 in
-    rw (gone.1, gone.2) (description_refused c.args.plat.now.township _ _ c.args.number _ (tract.0, anew) (rw (c.township.ensures, tract.2) at c.in_err-land.ensures.fault))
+    rw c.fault_of.ensures (description_refused c.args.plat.now.township _ _ c.args.number _ (tract.0, anew) (rw (c.township.ensures, tract.2) at c.in-Err.ensures.land))
 
 pub returns-then-meets_land-clause-fault : goal.returns-then-meets_land-clause-fault
 returns-then-meets_land-clause-fault g c =
@@ -20,8 +18,8 @@ returns-then-meets_land-clause-fault g c =
       refl,
       (tract.0, anew),
       record {
-        more = g.L.Land.places c.in_ok-land.land;
-        land = rw (c.township.ensures, tract.2) at c.in_ok-land.ensures.land;
+        more = g.L.Land.places c.in-Ok.land;
+        land = rw (c.township.ensures, tract.2) at c.in-Ok.ensures.land;
         shared = c.meets_land.ensures.0 c.if-meets_land.true;
       },
     )
@@ -41,9 +39,9 @@ returns-clause-taken g c =
       is_record = tract.0;
       is_new = anew;
       names_are = rw tract.1 at c.in_ok-add.ensures.names;
-      more = g.L.Land.places c.in_ok-land.land;
-      land = rw (c.township.ensures, tract.2) at c.in_ok-land.ensures.land;
-      whole = c.in_ok-land.ensures.whole_lots;
+      more = g.L.Land.places c.in-Ok.land;
+      land = rw (c.township.ensures, tract.2) at c.in-Ok.ensures.land;
+      whole = c.in-Ok.ensures.whole_lots;
       apart = λ shared. absurd (cc (c.meets_land.ensures.1 shared));
       places_are = c.add_land.ensures;
       hundredths = c.hundredths.result;
