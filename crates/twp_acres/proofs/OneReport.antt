@@ -1,15 +1,14 @@
 -- Notes and a list of tracts have one account, or one refusal.
-use Rattle.std.proofs.Common.{◌≡◌, ℕ, ◌+◌, ◌<◌, ◌≤◌, ◌⊎◌, Bool, List, [], length, get_or, Some, ap, refl, subst, sym, ◌∙◌, inl, inr, arith}
+use Rattle.std.proofs.Common.{◌≡◌, ℕ, ◌+◌, ◌<◌, List, [], length, get_or, Some, ap, refl, subst, sym, ◌∙◌, inl, inr, arith}
 use Rattle.std.proofs.lemmas.List.{ext_get_or}
 use Rattle.twp_grid.specs.Townships.{Designation}
-use Rattle.twp_grid.specs.declared.refusal.Refusal.{Refusal}
 use Rattle.twp_notes.specs.Records.{Fields, record_at}
 use Rattle.twp_plat.specs.Plats.{TownshipPlat}
-use Rattle.twp_acres.specs.Answers.{Describe, IsNoDescription}
+use Rattle.twp_acres.specs.Answers.{IsNoDescription}
 use Rattle.twp_acres.specs.AcresAnswers.{AreHundredthsOf}
 use Rattle.twp_acres.specs.Tracts.{tract_records, name_in, description_in, IsTractList}
 use Rattle.twp_acres.specs.TractFaults.{HasTractFault, IsFirstTractFault, IsFrom, record_of, turn_of, verdict_of}
-use Rattle.twp_acres.specs.ReportAnswers.{tract_line, IsTractLine, AreTractLines, text_of, other_places, total_lines, IsAccount, IsAccountOf, IsListRefused, AnswersList, IsAnswerOnPlat, IsPlatRefused, refusal_lines}
+use Rattle.twp_acres.specs.ReportAnswers.{tract_line, IsTractLine, AreTractLines, other_places, IsAccount, IsAccountOf, IsListRefused, AnswersList, IsAnswerOnPlat, IsPlatRefused, refusal_lines}
 use Rattle.twp_acres.specs.TractLaws.{OneReportAnswer}
 use Rattle.twp_acres.specs.declared.verdict.Verdict.{Verdict}
 use Rattle.twp_acres.specs.declared.verdict.Verdict.TheVariants.{Accepted, Refused, TractRefused}

@@ -1,22 +1,19 @@
 -- A tally that grows by one tract.
-use Rattle.std.proofs.Common.{◌≡◌, ◌↔◌, ◌≢◌, ℕ, ◌+◌, ◌<◌, ◌≤◌, ◌||◌, ◌⊎◌, Bool, true, false, List, [], ◌∷◌, ◌++◌, length, get_or, ap, refl, sym, ◌∙◌, inl, inr, subst, arith, append_assoc, append-nil}
+use Rattle.std.proofs.Common.{◌≡◌, ◌≢◌, ℕ, ◌+◌, ◌<◌, ◌≤◌, ◌||◌, true, false, List, [], ◌∷◌, ◌++◌, length, get_or, ap, refl, sym, ◌∙◌, inl, inr, subst, arith, append_assoc, append-nil}
 use Rattle.std.specs.Str.{bytes_eq}
-use Rattle.std.specs.List.{flat_map}
-use Rattle.std.proofs.lemmas.Bool.{cases_lt}
 use Rattle.std.proofs.lemmas.Slice.Eq.{bytes_eq-Decides}
 use Rattle.std.proofs.lemmas.List.{length_push}
 use Rattle.std.proofs.lemmas.Grind.{flat_map-append}
 use Rattle.std.proofs.Math.ListN.{get_or-append}
 use Rattle.std.proofs.Math.Seq.{get_or-append_seam}
 use Rattle.twp_grid.specs.Places.{PLACE_DIGITS}
-use Rattle.twp_grid.specs.Townships.{Designation}
-use Rattle.twp_land.specs.Lands.{no_places, union, SharePlace}
+use Rattle.twp_land.specs.Lands.{no_places}
 use Rattle.twp_land.specs.WholeLots.{HasWholeLots}
 use Rattle.twp_notes.specs.Records.{Fields, record_at, record_numbered, records_of}
 use Rattle.twp_plat.specs.Plats.{TownshipPlat}
 use Rattle.twp_acres.specs.Answers.{Describe}
 use Rattle.twp_acres.specs.Names.{has_name}
-use Rattle.twp_acres.specs.Tracts.{TRACTS_LIMIT, TRACTS_MOST, tracts_heading, tract_records, name_in, description_in, IsTract, Overlap, AreTracts, IsLandOfTracts}
+use Rattle.twp_acres.specs.Tracts.{TRACTS_LIMIT, TRACTS_MOST, tracts_heading, tract_records, name_in, description_in, IsTract, Overlap, IsLandOfTracts}
 use Rattle.twp_acres.specs.ReportAnswers.{tract_line, IsTractLine, AreTractLines, text_of, total_lines, IsAccountOf}
 use Rattle.twp_acres.specs.TractTaking.{Tally, AreTotals, TakesTract, IsTallyOf, EndsAccount}
 use Rattle.twp_acres.proofs.OneAnswer.{one_land}

@@ -1,11 +1,11 @@
 -- The area of the land of all tracts is the sum of the tracts' areas.
-use Rattle.std.proofs.Common.{◌≡◌, ℕ, zero, suc, ◌+◌, ◌<◌, Bool, true, List, length, ap, refl, subst, arith}
+use Rattle.std.proofs.Common.{◌≡◌, ℕ, zero, suc, ◌+◌, ◌<◌, Bool, List, length, ap, subst, arith}
 use Rattle.twp_measure.specs.Areas.{Fraction}
 use Rattle.twp_grid.specs.Places.{PLACE_DIGITS}
 use Rattle.twp_grid.specs.Totals.{total}
 use Rattle.twp_grid.proofs.TotalFacts.{total-zero, total-next}
 use Rattle.twp_land.specs.Lands.{no_places, union}
-use Rattle.twp_notes.specs.Records.{Fields, record_at}
+use Rattle.twp_notes.specs.Records.{Fields}
 use Rattle.twp_plat.specs.Plats.{TownshipPlat}
 use Rattle.twp_plat.specs.Pieces.{over_of}
 use Rattle.twp_plat.specs.PlatAreas.{ArePieces}

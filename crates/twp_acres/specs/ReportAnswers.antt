@@ -1,10 +1,9 @@
 -- The answer of the report run: the account of the tracts, or the refusal. Each figure is the
 -- exact area of what it stands for, rounded once, in hundredths of an acre.
-use Rattle.std.specs.Prelude.{◌≡◌, ◌⊎◌, ℕ, ◌<◌, ◌&&◌, Bool, not, List, [], ◌∷◌, ◌++◌, length}
+use Rattle.std.specs.Prelude.{◌≡◌, ◌⊎◌, ℕ, ◌<◌, ◌&&◌, Bool, not, List, [], ◌++◌, length}
 use Rattle.std.specs.Prelude.{Some, IfSome, codes, slice_index_or}
 use Rattle.std.specs.List.{flat_map}
 use Rattle.twp_grid.specs.Places.{PLACE_DIGITS}
-use Rattle.twp_grid.specs.declared.refusal.Refusal.{Refusal}
 use Rattle.twp_notes.specs.Records.{Fields, record_at}
 use Rattle.twp_plat.specs.Plats.{TownshipPlat}
 use Rattle.twp_acres.specs.Answers.{ArePlatted, Describe, IsNoPlat, refusal_line}

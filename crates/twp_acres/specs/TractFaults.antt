@@ -2,7 +2,6 @@
 -- which fault is answered.
 use Rattle.std.specs.Prelude.{◌≡◌, ◌≢◌, ◌⊎◌, ℕ, ◌+◌, ◌≤◌, ◌<◌, List, length, Option, Some, None}
 use Rattle.twp_grid.specs.Townships.{Designation}
-use Rattle.twp_grid.specs.declared.refusal.Refusal.{Refusal}
 use Rattle.twp_notes.specs.Records.{Fields, record_at, record_numbered, records_of}
 use Rattle.twp_acres.specs.Answers.{IsNoDescription}
 use Rattle.twp_acres.specs.Tracts.{TRACTS_LIMIT, TRACTS_MOST, tracts_heading, tract_records}

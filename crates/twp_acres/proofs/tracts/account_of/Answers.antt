@@ -1,5 +1,5 @@
 -- The heading was read; the tracts behind it were taken or refused.
-use Rattle.std.proofs.Common.{◌≡◌, sym, ◌∙◌, subst}
+use Rattle.std.proofs.Common.{sym, ◌∙◌, subst}
 use Rattle.std.proofs.lemmas.Result.{err_from_is_err_and}
 use Rattle.twp_acres.specs.TractTaking.{AreTractsRefused}
 use Rattle.twp_acres.proofs.TallyFacts.{accepted}

@@ -1,5 +1,5 @@
 -- The next record's tract is taken, or has the first fault; where no record is left all were taken.
-use Rattle.std.proofs.Common.{◌≡◌, ◌+◌, refl, sym, ◌∙◌, length, subst, arith}
+use Rattle.std.proofs.Common.{◌≡◌, refl, sym, ◌∙◌, length, subst, arith}
 use Rattle.std.proofs.lemmas.Result.{err_from_is_err_and}
 use Rattle.twp_notes.specs.Records.{records_left}
 use Rattle.twp_notes.proofs.Taking.{next_record_is, no_record_left}
