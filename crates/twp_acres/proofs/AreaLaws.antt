@@ -56,34 +56,44 @@ some_places g fits = square (places_to_position g) (quarter (places_across g) fi
     square : (n : ℕ) → 0 < n → 0 < n * n
     square n some = let least = mul-le 1 1 n n some some in omega arith
 
--- of a set's places in the township, the units are no more than the township's, and the others have the rest
-pub rest_of_places : (g : ℕ) → POSITIONS_ACROSS ≤ places_across g → (plat : TownshipPlat) (places : ℕ → ℕ → ℕ → Bool) (area whole : Fraction)
-    → IsLandArea g plat places area → IsLandArea g plat (township_places g) whole
-    → (area.units ≤ whole.units) × IsLandArea g plat (λ section column row. township_places g section column row && not (places section column row)) (record { units = whole.units - area.units; over = whole.over })
-rest_of_places g fits plat places area whole is all =
+-- of a set that lies in another one, the units are no more than the other's, and what is left of it has the rest
+pub rest_within : (g : ℕ) → POSITIONS_ACROSS ≤ places_across g → (plat : TownshipPlat) (outer places : ℕ → ℕ → ℕ → Bool) (area whole : Fraction)
+    → ((section column row : ℕ) → IsSection section → column < places_across g → row < places_across g → places section column row ≡ true → outer section column row ≡ true)
+    → IsLandArea g plat places area → IsLandArea g plat outer whole
+    → (area.units ≤ whole.units) × IsLandArea g plat (λ section column row. outer section column row && not (places section column row)) (record { units = whole.units - area.units; over = whole.over })
+rest_within g fits plat outer places area whole inside is all =
     let in_set : ℕ → ℕ → ℕ → ℕ = λ section. piece_where_held g (all.pieces section) (places section) in
-    let outside : ℕ → ℕ → ℕ → Bool = λ section column row. township_places g section column row && not (places section column row) in
+    let outside : ℕ → ℕ → ℕ → Bool = λ section column row. outer section column row && not (places section column row) in
     let in_others : ℕ → ℕ → ℕ → ℕ = λ section. piece_where_held g (all.pieces section) (outside section) in
-    let sum : township_sum g all.pieces (township_places g) ≡ township_sum g all.pieces places + township_sum g all.pieces outside =
-    township-ext g (λ section. piece_where_held g (all.pieces section) (township_places g section)) (λ section column row. in_set section column row + in_others section column row) (λ section column row range in_column in_row.
-    split (township_places g section column row) (places section column row) (all.pieces section (position_along g column) (position_along g row)) (is_place_of g section column row range in_column in_row))
+    let sum : township_sum g all.pieces outer ≡ township_sum g all.pieces places + township_sum g all.pieces outside =
+    township-ext g (λ section. piece_where_held g (all.pieces section) (outer section)) (λ section column row. in_set section column row + in_others section column row) (λ section column row range in_column in_row.
+    split (outer section column row) (places section column row) (all.pieces section (position_along g column) (position_along g row)) (inside section column row range in_column in_row))
     ∙ township-both g in_set in_others in
     let same = one_sum g fits plat places is.pieces all.pieces is.are all.are in
     let rest = less (places_of_position g) area.units whole.units (township_sum g all.pieces places) (township_sum g all.pieces outside) (some_places g fits) (is.sum_is ∙ same) (all.sum_is ∙ sum) in
     (rest.0, record { pieces = all.pieces; are = all.are; over_is = all.over_is; sum_is = rest.1 })
   where
-    is_place_of : (g section column row : ℕ) → IsSection section → column < places_across g → row < places_across g → township_places g section column row ≡ true
-    is_place_of g section column row range in_column in_row = grind (arith, nat_tests)
-
-    split : (t a : Bool) (p : ℕ) → t ≡ true → (if t then p else 0) ≡ (if a then p else 0) + (if t && not a then p else 0)
+    split : (t a : Bool) (p : ℕ) → (a ≡ true → t ≡ true) → (if t then p else 0) ≡ (if a then p else 0) + (if t && not a then p else 0)
     split true true p is = omega arith
     split true false p is = omega arith
-    split false a p is = cc is
+    split false true p is = cc (is refl)
+    split false false p is = omega arith
 
     less : (n u w s r : ℕ) → 0 < n → n * u ≡ s → n * w ≡ s + r → (u ≤ w) × (n * (w - u) ≡ r)
     less n u w s r some e e' =
         let within : u ≤ w = le_of_mul-le-mul_left {m = u} {n = w} {k = n} (omega arith) some in
         (within, mul-sub n w u ∙ omega (arith, e, e'))
+
+-- each place of a section is one of the township
+pub is_place_of : (g section column row : ℕ) → IsSection section → column < places_across g → row < places_across g → township_places g section column row ≡ true
+is_place_of g section column row range in_column in_row = grind (arith, nat_tests)
+
+-- of a set's places in the township, the units are no more than the township's, and the others have the rest
+pub rest_of_places : (g : ℕ) → POSITIONS_ACROSS ≤ places_across g → (plat : TownshipPlat) (places : ℕ → ℕ → ℕ → Bool) (area whole : Fraction)
+    → IsLandArea g plat places area → IsLandArea g plat (township_places g) whole
+    → (area.units ≤ whole.units) × IsLandArea g plat (λ section column row. township_places g section column row && not (places section column row)) (record { units = whole.units - area.units; over = whole.over })
+rest_of_places g fits plat places area whole =
+    rest_within g fits plat (township_places g) places area whole (λ section column row range in_column in_row held. is_place_of g section column row range in_column in_row)
 
 pub one_land_area : OneLandArea
 one_land_area g fits plat places area area' is is' =

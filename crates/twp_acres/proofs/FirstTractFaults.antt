@@ -1,21 +1,30 @@
 -- The first fault of a list of tracts.
-use Rattle.std.proofs.Common.{◌≡◌, ◌≢◌, ℕ, ◌+◌, ◌-◌, ◌<◌, ◌≤◌, ◌⊎◌, Bool, true, false, List, [], ◌∷◌, length, drop, Some, None, ap, refl, sym, ◌∙◌, inl, inr, subst, arith}
+use Rattle.std.proofs.Common.{◌≡◌, ◌≢◌, ℕ, ◌+◌, ◌<◌, ◌≤◌, ◌⊎◌, false, List, [], ◌∷◌, length, Some, ap, refl, sym, ◌∙◌, inl, inr, subst, arith}
 use Rattle.std.specs.Prelude.{IfSome}
 use Rattle.std.proofs.lemmas.Bool.{cases_lt, cases_eq}
 use Rattle.twp_grid.specs.Townships.{Designation}
-use Rattle.twp_grid.specs.declared.refusal.Refusal.{Refusal}
 use Rattle.twp_notes.specs.Records.{Fields, record_at, record_numbered, records_of}
 use Rattle.twp_plat.specs.Plats.{TownshipPlat}
 use Rattle.twp_acres.specs.Names.{has_name}
 use Rattle.twp_acres.specs.Tracts.{TRACTS_LIMIT, TRACTS_MOST, tracts_heading, tract_records, name_in, description_in, IsTractRecord, AreTracts}
-use Rattle.twp_acres.specs.TractFaults.{HasAt, HasAtTract, HasNoHeading, HasTractFault, IsFirstTractFault, IsFrom, record_of, turn_of, verdict_of, IsNameRepeated}
-use Rattle.twp_acres.specs.TractTaking.{Tally, IsTallyOf, IsTractRefused, IsNextRefused, AreTractsRefused, OverlapsTally}
+use Rattle.twp_acres.specs.TractFaults.{HasAt, HasAtTract, HasTractFault, IsFirstTractFault, IsFrom, record_of, turn_of, verdict_of, IsNameRepeated}
+use Rattle.twp_acres.specs.TractTaking.{Tally, IsTallyOf, IsNamedAnew, fault_of_stop, IsTractRefused, IsNextRefused, AreTractsRefused, OverlapsTally}
+use Rattle.twp_acres.specs.Answers.{IsNoDescription}
+use Rattle.twp_acres.specs.Stops.{IfRefused}
+use Rattle.twp_acres.specs.declared.stop.Stop.{Stop}
+use Rattle.twp_acres.specs.declared.stop.Stop.TheVariants as stop
 use Rattle.twp_acres.specs.ReportAnswers.{AnswersList, refusal_lines}
 use Rattle.twp_acres.specs.declared.verdict.Verdict.{Verdict}
 use Rattle.twp_acres.specs.declared.verdict.Verdict.TheVariants.{Accepted, Refused, TractRefused}
 use Rattle.twp_acres.specs.declared.tract_fault.TractFault.{TractFault}
 use Rattle.twp_acres.specs.declared.tract_fault.TractFault.TheVariants as fault
 use Rattle.twp_acres.proofs.OneAnswer.{not_described}
+
+-- a description that is refused is a tract's fault
+pub description_refused : (township : Designation) (fields : Fields) (tally : Tally) (number : ℕ) (stopped : Stop) → IsNamedAnew fields tally
+    → IfRefused stopped (IsNoDescription township (description_in fields)) → IsTractRefused township fields tally number (fault_of_stop stopped number)
+description_refused township fields tally number (stop.Refused inner) anew none = (refl, anew, none)
+description_refused township fields tally number (stop.Failed failed) anew is = tt
 
 -- the next record isn't taken: what is answered is its first fault
 module _ (plat : TownshipPlat) (rows : List Fields) (count : ℕ) (tally : Tally) (before : IsTallyOf plat rows count tally) (within : count < length rows) (below : count < TRACTS_MOST) where
@@ -134,7 +143,7 @@ large_first township bytes large = record { is = large; first = λ other has. fr
 
 module _ (township : Designation) (bytes : List ℕ) (size : length bytes ≤ TRACTS_LIMIT) (heading_is : record_numbered (records_of bytes) 1 ≡ tracts_heading) where
   -- of the tracts before no fault holds
-  none_before : (index : ℕ) → AreTracts township (tract_records bytes) index → (other : TractFault) (at_tract : HasAtTract township (tract_records bytes) other) → at_tract.index < index → ⊥
+  pub none_before : (index : ℕ) → AreTracts township (tract_records bytes) index → (other : TractFault) (at_tract : HasAtTract township (tract_records bytes) other) → at_tract.index < index → ⊥
   none_before index tracts other at_tract earlier = at_earlier other at_tract.has
     where
       at_earlier : (other : TractFault) → HasAt township (tract_records bytes) at_tract.index other → ⊥

@@ -11,8 +11,11 @@ pub mod OneAnswer
 pub mod FigureFacts
 pub mod OnePlat
 pub mod TractFacts
+pub mod TractLands
 pub mod TallyFacts
 pub mod FirstTractFaults
 pub mod TractAreas
+pub mod TractSums
+pub mod OneReport
 pub mod OneNormal
 pub mod OwnText

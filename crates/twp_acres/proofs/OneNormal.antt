@@ -1,5 +1,5 @@
 -- Two texts have one canonical text: they describe one land on one plat, and a land has one text.
-use Rattle.std.proofs.Common.{◌≡◌, ℕ, Bool, List, ap, refl, subst, sym, ◌∙◌}
+use Rattle.std.proofs.Common.{◌≡◌, ℕ, List, ap, refl, subst, sym, ◌∙◌}
 use Rattle.twp_grid.specs.Places.{PLACE_DIGITS}
 use Rattle.twp_grid.specs.declared.refusal.Refusal.{Refusal}
 use Rattle.twp_plat.specs.Plats.{TownshipPlat}

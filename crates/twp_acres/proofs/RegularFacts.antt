@@ -1,29 +1,19 @@
 -- The piece of a position that is no lot's: 20 by 20 chains, on each plat.
-use Rattle.std.proofs.Common.{◌≡◌, ◌==◌, ℕ, ◌+◌, ◌-◌, ◌*◌, ◌%◌, ◌≤◌, ◌<◌, ◌&&◌, Bool, true, false, Some, None, pos, ◌+ℤ◌, ◌-ℤ◌, ◌*ℤ◌, refl, ap, sym, ◌∙◌, inl, inr, arith, if◌then◌else◌, nat_le}
+use Rattle.std.proofs.Common.{◌≡◌, ◌==◌, ℕ, ◌+◌, ◌-◌, ◌*◌, ◌%◌, ◌≤◌, ◌<◌, ◌&&◌, Bool, true, false, Some, None, pos, refl, ap, sym, ◌∙◌, inl, inr, arith, if◌then◌else◌, nat_le}
 use Rattle.std.proofs.lemmas.Bool.{cases_eq}
 use Rattle.std.proofs.lemmas.Bool.Decides.{nat_tests}
 use Rattle.twp_grid.specs.Winding.{IsSection, StandsAt}
-use Rattle.twp_grid.specs.Lines.{IsClosing, north_run, west_run}
+use Rattle.twp_grid.specs.Lines.{north_run, west_run}
 use Rattle.twp_grid.specs.Lots.{lot_at_position, is_western_number}
 use Rattle.twp_grid.proofs.LotFacts.{each, each_of_three, lot_at_is, lot_by_code}
 use Rattle.twp_plat.specs.Plats.{TownshipPlat, IsPlat, closing_quarter_of, ClosingQuarters, AreClosingQuarters}
 use Rattle.twp_plat.specs.Ratios.{ratio, whole, IsSame}
 use Rattle.twp_plat.specs.Pieces.{piece}
 use Rattle.twp_plat.specs.Formula.{both_ends, west_length, north_length, both_widths, both_heights}
-use Rattle.twp_plat.proofs.FormulaFacts.{under_four, piece_is_formula, piece_terms}
+use Rattle.twp_plat.proofs.FormulaFacts.{piece_is_formula, piece_terms}
 use Rattle.twp_plat.proofs.RatioFacts.{whole_of_parts}
-use Rattle.twp_plat.proofs.SideFacts.{lines_of}
-
--- a column or a row that lies between regular lines, where it is the last one
-abbrev IsRegular : ℕ → ℕ → ℕ → Type 0
-IsRegular number first last = number ≡ 3 → (first ≡ 20000) × (last ≡ 20000)
-
--- what runs between regular lines is a quarter mile everywhere
-between : (first last along ends number : ℕ) → number < 4 → IsRegular number first last
-    → (if number == 3 then pos (2 * first * along) +ℤ (pos last -ℤ pos first) *ℤ pos ends else pos (40000 * along)) ≡ pos (40000 * along)
-between first last along ends number below regular =
-    under_four (λ n. IsRegular n first last → (if n == 3 then pos (2 * first * along) +ℤ (pos last -ℤ pos first) *ℤ pos ends else pos (40000 * along)) ≡ pos (40000 * along))
-    number below (λ _. refl) (λ _. refl) (λ _. refl) (λ is. let both = is refl in rw (both.0, both.1) (ap pos (omega arith))) regular
+use Rattle.twp_plat.proofs.SideFacts.{lines_of, west_run_regular, north_run_regular, regular_quarter}
+use Rattle.twp_plat.proofs.WholeFacts.{between}
 
 -- the order of factors
 square_of : (w h : ℕ) → 40000 * w * (40000 * h) ≡ 400000000 * (4 * w * h)
@@ -71,18 +61,6 @@ north_is_lot section column row range in_column in_row north last none =
     let test : (row == 3) ≡ true = grind (arith, nat_tests) in
     cc (rw (north, test) at code)
 
--- a line that doesn't close is regular
-regular_line : (plat : TownshipPlat) (line : ℕ) → IsPlat plat → line < 84 → ¬ IsClosing line → closing_quarter_of plat line ≡ 20000
-regular_line plat line is is_line leaves = (is.within line is_line).regular leaves
-
-west_run_open : (tier column : ℕ) → tier < 7 → column < 5 → ¬ IsClosing (west_run tier column)
-west_run_open tier column in_tier east (inl (meridian, below, is)) = omega arith
-west_run_open tier column in_tier east (inr (tier', below, is)) = omega arith
-
-north_run_open : (row meridian : ℕ) → 0 < row → row < 6 → meridian < 7 → ¬ IsClosing (north_run row meridian)
-north_run_open row meridian south below in_place (inl (meridian', below', is)) = omega arith
-north_run_open row meridian south below in_place (inr (tier, below', is)) = omega arith
-
 -- the piece of a position that is no lot's
 pub piece_off_lots : (plat : TownshipPlat) (section column row : ℕ) (q : ClosingQuarters) → IsPlat plat → IsSection section → AreClosingQuarters plat section q
     → column < 4 → row < 4 → lot_at_position section column row ≡ None → IsSame (piece q column row) (whole 400000000)
@@ -96,14 +74,14 @@ piece_off_lots plat section column row q is range are in_column in_row none =
     (λ last. elim (cases_eq place 5) [
       | inl west ↦ absurd (west_is_lot section column row range in_column in_row (western section tier place lines.stands west) last none)
       | inr east ↦ (
-        are.south ∙ ap (closing_quarter_of plat) lines.south_is ∙ regular_line plat (west_run (tier + 1) place) is (omega arith) (west_run_open (tier + 1) place (omega arith) (omega arith)),
-        are.north ∙ ap (closing_quarter_of plat) lines.north_is ∙ regular_line plat (west_run tier place) is (omega arith) (west_run_open tier place (omega arith) (omega arith)),
+        are.south ∙ ap (closing_quarter_of plat) lines.south_is ∙ regular_quarter plat (west_run (tier + 1) place) is (omega arith) (west_run_regular (tier + 1) place (omega arith) (omega arith)),
+        are.north ∙ ap (closing_quarter_of plat) lines.north_is ∙ regular_quarter plat (west_run tier place) is (omega arith) (west_run_regular tier place (omega arith) (omega arith)),
       )
     ])
     (λ last. elim (cases_eq tier 0) [
       | inl north ↦ absurd (north_is_lot section column row range in_column in_row (northern section tier place lines.stands north) last none)
       | inr south ↦ (
-        are.east ∙ ap (closing_quarter_of plat) lines.east_is ∙ regular_line plat (north_run tier place) is (omega arith) (north_run_open tier place (omega arith) in_tier (omega arith)),
-        are.west ∙ ap (closing_quarter_of plat) lines.west_is ∙ regular_line plat (north_run tier (place + 1)) is (omega arith) (north_run_open tier (place + 1) (omega arith) in_tier (omega arith)),
+        are.east ∙ ap (closing_quarter_of plat) lines.east_is ∙ regular_quarter plat (north_run tier place) is (omega arith) (north_run_regular tier place (omega arith) in_tier (omega arith)),
+        are.west ∙ ap (closing_quarter_of plat) lines.west_is ∙ regular_quarter plat (north_run tier (place + 1)) is (omega arith) (north_run_regular tier (place + 1) (omega arith) in_tier (omega arith)),
       )
     ])

@@ -4,10 +4,10 @@ use Rattle.std.proofs.lemmas.Bool.Decides.{nat_tests}
 use Rattle.twp_grid.specs.Winding.{IsSection}
 use Rattle.twp_grid.specs.Lots.{IsPosition, lot_at_position, position_of_lot, number_of_lots}
 use Rattle.twp_grid.specs.Places.{PLACE_DIGITS, position_along}
-use Rattle.twp_grid.specs.Spans.{whole_block, position_block}
+use Rattle.twp_grid.specs.Spans.{whole_block, position_block, in_rectangle}
 use Rattle.twp_grid.specs.Totals.{total, total_over, one_where, over_positions}
-use Rattle.twp_grid.proofs.TotalFacts.{total-ext, total-same, total-scale, total-le}
-use Rattle.twp_land.specs.Lands.{count_held}
+use Rattle.twp_grid.proofs.TotalFacts.{total-ext, total-same, total-scale, total-le, total-all_zero}
+use Rattle.twp_land.specs.Lands.{count_held, Meets}
 use Rattle.twp_land.specs.WholeLots.{lot_of_place, IsWholeOrNot}
 use Rattle.twp_land.proofs.LotFacts.{fills, has_lot}
 use Rattle.twp_plat.specs.Plats.{TownshipPlat, IsPlat}
@@ -231,3 +231,15 @@ sum_of_section plat section last count units held pieces is are range whole most
   where
     product : (units count over lots off : ℕ) → units ≡ lots → count ≡ off → 16 * (units + 25000000 * (over * count)) ≡ 16 * lots + 400000000 * over * off
     product units count over lots off same same' = rw (same, same') (omega arith)
+
+-- the sum over a section of which no place is held
+pub none_held : (pieces : ℕ → ℕ → ℕ) (held : ℕ → ℕ → Bool) → ¬ Meets held (whole_block PLACE_DIGITS) → section_sum PLACE_DIGITS pieces held ≡ 0
+none_held pieces held none =
+    total-all_zero 16 (λ up. total 16 (λ along. piece_where_held PLACE_DIGITS pieces held (0 + along) (0 + up))) (λ up in_up.
+    total-all_zero 16 (λ along. piece_where_held PLACE_DIGITS pieces held (0 + along) (0 + up)) (λ along in_along.
+    let inside : in_rectangle (whole_block PLACE_DIGITS) (0 + along) (0 + up) ≡ true = grind (arith, nat_tests) in
+    not_held (held (0 + along) (0 + up)) (pieces (position_along PLACE_DIGITS (0 + along)) (position_along PLACE_DIGITS (0 + up))) (λ is. none (record { column = 0 + along; row = 0 + up; inside = inside; is_held = is }))))
+  where
+    not_held : (test : Bool) (piece : ℕ) → (test ≡ true → ⊥) → (if test then piece else 0) ≡ 0
+    not_held true piece none = absurd (none refl)
+    not_held false piece none = refl

@@ -1,49 +1,33 @@
 -- A tally that grows by one tract.
-use Rattle.std.proofs.Common.{◌≡◌, ◌↔◌, ◌≢◌, ℕ, ◌+◌, ◌<◌, ◌≤◌, ◌||◌, ◌⊎◌, Bool, true, false, List, [], ◌∷◌, ◌++◌, length, get_or, ap, refl, sym, ◌∙◌, inl, inr, subst, arith, append_assoc, append-nil}
+use Rattle.std.proofs.Common.{◌≡◌, ◌≢◌, ℕ, ◌+◌, ◌<◌, ◌≤◌, ◌||◌, true, false, List, [], ◌∷◌, ◌++◌, length, get_or, ap, refl, sym, ◌∙◌, inl, inr, subst, arith, append_assoc, append-nil}
 use Rattle.std.specs.Str.{bytes_eq}
-use Rattle.std.specs.List.{flat_map}
-use Rattle.std.proofs.lemmas.Bool.{cases_lt}
 use Rattle.std.proofs.lemmas.Slice.Eq.{bytes_eq-Decides}
 use Rattle.std.proofs.lemmas.List.{length_push}
 use Rattle.std.proofs.lemmas.Grind.{flat_map-append}
 use Rattle.std.proofs.Math.ListN.{get_or-append}
 use Rattle.std.proofs.Math.Seq.{get_or-append_seam}
 use Rattle.twp_grid.specs.Places.{PLACE_DIGITS}
-use Rattle.twp_grid.specs.Townships.{Designation}
-use Rattle.twp_land.specs.Lands.{no_places, union, SharePlace}
+use Rattle.twp_land.specs.Lands.{no_places}
 use Rattle.twp_land.specs.WholeLots.{HasWholeLots}
 use Rattle.twp_notes.specs.Records.{Fields, record_at, record_numbered, records_of}
 use Rattle.twp_plat.specs.Plats.{TownshipPlat}
 use Rattle.twp_acres.specs.Answers.{Describe}
 use Rattle.twp_acres.specs.Names.{has_name}
-use Rattle.twp_acres.specs.Tracts.{TRACTS_LIMIT, TRACTS_MOST, tracts_heading, tract_records, name_in, description_in, IsTract, Overlap, AreTracts, IsInTract, IsLandOfTracts}
+use Rattle.twp_acres.specs.Tracts.{TRACTS_LIMIT, TRACTS_MOST, tracts_heading, tract_records, name_in, description_in, IsTract, Overlap, IsLandOfTracts}
 use Rattle.twp_acres.specs.ReportAnswers.{tract_line, IsTractLine, AreTractLines, text_of, total_lines, IsAccountOf}
-use Rattle.twp_acres.specs.TractTaking.{Tally, TakesTract, IsTallyOf, EndsAccount}
+use Rattle.twp_acres.specs.TractTaking.{Tally, AreTotals, TakesTract, IsTallyOf, EndsAccount}
 use Rattle.twp_acres.proofs.OneAnswer.{one_land}
-
-either_way : (a b : Bool) → (a || b) ≡ true → (a ≡ true) ⊎ (b ≡ true)
-either_way true b is = inl refl
-either_way false b is = inr is
-
-with_left : (a b : Bool) → a ≡ true → (a || b) ≡ true
-with_left true b is = refl
-with_left false b is = cc is
-
-with_right : (a b : Bool) → b ≡ true → (a || b) ≡ true
-with_right true b is = refl
-with_right false b is = is
+use Rattle.twp_acres.proofs.TractLands.{earlier_or_last, either_way, with_left, with_right, no_land, land_next}
 
 -- the tally of no records
 pub no_tally : (plat : TownshipPlat) (rows : List Fields) (tally : Tally) → ((name : List ℕ) → has_name tally.names name ≡ false)
-    → tally.places ≡ no_places → tally.text ≡ [] → IsTallyOf plat rows 0 tally
-no_tally plat rows tally names places text = record {
+    → tally.places ≡ no_places → AreTotals plat no_places tally.totals → tally.text ≡ [] → IsTallyOf plat rows 0 tally
+no_tally plat rows tally names places totals text = record {
   tracts = record { each = λ index below. absurd (omega arith); once = λ earlier index before below. absurd (omega arith); apart = λ earlier index before below. absurd (omega arith) };
   named = λ index below. absurd (omega arith);
   names = λ name is. cc (sym is ∙ names name);
-  land = λ section column row. (
-    λ held. cc (sym held ∙ ap (λ p. p section column row) places),
-    λ is. let below : is.index < 0 = is.within in absurd (omega arith),
-  );
+  land = subst (IsLandOfTracts plat.township rows 0) (sym places) (no_land plat.township rows);
+  totals_are = subst (λ p. AreTotals plat p tally.totals) (sym places) totals;
   whole = rw places (λ section lot range. record { alike = λ column row column' row' lies lies'. refl });
   lines = [];
   lines_are = record { count_is = refl; each = λ index below. absurd (omega arith) };
@@ -51,21 +35,14 @@ no_tally plat rows tally names places text = record {
 }
 
 module _ (plat : TownshipPlat) (rows : List Fields) (count : ℕ) (old new : Tally) (before : IsTallyOf plat rows count old) (takes : TakesTract plat (record_at rows count) old new) where
-  -- the record is an earlier one, or the next
-  earlier_or_next : (index : ℕ) → index < count + 1 → (index < count) ⊎ (index ≡ count)
-  earlier_or_next index below = elim (cases_lt index count) [
-    | inl earlier ↦ inl earlier
-    | inr over ↦ inr (omega arith)
-  ]
-
   each : (index : ℕ) → index < count + 1 → IsTract plat.township (record_at rows index)
-  each index below = elim (earlier_or_next index below) [
+  each index below = elim (earlier_or_last count index below) [
     | inl earlier ↦ before.tracts.each index earlier
     | inr next ↦ rw next (record { is_record = takes.is_record; places = takes.more; land = takes.land })
   ]
 
   once : (earlier index : ℕ) → earlier < index → index < count + 1 → name_in (record_at rows earlier) ≢ name_in (record_at rows index)
-  once earlier index first below same = elim (earlier_or_next index below) [
+  once earlier index first below same = elim (earlier_or_last count index below) [
     | inl known ↦ before.tracts.once earlier index first known same
     | inr next ↦
         let here : name_in (record_at rows earlier) ≡ name_in (record_at rows count) = same ∙ ap (λ i. name_in (record_at rows i)) next in
@@ -73,7 +50,7 @@ module _ (plat : TownshipPlat) (rows : List Fields) (count : ℕ) (old new : Tal
   ]
 
   apart : (earlier index : ℕ) → earlier < index → index < count + 1 → Overlap plat.township (record_at rows earlier) (record_at rows index) → ⊥
-  apart earlier index first below overlap = elim (earlier_or_next index below) [
+  apart earlier index first below overlap = elim (earlier_or_last count index below) [
     | inl known ↦ before.tracts.apart earlier index first known overlap
     | inr next ↦
         let land : Describe plat.township (description_in (record_at rows count)) overlap.more = subst (λ i. Describe plat.township (description_in (record_at rows i)) overlap.more) next overlap.other_land in
@@ -89,7 +66,7 @@ module _ (plat : TownshipPlat) (rows : List Fields) (count : ℕ) (old new : Tal
   ]
 
   named : (index : ℕ) → index < count + 1 → has_name new.names (name_in (record_at rows index)) ≡ true
-  named index below = elim (earlier_or_next index below) [
+  named index below = elim (earlier_or_last count index below) [
     | inl earlier ↦ takes.names_are (name_in (record_at rows index)) ∙ with_right (bytes_eq (name_in (record_at rows count)) (name_in (record_at rows index))) _ (before.named index earlier)
     | inr next ↦ rw next (takes.names_are (name_in (record_at rows count)) ∙ with_left (bytes_eq (name_in (record_at rows count)) (name_in (record_at rows count))) _ ((bytes_eq-Decides (name_in (record_at rows count)) (name_in (record_at rows count))).1 refl))
   ]
@@ -104,22 +81,7 @@ module _ (plat : TownshipPlat) (rows : List Fields) (count : ℕ) (old new : Tal
   ]
 
   land : IsLandOfTracts plat.township rows (count + 1) new.places
-  land section column row = (
-    λ held. elim (either_way (old.places section column row) (takes.more section column row) (sym (ap (λ p. p section column row) takes.places_are) ∙ held)) [
-      | inl there ↦
-          let is = (before.land section column row).0 there in
-          let within : is.index < count = is.within in
-          record { index = is.index; within = omega arith; places = is.places; land = is.land; held = is.held }
-      | inr here ↦ record { index = count; within = omega arith; places = takes.more; land = takes.land; held = here }
-    ],
-    λ is. ap (λ p. p section column row) takes.places_are ∙ elim (earlier_or_next is.index is.within) [
-      | inl earlier ↦ with_left _ _ ((before.land section column row).1 (record { index = is.index; within = earlier; places = is.places; land = is.land; held = is.held }))
-      | inr next ↦
-          let described : Describe plat.township (description_in (record_at rows count)) is.places = subst (λ i. Describe plat.township (description_in (record_at rows i)) is.places) next is.land in
-          let same : is.places ≡ takes.more = one_land plat.township (description_in (record_at rows count)) is.places takes.more described takes.land in
-          with_right (old.places section column row) (takes.more section column row) (ap (λ p. p section column row) (sym same) ∙ is.held)
-    ],
-  )
+  land = subst (IsLandOfTracts plat.township rows (count + 1)) (sym takes.places_are) (land_next plat.township rows count old.places takes.more before.land takes.land)
 
   whole : HasWholeLots PLACE_DIGITS new.places
   whole = rw takes.places_are (λ section lot range. record {
@@ -133,7 +95,7 @@ module _ (plat : TownshipPlat) (rows : List Fields) (count : ℕ) (old new : Tal
   lines_are : AreTractLines plat rows (count + 1) (before.lines ++ line ∷ [])
   lines_are = record {
     count_is = longer;
-    each = λ index below. elim (earlier_or_next index below) [
+    each = λ index below. elim (earlier_or_last count index below) [
       | inl earlier ↦
           let same = get_or-append before.lines (line ∷ []) [] index (omega (arith, before.lines_are.count_is)) in
           subst (λ l. IsTractLine plat (record_at rows index) l) (sym same) (before.lines_are.each index earlier)
@@ -162,6 +124,7 @@ module _ (plat : TownshipPlat) (rows : List Fields) (count : ℕ) (old new : Tal
     names = names;
     land = land;
     whole = whole;
+    totals_are = takes.totals_are;
     lines = before.lines ++ line ∷ [];
     lines_are = lines_are;
     text_is = text_is;

@@ -41,7 +41,7 @@ section_whole pieces held all =
     order p = omega arith
 
 -- the sum over a section of which nothing is held
-section_none : (pieces : ℕ → ℕ → ℕ) (held : ℕ → ℕ → Bool) → ((column row : ℕ) → held column row ≡ false) → section_sum PLACE_DIGITS pieces held ≡ 0
+pub section_none : (pieces : ℕ → ℕ → ℕ) (held : ℕ → ℕ → Bool) → ((column row : ℕ) → held column row ≡ false) → section_sum PLACE_DIGITS pieces held ≡ 0
 section_none pieces held none =
     total-all_zero 16 (λ up. total 16 (λ along. piece_where_held PLACE_DIGITS pieces held (0 + along) (0 + up))) (λ up _.
     total-all_zero 16 (λ along. piece_where_held PLACE_DIGITS pieces held (0 + along) (0 + up)) (λ along _.

@@ -1,15 +1,16 @@
--- The answer of the report run: the account of the tracts, or the refusal. Each figure is the exact area
--- of what it stands for, rounded once, in hundredths of an acre.
-use Rattle.std.specs.Prelude.{◌≡◌, ◌⊎◌, ℕ, ◌<◌, ◌&&◌, Bool, List, [], ◌∷◌, ◌++◌, length, Some, IfSome, codes, not, slice_index_or}
+-- The answer of the report run: the account of the tracts, or the refusal. Each figure is the
+-- exact area of what it stands for, rounded once, in hundredths of an acre.
+use Rattle.std.specs.Prelude.{◌≡◌, ◌⊎◌, ℕ, ◌<◌, ◌&&◌, Bool, not, List, [], ◌++◌, length}
+use Rattle.std.specs.Prelude.{Some, IfSome, codes, slice_index_or}
 use Rattle.std.specs.List.{flat_map}
 use Rattle.twp_grid.specs.Places.{PLACE_DIGITS}
-use Rattle.twp_grid.specs.declared.refusal.Refusal.{Refusal}
 use Rattle.twp_notes.specs.Records.{Fields, record_at}
 use Rattle.twp_plat.specs.Plats.{TownshipPlat}
 use Rattle.twp_acres.specs.Answers.{ArePlatted, Describe, IsNoPlat, refusal_line}
 use Rattle.twp_acres.specs.AcresAnswers.{AreHundredthsOf, acres_line}
 use Rattle.twp_acres.specs.Laws.{township_places}
-use Rattle.twp_acres.specs.Tracts.{name_in, description_in, tract_records, IsTractList, IsLandOfTracts}
+use Rattle.twp_acres.specs.Tracts.{name_in, description_in, tract_records}
+use Rattle.twp_acres.specs.Tracts.{IsTractList, IsLandOfTracts}
 use Rattle.twp_acres.specs.TractFaults.{IsFirstTractFault, verdict_of}
 use Rattle.twp_acres.specs.declared.tract_fault.TractFault.{TractFault}
 use Rattle.twp_acres.specs.declared.verdict.Verdict.{Verdict}
@@ -103,9 +104,9 @@ IsPlatRefused notes answer (Refused refusal) =
     IsNoPlat notes refusal × (answer ≡ refusal_line refusal)
 IsPlatRefused notes answer other = ⊥
 
--- The account, where the notes make a plat and the list is one of tracts on it, of which no two have a
--- place in common. Else the refusal of the first fault; where a tract's description is refused itself,
--- a second line has that refusal.
+-- The account, where the notes make a plat and the list is one of tracts on it, of which no two
+-- have a place in common. Else the refusal of the first fault; where a tract's description is
+-- refused itself, a second line has that refusal.
 abbrev pub IsReportAnswer : List ℕ → List ℕ → List ℕ → Verdict → Type 0
 IsReportAnswer notes tracts answer verdict =
     IsPlatRefused notes answer verdict ⊎ IsAnswerOnPlat notes tracts answer verdict

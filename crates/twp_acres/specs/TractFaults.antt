@@ -1,11 +1,11 @@
--- What may be wrong with a list of tracts, each fault as a statement about the whole list, and which
--- fault is answered.
+-- What may be wrong with a list of tracts, each fault as a statement about the whole list, and
+-- which fault is answered.
 use Rattle.std.specs.Prelude.{◌≡◌, ◌≢◌, ◌⊎◌, ℕ, ◌+◌, ◌≤◌, ◌<◌, List, length, Option, Some, None}
 use Rattle.twp_grid.specs.Townships.{Designation}
-use Rattle.twp_grid.specs.declared.refusal.Refusal.{Refusal}
 use Rattle.twp_notes.specs.Records.{Fields, record_at, record_numbered, records_of}
 use Rattle.twp_acres.specs.Answers.{IsNoDescription}
-use Rattle.twp_acres.specs.Tracts.{TRACTS_LIMIT, TRACTS_MOST, tracts_heading, tract_records, name_in, description_in, IsTractRecord, Overlap}
+use Rattle.twp_acres.specs.Tracts.{TRACTS_LIMIT, TRACTS_MOST, tracts_heading, tract_records}
+use Rattle.twp_acres.specs.Tracts.{name_in, description_in, IsTractRecord, Overlap}
 use Rattle.twp_acres.specs.declared.verdict.Verdict.{Verdict}
 use Rattle.twp_acres.specs.declared.verdict.Verdict.TheVariants.{Refused, TractRefused}
 use Rattle.twp_acres.specs.declared.tract_fault.TractFault.{TractFault}
@@ -37,7 +37,8 @@ pub record OverlapsEarlier (township : Designation) (rows : List Fields) (index 
 abbrev pub HasAt : Designation → List Fields → ℕ → TractFault → Type 0
 HasAt township rows index (fault.Row number) =
     (number ≡ index + 2) × ¬ IsTractRecord (record_at rows index)
-HasAt township rows index (fault.NameRepeated number) = (number ≡ index + 2) × IsNameRepeated rows index
+HasAt township rows index (fault.NameRepeated number) =
+    (number ≡ index + 2) × IsNameRepeated rows index
 HasAt township rows index (fault.Description number inner) = (number ≡ index + 2)
     × IsNoDescription township (description_in (record_at rows index)) inner
 HasAt township rows index (fault.Overlap number) =

@@ -1,11 +1,16 @@
--- Laws over the figures of an account.
-use Rattle.std.specs.Prelude.{◌≡◌, ℕ, ◌+◌, Bool}
+-- Laws over accounts of tracts, and over their figures.
+use Rattle.std.specs.Prelude.{◌≡◌, ℕ, ◌+◌, ◌<◌, Bool, List, length}
 use Rattle.twp_measure.specs.Areas.{Fraction}
 use Rattle.twp_grid.specs.Places.{PLACE_DIGITS}
+use Rattle.twp_grid.specs.Totals.{total}
+use Rattle.twp_notes.specs.Records.{Fields, record_at}
 use Rattle.twp_plat.specs.Plats.{TownshipPlat}
+use Rattle.twp_acres.specs.Answers.{Describe}
 use Rattle.twp_acres.specs.LandAreas.{IsLandArea}
 use Rattle.twp_acres.specs.Laws.{township_places}
-use Rattle.twp_acres.specs.ReportAnswers.{other_places}
+use Rattle.twp_acres.specs.Tracts.{description_in, tract_records, IsTractList, IsLandOfTracts}
+use Rattle.twp_acres.specs.ReportAnswers.{other_places, IsReportAnswer}
+use Rattle.twp_acres.specs.declared.verdict.Verdict.{Verdict}
 
 -- the area of a set of places and that of all others are together the area of the whole township
 abbrev pub RestAddsUp : Type 0
@@ -14,3 +19,32 @@ RestAddsUp = (plat : TownshipPlat) (places : ℕ → ℕ → ℕ → Bool) (area
     → IsLandArea PLACE_DIGITS plat (other_places places) rest
     → IsLandArea PLACE_DIGITS plat (township_places PLACE_DIGITS) whole
     → area.units + rest.units ≡ whole.units
+
+-- the area of the land of a tract's record
+pub record IsTractArea (plat : TownshipPlat) (fields : Fields) (area : Fraction) : Type 0 where
+  pub places : ℕ → ℕ → ℕ → Bool
+  pub land : Describe plat.township (description_in fields) places
+  pub area_is : IsLandArea PLACE_DIGITS plat places area
+
+-- the areas of the first so many of these tracts
+pub record AreTractAreas (plat : TownshipPlat) (rows : List Fields) (count : ℕ)
+    (areas : ℕ → Fraction) : Type 0 where
+  pub each : (index : ℕ) → index < count
+      → IsTractArea plat (record_at rows index) (areas index)
+
+-- The area of all places that are in a tract of a list is the sum of the tracts' areas, exactly.
+abbrev pub TractsAddUp : Type 0
+TractsAddUp = (plat : TownshipPlat) (bytes : List ℕ) (areas : ℕ → Fraction)
+    (places : ℕ → ℕ → ℕ → Bool) (area : Fraction)
+    → IsTractList plat.township bytes
+    → AreTractAreas plat (tract_records bytes) (length (tract_records bytes)) areas
+    → IsLandOfTracts plat.township (tract_records bytes) (length (tract_records bytes)) places
+    → IsLandArea PLACE_DIGITS plat places area
+    → area.units ≡ total (length (tract_records bytes)) (λ index. (areas index).units)
+
+-- two texts, the field notes and the list of tracts, have one account, or one refusal
+abbrev pub OneReportAnswer : Type 0
+OneReportAnswer = (notes tracts answer answer' : List ℕ) (verdict verdict' : Verdict)
+    → IsReportAnswer notes tracts answer verdict
+    → IsReportAnswer notes tracts answer' verdict'
+    → (answer ≡ answer') × (verdict ≡ verdict')

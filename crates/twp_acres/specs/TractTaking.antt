@@ -1,6 +1,8 @@
 -- How an account grows by one tract, and for what the next record is refused.
-use Rattle.std.specs.Prelude.{◌≡◌, ℕ, ◌+◌, ◌≤◌, ◌<◌, ◌||◌, Bool, true, false, List, ◌++◌, length, ⊤}
+use Rattle.std.specs.Prelude.{◌≡◌, ℕ, ◌+◌, ◌-◌, ◌≤◌, ◌<◌, ◌||◌, Bool, true, false}
+use Rattle.std.specs.Prelude.{List, ◌++◌, length, ⊤}
 use Rattle.std.specs.Str.{bytes_eq}
+use Rattle.twp_measure.specs.Areas.{Fraction}
 use Rattle.twp_grid.specs.Places.{PLACE_DIGITS}
 use Rattle.twp_grid.specs.Townships.{Designation}
 use Rattle.twp_land.specs.Lands.{union, SharePlace}
@@ -9,19 +11,49 @@ use Rattle.twp_notes.specs.Records.{Fields, record_at}
 use Rattle.twp_plat.specs.Plats.{TownshipPlat}
 use Rattle.twp_acres.specs.Answers.{Describe, IsNoDescription}
 use Rattle.twp_acres.specs.AcresAnswers.{AreHundredthsOf}
+use Rattle.twp_acres.specs.LandAreas.{IsLandArea}
 use Rattle.twp_acres.specs.Names.{has_name}
-use Rattle.twp_acres.specs.Tracts.{TRACTS_MOST, name_in, description_in, IsTractRecord, AreTracts, IsLandOfTracts}
+use Rattle.twp_acres.specs.Tracts.{TRACTS_MOST, name_in, description_in}
+use Rattle.twp_acres.specs.Tracts.{IsTractRecord, AreTracts, IsLandOfTracts}
 use Rattle.twp_acres.specs.TractFaults.{HasAt, turn_of}
-use Rattle.twp_acres.specs.ReportAnswers.{tract_line, AreTractLines, text_of, other_places, total_lines}
+use Rattle.twp_acres.specs.ReportAnswers.{tract_line, AreTractLines, text_of}
+use Rattle.twp_acres.specs.ReportAnswers.{other_places, total_lines}
+use Rattle.twp_acres.specs.declared.account.Account.{Account}
 use Rattle.twp_acres.specs.declared.names.Names.{Names}
+use Rattle.twp_acres.specs.declared.totals.Totals.{Totals}
+use Rattle.twp_acres.specs.declared.stop.Stop.{Stop}
+use Rattle.twp_acres.specs.declared.stop.Stop.TheVariants as stop
 use Rattle.twp_acres.specs.declared.tract_fault.TractFault.{TractFault}
 use Rattle.twp_acres.specs.declared.tract_fault.TractFault.TheVariants as fault
 
--- what an account of tracts has: their names, all their places, and their lines
+-- what an account of tracts has: their names, all their places, their figures and their lines
 pub record Tally : Type 0 where
   pub names : Names
   pub places : ℕ → ℕ → ℕ → Bool
+  pub totals : Totals
   pub text : List ℕ
+
+-- the tally of an account, whose land holds these places
+abbrev pub tally_of : {L : Type 0} → (L → ℕ → ℕ → ℕ → Bool) → Account L → Tally
+tally_of places account = record {
+  names = account.names;
+  places = places account.land;
+  totals = account.totals;
+  text = account.text.items;
+}
+
+-- the figures are the area of these places, and that of all others
+pub record AreTotals (plat : TownshipPlat) (places : ℕ → ℕ → ℕ → Bool) (totals : Totals)
+    : Type 0 where
+  pub total_is : IsLandArea PLACE_DIGITS plat places totals.total
+  pub remaining_is : IsLandArea PLACE_DIGITS plat (other_places places) totals.remaining
+
+-- the figures after so much was taken from what remained
+pub record TakesArea (area : Fraction) (old new : Totals) : Type 0 where
+  pub total_is : new.total.units ≡ old.total.units + area.units
+  pub remaining_is : new.remaining.units ≡ old.remaining.units - area.units
+  pub total_over : new.total.over ≡ old.total.over
+  pub remaining_over : new.remaining.over ≡ old.remaining.over
 
 -- the tally grew by the tract of the record
 pub record TakesTract (plat : TownshipPlat) (fields : Fields) (old new : Tally) : Type 0 where
@@ -36,6 +68,7 @@ pub record TakesTract (plat : TownshipPlat) (fields : Fields) (old new : Tally) 
   pub places_are : new.places ≡ union old.places more
   pub hundredths : ℕ
   pub acres : AreHundredthsOf plat more hundredths
+  pub totals_are : AreTotals plat new.places new.totals
   pub text_is : new.text ≡ old.text ++ tract_line (name_in fields) hundredths
 
 -- a place that the tally has is in the record's land
@@ -63,12 +96,10 @@ IsTractRefused township fields tally number (fault.Overlap at_) =
 IsTractRefused township fields tally number fault.Memory = ⊤
 IsTractRefused township fields tally number other = ⊥
 
--- the description of the numbered record is refused, or there was no memory
-abbrev pub IsDescriptionRefused : Designation → List ℕ → ℕ → TractFault → Type 0
-IsDescriptionRefused township description number (fault.Description at_ inner) =
-    (at_ ≡ number) × IsNoDescription township description inner
-IsDescriptionRefused township description number fault.Memory = ⊤
-IsDescriptionRefused township description number other = ⊥
+-- the fault of the numbered record whose description stopped for this
+abbrev pub fault_of_stop : Stop → ℕ → TractFault
+fault_of_stop (stop.Refused inner) number = fault.Description number inner
+fault_of_stop (stop.Failed failed) number = fault.Memory
 
 -- the tally is that of the first so many records, which are tracts
 pub record IsTallyOf (plat : TownshipPlat) (rows : List Fields) (count : ℕ) (tally : Tally)
@@ -80,6 +111,7 @@ pub record IsTallyOf (plat : TownshipPlat) (rows : List Fields) (count : ℕ) (t
       → (index : ℕ) × (index < count) × (name_in (record_at rows index) ≡ name)
   pub land : IsLandOfTracts plat.township rows count tally.places
   pub whole : HasWholeLots PLACE_DIGITS tally.places
+  pub totals_are : AreTotals plat tally.places tally.totals
   pub lines : List (List ℕ)
   pub lines_are : AreTractLines plat rows count lines
   pub text_is : tally.text ≡ text_of lines

@@ -1,6 +1,7 @@
--- A list of tracts: the heading, and behind it a record for each tract, with its name and the description
--- of its land. The layout is this project's.
-use Rattle.std.specs.Prelude.{◌≡◌, ◌≢◌, ◌↔◌, ℕ, ◌≤◌, ◌<◌, Bool, true, List, [], ◌∷◌, length, drop, codes}
+-- A list of tracts: the heading, and behind it a record for each tract, with its name and the
+-- description of its land. The layout is this project's.
+use Rattle.std.specs.Prelude.{◌≡◌, ◌≢◌, ◌↔◌, ℕ, ◌≤◌, ◌<◌, Bool, true}
+use Rattle.std.specs.Prelude.{List, [], ◌∷◌, length, drop, codes}
 use Rattle.std.specs.List.{All}
 use Rattle.twp_grid.specs.Townships.{Designation}
 use Rattle.twp_notes.specs.Records.{Fields, field, record_at, record_numbered, records_of}
@@ -63,7 +64,8 @@ pub record Overlap (township : Designation) (fields other : Fields) : Type 0 whe
   pub other_land : Describe township (description_in other) more
   pub shared : SharePlace places more
 
--- The first so many of these records are tracts with different names, and no place is in two of them.
+-- The first so many of these records are tracts with different names, and no place is in two of
+-- them.
 pub record AreTracts (township : Designation) (rows : List Fields) (count : ℕ) : Type 0 where
   pub each : (index : ℕ) → index < count → IsTract township (record_at rows index)
   pub once : (earlier index : ℕ) → earlier < index → index < count

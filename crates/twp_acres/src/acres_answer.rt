@@ -7,7 +7,7 @@ ghost use Rattle.twp_acres.specs.Answers.{MakePlat};
 ghost use Rattle.twp_acres.specs.AcresAnswers.{IsAcresAnswer, acres_line};
 ghost use Rattle.twp_acres.specs.Runs.{AnyFailed, ReadsTwo};
 
-use crate::answer::{Answer, refuse};
+use crate::answer::{Answer, refuse, write_acres_line};
 use crate::area::area_of;
 use crate::stages::read_land_on_plat;
 use crate::stop::Stop;
@@ -15,7 +15,6 @@ use crate::verdict::{RunFault, Verdict};
 use std::alloc::Global;
 use twp_grid::Source;
 use twp_land::Lanes;
-use twp_measure::write_acres;
 
 /// The answer of field notes and a description. The description is read only where the notes make a
 /// plat.
@@ -51,8 +50,7 @@ fn accept(alloc: Global, hundredths: u64) -> Result<Answer, RunFault>
     ensures memory { IfErr result (λ fault. fault ≡ RunFault.Memory) }
 {
     let mut text = Vec::new(alloc);
-    write_acres(hundredths, &mut text)?;
-    text.extend_from_slice(b" acres\n")?;
+    write_acres_line(hundredths, &mut text)?;
     Ok(Answer {
         text,
         verdict: Verdict::Accepted,

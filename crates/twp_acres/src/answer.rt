@@ -1,10 +1,12 @@
 ghost use Rattle.std.specs.Prelude.{◌≡◌, ◌++◌, OnOk, IfOk, IfErr};
 ghost use Rattle.twp_acres.specs.Answers.{refusal_line};
+ghost use Rattle.twp_acres.specs.AcresAnswers.{acres_line};
 
 use crate::verdict::{RunFault, Verdict};
 use itoa::Buffer;
 use std::alloc::{AllocError, Global};
 use twp_grid::Refusal;
+use twp_measure::write_acres;
 
 /// What a run answers.
 #[derive(Drop)]
@@ -37,4 +39,12 @@ pub fn write_refusal(refusal: Refusal, text: &mut Vec<u8>) -> Result<(), AllocEr
     text.extend_from_slice(b" at ")?;
     text.extend_from_slice(buffer.format(refusal.at).as_bytes())?;
     text.extend_from_slice(b"\n")
+}
+
+/// Appends the line of so many hundredths of an acre, as `40.45 acres`.
+pub fn write_acres_line(hundredths: u64, text: &mut Vec<u8>) -> Result<(), AllocError>
+    ensures ok { OnOk result (text.new.items ≡ text.old.items ++ acres_line hundredths) }
+{
+    write_acres(hundredths, text)?;
+    text.extend_from_slice(b" acres\n")
 }

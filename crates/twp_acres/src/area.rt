@@ -22,8 +22,9 @@ const PLACES_OF_POSITION: u32 = 16;
 /// The area of a place that lies in no lot: a sixteenth of 20 by 20 chains, in square thousandths.
 const REGULAR_PLACE: u128 = 20_000 * 20_000 / 16;
 
-/// The area of a land: each place counts as a sixteenth of its position's area on the plat, and nothing
-/// is rounded (this project's rule; a lot is taken whole: Specifications for Descriptions of Land).
+/// The area of a land: each place counts as a sixteenth of its position's area on the plat, and
+/// nothing is rounded (this project's rule; a lot is taken whole: Specifications for Descriptions
+/// of Land).
 pub fn area_of<L: Land>(plat: &Plat, land: &L) -> Area
     requires whole { HasWholeLots PLACE_DIGITS (L.places land.now) }
     ensures { IsLandArea PLACE_DIGITS plat.now (L.places land.now) result }
@@ -37,8 +38,9 @@ pub fn area_of<L: Land>(plat: &Plat, land: &L) -> Area
     Area::new(units, over).unwrap()
 }
 
-/// What a land holds of a section, in parts of the plat's denominator. A lot is held whole, so one of
-/// its places tells whether it is held, and then its piece is added; what is off the lots is counted.
+/// What a land holds of a section, in parts of the plat's denominator: mostly nothing, as a land
+/// lies in few sections. A lot is held whole, so one of its places tells whether it is held, and
+/// then its piece is added; what is off the lots is counted.
 fn units_in_section<L: Land>(plat: &Plat, land: &L, section: Section) -> u128
     requires whole { HasWholeLots PLACE_DIGITS (L.places land.now) }
     ensures sum { (pieces : ℕ → ℕ → ℕ → ℕ) → ArePieces plat.now pieces
@@ -46,8 +48,12 @@ fn units_in_section<L: Land>(plat: &Plat, land: &L, section: Section) -> u128
         ≡ section_sum PLACE_DIGITS (pieces section) (L.places land.now section) }
     ensures most { result ≤ SECTION_UNITS_MOST * over_of plat.now }
 {
+    let whole = Block::whole();
+    if !land.meets(section, whole) {
+        return 0;
+    }
     let over = plat.over();
-    let mut off_lots = land.count(section, Block::whole());
+    let mut off_lots = land.count(section, whole);
     let mut units = 0;
     for lot in 1..lot_count(section) + 1 {
         let (column, row) = lot_place(section, lot).unwrap();

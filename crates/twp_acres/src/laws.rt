@@ -1,8 +1,8 @@
-//! What holds of areas and answers as they are defined: each law is a contract, and its function has
-//! nothing to do.
+//! What holds of areas and answers as they are defined: each law is a contract, and its function
+//! has nothing to do.
 ghost use Rattle.twp_acres.specs.Laws.{OneLandArea, DisjointAreasAdd};
 ghost use Rattle.twp_acres.specs.Laws.{SectionAreaIsOfLand, TownshipAreaIsOfLand};
-ghost use Rattle.twp_acres.specs.TractLaws.{RestAddsUp};
+ghost use Rattle.twp_acres.specs.TractLaws.{RestAddsUp, TractsAddUp, OneReportAnswer};
 ghost use Rattle.twp_acres.specs.Laws.{OneAnswer, OneAnswerOfLand, OnePlatAnswer, OneNormalAnswer};
 ghost use Rattle.twp_acres.specs.NormalLaws.{NormalTextIsItsOwn, LongNormalTextIsRefused};
 
@@ -29,9 +29,14 @@ pub fn township_area_is_of_land()
     ensures { TownshipAreaIsOfLand }
 {}
 
-/// The area of a set of places and that of all others are together the township's.
+/// The area of a set of places and that of all others are together the township's, exactly.
 pub fn rest_adds_up()
     ensures { RestAddsUp }
+{}
+
+/// The area of all places that are in a tract of a list is the sum of the tracts' areas, exactly.
+pub fn tracts_add_up()
+    ensures { TractsAddUp }
 {}
 
 /// Two texts, the field notes and the description, have one answer and one verdict.
@@ -64,4 +69,9 @@ pub fn normal_text_is_its_own()
 /// given back.
 pub fn long_normal_text_is_refused()
     ensures { LongNormalTextIsRefused }
+{}
+
+/// Field notes and a list of tracts have one account and one verdict.
+pub fn one_report_answer()
+    ensures { OneReportAnswer }
 {}

@@ -14,6 +14,7 @@ mod report_answer;
 mod running;
 mod stages;
 mod stop;
+mod totals;
 mod tract;
 mod tract_fault;
 mod tracts;

@@ -19,7 +19,8 @@ use twp_grid::{Refusal, Source};
 use twp_notes::read_whole;
 use twp_plat::Plat;
 
-/// The answer of field notes and a list of tracts. The list is read only where the notes make a plat.
+/// The answer of field notes and a list of tracts. The list is read only where the notes make a
+/// plat.
 pub fn answer_of<N: Source, T: Source>(
     alloc: Global,
     notes: &mut N,

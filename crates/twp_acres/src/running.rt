@@ -1,4 +1,5 @@
-ghost use Rattle.std.specs.Prelude.{◌≡◌, ◌+◌, ◌↔◌, ℕ, List, Some, true, false, OnOk, OnErr, IfOk, IfErr, IsErrOf, IsOkUnless, is_err};
+ghost use Rattle.std.specs.Prelude.{◌≡◌, ◌+◌, ◌↔◌, ℕ, List, Some, true, false};
+ghost use Rattle.std.specs.Prelude.{OnOk, OnErr, IfOk, IfErr, IsErrOf, IsOkUnless, is_err};
 ghost use Rattle.std.specs.Io.KnownBytes.{Appends};
 ghost use Rattle.twp_grid.specs.Devices.{TakesAtMost};
 ghost use Rattle.twp_grid.specs.declared.refusal.Refusal.{Refusal};
@@ -20,9 +21,9 @@ use std::alloc::Global;
 use twp_grid::{Sink, Source};
 
 /// Writes the acres of the land described, where the field notes make a plat and the parts of the
-/// description lie on it without overlap: the exact sum of interpolated areas over the land's places,
-/// rounded once to hundredths, half up, however the land is spelled. Otherwise it writes the numbered
-/// refusal of the first fault, at its place.
+/// description lie on it without overlap: the exact sum of interpolated areas over the land's
+/// places, rounded once to hundredths, half up, however the land is spelled. Otherwise it writes
+/// the numbered refusal of the first fault, at its place.
 ///
 /// The whole answer is made before its first byte is written.
 pub fn run_acres<N: Source, D: Source, W: Sink>(
@@ -49,16 +50,16 @@ pub fn run_acres<N: Source, D: Source, W: Sink>(
         → IsAnswered (W.contents out.old) (W.contents out.new)
         (refusal_line refusal) (Verdict.Refused refusal) result }
 
-    // The run gives one of the two: where no device fails, and no memory is refused, there is a verdict,
-    // and every verdict is that of one of these answers, which was written.
+    // The run gives one of the two: where no device fails, and no memory is refused, there is a
+    // verdict, and every verdict is that of one of these answers, which was written.
     ensures answers { N.has_failed notes.new ≡ false → D.has_failed description.new ≡ false
         → W.has_failed out.new ≡ false → IsOkUnless result RunFault.Memory }
     ensures told { (n d : List ℕ)
         → N.remaining notes.old ≡ Some n → D.remaining description.old ≡ Some d
         → IsRun (IsAcresAnswer n d) (W.contents out.old) (W.contents out.new) result }
 
-    // The same whatever the devices tell of their bytes. The description is read only where the notes
-    // make a plat.
+    // The same whatever the devices tell of their bytes. The description is read only where the
+    // notes make a plat.
     ensures ran { ReadsTwo (N.remaining notes.old) (D.remaining description.old)
         MakePlat (description.new ≡ description.old)
         (λ n d. IsRun (IsAcresAnswer n d) (W.contents out.old) (W.contents out.new) result) }
@@ -80,9 +81,9 @@ pub fn run_acres<N: Source, D: Source, W: Sink>(
     write_answer(out, &answer)
 }
 
-/// Writes the plat that field notes make: of each section its lots' acres and its own, and then the
-/// township's. Each figure is an exact area, rounded once. Where the notes make no plat it writes the
-/// numbered refusal of the first fault, at its place.
+/// Writes the plat that field notes make: of each section its lots' acres and its own, and then
+/// the township's. Each figure is an exact area, rounded once. Where the notes make no plat it
+/// writes the numbered refusal of the first fault, at its place.
 ///
 /// The whole answer is made before its first byte is written.
 pub fn run_plat<N: Source, W: Sink>(
@@ -93,8 +94,8 @@ pub fn run_plat<N: Source, W: Sink>(
     requires notes { N.has_failed notes.old ≡ false }
     requires out { W.has_failed out.old ≡ false }
 
-    // The printed plat of told notes, or the refusal; a verdict where no device fails and no memory is
-    // refused.
+    // The printed plat of told notes, or the refusal; a verdict where no device fails and no
+    // memory is refused.
     ensures told { (n : List ℕ) → N.remaining notes.old ≡ Some n
         → IsRun (IsPlatAnswer n) (W.contents out.old) (W.contents out.new) result }
     ensures answers { N.has_failed notes.new ≡ false → W.has_failed out.new ≡ false
@@ -116,10 +117,11 @@ pub fn run_plat<N: Source, W: Sink>(
     write_answer(out, &answer)
 }
 
-/// Writes the account of a list of tracts, where the field notes make a plat and the list is one of
-/// tracts on it: of each tract its acres, then those of all places that are in a tract, and then those of
-/// all others. Each figure is an exact area, rounded once. Otherwise it writes the numbered refusal of
-/// the first fault, and of a description that is refused the refusal in it, on a second line.
+/// Writes the account of a list of tracts, where the field notes make a plat and the list is one
+/// of tracts on it: of each tract its acres, then those of all places that are in a tract, and
+/// then those of all others. Each figure is an exact area, rounded once. Otherwise it writes the
+/// numbered refusal of the first fault, and of a description that is refused the refusal in it, on
+/// a second line.
 ///
 /// The whole answer is made before its first byte is written.
 pub fn run_report<N: Source, T: Source, W: Sink>(
@@ -140,8 +142,8 @@ pub fn run_report<N: Source, T: Source, W: Sink>(
     ensures answers { N.has_failed notes.new ≡ false → T.has_failed tracts.new ≡ false
         → W.has_failed out.new ≡ false → IsOkUnless result RunFault.Memory }
 
-    // The same whatever the devices tell of their bytes. The list is read only where the notes make a
-    // plat.
+    // The same whatever the devices tell of their bytes. The list is read only where the notes
+    // make a plat.
     ensures ran { ReadsTwo (N.remaining notes.old) (T.remaining tracts.old)
         MakePlat (tracts.new ≡ tracts.old)
         (λ n t. IsRun (IsReportAnswer n t) (W.contents out.old) (W.contents out.new) result) }
@@ -163,9 +165,9 @@ pub fn run_report<N: Source, T: Source, W: Sink>(
     write_answer(out, &answer)
 }
 
-/// Writes the canonical text of the land described: one text for each land, however it was spelled. Where
-/// the notes make no plat, or the description is of no land on it, it writes the numbered refusal of the
-/// first fault, at its place.
+/// Writes the canonical text of the land described: one text for each land, however it was
+/// spelled. Where the notes make no plat, or the description is of no land on it, it writes the
+/// numbered refusal of the first fault, at its place.
 ///
 /// The whole answer is made before its first byte is written.
 pub fn run_normal<N: Source, D: Source, W: Sink>(
@@ -178,16 +180,16 @@ pub fn run_normal<N: Source, D: Source, W: Sink>(
     requires description { D.has_failed description.old ≡ false }
     requires out { W.has_failed out.old ≡ false }
 
-    // The canonical text of the land that told texts describe, or the refusal; a verdict where no device
-    // fails and no memory is refused.
+    // The canonical text of the land that told texts describe, or the refusal; a verdict where no
+    // device fails and no memory is refused.
     ensures told { (n d : List ℕ)
         → N.remaining notes.old ≡ Some n → D.remaining description.old ≡ Some d
         → IsRun (IsNormalAnswer n d) (W.contents out.old) (W.contents out.new) result }
     ensures answers { N.has_failed notes.new ≡ false → D.has_failed description.new ≡ false
         → W.has_failed out.new ≡ false → IsOkUnless result RunFault.Memory }
 
-    // The same whatever the devices tell of their bytes. The description is read only where the notes
-    // make a plat.
+    // The same whatever the devices tell of their bytes. The description is read only where the
+    // notes make a plat.
     ensures ran { ReadsTwo (N.remaining notes.old) (D.remaining description.old)
         MakePlat (description.new ≡ description.old)
         (λ n d. IsRun (IsNormalAnswer n d) (W.contents out.old) (W.contents out.new) result) }

@@ -2,7 +2,8 @@
 ghost use Rattle.std.specs.Prelude.{◌≡◌, ◌≤◌, ◌↔◌, IsTrue, MatchOption};
 ghost use Rattle.std.specs.List.{All};
 ghost use Rattle.csv.specs.Records.{fields_of};
-ghost use Rattle.twp_acres.specs.Tracts.{tracts_heading, name_in, description_in, IsPrinted, IsTractName, IsTractRecord};
+ghost use Rattle.twp_acres.specs.Tracts.{tracts_heading, name_in, description_in};
+ghost use Rattle.twp_acres.specs.Tracts.{IsPrinted, IsTractName, IsTractRecord};
 
 use csv::ByteRecord;
 use twp_notes::field;

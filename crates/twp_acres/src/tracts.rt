@@ -3,9 +3,9 @@ ghost use Rattle.std.specs.Prelude.{◌≡◌, ◌≤◌, length, IfOk, IfErr};
 ghost use Rattle.twp_notes.specs.Records.{records_left, IsReading};
 ghost use Rattle.twp_acres.specs.Tracts.{TRACTS_LIMIT, TRACTS_MOST};
 ghost use Rattle.twp_acres.specs.ReportAnswers.{IsAccountOf, AnswersFault};
-ghost use Rattle.twp_acres.specs.TractTaking.{IsTallyOf, AreTractsRefused};
+ghost use Rattle.twp_acres.specs.TractTaking.{tally_of, IsTallyOf, AreTractsRefused};
 
-use crate::account::{Account, write_totals};
+use crate::account::Account;
 use crate::tract::is_heading;
 use crate::tract_fault::{TRACTS_MOST, TractFault};
 use csv::ByteRecord;
@@ -17,8 +17,8 @@ use twp_plat::Plat;
 /// The number of the record behind the heading, the first one of a tract.
 const FIRST_TRACT: u32 = 2;
 
-/// The text of the account of the list of tracts that bytes are, of which there are no more than there
-/// may be.
+/// The text of the account of the list of tracts that bytes are, of which there are no more than
+/// there may be.
 pub(crate) fn account_of(alloc: Global, plat: &Plat, bytes: &[u8]) -> Result<Vec<u8>, TractFault>
     requires { length bytes.now ≤ TRACTS_LIMIT }
     ensures account { IfOk result (λ text. IsAccountOf plat.now bytes.now text.items) }
@@ -33,7 +33,7 @@ pub(crate) fn account_of(alloc: Global, plat: &Plat, bytes: &[u8]) -> Result<Vec
         return Err(TractFault::Row(1));
     }
     let mut account: Account<Lanes> = take_tracts(alloc, plat, &mut records, &mut row)?;
-    write_totals(plat, &account.land, &mut account.text)?;
+    account.totals.write(&mut account.text)?;
     Ok(account.text)
 }
 
@@ -46,16 +46,12 @@ fn take_tracts<L: Land>(
 ) -> Result<Account<L>, TractFault>
     requires { IsReading records.old }
     ensures taken { IfOk result (λ account. IsTallyOf plat.now (records_left records.old)
-        (length (records_left records.old)) (record {
-          names = account.names;
-          places = L.places account.land;
-          text = account.text.items;
-        })) }
+        (length (records_left records.old)) (tally_of L.places account)) }
     ensures few { IfOk result (λ _. length (records_left records.old) ≤ TRACTS_MOST) }
     ensures fault { IfErr result
         (AreTractsRefused plat.now.township (records_left records.old)) }
 {
-    let mut account = Account::new(alloc);
+    let mut account = Account::new(alloc, plat);
     let mut taken = 0;
     'records: while records.read(row)? {
         if taken == TRACTS_MOST {

@@ -37,11 +37,11 @@ sides_by_one section sides e w n s are = record { row = are.row; column = are.co
 
 -- a line outside the western column is no closing one if it is run west, and outside the northern row if
 -- it is run north
-west_run_regular : (tier column : ℕ) → tier < 7 → column < 5 → ¬ IsClosing (west_run tier column)
+pub west_run_regular : (tier column : ℕ) → tier < 7 → column < 5 → ¬ IsClosing (west_run tier column)
 west_run_regular tier column in_tier east (inl (place, below, is)) = omega arith
 west_run_regular tier column in_tier east (inr (tier', below, is)) = omega arith
 
-north_run_regular : (row place : ℕ) → 0 < row → row < 6 → place < 7 → ¬ IsClosing (north_run row place)
+pub north_run_regular : (row place : ℕ) → 0 < row → row < 6 → place < 7 → ¬ IsClosing (north_run row place)
 north_run_regular row place south below in_place (inl (place', below', is)) = omega arith
 north_run_regular row place south below in_place (inr (tier, below', is)) = omega arith
 
@@ -49,7 +49,8 @@ north_run_regular row place south below in_place (inr (tier, below', is)) = omeg
 pub corner_is_six : (section row column : ℕ) → StandsAt section row column → row ≡ 0 → column ≡ 5 → section ≡ 6
 corner_is_six section row column stands top west = omega arith
 
-regular_quarter : (plat : TownshipPlat) (line : ℕ) → IsPlat plat → line < 84 → ¬ IsClosing line → closing_quarter_of plat line ≡ QUARTER_MILE
+-- a line that doesn't close is regular
+pub regular_quarter : (plat : TownshipPlat) (line : ℕ) → IsPlat plat → line < 84 → ¬ IsClosing line → closing_quarter_of plat line ≡ QUARTER_MILE
 regular_quarter plat line is is_line regular = (is.within line is_line).regular regular
 
 -- Outside section 6 a section's north and south lines are regular, or its east and west lines are.

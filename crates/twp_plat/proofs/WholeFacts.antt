@@ -38,12 +38,16 @@ along_regular a b other number below below' =
           ∙ ap pos (rw left (eight_times first last (20000 - e.count) e.count)),
     )
 
--- what runs between two regular lines is a quarter mile everywhere
-between_regular : (along ends number : ℕ) → number < 4
-    → (if number == 3 then pos (2 * 20000 * along) +ℤ (pos 20000 -ℤ pos 20000) *ℤ pos ends else pos (40000 * along)) ≡ pos (40000 * along)
-between_regular along ends number below =
-    under_four (λ n. (if n == 3 then pos (2 * 20000 * along) +ℤ (pos 20000 -ℤ pos 20000) *ℤ pos ends else pos (40000 * along)) ≡ pos (40000 * along))
-    number below refl refl refl (ap pos (omega arith))
+-- a column or a row that lies between regular lines, where it is the last one
+abbrev pub IsRegularLast : ℕ → ℕ → ℕ → Type 0
+IsRegularLast number first last = number ≡ 3 → (first ≡ 20000) × (last ≡ 20000)
+
+-- what runs between regular lines is a quarter mile everywhere
+pub between : (first last along ends number : ℕ) → number < 4 → IsRegularLast number first last
+    → (if number == 3 then pos (2 * first * along) +ℤ (pos last -ℤ pos first) *ℤ pos ends else pos (40000 * along)) ≡ pos (40000 * along)
+between first last along ends number below regular =
+    under_four (λ n. IsRegularLast n first last → (if n == 3 then pos (2 * first * along) +ℤ (pos last -ℤ pos first) *ℤ pos ends else pos (40000 * along)) ≡ pos (40000 * along))
+    number below (λ _. refl) (λ _. refl) (λ _. refl) (λ is. let both = is refl in rw (both.0, both.1) (ap pos (omega arith))) regular
 
 -- the order of factors
 units_of_widths : (m along : ℕ) → 40000 * along * (8 * m) ≡ m * (4 * along * 80000)
@@ -60,7 +64,7 @@ regular_north e w n s column row in_column in_row n_is s_is =
     let terms = piece_terms q column row in_column in_row in
     let same = piece_is_formula q column row in_column in_row in
     let heights = along_regular e w column row in_row in_column in
-    let widths = between_regular (60000 + w) (both_ends (60000 + w) row) column in_column in
+    let widths = between 20000 20000 (60000 + w) (both_ends (60000 + w) row) column in_column (λ _. (refl, refl)) in
     let in_parts : IsSame (piece q column row) (ratio (pos (40000 * (60000 + w) * (8 * heights.0))) (4 * (60000 + w) * 80000)) =
     rw (widths, heights.1) at same in
     (heights.0, whole_of_parts (piece q column row) heights.0 (4 * (60000 + w) * 80000) terms.top (omega arith) terms.numerator (rw (sym (units_of_widths heights.0 (60000 + w))) in_parts)))
@@ -73,7 +77,7 @@ regular_west e w n s column row in_column in_row e_is w_is =
     let terms = piece_terms q column row in_column in_row in
     let same = piece_is_formula q column row in_column in_row in
     let widths = along_regular s n row column in_column in_row in
-    let heights = between_regular (60000 + n) (both_ends (60000 + n) column) row in_row in
+    let heights = between 20000 20000 (60000 + n) (both_ends (60000 + n) column) row in_row (λ _. (refl, refl)) in
     let in_parts : IsSame (piece q column row) (ratio (pos (8 * widths.0 * (40000 * (60000 + n)))) (4 * 80000 * (60000 + n))) =
     rw (widths.1, heights) at same in
     (widths.0, whole_of_parts (piece q column row) widths.0 (4 * 80000 * (60000 + n)) terms.top (omega arith) terms.numerator (rw (sym (units_of_heights widths.0 (60000 + n))) in_parts)))

@@ -1,5 +1,5 @@
 -- The heading was read; the tracts behind it were taken or refused.
-use Rattle.std.proofs.Common.{◌≡◌, sym, ◌∙◌, subst}
+use Rattle.std.proofs.Common.{sym, ◌∙◌, subst}
 use Rattle.std.proofs.lemmas.Result.{err_from_is_err_and}
 use Rattle.twp_acres.specs.TractTaking.{AreTractsRefused}
 use Rattle.twp_acres.proofs.TallyFacts.{accepted}
@@ -20,4 +20,4 @@ returns-clause-account c =
     let one = rw c.if-not-branch.false at c.in_ok-read.ensures in
     let behind = behind_of c.args.bytes.now _ _ (sym c.new-records.ensures.all ∙ one.0) in
     let heading_is = behind.first ∙ c.is_heading.ensures.0 c.if-not-is_heading.false in
-    accepted c.args.plat.now c.args.bytes.now _ _ _ c.requires heading_is behind.behind c.in_ok-account.ensures.few c.in_ok-account.ensures.taken c.in_ok-write_totals.ensures
+    accepted c.args.plat.now c.args.bytes.now _ _ _ c.requires heading_is behind.behind c.in_ok-account.ensures.few c.in_ok-account.ensures.taken (c.in_ok-write.ensures _ _ c.in_ok-account.ensures.taken.totals_are)

@@ -1,12 +1,26 @@
 -- The next record's tract is taken, or has the first fault; where no record is left all were taken.
-use Rattle.std.proofs.Common.{◌≡◌, ◌+◌, sym, ◌∙◌, length, subst, arith}
+use Rattle.std.proofs.Common.{◌≡◌, refl, sym, ◌∙◌, length, subst, arith}
 use Rattle.std.proofs.lemmas.Result.{err_from_is_err_and}
 use Rattle.twp_notes.specs.Records.{records_left}
 use Rattle.twp_notes.proofs.Taking.{next_record_is, no_record_left}
-use Rattle.twp_acres.specs.TractTaking.{IsTallyOf, TakesTract, IsTractRefused}
-use Rattle.twp_acres.proofs.TallyFacts.{next_tally}
+use Rattle.twp_acres.specs.TractTaking.{tally_of, IsTallyOf}
+use Rattle.twp_acres.proofs.TallyFacts.{no_tally, next_tally}
 use Rattle.twp_acres.proofs.FirstTractFaults.{refused_next}
 use Rattle.twp_acres.proofs.tracts.take_tracts.Goals as goal
+
+pub records-init : goal.records-init
+records-init g c =
+    let account = c.new-account.ensures in
+    record {
+      reading = c.requires;
+      rest = refl;
+      within = omega arith;
+      few = omega arith;
+      tally = no_tally c.args.plat.now (records_left c.args.records.now) _ account.names account.land account.totals account.text;
+    }
+
+pub take-requires : goal.take-requires
+take-requires g c = c.records.invariant.tally.totals_are
 
 pub records-preserved : goal.records-preserved
 records-preserved g c =
@@ -35,7 +49,7 @@ returns-clause-taken g c =
     let none = rw c.if-branch.false at c.in_ok-read.ensures in
     let short = no_record_left rows c.records.taken (sym c.records.invariant.rest ∙ none) in
     let all : c.records.taken ≡ length rows = omega arith in
-    subst (λ count. IsTallyOf c.args.plat.now rows count (record { names = c.records.account.names; places = g.L.Land.places c.records.account.land; text = c.records.account.text.items })) all c.records.invariant.tally
+    subst (λ count. IsTallyOf c.args.plat.now rows count (tally_of g.L.Land.places c.records.account)) all c.records.invariant.tally
 
 pub returns-clause-few : goal.returns-clause-few
 returns-clause-few g c =

@@ -1,7 +1,7 @@
 use Rattle.std.proofs.Common.{◌≡◌, ◌≤◌, length, drop}
 use Rattle.twp_notes.specs.Records.{records_left, IsReading}
 use Rattle.twp_acres.specs.Tracts.{TRACTS_MOST}
-use Rattle.twp_acres.specs.TractTaking.{IsTallyOf}
+use Rattle.twp_acres.specs.TractTaking.{tally_of, IsTallyOf}
 use Rattle.twp_acres.proofs.tracts.take_tracts.Given as goal
 
 -- the tracts so far were taken, and the other records are left
@@ -11,7 +11,7 @@ invariant-records g l = record {
   rest : records_left l.records ≡ drop l.taken (records_left l.fn.records);
   within : l.taken ≤ length (records_left l.fn.records);
   few : l.taken ≤ TRACTS_MOST;
-  tally : IsTallyOf l.plat (records_left l.fn.records) l.taken (record { names = l.account.names; places = g.L.Land.places l.account.land; text = l.account.text.items });
+  tally : IsTallyOf l.plat (records_left l.fn.records) l.taken (tally_of g.L.Land.places l.account);
 }
 
 abbrev pub decreases-records : goal.decreases-records

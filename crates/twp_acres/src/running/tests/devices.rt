@@ -1,5 +1,5 @@
 use super::{notes_of, uneven};
-use crate::running::run_acres;
+use crate::running::{run_acres, run_report};
 use crate::verdict::{RunFault, Verdict};
 use std::io;
 use std::io::{Error, ErrorKind, Read, Write};
@@ -81,6 +81,53 @@ fn reads_pieces_of_any_size(rt: HostRuntime) -> Result<(), Fail> {
             "pieces of {most}"
         );
     }
+    Ok(())
+}
+
+#[test]
+fn reads_a_list_in_pieces_of_any_size(rt: HostRuntime) -> Result<(), Fail> {
+    let alloc = rt.alloc();
+    let notes = uneven(alloc)?;
+    // 39.175 and 39.025 acres are 78.2; and 23,037.56775.. less those.
+    let account = "tract A: 39.18 acres\ntract B: 39.03 acres\n\
+        total: 78.20 acres\nremaining: 22959.37 acres\n";
+    for most in [1, 2, 3, 7, 1_000] {
+        for (list, answer) in [
+            (
+                "name,description\nA,\"sec. 7, lot 1.\"\nB,\"sec. 7, lot 4.\"\n",
+                account,
+            ),
+            (
+                "name,description\nA,\"sec. 7, lot 1.\"\nB,\"sec. 7, lots 1 and 4.\"\n",
+                "refused 84 at 3\n",
+            ),
+        ] {
+            let mut out = Device::new(Vec::new(alloc));
+            let mut tracts = Counted::new(list.as_bytes(), most);
+            let mut lines = Counted::new(notes.as_slice(), most);
+            run_report(alloc, &mut lines, &mut tracts, &mut out)?;
+            assert_eq!(rt; out.get().as_slice(), answer.as_bytes(), "pieces of {most}");
+        }
+    }
+    Ok(())
+}
+
+#[test]
+fn reads_an_endless_list_to_its_limit(rt: HostRuntime) -> Result<(), Fail> {
+    let alloc = rt.alloc();
+    let notes = uneven(alloc)?;
+    let mut out = Device::new(Vec::new(alloc));
+    let mut lines = Counted::new(notes.as_slice(), 1_000);
+    let mut endless = Counted::endless();
+    assert_eq!(rt;
+        run_report(alloc, &mut lines, &mut endless, &mut out),
+        Ok(Verdict::Refused(Refusal {
+            number: 80,
+            at: 1_048_576,
+        }))
+    );
+    assert_eq!(rt; endless.given, 1_048_577);
+    assert_eq!(rt; out.get().as_slice(), b"refused 80 at 1048576\n".as_slice());
     Ok(())
 }
 

@@ -1,12 +1,13 @@
 //! The account of tracts.
-use super::{even, uneven};
+use super::{even, notes_of, uneven};
 use crate::running::run_report;
 use crate::verdict::Verdict;
 use std::alloc::Global;
 use std::test::Fail;
 use twp_grid::{Bytes, Device, Refusal};
 
-/// Lots of section 7 of the uneven township: 39.175 and 39.025 acres, each a tie, and 78.2 together.
+/// Lots of section 7 of the uneven township: 39.175 and 39.025 acres, each a tie, and 78.2
+/// together.
 const LIST: &str = "name,description\nA,\"sec. 7, lot 1.\"\nB,\"sec. 7, lot 4.\"\n";
 
 /// What a run of notes and a list of tracts writes, and its verdict.
@@ -37,7 +38,8 @@ fn adds_tracts_up(rt: HostRuntime) -> Result<(), Fail> {
     );
     assert_eq!(&rt; verdict, Verdict::Accepted);
 
-    // Lot 5 of section 6 has 38.70 acres: 23,037.56775.. less 38.70404.. are 22,998.86 and not 22,998.87.
+    // Lot 5 of section 6 has 38.70 acres: 23,037.56775.. less 38.70404.. are 22,998.86 and not
+    // 22,998.87.
     let one = "name,description\nA,\"sec. 6, lot 5.\"\n";
     let (text, _) = report_of(rt.alloc(), &notes, one.as_bytes())?;
     assert_eq!(&rt;
@@ -117,8 +119,11 @@ fn refuses_a_description_on_a_second_line(rt: HostRuntime) -> Result<(), Fail> {
             44,
             0,
         ),
-        // The line end in the quotes counts as one byte of the description.
+        // A line end in the quotes counts as the bytes that it has: one before `NE` at 9, or two.
         ("name,description\nA,\"sec. 14,\nNE1/2.\"\n", 2, 44, 11),
+        ("name,description\nA,\"sec. 14,\r\nNE1/2.\"\n", 2, 44, 12),
+        // Two quotes in the quotes are one of the description, at 9, which no token begins with.
+        ("name,description\nA,\"sec. 14, \"\"NE1/4.\"\n", 2, 42, 9),
     ] {
         let (text, verdict) = report_of(rt.alloc(), &notes, list.as_bytes())?;
         let lines = format!(in rt.alloc(); "refused 83 at {at}\nrefused {number} at {offset}\n")?;
@@ -131,7 +136,7 @@ fn refuses_a_description_on_a_second_line(rt: HostRuntime) -> Result<(), Fail> {
 
 #[test]
 fn counts_tracts(rt: HostRuntime) -> Result<(), Fail> {
-    // Section 8 is 640 acres; of the tracts behind it each has one place of section 9, 10, 11 or 12.
+    // Each tract has one place of section 8, 9, 10 or 11, and another one than all others.
     let mut list = Vec::from_slice(rt.alloc(), b"name,description\n")?;
     let quarters = ["NE", "NW", "SW", "SE"];
     let mut count = 0u32;
@@ -159,11 +164,67 @@ fn counts_tracts(rt: HostRuntime) -> Result<(), Fail> {
     let end = b"total: 2500.00 acres\nremaining: 20540.00 acres\n";
     assert!(&rt; text.ends_with(end));
 
-    // One more is refused, whatever it is.
-    list.extend_from_slice(b"too,many,fields\n")?;
+    // One more is refused, whatever it is: another place of section 11, one without a name, no
+    // tract.
+    for more in [
+        "1001,\"sec. 11, SE1/4SE1/4SE1/4SE1/4.\"\n",
+        ",sec. 12.\n",
+        "too,many,fields\n",
+    ] {
+        let mut longer = list.clone()?;
+        longer.extend_from_slice(more.as_bytes())?;
+        let (text, verdict) = report_of(rt.alloc(), &notes, &longer)?;
+        assert_eq!(&rt; str::from_utf8(&text)?, "refused 85 at 1002\n");
+        assert_eq!(&rt; verdict, refused(85, 1_002));
+    }
+    Ok(())
+}
+
+#[test]
+fn takes_names_to_their_limit(rt: HostRuntime) -> Result<(), Fail> {
+    let notes = even(rt.alloc())?;
+    let longest = "~".repeat(rt.alloc(), 64)?;
+    for name in [" ", longest.as_str()] {
+        let list = format!(in rt.alloc(); "name,description\n{name},sec. 14.\n")?;
+        let (text, verdict) = report_of(rt.alloc(), &notes, list.as_bytes())?;
+        let answer = format!(in rt.alloc();
+            "tract {name}: 640.00 acres\ntotal: 640.00 acres\nremaining: 22400.00 acres\n"
+        )?;
+        assert_eq!(&rt; str::from_utf8(&text)?, answer.as_str());
+        assert_eq!(&rt; verdict, Verdict::Accepted);
+    }
+    // No byte, one more than there may be, a delete, a unit separator, and a letter that isn't
+    // ASCII.
+    let longer = "~".repeat(rt.alloc(), 65)?;
+    for name in ["", longer.as_str(), "A\u{7f}", "A\u{1f}", "\u{e9}"] {
+        let list = format!(in rt.alloc(); "name,description\n{name},sec. 14.\n")?;
+        let (_, verdict) = report_of(rt.alloc(), &notes, list.as_bytes())?;
+        assert_eq!(&rt; verdict, refused(81, 2));
+    }
+    Ok(())
+}
+
+#[test]
+fn reads_a_description_to_its_limit(rt: HostRuntime) -> Result<(), Fail> {
+    // `sec. 14.` are 8 bytes; spaces fill them up to 65,536, and then there is one more.
+    let notes = even(rt.alloc())?;
+    let mut list = Vec::from_slice(rt.alloc(), b"name,description\nA,sec. 14.")?;
+    for _ in 0..65_536 - 8 {
+        list.push(b' ')?;
+    }
+    let (_, verdict) = report_of(rt.alloc(), &notes, &list)?;
+    assert_eq!(&rt; verdict, Verdict::Accepted);
+    list.push(b' ')?;
     let (text, verdict) = report_of(rt.alloc(), &notes, &list)?;
-    assert_eq!(&rt; str::from_utf8(&text)?, "refused 85 at 1002\n");
-    assert_eq!(&rt; verdict, refused(85, 1_002));
+    assert_eq!(&rt;
+        str::from_utf8(&text)?,
+        "refused 83 at 2\nrefused 41 at 65536\n"
+    );
+    let inner = Refusal {
+        number: 41,
+        at: 65_536,
+    };
+    assert_eq!(&rt; verdict, Verdict::TractRefused { at: 2, inner });
     Ok(())
 }
 
@@ -186,11 +247,16 @@ fn reads_a_list_to_its_limit(rt: HostRuntime) -> Result<(), Fail> {
 
 #[test]
 fn leaves_the_list_unread_without_a_plat(rt: HostRuntime) -> Result<(), Fail> {
-    let mut list = Bytes::new(LIST.as_bytes());
-    let mut out = Device::new(Vec::new(rt.alloc()));
-    let verdict = run_report(rt.alloc(), &mut Bytes::new(b""), &mut list, &mut out)?;
-    assert_eq!(&rt; verdict, refused(2, 1));
-    let mut left = [0; 64];
-    assert_eq!(&rt; twp_grid::Source::fill(&mut list, &mut left)?, LIST.len());
+    // No notes, and notes that make no plat: section 6 has a closing quarter of 4.99 chains on its
+    // north.
+    let short = notes_of(rt.alloc(), &[(47, "40", "64.99")])?;
+    for (notes, number, at) in [(b"".as_slice(), 2, 1), (short.as_slice(), 22, 47)] {
+        let mut list = Bytes::new(LIST.as_bytes());
+        let mut out = Device::new(Vec::new(rt.alloc()));
+        let verdict = run_report(rt.alloc(), &mut Bytes::new(notes), &mut list, &mut out)?;
+        assert_eq!(&rt; verdict, refused(number, at));
+        let mut left = [0; 64];
+        assert_eq!(&rt; twp_grid::Source::fill(&mut list, &mut left)?, LIST.len());
+    }
     Ok(())
 }
