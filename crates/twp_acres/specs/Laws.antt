@@ -13,6 +13,7 @@ use Rattle.twp_acres.specs.Answers.{IsLandOnPlat}
 use Rattle.twp_acres.specs.AcresAnswers.{IsAcresAnswer}
 use Rattle.twp_acres.specs.PlatAnswers.{IsPlatAnswer}
 use Rattle.twp_acres.specs.NormalAnswers.{IsNormalAnswer}
+use Rattle.twp_acres.specs.Runs.{AnswerRelation}
 use Rattle.twp_acres.specs.declared.verdict.Verdict.{Verdict}
 
 -- no place is held by both
@@ -53,12 +54,15 @@ abbrev pub TownshipAreaIsOfLand : Type 0
 TownshipAreaIsOfLand = (plat : TownshipPlat) (area : Fraction) → IsTownshipArea plat area
     → IsLandArea PLACE_DIGITS plat (township_places PLACE_DIGITS) area
 
+-- the relation is of one answer and one verdict at most
+abbrev pub IsOne : AnswerRelation → Type 0
+IsOne Answers = (answer answer' : List ℕ) (verdict verdict' : Verdict)
+    → Answers answer verdict → Answers answer' verdict'
+    → (answer ≡ answer') × (verdict ≡ verdict')
+
 -- field notes and a description have one answer and one verdict
 abbrev pub OneAnswer : Type 0
-OneAnswer = (notes description answer answer' : List ℕ) (verdict verdict' : Verdict)
-    → IsAcresAnswer notes description answer verdict
-    → IsAcresAnswer notes description answer' verdict'
-    → (answer ≡ answer') × (verdict ≡ verdict')
+OneAnswer = (notes description : List ℕ) → IsOne (IsAcresAnswer notes description)
 
 -- however a land is spelled, over the same notes it has one answer
 abbrev pub OneAnswerOfLand : Type 0
@@ -71,13 +75,8 @@ OneAnswerOfLand = (notes description description' answer answer' : List ℕ)
 
 -- field notes have one printed plat, or one refusal
 abbrev pub OnePlatAnswer : Type 0
-OnePlatAnswer = (notes answer answer' : List ℕ) (verdict verdict' : Verdict)
-    → IsPlatAnswer notes answer verdict → IsPlatAnswer notes answer' verdict'
-    → (answer ≡ answer') × (verdict ≡ verdict')
+OnePlatAnswer = (notes : List ℕ) → IsOne (IsPlatAnswer notes)
 
 -- two texts, the field notes and the description, have one canonical text, or one refusal
 abbrev pub OneNormalAnswer : Type 0
-OneNormalAnswer = (notes description answer answer' : List ℕ) (verdict verdict' : Verdict)
-    → IsNormalAnswer notes description answer verdict
-    → IsNormalAnswer notes description answer' verdict'
-    → (answer ≡ answer') × (verdict ≡ verdict')
+OneNormalAnswer = (notes description : List ℕ) → IsOne (IsNormalAnswer notes description)

@@ -30,6 +30,7 @@ pub fn answer_of<N: Source, D: Source>(
     requires description { D.has_failed description.old ≡ false }
     ensures read { IsErrOf result RunFault.Read
         ↔ AnyFailed (N.has_failed notes.new) (D.has_failed description.new) }
+    ensures unread_after_fault { N.has_failed notes.new ≡ true → description.new ≡ description.old }
     ensures no_write { IfErr result (λ fault. fault ≢ RunFault.Write) }
     ensures notes_most { TakesAtMost (N.remaining notes.old)
         (N.remaining notes.new) (NOTES_MOST + 1) }

@@ -30,6 +30,7 @@ pub fn answer_of<N: Source, T: Source>(
     requires tracts { T.has_failed tracts.old ≡ false }
     ensures read { IsErrOf result RunFault.Read
         ↔ AnyFailed (N.has_failed notes.new) (T.has_failed tracts.new) }
+    ensures unread_after_fault { N.has_failed notes.new ≡ true → tracts.new ≡ tracts.old }
     ensures no_write { IfErr result (λ fault. fault ≢ RunFault.Write) }
     ensures notes_most { TakesAtMost (N.remaining notes.old)
         (N.remaining notes.new) (NOTES_MOST + 1) }

@@ -65,6 +65,7 @@ pub fn run_acres<N: Source, D: Source, W: Sink>(
         (λ n d. IsRun (IsAcresAnswer n d) (W.contents out.old) (W.contents out.new) result) }
     ensures unread { (n : List ℕ) → N.remaining notes.old ≡ Some n → (MakePlat n → ⊥)
         → description.new ≡ description.old }
+    ensures unread_after_fault { N.has_failed notes.new ≡ true → description.new ≡ description.old }
 
     // A fault of a device is answered exactly where that device failed in this call.
     ensures read { IsErrOf result RunFault.Read
@@ -149,6 +150,7 @@ pub fn run_report<N: Source, T: Source, W: Sink>(
         (λ n t. IsRun (IsReportAnswer n t) (W.contents out.old) (W.contents out.new) result) }
     ensures unread { (n : List ℕ) → N.remaining notes.old ≡ Some n → (MakePlat n → ⊥)
         → tracts.new ≡ tracts.old }
+    ensures unread_after_fault { N.has_failed notes.new ≡ true → tracts.new ≡ tracts.old }
 
     // A fault of a device is answered exactly where that device failed in this call.
     ensures read { IsErrOf result RunFault.Read
@@ -195,6 +197,7 @@ pub fn run_normal<N: Source, D: Source, W: Sink>(
         (λ n d. IsRun (IsNormalAnswer n d) (W.contents out.old) (W.contents out.new) result) }
     ensures unread { (n : List ℕ) → N.remaining notes.old ≡ Some n → (MakePlat n → ⊥)
         → description.new ≡ description.old }
+    ensures unread_after_fault { N.has_failed notes.new ≡ true → description.new ≡ description.old }
 
     // A fault of a device is answered exactly where that device failed in this call.
     ensures read { IsErrOf result RunFault.Read

@@ -81,6 +81,7 @@ pub fn read_land_on_plat<N: Source, D: Source, L: Land>(
     requires description { D.has_failed description.old ≡ false }
     ensures read { IsErrOf result (Failed RunFault.Read)
         ↔ AnyFailed (N.has_failed notes.new) (D.has_failed description.new) }
+    ensures unread_after_fault { N.has_failed notes.new ≡ true → description.new ≡ description.old }
     ensures no_write { IfErr result (λ stop. stop ≢ Failed RunFault.Write) }
     ensures notes_most { TakesAtMost (N.remaining notes.old)
         (N.remaining notes.new) (NOTES_MOST + 1) }
