@@ -1,26 +1,30 @@
 //! The written parts of a section, quarter by quarter.
-ghost use Rattle.std.specs.Prelude.{◌≡◌, ◌↔◌, ◌++◌, ℕ, List, Some, IsTrue, OnOk, IfOk, MatchOption, codes};
-ghost use Rattle.twp_grid.specs.Places.{PLACE_DIGITS};
+ghost use Rattle.std.specs.Prelude.{◌≡◌, ◌↔◌, ◌∷◌, ◌++◌, ℕ, List, Some, Bool, IsTrue, OnOk, MatchOption, codes, ◌+◌, ◌<◌};
+ghost use Rattle.twp_grid.specs.Places.{PLACE_DIGITS, places_across};
 ghost use Rattle.twp_grid.specs.Blocks.{CanQuarter};
 ghost use Rattle.twp_grid.specs.declared.block.Corner.{Corner};
 ghost use Rattle.twp_grid.specs.declared.block.Side.{Side};
 ghost use Rattle.twp_text.specs.declared.item.Step.TheVariants.{Half, Quarter};
 ghost use Rattle.twp_text.specs.WrittenParts.{Part, IsFull, IsOnSide, AreWrittenParts};
-ghost use Rattle.twp_text.specs.WrittenParts.Part.{square, half_of_square};
+ghost use Rattle.twp_text.specs.WrittenParts.Part.{square};
 ghost use Rattle.twp_text.specs.CanonicalText.{step_text, off_lots, HoldsEach};
-ghost use Rattle.twp_text.specs.Spelling.{IsBlockOf, IsChoice, AreOfSquare, AreOfQuarter};
-ghost use Rattle.twp_text.specs.Spelling.{AreWritten};
+ghost use Rattle.twp_text.specs.Spelling.{IsBlockOf, AreOfSquare, AreOfQuarter};
+ghost use Rattle.twp_text.specs.Spelling.{AreWritten, AreFull};
 ghost use Rattle.twp_text.specs.Spelling.{quarter_on, quarters_text, IsOffChosen};
 
 use crate::chain::holds_of_lot;
-use std::alloc::{AllocError, Global};
-use twp_grid::{Block, Corner, Section, Side};
+use crate::full_quarters::FullQuarters;
+use crate::path::Path;
+use std::alloc::AllocError;
+use twp_grid::{Block, Corner, Section, Side, lot_at};
 use twp_land::Land;
+
+/// How many places a side of a position has.
+const PLACES_TO_POSITION: u8 = 4;
 
 /// Appends the written parts of what a land holds of a section off its lots, each behind a comma.
 /// The section isn't held whole.
 pub(crate) fn write_parts<L: Land>(
-    alloc: Global,
     land: &L,
     section: Section,
     text: &mut Vec<u8>,
@@ -30,20 +34,19 @@ pub(crate) fn write_parts<L: Land>(
         (off_lots PLACE_DIGITS section (L.places land.now section)))
         text.old.items text.new.items) }
 {
-    write_square(alloc, land, section, Block::whole(), b"", text)
+    write_square(land, section, Block::whole(), &Path::whole(), text)
 }
 
-/// Appends the written parts of a square that isn't full, each behind a comma. The path is the
-/// square's quarters as they are written.
+/// Appends the written parts of a square that isn't full, each behind a comma.
 #[cycle(descent)]
 fn write_square<L: Land>(
-    alloc: Global,
     land: &L,
     section: Section,
     block: Block,
-    path: &[u8],
+    path: &Path,
     text: &mut Vec<u8>,
 ) -> Result<(), AllocError>
+    requires { CanQuarter block }
     ensures { (quarters : List Corner) → IsBlockOf PLACE_DIGITS (square quarters) block
         → path.now ≡ quarters_text quarters
         → ¬ IsFull PLACE_DIGITS (off_lots PLACE_DIGITS section (L.places land.now section))
@@ -52,32 +55,26 @@ fn write_square<L: Land>(
         (off_lots PLACE_DIGITS section (L.places land.now section)) quarters)
         text.old.items text.new.items) }
 {
-    if block.width() == 1 {
+    if block.width() > 2 && !land.meets(section, block) {
         return Ok(());
     }
-    if block.height() == 1 {
-        return Ok(());
-    }
-    if !land.meets(section, block) {
-        return Ok(());
-    }
-    let chosen = chosen_half(land, section, block);
-    write_quarter(alloc, land, section, block, chosen, Corner::NE, path, text)?;
-    write_quarter(alloc, land, section, block, chosen, Corner::NW, path, text)?;
-    write_quarter(alloc, land, section, block, chosen, Corner::SW, path, text)?;
-    write_quarter(alloc, land, section, block, chosen, Corner::SE, path, text)
+    let full = full_quarters(land, section, block);
+    write_quarter(land, section, block, full, Corner::NE, path, text)?;
+    write_quarter(land, section, block, full, Corner::NW, path, text)?;
+    write_quarter(land, section, block, full, Corner::SW, path, text)?;
+    write_quarter(land, section, block, full, Corner::SE, path, text)
 }
 
 /// Appends the written parts that begin in a quarter of a square that isn't full.
 #[cycle(descent)]
+#[inline(always)]
 fn write_quarter<L: Land>(
-    alloc: Global,
     land: &L,
     section: Section,
     block: Block,
-    chosen: Option<Side>,
+    full: FullQuarters,
     corner: Corner,
-    path: &[u8],
+    path: &Path,
     text: &mut Vec<u8>,
 ) -> Result<(), AllocError>
     requires { CanQuarter block }
@@ -85,49 +82,30 @@ fn write_quarter<L: Land>(
         → path.now ≡ quarters_text quarters
         → ¬ IsFull PLACE_DIGITS (off_lots PLACE_DIGITS section (L.places land.now section))
         (square quarters)
-        → IsChoice PLACE_DIGITS (off_lots PLACE_DIGITS section (L.places land.now section))
-        quarters chosen
+        → AreFull PLACE_DIGITS (off_lots PLACE_DIGITS section (L.places land.now section))
+        quarters full
         → OnOk result (AreWritten (AreOfQuarter PLACE_DIGITS
         (off_lots PLACE_DIGITS section (L.places land.now section)) quarters corner)
         text.old.items text.new.items) }
 {
-    match half_at(chosen, corner) {
-        Some(side) => write_half(side, corner, path, text),
-        None => write_inner(alloc, land, section, block, corner, path, text),
+    if let Some(side) = half_at(full.chosen_half(), corner) {
+        return write_half(side, corner, path, text);
     }
-}
-
-/// Appends the written parts of a quarter that doesn't lie in the chosen half of its square.
-#[cycle(descent)]
-fn write_inner<L: Land>(
-    alloc: Global,
-    land: &L,
-    section: Section,
-    block: Block,
-    corner: Corner,
-    path: &[u8],
-    text: &mut Vec<u8>,
-) -> Result<(), AllocError>
-    requires { CanQuarter block }
-    ensures { (quarters : List Corner) → IsBlockOf PLACE_DIGITS (square quarters) block
-        → path.now ≡ quarters_text quarters
-        → ¬ IsFull PLACE_DIGITS (off_lots PLACE_DIGITS section (L.places land.now section))
-        (square quarters)
-        → IsOffChosen PLACE_DIGITS (off_lots PLACE_DIGITS section (L.places land.now section))
-        quarters corner
-        → OnOk result (AreWritten (AreOfQuarter PLACE_DIGITS
-        (off_lots PLACE_DIGITS section (L.places land.now section)) quarters corner)
-        text.old.items text.new.items) }
-{
+    if full.at(corner) {
+        return write_part(quarter_step(corner), path, text);
+    }
     let quarter = block.quarter(corner).unwrap();
-    let inner = quarter_path(alloc, corner, path)?;
-    if is_full(land, section, quarter) {
-        return write_part(b"", &inner, text);
+    if quarter.width() == 1 {
+        return Ok(());
     }
-    write_square(alloc, land, section, quarter, &inner, text)
+    if quarter.height() == 1 {
+        return Ok(());
+    }
+    write_square(land, section, quarter, &path.quarter(corner), text)
 }
 
 /// The chosen half that a quarter lies in, if it does.
+#[inline(always)]
 fn half_at(chosen: Option<Side>, corner: Corner) -> Option<Side>
     ensures { MatchOption result
         ((side : Side) → chosen ≡ Some side → ¬ IsOnSide side corner)
@@ -143,7 +121,8 @@ fn half_at(chosen: Option<Side>, corner: Corner) -> Option<Side>
 }
 
 /// Appends a half behind a comma, where this is the first of its quarters.
-fn write_half(side: Side, corner: Corner, path: &[u8], text: &mut Vec<u8>) -> Result<(), AllocError>
+#[inline(always)]
+fn write_half(side: Side, corner: Corner, path: &Path, text: &mut Vec<u8>) -> Result<(), AllocError>
     ensures first { (quarter_on side ≡ corner) → OnOk result
         (text.new.items ≡ text.old.items ++ (codes ", " ++ (step_text (Half side) ++ path.now))) }
     ensures second { ¬ (quarter_on side ≡ corner) → OnOk result (text.new.items ≡ text.old.items) }
@@ -154,27 +133,17 @@ fn write_half(side: Side, corner: Corner, path: &[u8], text: &mut Vec<u8>) -> Re
     Ok(())
 }
 
-/// Appends a comma, a step and its path.
-fn write_part(step: &[u8], path: &[u8], text: &mut Vec<u8>) -> Result<(), AllocError>
-    ensures { OnOk result
-        (text.new.items ≡ text.old.items ++ (codes ", " ++ (step.now ++ path.now))) }
+/// Appends a step behind a comma, and its path.
+#[inline(always)]
+fn write_part(step: &[u8], path: &Path, text: &mut Vec<u8>) -> Result<(), AllocError>
+    ensures { OnOk result (text.new.items ≡ text.old.items ++ (step.now ++ path.now)) }
 {
-    text.extend_from_slice(b", ")?;
     text.extend_from_slice(step)?;
-    text.extend_from_slice(path)
-}
-
-/// The path of a square's quarter.
-fn quarter_path(alloc: Global, corner: Corner, path: &[u8]) -> Result<Vec<u8>, AllocError>
-    ensures { IfOk result (λ inner. inner.items ≡ step_text (Quarter corner) ++ path.now) }
-{
-    let mut inner = Vec::new(alloc);
-    inner.extend_from_slice(quarter_step(corner))?;
-    inner.extend_from_slice(path)?;
-    Ok(inner)
+    path.write(text)
 }
 
 /// Whether a square's quarter lies in its half.
+#[inline(always)]
 fn is_on_side(side: Side, corner: Corner) -> bool
     ensures { IsTrue result ↔ IsOnSide side corner }
 {
@@ -199,43 +168,77 @@ fn first_quarter(side: Side) -> Corner
     }
 }
 
-/// The half of a square that is written as one part: the first in the north, south, east and west
-/// of which each place is held and none is of a lot.
-fn chosen_half<L: Land>(land: &L, section: Section, block: Block) -> Option<Side>
+/// Which quarters of a square are full. Single places are asked for as such, which is quicker.
+#[inline(always)]
+fn full_quarters<L: Land>(land: &L, section: Section, block: Block) -> FullQuarters
     requires { CanQuarter block }
     ensures { (quarters : List Corner) → IsBlockOf PLACE_DIGITS (square quarters) block
-        → ¬ IsFull PLACE_DIGITS (off_lots PLACE_DIGITS section (L.places land.now section))
-        (square quarters)
-        → IsChoice PLACE_DIGITS (off_lots PLACE_DIGITS section (L.places land.now section))
+        → AreFull PLACE_DIGITS (off_lots PLACE_DIGITS section (L.places land.now section))
         quarters result }
 {
-    if half_is_full(land, section, block, Side::N) {
-        return Some(Side::N);
+    if block.width() == 2 {
+        return full_places(land, section, block.column(), block.row());
     }
-    if half_is_full(land, section, block, Side::S) {
-        return Some(Side::S);
+    FullQuarters {
+        ne: quarter_is_full(land, section, block, Corner::NE),
+        nw: quarter_is_full(land, section, block, Corner::NW),
+        sw: quarter_is_full(land, section, block, Corner::SW),
+        se: quarter_is_full(land, section, block, Corner::SE),
     }
-    if half_is_full(land, section, block, Side::E) {
-        return Some(Side::E);
-    }
-    if half_is_full(land, section, block, Side::W) {
-        return Some(Side::W);
-    }
-    None
 }
 
-/// Whether each place of a half of a block is held and none is of a lot.
-fn half_is_full<L: Land>(land: &L, section: Section, block: Block, side: Side) -> bool
+/// Which of four places are held and of no lot: the one of this column and row is in the south-east.
+#[inline(always)]
+fn full_places<L: Land>(land: &L, section: Section, column: u8, row: u8) -> FullQuarters
+    requires column { column + 1 < places_across PLACE_DIGITS }
+    requires row { row + 1 < places_across PLACE_DIGITS }
+    ensures ne { result.ne
+        ≡ off_lots PLACE_DIGITS section (L.places land.now section) column (row + 1) }
+    ensures nw { result.nw
+        ≡ off_lots PLACE_DIGITS section (L.places land.now section) (column + 1) (row + 1) }
+    ensures sw { result.sw
+        ≡ off_lots PLACE_DIGITS section (L.places land.now section) (column + 1) row }
+    ensures se { result.se
+        ≡ off_lots PLACE_DIGITS section (L.places land.now section) column row }
+{
+    FullQuarters {
+        ne: is_held_off_lots(land, section, column, row + 1),
+        nw: is_held_off_lots(land, section, column + 1, row + 1),
+        sw: is_held_off_lots(land, section, column + 1, row),
+        se: is_held_off_lots(land, section, column, row),
+    }
+}
+
+/// Whether a place is held and of no lot.
+#[inline(always)]
+fn is_held_off_lots<L: Land>(land: &L, section: Section, column: u8, row: u8) -> bool
+    requires column { column < places_across PLACE_DIGITS }
+    requires row { row < places_across PLACE_DIGITS }
+    ensures { result ≡ off_lots PLACE_DIGITS section (L.places land.now section) column row }
+{
+    land.holds(section, column, row)
+        && lot_at(
+            section,
+            column / PLACES_TO_POSITION,
+            row / PLACES_TO_POSITION,
+        )
+        .is_none()
+}
+
+/// Whether each place of a quarter of a block is held and none is of a lot.
+#[inline(always)]
+fn quarter_is_full<L: Land>(land: &L, section: Section, block: Block, corner: Corner) -> bool
     requires { CanQuarter block }
     ensures { (quarters : List Corner) → IsBlockOf PLACE_DIGITS (square quarters) block
         → (IsTrue result ↔ IsFull PLACE_DIGITS
         (off_lots PLACE_DIGITS section (L.places land.now section))
-        (half_of_square side quarters)) }
+        (square (corner ∷ quarters))) }
 {
-    is_full(land, section, block.half(side).unwrap())
+    is_full(land, section, block.quarter(corner).unwrap())
 }
 
 /// Whether each place of a block is held and none is of a lot.
+#[inline(always)]
 fn is_full<L: Land>(land: &L, section: Section, block: Block) -> bool
     ensures { (part : Part) → IsBlockOf PLACE_DIGITS part block
         → (IsTrue result ↔ IsFull PLACE_DIGITS
@@ -244,27 +247,29 @@ fn is_full<L: Land>(land: &L, section: Section, block: Block) -> bool
     land.full(section, block) && !holds_of_lot(section, block)
 }
 
-/// The half towards a side, as it is written.
+/// The half towards a side, as it is written behind a comma.
+#[inline(always)]
 fn half_step(side: Side) -> &'static [u8]
-    ensures { result.now ≡ step_text (Half side) }
+    ensures { result.now ≡ codes ", " ++ step_text (Half side) }
 {
     match side {
-        Side::N => b"N1/2",
-        Side::S => b"S1/2",
-        Side::E => b"E1/2",
-        Side::W => b"W1/2",
+        Side::N => b", N1/2",
+        Side::S => b", S1/2",
+        Side::E => b", E1/2",
+        Side::W => b", W1/2",
     }
 }
 
-/// The quarter at a corner, as it is written.
+/// The quarter at a corner, as it is written behind a comma.
+#[inline(always)]
 fn quarter_step(corner: Corner) -> &'static [u8]
-    ensures { result.now ≡ step_text (Quarter corner) }
+    ensures { result.now ≡ codes ", " ++ step_text (Quarter corner) }
 {
     match corner {
-        Corner::NE => b"NE1/4",
-        Corner::NW => b"NW1/4",
-        Corner::SW => b"SW1/4",
-        Corner::SE => b"SE1/4",
+        Corner::NE => b", NE1/4",
+        Corner::NW => b", NW1/4",
+        Corner::SW => b", SW1/4",
+        Corner::SE => b", SE1/4",
     }
 }
 

@@ -11,7 +11,7 @@ fn parts(alloc: Global, number: u8, blocks: &[Block]) -> Result<Vec<u8>, Fail> {
         land.add(section, *block);
     }
     let mut text = Vec::new(alloc);
-    write_parts(alloc, &land, section, &mut text)?;
+    write_parts(&land, section, &mut text)?;
     Ok(text)
 }
 
