@@ -14,7 +14,7 @@ const PATH_BYTES: usize = 20;
 /// The bytes of one quarter.
 const QUARTER_BYTES: usize = 5;
 
-/// The quarters that reach a square, smallest first, as `NE1/4SW1/4`. It takes no memory of its own.
+/// The quarters that reach a square, smallest first, as `NE1/4SW1/4`. No memory is taken for them.
 #[derive(Drop)]
 pub(crate) struct Path {
     text: [u8; PATH_BYTES],
@@ -54,8 +54,8 @@ impl Path {
         Path { text, len }
     }
 
-    /// Appends the path. All its bytes are copied, since a copy of a known length is quick, and those
-    /// behind its end are cut off again.
+    /// Appends the path. The whole array is copied, since a copy of a known length is quick, and
+    /// what stands behind the path's end is cut off again.
     #[inline(always)]
     pub(crate) fn write(&self, text: &mut Vec<u8>) -> Result<(), AllocError>
         ensures { OnOk result (text.new.items ≡ text.old.items ++ self.now) }

@@ -1,5 +1,6 @@
 //! The written parts of a section, quarter by quarter.
-ghost use Rattle.std.specs.Prelude.{◌≡◌, ◌↔◌, ◌∷◌, ◌++◌, ℕ, List, Some, Bool, IsTrue, OnOk, MatchOption, codes, ◌+◌, ◌<◌};
+ghost use Rattle.std.specs.Prelude.{◌≡◌, ◌↔◌, ◌+◌, ◌<◌, ◌∷◌, ◌++◌, ℕ, List, Some};
+ghost use Rattle.std.specs.Prelude.{IsTrue, OnOk, MatchOption, codes};
 ghost use Rattle.twp_grid.specs.Places.{PLACE_DIGITS, places_across};
 ghost use Rattle.twp_grid.specs.Blocks.{CanQuarter};
 ghost use Rattle.twp_grid.specs.declared.block.Corner.{Corner};
@@ -187,7 +188,7 @@ fn full_quarters<L: Land>(land: &L, section: Section, block: Block) -> FullQuart
     }
 }
 
-/// Which of four places are held and of no lot: the one of this column and row is in the south-east.
+/// Which of four places are held and of no lot. The south-eastern one is of this column and row.
 #[inline(always)]
 fn full_places<L: Land>(land: &L, section: Section, column: u8, row: u8) -> FullQuarters
     requires column { column + 1 < places_across PLACE_DIGITS }
