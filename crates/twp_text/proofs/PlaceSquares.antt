@@ -1,5 +1,6 @@
 -- Squares of four places: which of their quarters are full.
-use Rattle.std.proofs.Common.{◌≡◌, ◌↔◌, ℕ, ◌+◌, ◌-◌, ◌/◌, ◌^◌, nat_le, nat_lt, Bool, true, List, ◌∷◌, length, IsTrue, refl, sym, ap, ◌∙◌, arith}
+use Rattle.std.proofs.Common.{◌≡◌, ◌↔◌, ℕ, zero, suc, ◌+◌, ◌-◌, ◌/◌, ◌^◌, nat_le, nat_lt, Bool, true, List, ◌∷◌, length, IsTrue, refl, sym, ap, ◌∙◌, arith}
+use Rattle.std.proofs.Math.Nat.{pow-succ'}
 use Rattle.std.proofs.lemmas.Bool.{and_parts}
 use Rattle.std.proofs.lemmas.Bool.Decides.{nat_tests}
 use Rattle.twp_grid.specs.declared.block.Corner.{Corner}
@@ -13,6 +14,7 @@ use Rattle.twp_text.specs.WrittenParts.{Part, IsFull}
 use Rattle.twp_text.specs.WrittenParts.Part.{square}
 use Rattle.twp_text.specs.Spelling.{IsBlockOf, AreFull}
 use Rattle.twp_text.proofs.SquareFacts.{quarter_steps, columns_long, rows_long}
+use Rattle.twp_text.proofs.ChainFacts.{more_than_one}
 use Rattle.twp_text.proofs.SquareBlocks.{block_places_of, in_block, quarter_block, deeper}
 
 -- a span of one holds its start alone
@@ -73,3 +75,20 @@ four_places g held quarters block full of_square two ne nw sw se = each
     each NW = place_full g held (square (NW ∷ quarters)) (quarter_of block NW) full.nw (of_quarter NW) wide high (nw ∙ ap (λ r. held (block.columns.start + 1) r) north ∙ ap (λ n. held n (block.rows.start + block.rows.len / 2)) west)
     each SW = place_full g held (square (SW ∷ quarters)) (quarter_of block SW) full.sw (of_quarter SW) wide high (sw ∙ ap (λ n. held n block.rows.start) west)
     each SE = place_full g held (square (SE ∷ quarters)) (quarter_of block SE) full.se (of_quarter SE) wide high se
+
+-- a square two places wide is cut once less than places are
+pub last_square : (g : ℕ) (quarters : List Corner) (block : Rectangle) → IsBlockOf g (square quarters) block → block.columns.len ≡ 2 → length quarters + 1 ≡ g
+last_square g quarters block of_square two =
+    let sides = sides_as_asked g (cuts_of (quarter_steps quarters)) of_square.within in
+    let across : block.columns.len ≡ 2 ^ (g - length quarters) = ap (λ b. b.columns.len) of_square.block_is ∙ sides.0 ∙ ap (λ n. 2 ^ (g - n)) (columns_long quarters) in
+    let fits = deeper g quarters block of_square (omega (arith, two)) in
+    let left = power_two (g - length quarters) (sym across ∙ two) in
+    omega arith
+  where
+    power_two : (n : ℕ) → 2 ^ n ≡ 2 → n ≡ 1
+    power_two zero is = absurd (omega arith)
+    power_two (suc zero) is = refl
+    power_two (suc (suc n)) is =
+        let power = pow-succ' 2 (suc n) in
+        let more = more_than_one (suc n) (omega arith) in
+        absurd (omega arith)

@@ -1,5 +1,5 @@
 //! The written parts of a section, quarter by quarter.
-ghost use Rattle.std.specs.Prelude.{◌≡◌, ◌↔◌, ◌+◌, ◌<◌, ◌∷◌, ◌++◌, ℕ, List, Some};
+ghost use Rattle.std.specs.Prelude.{◌≡◌, ◌↔◌, ◌+◌, ◌<◌, ◌∷◌, ◌++◌, ℕ, Bool, List, length, Some};
 ghost use Rattle.std.specs.Prelude.{IsTrue, OnOk, MatchOption, codes};
 ghost use Rattle.twp_grid.specs.Places.{PLACE_DIGITS, places_across};
 ghost use Rattle.twp_grid.specs.Blocks.{CanQuarter};
@@ -56,7 +56,11 @@ fn write_square<L: Land>(
         (off_lots PLACE_DIGITS section (L.places land.now section)) quarters)
         text.old.items text.new.items) }
 {
-    if block.width() > 2 && !land.meets(section, block) {
+    if block.width() == 2 {
+        let full = full_places(land, section, block.column(), block.row());
+        return write_places(full, path, text);
+    }
+    if !land.meets(section, block) {
         return Ok(());
     }
     let full = full_quarters(land, section, block);
@@ -103,6 +107,46 @@ fn write_quarter<L: Land>(
         return Ok(());
     }
     write_square(land, section, quarter, &path.quarter(corner), text)
+}
+
+/// Appends the written parts of a square of four places that isn't full, each behind a comma.
+#[inline(never)]
+fn write_places(full: FullQuarters, path: &Path, text: &mut Vec<u8>) -> Result<(), AllocError>
+    ensures { (held : ℕ → ℕ → Bool) (quarters : List Corner) → length quarters + 1 ≡ PLACE_DIGITS
+        → path.now ≡ quarters_text quarters
+        → ¬ IsFull PLACE_DIGITS held (square quarters)
+        → AreFull PLACE_DIGITS held quarters full
+        → OnOk result (AreWritten (AreOfSquare PLACE_DIGITS held quarters)
+        text.old.items text.new.items) }
+{
+    write_place(full, Corner::NE, path, text)?;
+    write_place(full, Corner::NW, path, text)?;
+    write_place(full, Corner::SW, path, text)?;
+    write_place(full, Corner::SE, path, text)
+}
+
+/// Appends the written part that begins in a place of such a square, if one does.
+#[inline(always)]
+fn write_place(
+    full: FullQuarters,
+    corner: Corner,
+    path: &Path,
+    text: &mut Vec<u8>,
+) -> Result<(), AllocError>
+    ensures { (held : ℕ → ℕ → Bool) (quarters : List Corner) → length quarters + 1 ≡ PLACE_DIGITS
+        → path.now ≡ quarters_text quarters
+        → ¬ IsFull PLACE_DIGITS held (square quarters)
+        → AreFull PLACE_DIGITS held quarters full
+        → OnOk result (AreWritten (AreOfQuarter PLACE_DIGITS held quarters corner)
+        text.old.items text.new.items) }
+{
+    if let Some(side) = half_at(full.chosen_half(), corner) {
+        return write_half(side, corner, path, text);
+    }
+    if full.at(corner) {
+        return write_part(quarter_step(corner), path, text);
+    }
+    Ok(())
 }
 
 /// The chosen half that a quarter lies in, if it does.
@@ -169,7 +213,7 @@ fn first_quarter(side: Side) -> Corner
     }
 }
 
-/// Which quarters of a square are full. Single places are asked for as such, which is quicker.
+/// Which quarters of a square are full.
 #[inline(always)]
 fn full_quarters<L: Land>(land: &L, section: Section, block: Block) -> FullQuarters
     requires { CanQuarter block }
@@ -177,9 +221,6 @@ fn full_quarters<L: Land>(land: &L, section: Section, block: Block) -> FullQuart
         → AreFull PLACE_DIGITS (off_lots PLACE_DIGITS section (L.places land.now section))
         quarters result }
 {
-    if block.width() == 2 {
-        return full_places(land, section, block.column(), block.row());
-    }
     FullQuarters {
         ne: quarter_is_full(land, section, block, Corner::NE),
         nw: quarter_is_full(land, section, block, Corner::NW),

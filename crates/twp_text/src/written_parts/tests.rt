@@ -1,4 +1,5 @@
 use super::*;
+use std::alloc::Global;
 use std::process::Abort;
 use std::test::Fail;
 use twp_land::Grid;
