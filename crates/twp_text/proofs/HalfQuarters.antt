@@ -1,5 +1,5 @@
 -- A half of a square is full where both its quarters are, and a square where all four are.
-use Rattle.std.proofs.Common.{◌≡◌, ◌↔◌, ℕ, suc, ◌<◌, ◌⊎◌, Bool, true, false, List, ◌∷◌, length, Option, IsTrue, refl, sym, ap, subst, ◌∙◌, inl, inr, arith}
+use Rattle.std.proofs.Common.{◌≡◌, ◌↔◌, ◌&&◌, ℕ, suc, ◌<◌, ◌⊎◌, Bool, true, false, List, ◌∷◌, length, Option, IsTrue, refl, sym, ap, subst, ◌∙◌, inl, inr, arith}
 use Rattle.std.proofs.lemmas.Bool.{false≢true}
 use Rattle.twp_grid.specs.declared.block.Side.{Side}
 use Rattle.twp_grid.specs.declared.block.Side.TheVariants.{N, S, E, W}
@@ -9,12 +9,13 @@ use Rattle.twp_grid.specs.Places.{IsPlace}
 use Rattle.twp_text.specs.declared.full_quarters.FullQuarters.{FullQuarters}
 use Rattle.twp_text.specs.WrittenParts.{IsFull, IsChosenHalf, IsOnSide}
 use Rattle.twp_text.specs.WrittenParts.Part.{square, half_of_square}
-use Rattle.twp_text.specs.Spelling.{quarter_on, AreFull, chosen_of, IsChoice}
+use Rattle.twp_text.specs.Spelling.{all_of, full_at, quarter_on, AreFull, chosen_of, IsChoice}
 use Rattle.twp_text.proofs.SquareFacts.{square_within, half_within}
 use Rattle.twp_text.proofs.SquarePlaces.{up, corner_at, up_next, in_square, square_in}
 use Rattle.twp_text.proofs.HalfPlaces.{in_half, half_in}
 use Rattle.twp_text.proofs.FullParts.{below_south, below_east, below_west, each_side}
 use Rattle.twp_text.proofs.WrittenFacts.{parent_of}
+use Rattle.twp_text.proofs.Descent.{under_itself, full_under}
 
 -- the second of a half's two quarters
 other_on : Side → Corner
@@ -121,3 +122,33 @@ choice_is_right g held quarters full fits are short = by_tests full.ne full.nw f
 pub choice_made : (g : ℕ) (held : ℕ → ℕ → Bool) (quarters : List Corner) (full : FullQuarters) (chosen : Option Side) → length quarters < g → chosen ≡ chosen_of full → AreFull g held quarters full
     → ¬ IsFull g held (square quarters) → IsChoice g held quarters chosen
 choice_made g held quarters full chosen fits is are short = subst (λ c. IsChoice g held quarters c) (sym is) (choice_is_right g held quarters full fits are short)
+
+-- a square is full where all its quarters are
+pub all_full : (g : ℕ) (held : ℕ → ℕ → Bool) (quarters : List Corner) (full : FullQuarters) → length quarters < g → AreFull g held quarters full → IsTrue (all_of full) ↔ IsFull g held (square quarters)
+all_full g held quarters full fits are = ((λ all. square_full (by_tests full.ne full.nw full.sw full.se (are NE) (are NW) (are SW) (are SE) all)), (λ whole. all_true full.ne full.nw full.sw full.se (quarter_true whole NE) (quarter_true whole NW) (quarter_true whole SW) (quarter_true whole SE)))
+  where
+    Full : Corner → Type 0
+    Full corner = IsFull g held (square (corner ∷ quarters))
+
+    by_tests : (ne nw sw se : Bool) → IsTrue ne ↔ Full NE → IsTrue nw ↔ Full NW → IsTrue sw ↔ Full SW → IsTrue se ↔ Full SE → IsTrue (ne && (nw && (sw && se))) → (corner : Corner) → Full corner
+    by_tests true true true true a b c d all NE = a.0 refl
+    by_tests true true true true a b c d all NW = b.0 refl
+    by_tests true true true true a b c d all SW = c.0 refl
+    by_tests true true true true a b c d all SE = d.0 refl
+    by_tests true true true false a b c d all corner = cc all
+    by_tests true true false se a b c d all corner = cc all
+    by_tests true false sw se a b c d all corner = cc all
+    by_tests false nw sw se a b c d all corner = cc all
+
+    square_full : ((corner : Corner) → Full corner) → IsFull g held (square quarters)
+    square_full each = record {
+      within = square_within g quarters (omega arith);
+      each = λ column row inside.
+          held_by_quarter g held quarters (corner_at g (length quarters) column row) column row fits (each (corner_at g (length quarters) column row)) inside.place (in_square g quarters column row (omega arith) inside.asked) refl;
+    }
+
+    quarter_true : IsFull g held (square quarters) → (corner : Corner) → full_at full corner ≡ true
+    quarter_true whole corner = (are corner).1 (full_under g held quarters (corner ∷ quarters) (inr (under_itself quarters)) (omega arith) whole)
+
+    all_true : (ne nw sw se : Bool) → ne ≡ true → nw ≡ true → sw ≡ true → se ≡ true → (ne && (nw && (sw && se))) ≡ true
+    all_true ne nw sw se a b c d = rw (a, b, c, d) refl

@@ -12,8 +12,9 @@ use Rattle.twp_text.specs.ItemPlaces.{cuts_of}
 use Rattle.twp_text.specs.declared.full_quarters.FullQuarters.{FullQuarters}
 use Rattle.twp_text.specs.WrittenParts.{Part, IsFull}
 use Rattle.twp_text.specs.WrittenParts.Part.{square}
-use Rattle.twp_text.specs.Spelling.{IsBlockOf, AreFull}
+use Rattle.twp_text.specs.Spelling.{IsBlockOf, AreFull, all_of}
 use Rattle.twp_text.proofs.SquareFacts.{quarter_steps, columns_long, rows_long}
+use Rattle.twp_text.proofs.HalfQuarters.{all_full}
 use Rattle.twp_text.proofs.ChainFacts.{more_than_one}
 use Rattle.twp_text.proofs.SquareBlocks.{block_places_of, in_block, quarter_block, deeper}
 
@@ -76,19 +77,82 @@ four_places g held quarters block full of_square two ne nw sw se = each
     each SW = place_full g held (square (SW ∷ quarters)) (quarter_of block SW) full.sw (of_quarter SW) wide high (sw ∙ ap (λ n. held n block.rows.start) west)
     each SE = place_full g held (square (SE ∷ quarters)) (quarter_of block SE) full.se (of_quarter SE) wide high se
 
--- a square two places wide is cut once less than places are
-pub last_square : (g : ℕ) (quarters : List Corner) (block : Rectangle) → IsBlockOf g (square quarters) block → block.columns.len ≡ 2 → length quarters + 1 ≡ g
-last_square g quarters block of_square two =
+-- a square so many places wide is cut so much less than places are
+power_four : (n : ℕ) → 2 ^ n ≡ 4 → n ≡ 2
+power_four zero is = absurd (omega arith)
+power_four (suc zero) is = absurd (omega arith)
+power_four (suc (suc zero)) is = refl
+power_four (suc (suc (suc n))) is =
+    let power = pow-succ' 2 (suc (suc n)) in
+    let next = pow-succ' 2 (suc n) in
+    let more = more_than_one (suc n) (omega arith) in
+    absurd (omega arith)
+
+pub position_level : (g : ℕ) (quarters : List Corner) (block : Rectangle) → IsBlockOf g (square quarters) block → block.columns.len ≡ 4 → length quarters + 2 ≡ g
+position_level g quarters block of_square four =
     let sides = sides_as_asked g (cuts_of (quarter_steps quarters)) of_square.within in
     let across : block.columns.len ≡ 2 ^ (g - length quarters) = ap (λ b. b.columns.len) of_square.block_is ∙ sides.0 ∙ ap (λ n. 2 ^ (g - n)) (columns_long quarters) in
-    let fits = deeper g quarters block of_square (omega (arith, two)) in
-    let left = power_two (g - length quarters) (sym across ∙ two) in
+    let fits = deeper g quarters block of_square (omega (arith, four)) in
+    let left = power_four (g - length quarters) (sym across ∙ four) in
     omega arith
+
+-- the four quarters of a position, of which the one in the south-east begins at this column and row
+pub position_places : (g : ℕ) (held : ℕ → ℕ → Bool) (quarters : List Corner) (block : Rectangle) (column row : ℕ) (ne nw sw se : FullQuarters) → IsBlockOf g (square quarters) block → block.columns.len ≡ 4
+    → column ≡ block.columns.start → row ≡ block.rows.start
+    → ne.ne ≡ held column ((row + 2) + 1) → ne.nw ≡ held (column + 1) ((row + 2) + 1) → ne.sw ≡ held (column + 1) (row + 2) → ne.se ≡ held column (row + 2)
+    → nw.ne ≡ held (column + 2) ((row + 2) + 1) → nw.nw ≡ held ((column + 2) + 1) ((row + 2) + 1) → nw.sw ≡ held ((column + 2) + 1) (row + 2) → nw.se ≡ held (column + 2) (row + 2)
+    → sw.ne ≡ held (column + 2) (row + 1) → sw.nw ≡ held ((column + 2) + 1) (row + 1) → sw.sw ≡ held ((column + 2) + 1) row → sw.se ≡ held (column + 2) row
+    → se.ne ≡ held column (row + 1) → se.nw ≡ held (column + 1) (row + 1) → se.sw ≡ held (column + 1) row → se.se ≡ held column row
+    → AreFull g held (NE ∷ quarters) ne × (AreFull g held (NW ∷ quarters) nw × (AreFull g held (SW ∷ quarters) sw × AreFull g held (SE ∷ quarters) se))
+position_places g held quarters block column row ne nw sw se of_square four column_is row_is a1 a2 a3 a4 b1 b2 b3 b4 c1 c2 c3 c4 d1 d2 d3 d4 = (
+  of_four NE ne column (row + 2) column_is north a1 a2 a3 a4,
+  (
+    of_four NW nw (column + 2) (row + 2) west north b1 b2 b3 b4,
+    (
+      of_four SW sw (column + 2) row west row_is c1 c2 c3 c4,
+      of_four SE se column row column_is row_is d1 d2 d3 d4,
+    ),
+  ),
+)
   where
-    power_two : (n : ℕ) → 2 ^ n ≡ 2 → n ≡ 1
-    power_two zero is = absurd (omega arith)
-    power_two (suc zero) is = refl
-    power_two (suc (suc n)) is =
-        let power = pow-succ' 2 (suc n) in
-        let more = more_than_one (suc n) (omega arith) in
-        absurd (omega arith)
+    wide : block.columns.len / 2 ≡ 2
+    wide = rw four refl
+
+    high : block.rows.len / 2 ≡ 2
+    high = rw (sym (square_sides g quarters block of_square)) wide
+
+    west : column + 2 ≡ block.columns.start + block.columns.len / 2
+    west = ap (λ n. n + 2) column_is ∙ ap (λ n. block.columns.start + n) (sym wide)
+
+    north : row + 2 ≡ block.rows.start + block.rows.len / 2
+    north = ap (λ n. n + 2) row_is ∙ ap (λ n. block.rows.start + n) (sym high)
+
+    of_quarter : (corner : Corner) → IsBlockOf g (square (corner ∷ quarters)) (quarter_of block corner)
+    of_quarter corner = quarter_block g corner quarters block (deeper g quarters block of_square (omega (arith, four))) of_square
+
+    two_wide : (corner : Corner) → (quarter_of block corner).columns.len ≡ 2
+    two_wide NE = wide
+    two_wide NW = wide
+    two_wide SW = wide
+    two_wide SE = wide
+
+    of_four : (corner : Corner) (full : FullQuarters) (c r : ℕ) → c ≡ (quarter_of block corner).columns.start → r ≡ (quarter_of block corner).rows.start
+        → full.ne ≡ held c (r + 1) → full.nw ≡ held (c + 1) (r + 1) → full.sw ≡ held (c + 1) r → full.se ≡ held c r → AreFull g held (corner ∷ quarters) full
+    of_four corner full c r c_is r_is ne nw sw se =
+        four_places g held (corner ∷ quarters) (quarter_of block corner) full (of_quarter corner) (two_wide corner)
+        (rw (sym c_is, sym r_is) ne) (rw (sym c_is, sym r_is) nw) (rw (sym c_is, sym r_is) sw) (rw (sym c_is, sym r_is) se)
+
+-- which of them are full
+pub position_full : (g : ℕ) (held : ℕ → ℕ → Bool) (quarters : List Corner) (full ne nw sw se : FullQuarters) → length quarters + 2 ≡ g
+    → AreFull g held (NE ∷ quarters) ne × (AreFull g held (NW ∷ quarters) nw × (AreFull g held (SW ∷ quarters) sw × AreFull g held (SE ∷ quarters) se))
+    → full.ne ≡ all_of ne → full.nw ≡ all_of nw → full.sw ≡ all_of sw → full.se ≡ all_of se → AreFull g held quarters full
+position_full g held quarters full ne nw sw se level are is_ne is_nw is_sw is_se = each
+  where
+    of_all : (corner : Corner) (test : Bool) (places : FullQuarters) → test ≡ all_of places → AreFull g held (corner ∷ quarters) places → IsTrue test ↔ IsFull g held (square (corner ∷ quarters))
+    of_all corner test places is are = let whole = all_full g held (corner ∷ quarters) places (omega (arith, level)) are in ((λ yes. whole.0 (sym is ∙ yes)), (λ full. is ∙ whole.1 full))
+
+    each : AreFull g held quarters full
+    each NE = of_all NE full.ne ne is_ne are.0
+    each NW = of_all NW full.nw nw is_nw are.1.0
+    each SW = of_all SW full.sw sw is_sw are.1.1.0
+    each SE = of_all SE full.se se is_se are.1.1.1

@@ -71,6 +71,10 @@ abbrev pub AreFull : ℕ → (ℕ → ℕ → Bool) → List Corner → FullQuar
 AreFull g held quarters full =
     (corner : Corner) → IsTrue (full_at full corner) ↔ IsFull g held (square (corner ∷ quarters))
 
+-- all four are told to be full
+abbrev pub all_of : FullQuarters → Bool
+all_of full = full.ne && (full.nw && (full.sw && full.se))
+
 -- the first half of which both quarters are full
 abbrev pub chosen_of : FullQuarters → Option Side
 chosen_of full =

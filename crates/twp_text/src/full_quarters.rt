@@ -1,5 +1,5 @@
 ghost use Rattle.std.specs.Prelude.{◌≡◌};
-ghost use Rattle.twp_text.specs.Spelling.{full_at, chosen_of};
+ghost use Rattle.twp_text.specs.Spelling.{full_at, all_of, chosen_of};
 
 use twp_grid::{Corner, Side};
 
@@ -24,6 +24,14 @@ impl FullQuarters {
             Corner::SW => self.sw,
             Corner::SE => self.se,
         }
+    }
+
+    /// Whether all are full.
+    #[inline(always)]
+    pub fn all(self) -> bool
+        ensures { result ≡ all_of self }
+    {
+        self.ne && self.nw && self.sw && self.se
     }
 
     /// Of a square that isn't full, the half that is written as one part: the first in the north,

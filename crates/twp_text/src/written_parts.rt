@@ -56,9 +56,8 @@ fn write_square<L: Land>(
         (off_lots PLACE_DIGITS section (L.places land.now section)) quarters)
         text.old.items text.new.items) }
 {
-    if block.width() == 2 {
-        let full = full_places(land, section, block.column(), block.row());
-        return write_places(full, path, text);
+    if block.width() == PLACES_TO_POSITION && block.height() == PLACES_TO_POSITION {
+        return write_position(land, section, block, path, text);
     }
     if !land.meets(section, block) {
         return Ok(());
@@ -107,6 +106,69 @@ fn write_quarter<L: Land>(
         return Ok(());
     }
     write_square(land, section, quarter, &path.quarter(corner), text)
+}
+
+/// Appends the written parts of a position that isn't full, of which each place is asked for.
+#[inline(never)]
+fn write_position<L: Land>(
+    land: &L,
+    section: Section,
+    block: Block,
+    path: &Path,
+    text: &mut Vec<u8>,
+) -> Result<(), AllocError>
+    requires width { block.columns.len ≡ 4 }
+    requires height { block.rows.len ≡ 4 }
+    ensures { (quarters : List Corner) → IsBlockOf PLACE_DIGITS (square quarters) block
+        → path.now ≡ quarters_text quarters
+        → ¬ IsFull PLACE_DIGITS (off_lots PLACE_DIGITS section (L.places land.now section))
+        (square quarters)
+        → OnOk result (AreWritten (AreOfSquare PLACE_DIGITS
+        (off_lots PLACE_DIGITS section (L.places land.now section)) quarters)
+        text.old.items text.new.items) }
+{
+    let column = block.column();
+    let row = block.row();
+    let ne = full_places(land, section, column, row + 2);
+    let nw = full_places(land, section, column + 2, row + 2);
+    let sw = full_places(land, section, column + 2, row);
+    let se = full_places(land, section, column, row);
+    let full = FullQuarters {
+        ne: ne.all(),
+        nw: nw.all(),
+        sw: sw.all(),
+        se: se.all(),
+    };
+    write_four(full, ne, Corner::NE, path, text)?;
+    write_four(full, nw, Corner::NW, path, text)?;
+    write_four(full, sw, Corner::SW, path, text)?;
+    write_four(full, se, Corner::SE, path, text)
+}
+
+/// Appends the written parts that begin in a quarter of such a position, which has four places.
+#[inline(always)]
+fn write_four(
+    full: FullQuarters,
+    places: FullQuarters,
+    corner: Corner,
+    path: &Path,
+    text: &mut Vec<u8>,
+) -> Result<(), AllocError>
+    ensures { (held : ℕ → ℕ → Bool) (quarters : List Corner) → length quarters + 2 ≡ PLACE_DIGITS
+        → path.now ≡ quarters_text quarters
+        → ¬ IsFull PLACE_DIGITS held (square quarters)
+        → AreFull PLACE_DIGITS held quarters full
+        → AreFull PLACE_DIGITS held (corner ∷ quarters) places
+        → OnOk result (AreWritten (AreOfQuarter PLACE_DIGITS held quarters corner)
+        text.old.items text.new.items) }
+{
+    if let Some(side) = half_at(full.chosen_half(), corner) {
+        return write_half(side, corner, path, text);
+    }
+    if full.at(corner) {
+        return write_part(quarter_step(corner), path, text);
+    }
+    write_places(places, &path.quarter(corner), text)
 }
 
 /// Appends the written parts of a square of four places that isn't full, each behind a comma.

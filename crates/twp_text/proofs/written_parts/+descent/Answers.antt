@@ -1,7 +1,6 @@
 -- What begins in each quarter of a square is written, one quarter behind the other.
-use Rattle.std.proofs.Common.{inl, inr, sym, ◌∙◌, ◌∷◌, ◌≡◌, arith}
+use Rattle.std.proofs.Common.{inl, inr, sym, ◌∙◌, ◌∷◌}
 use Rattle.std.proofs.lemmas.Bool.{false≢true}
-use Rattle.std.proofs.lemmas.Bool.Decides.{nat_tests}
 use Rattle.twp_grid.specs.Places.{PLACE_DIGITS}
 use Rattle.twp_text.specs.WrittenParts.Part.{square}
 use Rattle.twp_text.specs.CanonicalText.{off_lots}
@@ -9,7 +8,6 @@ use Rattle.twp_text.specs.Spelling.{AreOfSquare}
 use Rattle.twp_text.proofs.DescentLists.{of_empty}
 use Rattle.twp_text.proofs.HalfQuarters.{choice_made}
 use Rattle.twp_text.proofs.PathFacts.{path_of_quarter}
-use Rattle.twp_text.proofs.PlaceSquares.{four_places, last_square}
 use Rattle.twp_text.proofs.SquareFacts.{square_fits}
 use Rattle.twp_text.proofs.SquareBlocks.{quarter_judged, block_of_quarter, deeper, finest, finest_empty, empty_block}
 use Rattle.twp_text.proofs.WritingFacts.{written_none, half_written, off_choice, choice_is, full_written, inner_written, none_written, quarters_written}
@@ -60,14 +58,6 @@ write_quarter-returns g t c = λ quarters of_square path_is short are.
     (c.write_square.ensures (c.args.corner ∷ quarters) of_quarter
     (path_of_quarter c.args.corner quarters c.args.path.now c.quarter-2.result fits path_is c.quarter-2.ensures)
     (λ full. false≢true (sym c.if-at.false ∙ c.at.ensures ∙ (are c.args.corner).1 full)))
-
-pub write_square-returns-then-width-eq2 : goal.write_square-returns-then-width-eq2
-write_square-returns-then-width-eq2 g t c = λ quarters of_square path_is short.
-    let two : c.args.block.columns.len ≡ 2 = grind (arith, nat_tests, c.width.ensures.value, c.if-width-eq2.true) in
-    let are = four_places PLACE_DIGITS (off_lots PLACE_DIGITS c.args.section (g.L.Land.places c.args.land.now c.args.section)) quarters c.args.block c.full_places-full.result of_square two
-    (rw (sym c.column.ensures.value, sym c.row.ensures.value) c.full_places-full.ensures.ne) (rw (sym c.column.ensures.value, sym c.row.ensures.value) c.full_places-full.ensures.nw)
-    (rw (sym c.column.ensures.value, sym c.row.ensures.value) c.full_places-full.ensures.sw) (rw (sym c.column.ensures.value, sym c.row.ensures.value) c.full_places-full.ensures.se) in
-    c.write_places.ensures (off_lots PLACE_DIGITS c.args.section (g.L.Land.places c.args.land.now c.args.section)) quarters (last_square PLACE_DIGITS quarters c.args.block of_square two) path_is short are
 
 pub write_square-returns-then-not-meets : goal.write_square-returns-then-not-meets
 write_square-returns-then-not-meets g t c = λ quarters of_square path_is short.
