@@ -1,16 +1,20 @@
 -- Squares of four places: which of their quarters are full.
-use Rattle.std.proofs.Common.{◌≡◌, ◌↔◌, ℕ, zero, suc, ◌+◌, ◌-◌, ◌/◌, ◌^◌, nat_le, nat_lt, Bool, true, List, ◌∷◌, length, IsTrue, refl, sym, ap, ◌∙◌, arith}
+use Rattle.std.proofs.Common.{◌≡◌, ◌↔◌, ℕ, zero, suc, ◌+◌, ◌-◌, ◌/◌, ◌^◌, nat_le, nat_lt, Bool, true, List, ◌∷◌, length, IsTrue, refl, sym, ap, ◌∙◌, arith, ◌%◌, ◌≤◌, ◌<◌, ◌&&◌, Option, is_none, false, is_some, Some, None}
 use Rattle.std.proofs.Math.Nat.{pow-succ'}
 use Rattle.std.proofs.lemmas.Bool.{and_parts}
 use Rattle.std.proofs.lemmas.Bool.Decides.{nat_tests}
 use Rattle.twp_grid.specs.declared.block.Corner.{Corner}
 use Rattle.twp_grid.specs.declared.block.Corner.TheVariants.{NE, NW, SW, SE}
 use Rattle.twp_grid.specs.Blocks.{quarter_of}
+use Rattle.twp_grid.specs.Lots.{lot_at_position}
+use Rattle.twp_grid.specs.Places.{PLACE_DIGITS, position_along}
+use Rattle.twp_land.specs.WholeLots.{lot_of_place}
+use Rattle.twp_text.specs.CanonicalText.{off_lots}
 use Rattle.twp_grid.specs.Spans.{Span, in_span, Rectangle}
 use Rattle.twp_grid.proofs.CutFacts.{sides_as_asked}
 use Rattle.twp_text.specs.ItemPlaces.{cuts_of}
 use Rattle.twp_text.specs.declared.full_quarters.FullQuarters.{FullQuarters}
-use Rattle.twp_text.specs.WrittenParts.{Part, IsFull}
+use Rattle.twp_text.specs.WrittenParts.{Part, IsInPart, IsFull}
 use Rattle.twp_text.specs.WrittenParts.Part.{square}
 use Rattle.twp_text.specs.Spelling.{IsBlockOf, AreFull, all_of}
 use Rattle.twp_text.proofs.SquareFacts.{quarter_steps, columns_long, rows_long}
@@ -156,3 +160,48 @@ position_full g held quarters full ne nw sw se level are is_ne is_nw is_sw is_se
     each NW = of_all NW full.nw nw is_nw are.1.0
     each SW = of_all SW full.sw sw is_sw are.1.1.0
     each SE = of_all SE full.se se is_se are.1.1.1
+
+-- the places of a position lie in it
+along_position : (start place : ℕ) → start % 4 ≡ 0 → start ≤ place → place < start + 4 → position_along PLACE_DIGITS place ≡ start / 4
+along_position start place aligned least most = omega arith
+
+pub lot_of_position : (section column row place place' : ℕ) → column % 4 ≡ 0 → row % 4 ≡ 0 → column ≤ place → place < column + 4 → row ≤ place' → place' < row + 4
+    → lot_of_place PLACE_DIGITS section place place' ≡ lot_at_position section (column / 4) (row / 4)
+lot_of_position section column row place place' a b least most least' most' =
+    ap (λ n. lot_at_position section n (position_along PLACE_DIGITS place')) (along_position column place a least most)
+    ∙ ap (λ n. lot_at_position section (column / 4) n) (along_position row place' b least' most')
+
+off_free : (held : Bool) (lot : Option ℕ) → is_none lot ≡ true → (held && is_none lot) ≡ held
+off_free true lot is = is
+off_free false lot is = refl
+
+-- off the lots is what is held of a position that is no lot's
+pub position_free : (section column row : ℕ) (held : ℕ → ℕ → Bool) → column % 4 ≡ 0 → row % 4 ≡ 0 → is_none (lot_at_position section (column / 4) (row / 4)) ≡ true
+    → (place place' : ℕ) → column ≤ place → place < column + 4 → row ≤ place' → place' < row + 4 → held place place' ≡ off_lots PLACE_DIGITS section held place place'
+position_free section column row held a b none place place' least most least' most' =
+    sym (off_free (held place place') (lot_of_place PLACE_DIGITS section place place') (rw (lot_of_position section column row place place' a b least most least' most') none))
+
+-- nothing is written of a lot's position
+bounds : (span : Span) (place : ℕ) → span.len ≡ 4 → in_span span place ≡ true → (span.start ≤ place) × (place < span.start + 4)
+bounds span place four is =
+    let both = and_parts (nat_le span.start place) (nat_lt place (span.start + span.len)) is in
+    (grind (arith, nat_tests), grind (arith, nat_tests))
+
+some_not_none : (lot : Option ℕ) (held : Bool) → is_some lot ≡ true → (held && is_none lot) ≡ true → ⊥
+some_not_none None held some is = cc some
+some_not_none (Some n) true some is = cc is
+some_not_none (Some n) false some is = cc is
+
+pub position_lot : (section column row : ℕ) (held : ℕ → ℕ → Bool) (quarters : List Corner) (block : Rectangle) → IsBlockOf PLACE_DIGITS (square quarters) block → block.columns.len ≡ 4 → block.rows.len ≡ 4
+    → column ≡ block.columns.start → row ≡ block.rows.start → column % 4 ≡ 0 → row % 4 ≡ 0 → is_some (lot_at_position section (column / 4) (row / 4)) ≡ true
+    → (place place' : ℕ) → IsInPart PLACE_DIGITS (square quarters) place place' → ¬ (off_lots PLACE_DIGITS section held place place' ≡ true)
+position_lot section column row held quarters block of_square wide high column_is row_is a b some place place' inside is =
+    let both = and_parts (in_span block.columns place) (in_span block.rows place') (block_places_of PLACE_DIGITS (square quarters) block place place' of_square inside) in
+    let across = bounds block.columns place wide both.0 in
+    let upward = bounds block.rows place' high both.1 in
+    let lot_is = lot_of_position section column row place place' a b (rw column_is across.0) (rw column_is across.1) (rw row_is upward.0) (rw row_is upward.1) in
+    some_not_none (lot_of_place PLACE_DIGITS section place place') (held place place') (rw lot_is some) is
+
+pub not_some : (lot : Option ℕ) → is_some lot ≡ false → is_none lot ≡ true
+not_some None none = refl
+not_some (Some n) none = cc none

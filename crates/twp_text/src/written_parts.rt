@@ -129,10 +129,18 @@ fn write_position<L: Land>(
 {
     let column = block.column();
     let row = block.row();
-    let ne = full_places(land, section, column, row + 2);
-    let nw = full_places(land, section, column + 2, row + 2);
-    let sw = full_places(land, section, column + 2, row);
-    let se = full_places(land, section, column, row);
+    let lot = lot_at(
+        section,
+        column / PLACES_TO_POSITION,
+        row / PLACES_TO_POSITION,
+    );
+    if lot.is_some() {
+        return Ok(());
+    }
+    let ne = held_places(land, section, column, row + 2);
+    let nw = held_places(land, section, column + 2, row + 2);
+    let sw = held_places(land, section, column + 2, row);
+    let se = held_places(land, section, column, row);
     let full = FullQuarters {
         ne: ne.all(),
         nw: nw.all(),
@@ -291,42 +299,22 @@ fn full_quarters<L: Land>(land: &L, section: Section, block: Block) -> FullQuart
     }
 }
 
-/// Which of four places are held and of no lot. The south-eastern one is of this column and row.
+/// Which of four places are held. The south-eastern one is of this column and row.
 #[inline(always)]
-fn full_places<L: Land>(land: &L, section: Section, column: u8, row: u8) -> FullQuarters
+fn held_places<L: Land>(land: &L, section: Section, column: u8, row: u8) -> FullQuarters
     requires column { column + 1 < places_across PLACE_DIGITS }
     requires row { row + 1 < places_across PLACE_DIGITS }
-    ensures ne { result.ne
-        ≡ off_lots PLACE_DIGITS section (L.places land.now section) column (row + 1) }
-    ensures nw { result.nw
-        ≡ off_lots PLACE_DIGITS section (L.places land.now section) (column + 1) (row + 1) }
-    ensures sw { result.sw
-        ≡ off_lots PLACE_DIGITS section (L.places land.now section) (column + 1) row }
-    ensures se { result.se
-        ≡ off_lots PLACE_DIGITS section (L.places land.now section) column row }
+    ensures ne { result.ne ≡ L.places land.now section column (row + 1) }
+    ensures nw { result.nw ≡ L.places land.now section (column + 1) (row + 1) }
+    ensures sw { result.sw ≡ L.places land.now section (column + 1) row }
+    ensures se { result.se ≡ L.places land.now section column row }
 {
     FullQuarters {
-        ne: is_held_off_lots(land, section, column, row + 1),
-        nw: is_held_off_lots(land, section, column + 1, row + 1),
-        sw: is_held_off_lots(land, section, column + 1, row),
-        se: is_held_off_lots(land, section, column, row),
+        ne: land.holds(section, column, row + 1),
+        nw: land.holds(section, column + 1, row + 1),
+        sw: land.holds(section, column + 1, row),
+        se: land.holds(section, column, row),
     }
-}
-
-/// Whether a place is held and of no lot.
-#[inline(always)]
-fn is_held_off_lots<L: Land>(land: &L, section: Section, column: u8, row: u8) -> bool
-    requires column { column < places_across PLACE_DIGITS }
-    requires row { row < places_across PLACE_DIGITS }
-    ensures { result ≡ off_lots PLACE_DIGITS section (L.places land.now section) column row }
-{
-    land.holds(section, column, row)
-        && lot_at(
-            section,
-            column / PLACES_TO_POSITION,
-            row / PLACES_TO_POSITION,
-        )
-        .is_none()
 }
 
 /// Whether each place of a quarter of a block is held and none is of a lot.
