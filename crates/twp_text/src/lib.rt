@@ -13,6 +13,7 @@ mod items;
 mod kind;
 pub mod laws;
 mod lexeme;
+mod part_text;
 mod path;
 mod place_fault;
 mod ranges;

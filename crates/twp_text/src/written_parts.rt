@@ -1,23 +1,20 @@
 //! The written parts of a section, quarter by quarter.
-ghost use Rattle.std.specs.Prelude.{◌≡◌, ◌↔◌, ◌+◌, ◌<◌, ◌∷◌, ◌++◌, ℕ, Bool, List, length, Some};
-ghost use Rattle.std.specs.Prelude.{IsTrue, OnOk, MatchOption, codes};
+ghost use Rattle.std.specs.Prelude.{◌≡◌, ◌↔◌, ◌+◌, ◌<◌, ◌∷◌, ℕ, Bool, List, length, IsTrue, OnOk};
 ghost use Rattle.twp_grid.specs.Places.{PLACE_DIGITS, places_across};
 ghost use Rattle.twp_grid.specs.Blocks.{CanQuarter};
 ghost use Rattle.twp_grid.specs.declared.block.Corner.{Corner};
-ghost use Rattle.twp_grid.specs.declared.block.Side.{Side};
-ghost use Rattle.twp_text.specs.declared.item.Step.TheVariants.{Half, Quarter};
-ghost use Rattle.twp_text.specs.WrittenParts.{Part, IsFull, IsOnSide, AreWrittenParts};
+ghost use Rattle.twp_text.specs.WrittenParts.{Part, IsFull, AreWrittenParts};
 ghost use Rattle.twp_text.specs.WrittenParts.Part.{square};
-ghost use Rattle.twp_text.specs.CanonicalText.{step_text, off_lots, HoldsEach};
+ghost use Rattle.twp_text.specs.CanonicalText.{off_lots, HoldsEach};
 ghost use Rattle.twp_text.specs.Spelling.{IsBlockOf, AreOfSquare, AreOfQuarter};
-ghost use Rattle.twp_text.specs.Spelling.{AreWritten, AreFull};
-ghost use Rattle.twp_text.specs.Spelling.{quarter_on, quarters_text, IsOffChosen};
+ghost use Rattle.twp_text.specs.Spelling.{AreWritten, AreFull, quarters_text};
 
 use crate::chain::holds_of_lot;
 use crate::full_quarters::FullQuarters;
+use crate::part_text::{half_at, quarter_step, write_half, write_part};
 use crate::path::Path;
 use std::alloc::AllocError;
-use twp_grid::{Block, Corner, Section, Side, lot_at};
+use twp_grid::{Block, Corner, Section, lot_at};
 use twp_land::Land;
 
 /// How many places a side of a position has.
@@ -219,70 +216,6 @@ fn write_place(
     Ok(())
 }
 
-/// The chosen half that a quarter lies in, if it does.
-#[inline(always)]
-fn half_at(chosen: Option<Side>, corner: Corner) -> Option<Side>
-    ensures { MatchOption result
-        ((side : Side) → chosen ≡ Some side → ¬ IsOnSide side corner)
-        (λ side. (chosen ≡ Some side) × IsOnSide side corner) }
-{
-    let Some(side) = chosen else {
-        return None;
-    };
-    if is_on_side(side, corner) {
-        return Some(side);
-    }
-    None
-}
-
-/// Appends a half behind a comma, where this is the first of its quarters.
-#[inline(always)]
-fn write_half(side: Side, corner: Corner, path: &Path, text: &mut Vec<u8>) -> Result<(), AllocError>
-    ensures first { (quarter_on side ≡ corner) → OnOk result
-        (text.new.items ≡ text.old.items ++ (codes ", " ++ (step_text (Half side) ++ path.now))) }
-    ensures second { ¬ (quarter_on side ≡ corner) → OnOk result (text.new.items ≡ text.old.items) }
-{
-    if first_quarter(side) == corner {
-        return write_part(half_step(side), path, text);
-    }
-    Ok(())
-}
-
-/// Appends a step behind a comma, and its path.
-#[inline(always)]
-fn write_part(step: &[u8], path: &Path, text: &mut Vec<u8>) -> Result<(), AllocError>
-    ensures { OnOk result (text.new.items ≡ text.old.items ++ (step.now ++ path.now)) }
-{
-    text.extend_from_slice(step)?;
-    path.write(text)
-}
-
-/// Whether a square's quarter lies in its half.
-#[inline(always)]
-fn is_on_side(side: Side, corner: Corner) -> bool
-    ensures { IsTrue result ↔ IsOnSide side corner }
-{
-    match side {
-        Side::N => corner == Corner::NE || corner == Corner::NW,
-        Side::S => corner == Corner::SW || corner == Corner::SE,
-        Side::E => corner == Corner::NE || corner == Corner::SE,
-        Side::W => corner == Corner::NW || corner == Corner::SW,
-    }
-}
-
-/// The first of a half's two quarters.
-#[tactic(auto, unfolding(crate::specs::Spelling::quarter_on))]
-fn first_quarter(side: Side) -> Corner
-    ensures { result ≡ quarter_on side }
-{
-    match side {
-        Side::N => Corner::NE,
-        Side::S => Corner::SW,
-        Side::E => Corner::NE,
-        Side::W => Corner::NW,
-    }
-}
-
 /// Which quarters of a square are full.
 #[inline(always)]
 fn full_quarters<L: Land>(land: &L, section: Section, block: Block) -> FullQuarters
@@ -337,32 +270,6 @@ fn is_full<L: Land>(land: &L, section: Section, block: Block) -> bool
         (off_lots PLACE_DIGITS section (L.places land.now section)) part) }
 {
     land.full(section, block) && !holds_of_lot(section, block)
-}
-
-/// The half towards a side, as it is written behind a comma.
-#[inline(always)]
-fn half_step(side: Side) -> &'static [u8]
-    ensures { result.now ≡ codes ", " ++ step_text (Half side) }
-{
-    match side {
-        Side::N => b", N1/2",
-        Side::S => b", S1/2",
-        Side::E => b", E1/2",
-        Side::W => b", W1/2",
-    }
-}
-
-/// The quarter at a corner, as it is written behind a comma.
-#[inline(always)]
-fn quarter_step(corner: Corner) -> &'static [u8]
-    ensures { result.now ≡ codes ", " ++ step_text (Quarter corner) }
-{
-    match corner {
-        Corner::NE => b", NE1/4",
-        Corner::NW => b", NW1/4",
-        Corner::SW => b", SW1/4",
-        Corner::SE => b", SE1/4",
-    }
 }
 
 #[cfg(test)]

@@ -2,6 +2,7 @@ use super::*;
 use std::alloc::Global;
 use std::process::Abort;
 use std::test::Fail;
+use twp_grid::Side;
 use twp_land::Grid;
 
 /// The parts that are written of blocks of a section.
