@@ -52,7 +52,7 @@ under_place g parent (first ∷ more) column row (inr later) fits there =
     under_place g parent more column row later (omega arith) (parent_of g first more column row fits there).1
 
 -- a square in a full square is full
-full_under : (g : ℕ) (held : ℕ → ℕ → Bool) (parent quarters : List Corner) → IsUnder parent quarters → length quarters ≤ g → IsFull g held (square parent) → IsFull g held (square quarters)
+pub full_under : (g : ℕ) (held : ℕ → ℕ → Bool) (parent quarters : List Corner) → IsUnder parent quarters → length quarters ≤ g → IsFull g held (square parent) → IsFull g held (square quarters)
 full_under g held parent quarters under fits full = record {
   within = square_within g quarters fits;
   each = λ column row inside.

@@ -90,25 +90,25 @@ is_full g held part = elim (is_within g part) [
 ]
 
 -- the chosen half of a square, or that no half is full
-below_south : (P : Side → Type 0) → P N → (side : Side) → preference side < 1 → P side
+pub below_south : (P : Side → Type 0) → P N → (side : Side) → preference side < 1 → P side
 below_south P n N less = n
 below_south P n S less = absurd (omega arith)
 below_south P n E less = absurd (omega arith)
 below_south P n W less = absurd (omega arith)
 
-below_east : (P : Side → Type 0) → P N → P S → (side : Side) → preference side < 2 → P side
+pub below_east : (P : Side → Type 0) → P N → P S → (side : Side) → preference side < 2 → P side
 below_east P n s N less = n
 below_east P n s S less = s
 below_east P n s E less = absurd (omega arith)
 below_east P n s W less = absurd (omega arith)
 
-below_west : (P : Side → Type 0) → P N → P S → P E → (side : Side) → preference side < 3 → P side
+pub below_west : (P : Side → Type 0) → P N → P S → P E → (side : Side) → preference side < 3 → P side
 below_west P n s e N less = n
 below_west P n s e S less = s
 below_west P n s e E less = e
 below_west P n s e W less = absurd (omega arith)
 
-each_side : (P : Side → Type 0) → P N → P S → P E → P W → (side : Side) → P side
+pub each_side : (P : Side → Type 0) → P N → P S → P E → P W → (side : Side) → P side
 each_side P n s e w N = n
 each_side P n s e w S = s
 each_side P n s e w E = e

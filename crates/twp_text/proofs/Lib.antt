@@ -26,6 +26,8 @@ pub mod LandLots
 pub mod SquareFacts
 pub mod SquarePlaces
 pub mod HalfPlaces
+pub mod HalfQuarters
+pub mod PathFacts
 pub mod FullParts
 pub mod WrittenFacts
 pub mod PartOrder
@@ -33,6 +35,7 @@ pub mod FinerParts
 pub mod Descent
 pub mod DescentLists
 pub mod SquareBlocks
+pub mod PlaceSquares
 pub mod WritingFacts
 pub mod PartLaws
 pub mod CanonicalFacts

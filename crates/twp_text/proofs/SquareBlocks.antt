@@ -22,12 +22,12 @@ use Rattle.twp_text.proofs.SquareFacts.{quarter_steps, columns_long, rows_long, 
 use Rattle.twp_text.proofs.SquarePlaces.{path, up, up_all, in_square, one_place}
 
 -- the places of a part's block
-block_places_of : (g : ℕ) (part : Part) (block : Rectangle) (column row : ℕ) → IsBlockOf g part block → IsInPart g part column row → in_rectangle block column row ≡ true
+pub block_places_of : (g : ℕ) (part : Part) (block : Rectangle) (column row : ℕ) → IsBlockOf g part block → IsInPart g part column row → in_rectangle block column row ≡ true
 block_places_of g part block column row of_part there =
     ap (λ b. in_rectangle b column row) of_part.block_is
     ∙ held_as_asked g (cuts_of (steps_of_part part)) of_part.within column row there.place ∙ there.asked
 
-in_block : (g : ℕ) (part : Part) (block : Rectangle) (column row : ℕ) → IsBlockOf g part block → in_rectangle block column row ≡ true → IsInPart g part column row
+pub in_block : (g : ℕ) (part : Part) (block : Rectangle) (column row : ℕ) → IsBlockOf g part block → in_rectangle block column row ≡ true → IsInPart g part column row
 in_block g part block column row of_part is = elim (cases_Bool (is_place g column row)) [
   | inl place ↦
       let there = inside g column row place in

@@ -75,20 +75,24 @@ pub choice_is : (g : ℕ) (held : ℕ → ℕ → Bool) (quarters : List Corner)
 choice_is g held quarters choice side is same = subst (λ c. IsChoice g held quarters c) same is
 
 -- a full quarter, and one that isn't
-pub full_written : {T E : Type 0} (result : Result T E) (g : ℕ) (held : ℕ → ℕ → Bool) (quarters : List Corner) (corner : Corner) (path inner old new : List ℕ)
-    → path ≡ quarters_text quarters → inner ≡ step_text (Quarter corner) ++ path → ¬ IsFull g held (square quarters) → IsOffChosen g held quarters corner → IsFull g held (square (corner ∷ quarters))
-    → OnOk result (new ≡ old ++ (codes ", " ++ ([] ++ inner))) → OnOk result (AreWritten (AreOfQuarter g held quarters corner) old new)
-full_written result g held quarters corner path inner old new path_is inner_is short off full ok =
-    on_ok result (new ≡ old ++ (codes ", " ++ ([] ++ inner))) (AreWritten (AreOfQuarter g held quarters corner) old new) ok (λ is.
+pub full_written : {T E : Type 0} (result : Result T E) (g : ℕ) (held : ℕ → ℕ → Bool) (quarters : List Corner) (corner : Corner) (step path old new : List ℕ)
+    → path ≡ quarters_text quarters → step ≡ codes ", " ++ step_text (Quarter corner) → ¬ IsFull g held (square quarters) → IsOffChosen g held quarters corner → IsFull g held (square (corner ∷ quarters))
+    → OnOk result (new ≡ old ++ (step ++ path)) → OnOk result (AreWritten (AreOfQuarter g held quarters corner) old new)
+full_written result g held quarters corner step path old new path_is step_is short off full ok =
+    on_ok result (new ≡ old ++ (step ++ path)) (AreWritten (AreOfQuarter g held quarters corner) old new) ok (λ is.
     one_written (AreOfQuarter g held quarters corner) (square (corner ∷ quarters)) old new
     (of_quarter g held quarters corner (square (corner ∷ quarters) ∷ []) off (of_written g held (corner ∷ quarters) (full, short, off)))
-    (is ∙ ap (λ p. old ++ (codes ", " ++ p)) (inner_is ∙ ap (λ p. step_text (Quarter corner) ++ p) path_is)))
+    (is ∙ ap (λ s. old ++ (s ++ path)) step_is ∙ ap (λ p. old ++ (codes ", " ++ (step_text (Quarter corner) ++ p))) path_is))
 
 pub inner_written : {T E : Type 0} (result : Result T E) (g : ℕ) (held : ℕ → ℕ → Bool) (quarters : List Corner) (corner : Corner) (old new : List ℕ) → IsOffChosen g held quarters corner
     → OnOk result (AreWritten (AreOfSquare g held (corner ∷ quarters)) old new) → OnOk result (AreWritten (AreOfQuarter g held quarters corner) old new)
 inner_written result g held quarters corner old new off ok =
     on_ok result (AreWritten (AreOfSquare g held (corner ∷ quarters)) old new) (AreWritten (AreOfQuarter g held quarters corner) old new) ok (λ is.
     record { parts = is.parts; are = of_quarter g held quarters corner is.parts off is.are; text_is = is.text_is })
+
+pub none_written : (g : ℕ) (held : ℕ → ℕ → Bool) (quarters : List Corner) (corner : Corner) (text : List ℕ) → IsOffChosen g held quarters corner
+    → AreOfSquare g held (corner ∷ quarters) [] → AreWritten (AreOfQuarter g held quarters corner) text text
+none_written g held quarters corner text off are = written_none (AreOfQuarter g held quarters corner) text (of_quarter g held quarters corner [] off are)
 
 -- the four quarters, one behind the other
 pub quarters_written : {T E : Type 0} (result : Result T E) (g : ℕ) (held : ℕ → ℕ → Bool) (quarters : List Corner) (old ne nw sw se : List ℕ) → length quarters < g → ¬ IsFull g held (square quarters)

@@ -1,14 +1,15 @@
 -- How the parts of a section are written by descent from it: quarter by quarter. No public promise speaks
 -- of it; proofs/DescentLists shows that they are the section's written parts.
-use Rattle.std.specs.Prelude.{◌≡◌, ◌⊎◌, ℕ, Bool, List, [], ◌∷◌, ◌++◌, Option, Some, None, map, codes}
+use Rattle.std.specs.Prelude.{◌≡◌, ◌⊎◌, ◌↔◌, ◌&&◌, if◌then◌else◌, ℕ, Bool, IsTrue, List, [], ◌∷◌, ◌++◌, Option, Some, None, map, codes}
 use Rattle.std.specs.List.{flat_map}
 use Rattle.twp_grid.specs.Cuts.{AreWithin, reached}
 use Rattle.twp_grid.specs.Spans.{Rectangle}
 use Rattle.twp_grid.specs.declared.block.Side.{Side}
 use Rattle.twp_grid.specs.declared.block.Side.TheVariants.{N, S, E, W}
 use Rattle.twp_grid.specs.declared.block.Corner.{Corner}
-use Rattle.twp_grid.specs.declared.block.Corner.TheVariants.{NE, NW, SW}
+use Rattle.twp_grid.specs.declared.block.Corner.TheVariants.{NE, NW, SW, SE}
 use Rattle.twp_text.specs.declared.item.Step.TheVariants.{Quarter}
+use Rattle.twp_text.specs.declared.full_quarters.FullQuarters.{FullQuarters}
 use Rattle.twp_text.specs.ItemPlaces.{cuts_of}
 use Rattle.twp_text.specs.Listing.{AreListed}
 use Rattle.twp_text.specs.WrittenParts.{Part, steps_of_part, IsFull, IsChosenHalf, IsOnSide, IsWritten, StandsAhead}
@@ -59,10 +60,39 @@ abbrev pub IsChoice : ℕ → (ℕ → ℕ → Bool) → List Corner → Option 
 IsChoice g held quarters (Some side) = IsChosenHalf g held quarters side
 IsChoice g held quarters None = (side : Side) → ¬ IsFull g held (half_of_square side quarters)
 
+-- the quarter at this corner is told to be full
+abbrev pub full_at : FullQuarters → Corner → Bool
+full_at full NE = full.ne
+full_at full NW = full.nw
+full_at full SW = full.sw
+full_at full SE = full.se
+
+-- of a square, these quarters are full and the others aren't
+abbrev pub AreFull : ℕ → (ℕ → ℕ → Bool) → List Corner → FullQuarters → Type 0
+AreFull g held quarters full =
+    (corner : Corner) → IsTrue (full_at full corner) ↔ IsFull g held (square (corner ∷ quarters))
+
+-- all four are told to be full
+abbrev pub all_of : FullQuarters → Bool
+all_of full = full.ne && (full.nw && (full.sw && full.se))
+
+-- the first half of which both quarters are full
+abbrev pub chosen_of : FullQuarters → Option Side
+chosen_of full =
+    if full.ne && full.nw then Some N
+    else if full.sw && full.se then Some S
+    else if full.ne && full.se then Some E
+    else if full.nw && full.sw then Some W
+    else None
+
 -- the square's quarter doesn't lie in its chosen half
 abbrev pub IsOffChosen : ℕ → (ℕ → ℕ → Bool) → List Corner → Corner → Type 0
 IsOffChosen g held quarters corner =
     (side : Side) → IsChosenHalf g held quarters side → ¬ IsOnSide side corner
+
+-- the bytes of the longest path, of as many quarters as places have digits
+abbrev pub PATH_MOST : ℕ
+PATH_MOST = 20
 
 -- quarters as they are written behind a smaller part
 abbrev pub quarters_text : List Corner → List ℕ

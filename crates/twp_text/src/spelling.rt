@@ -130,7 +130,7 @@ fn write_section<L: Land>(
         return write_all(text);
     }
     write_held_lots(alloc, land, section, text)?;
-    write_parts(alloc, land, section, text)
+    write_parts(land, section, text)
 }
 
 /// Appends the list of a section that is held whole, behind a comma.

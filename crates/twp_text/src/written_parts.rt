@@ -1,26 +1,28 @@
 //! The written parts of a section, quarter by quarter.
-ghost use Rattle.std.specs.Prelude.{◌≡◌, ◌↔◌, ◌++◌, ℕ, List, Some, IsTrue, OnOk, IfOk, MatchOption, codes};
-ghost use Rattle.twp_grid.specs.Places.{PLACE_DIGITS};
+ghost use Rattle.std.specs.Prelude.{◌≡◌, ◌↔◌, ◌+◌, ◌<◌, ◌∷◌, ℕ, Bool, List, length, IsTrue, OnOk};
+ghost use Rattle.twp_grid.specs.Places.{PLACE_DIGITS, places_across};
 ghost use Rattle.twp_grid.specs.Blocks.{CanQuarter};
 ghost use Rattle.twp_grid.specs.declared.block.Corner.{Corner};
-ghost use Rattle.twp_grid.specs.declared.block.Side.{Side};
-ghost use Rattle.twp_text.specs.declared.item.Step.TheVariants.{Half, Quarter};
-ghost use Rattle.twp_text.specs.WrittenParts.{Part, IsFull, IsOnSide, AreWrittenParts};
-ghost use Rattle.twp_text.specs.WrittenParts.Part.{square, half_of_square};
-ghost use Rattle.twp_text.specs.CanonicalText.{step_text, off_lots, HoldsEach};
-ghost use Rattle.twp_text.specs.Spelling.{IsBlockOf, IsChoice, AreOfSquare, AreOfQuarter};
-ghost use Rattle.twp_text.specs.Spelling.{AreWritten};
-ghost use Rattle.twp_text.specs.Spelling.{quarter_on, quarters_text, IsOffChosen};
+ghost use Rattle.twp_text.specs.WrittenParts.{Part, IsFull, AreWrittenParts};
+ghost use Rattle.twp_text.specs.WrittenParts.Part.{square};
+ghost use Rattle.twp_text.specs.CanonicalText.{off_lots, HoldsEach};
+ghost use Rattle.twp_text.specs.Spelling.{IsBlockOf, AreOfSquare, AreOfQuarter};
+ghost use Rattle.twp_text.specs.Spelling.{AreWritten, AreFull, quarters_text};
 
 use crate::chain::holds_of_lot;
-use std::alloc::{AllocError, Global};
-use twp_grid::{Block, Corner, Section, Side};
+use crate::full_quarters::FullQuarters;
+use crate::part_text::{half_at, quarter_step, write_half, write_part};
+use crate::path::Path;
+use std::alloc::AllocError;
+use twp_grid::{Block, Corner, Section, lot_at};
 use twp_land::Land;
+
+/// How many places a side of a position has.
+const PLACES_TO_POSITION: u8 = 4;
 
 /// Appends the written parts of what a land holds of a section off its lots, each behind a comma.
 /// The section isn't held whole.
 pub(crate) fn write_parts<L: Land>(
-    alloc: Global,
     land: &L,
     section: Section,
     text: &mut Vec<u8>,
@@ -30,20 +32,19 @@ pub(crate) fn write_parts<L: Land>(
         (off_lots PLACE_DIGITS section (L.places land.now section)))
         text.old.items text.new.items) }
 {
-    write_square(alloc, land, section, Block::whole(), b"", text)
+    write_square(land, section, Block::whole(), &Path::whole(), text)
 }
 
-/// Appends the written parts of a square that isn't full, each behind a comma. The path is the
-/// square's quarters as they are written.
+/// Appends the written parts of a square that isn't full, each behind a comma.
 #[cycle(descent)]
 fn write_square<L: Land>(
-    alloc: Global,
     land: &L,
     section: Section,
     block: Block,
-    path: &[u8],
+    path: &Path,
     text: &mut Vec<u8>,
 ) -> Result<(), AllocError>
+    requires { CanQuarter block }
     ensures { (quarters : List Corner) → IsBlockOf PLACE_DIGITS (square quarters) block
         → path.now ≡ quarters_text quarters
         → ¬ IsFull PLACE_DIGITS (off_lots PLACE_DIGITS section (L.places land.now section))
@@ -52,32 +53,29 @@ fn write_square<L: Land>(
         (off_lots PLACE_DIGITS section (L.places land.now section)) quarters)
         text.old.items text.new.items) }
 {
-    if block.width() == 1 {
-        return Ok(());
-    }
-    if block.height() == 1 {
-        return Ok(());
+    if block.width() == PLACES_TO_POSITION && block.height() == PLACES_TO_POSITION {
+        return write_position(land, section, block, path, text);
     }
     if !land.meets(section, block) {
         return Ok(());
     }
-    let chosen = chosen_half(land, section, block);
-    write_quarter(alloc, land, section, block, chosen, Corner::NE, path, text)?;
-    write_quarter(alloc, land, section, block, chosen, Corner::NW, path, text)?;
-    write_quarter(alloc, land, section, block, chosen, Corner::SW, path, text)?;
-    write_quarter(alloc, land, section, block, chosen, Corner::SE, path, text)
+    let full = full_quarters(land, section, block);
+    write_quarter(land, section, block, full, Corner::NE, path, text)?;
+    write_quarter(land, section, block, full, Corner::NW, path, text)?;
+    write_quarter(land, section, block, full, Corner::SW, path, text)?;
+    write_quarter(land, section, block, full, Corner::SE, path, text)
 }
 
 /// Appends the written parts that begin in a quarter of a square that isn't full.
 #[cycle(descent)]
+#[inline(always)]
 fn write_quarter<L: Land>(
-    alloc: Global,
     land: &L,
     section: Section,
     block: Block,
-    chosen: Option<Side>,
+    full: FullQuarters,
     corner: Corner,
-    path: &[u8],
+    path: &Path,
     text: &mut Vec<u8>,
 ) -> Result<(), AllocError>
     requires { CanQuarter block }
@@ -85,187 +83,193 @@ fn write_quarter<L: Land>(
         → path.now ≡ quarters_text quarters
         → ¬ IsFull PLACE_DIGITS (off_lots PLACE_DIGITS section (L.places land.now section))
         (square quarters)
-        → IsChoice PLACE_DIGITS (off_lots PLACE_DIGITS section (L.places land.now section))
-        quarters chosen
+        → AreFull PLACE_DIGITS (off_lots PLACE_DIGITS section (L.places land.now section))
+        quarters full
         → OnOk result (AreWritten (AreOfQuarter PLACE_DIGITS
         (off_lots PLACE_DIGITS section (L.places land.now section)) quarters corner)
         text.old.items text.new.items) }
 {
-    match half_at(chosen, corner) {
-        Some(side) => write_half(side, corner, path, text),
-        None => write_inner(alloc, land, section, block, corner, path, text),
+    if let Some(side) = half_at(full.chosen_half(), corner) {
+        return write_half(side, corner, path, text);
     }
-}
-
-/// Appends the written parts of a quarter that doesn't lie in the chosen half of its square.
-#[cycle(descent)]
-fn write_inner<L: Land>(
-    alloc: Global,
-    land: &L,
-    section: Section,
-    block: Block,
-    corner: Corner,
-    path: &[u8],
-    text: &mut Vec<u8>,
-) -> Result<(), AllocError>
-    requires { CanQuarter block }
-    ensures { (quarters : List Corner) → IsBlockOf PLACE_DIGITS (square quarters) block
-        → path.now ≡ quarters_text quarters
-        → ¬ IsFull PLACE_DIGITS (off_lots PLACE_DIGITS section (L.places land.now section))
-        (square quarters)
-        → IsOffChosen PLACE_DIGITS (off_lots PLACE_DIGITS section (L.places land.now section))
-        quarters corner
-        → OnOk result (AreWritten (AreOfQuarter PLACE_DIGITS
-        (off_lots PLACE_DIGITS section (L.places land.now section)) quarters corner)
-        text.old.items text.new.items) }
-{
+    if full.at(corner) {
+        return write_part(quarter_step(corner), path, text);
+    }
     let quarter = block.quarter(corner).unwrap();
-    let inner = quarter_path(alloc, corner, path)?;
-    if is_full(land, section, quarter) {
-        return write_part(b"", &inner, text);
+    if quarter.width() == 1 {
+        return Ok(());
     }
-    write_square(alloc, land, section, quarter, &inner, text)
+    if quarter.height() == 1 {
+        return Ok(());
+    }
+    write_square(land, section, quarter, &path.quarter(corner), text)
 }
 
-/// The chosen half that a quarter lies in, if it does.
-fn half_at(chosen: Option<Side>, corner: Corner) -> Option<Side>
-    ensures { MatchOption result
-        ((side : Side) → chosen ≡ Some side → ¬ IsOnSide side corner)
-        (λ side. (chosen ≡ Some side) × IsOnSide side corner) }
+/// Appends the written parts of a position that isn't full, of which each place is asked for.
+#[inline(never)]
+fn write_position<L: Land>(
+    land: &L,
+    section: Section,
+    block: Block,
+    path: &Path,
+    text: &mut Vec<u8>,
+) -> Result<(), AllocError>
+    requires width { block.columns.len ≡ 4 }
+    requires height { block.rows.len ≡ 4 }
+    ensures { (quarters : List Corner) → IsBlockOf PLACE_DIGITS (square quarters) block
+        → path.now ≡ quarters_text quarters
+        → ¬ IsFull PLACE_DIGITS (off_lots PLACE_DIGITS section (L.places land.now section))
+        (square quarters)
+        → OnOk result (AreWritten (AreOfSquare PLACE_DIGITS
+        (off_lots PLACE_DIGITS section (L.places land.now section)) quarters)
+        text.old.items text.new.items) }
 {
-    let Some(side) = chosen else {
-        return None;
+    let column = block.column();
+    let row = block.row();
+    let lot = lot_at(
+        section,
+        column / PLACES_TO_POSITION,
+        row / PLACES_TO_POSITION,
+    );
+    if lot.is_some() {
+        return Ok(());
+    }
+    let ne = held_places(land, section, column, row + 2);
+    let nw = held_places(land, section, column + 2, row + 2);
+    let sw = held_places(land, section, column + 2, row);
+    let se = held_places(land, section, column, row);
+    let full = FullQuarters {
+        ne: ne.all(),
+        nw: nw.all(),
+        sw: sw.all(),
+        se: se.all(),
     };
-    if is_on_side(side, corner) {
-        return Some(side);
-    }
-    None
+    write_four(full, ne, Corner::NE, path, text)?;
+    write_four(full, nw, Corner::NW, path, text)?;
+    write_four(full, sw, Corner::SW, path, text)?;
+    write_four(full, se, Corner::SE, path, text)
 }
 
-/// Appends a half behind a comma, where this is the first of its quarters.
-fn write_half(side: Side, corner: Corner, path: &[u8], text: &mut Vec<u8>) -> Result<(), AllocError>
-    ensures first { (quarter_on side ≡ corner) → OnOk result
-        (text.new.items ≡ text.old.items ++ (codes ", " ++ (step_text (Half side) ++ path.now))) }
-    ensures second { ¬ (quarter_on side ≡ corner) → OnOk result (text.new.items ≡ text.old.items) }
+/// Appends the written parts that begin in a quarter of such a position, which has four places.
+#[inline(always)]
+fn write_four(
+    full: FullQuarters,
+    places: FullQuarters,
+    corner: Corner,
+    path: &Path,
+    text: &mut Vec<u8>,
+) -> Result<(), AllocError>
+    ensures { (held : ℕ → ℕ → Bool) (quarters : List Corner) → length quarters + 2 ≡ PLACE_DIGITS
+        → path.now ≡ quarters_text quarters
+        → ¬ IsFull PLACE_DIGITS held (square quarters)
+        → AreFull PLACE_DIGITS held quarters full
+        → AreFull PLACE_DIGITS held (corner ∷ quarters) places
+        → OnOk result (AreWritten (AreOfQuarter PLACE_DIGITS held quarters corner)
+        text.old.items text.new.items) }
 {
-    if first_quarter(side) == corner {
-        return write_part(half_step(side), path, text);
+    if let Some(side) = half_at(full.chosen_half(), corner) {
+        return write_half(side, corner, path, text);
+    }
+    if full.at(corner) {
+        return write_part(quarter_step(corner), path, text);
+    }
+    write_places(places, &path.quarter(corner), text)
+}
+
+/// Appends the written parts of a square of four places that isn't full, each behind a comma.
+#[inline(never)]
+fn write_places(full: FullQuarters, path: &Path, text: &mut Vec<u8>) -> Result<(), AllocError>
+    ensures { (held : ℕ → ℕ → Bool) (quarters : List Corner) → length quarters + 1 ≡ PLACE_DIGITS
+        → path.now ≡ quarters_text quarters
+        → ¬ IsFull PLACE_DIGITS held (square quarters)
+        → AreFull PLACE_DIGITS held quarters full
+        → OnOk result (AreWritten (AreOfSquare PLACE_DIGITS held quarters)
+        text.old.items text.new.items) }
+{
+    write_place(full, Corner::NE, path, text)?;
+    write_place(full, Corner::NW, path, text)?;
+    write_place(full, Corner::SW, path, text)?;
+    write_place(full, Corner::SE, path, text)
+}
+
+/// Appends the written part that begins in a place of such a square, if one does.
+#[inline(always)]
+fn write_place(
+    full: FullQuarters,
+    corner: Corner,
+    path: &Path,
+    text: &mut Vec<u8>,
+) -> Result<(), AllocError>
+    ensures { (held : ℕ → ℕ → Bool) (quarters : List Corner) → length quarters + 1 ≡ PLACE_DIGITS
+        → path.now ≡ quarters_text quarters
+        → ¬ IsFull PLACE_DIGITS held (square quarters)
+        → AreFull PLACE_DIGITS held quarters full
+        → OnOk result (AreWritten (AreOfQuarter PLACE_DIGITS held quarters corner)
+        text.old.items text.new.items) }
+{
+    if let Some(side) = half_at(full.chosen_half(), corner) {
+        return write_half(side, corner, path, text);
+    }
+    if full.at(corner) {
+        return write_part(quarter_step(corner), path, text);
     }
     Ok(())
 }
 
-/// Appends a comma, a step and its path.
-fn write_part(step: &[u8], path: &[u8], text: &mut Vec<u8>) -> Result<(), AllocError>
-    ensures { OnOk result
-        (text.new.items ≡ text.old.items ++ (codes ", " ++ (step.now ++ path.now))) }
-{
-    text.extend_from_slice(b", ")?;
-    text.extend_from_slice(step)?;
-    text.extend_from_slice(path)
-}
-
-/// The path of a square's quarter.
-fn quarter_path(alloc: Global, corner: Corner, path: &[u8]) -> Result<Vec<u8>, AllocError>
-    ensures { IfOk result (λ inner. inner.items ≡ step_text (Quarter corner) ++ path.now) }
-{
-    let mut inner = Vec::new(alloc);
-    inner.extend_from_slice(quarter_step(corner))?;
-    inner.extend_from_slice(path)?;
-    Ok(inner)
-}
-
-/// Whether a square's quarter lies in its half.
-fn is_on_side(side: Side, corner: Corner) -> bool
-    ensures { IsTrue result ↔ IsOnSide side corner }
-{
-    match side {
-        Side::N => corner == Corner::NE || corner == Corner::NW,
-        Side::S => corner == Corner::SW || corner == Corner::SE,
-        Side::E => corner == Corner::NE || corner == Corner::SE,
-        Side::W => corner == Corner::NW || corner == Corner::SW,
-    }
-}
-
-/// The first of a half's two quarters.
-#[tactic(auto, unfolding(crate::specs::Spelling::quarter_on))]
-fn first_quarter(side: Side) -> Corner
-    ensures { result ≡ quarter_on side }
-{
-    match side {
-        Side::N => Corner::NE,
-        Side::S => Corner::SW,
-        Side::E => Corner::NE,
-        Side::W => Corner::NW,
-    }
-}
-
-/// The half of a square that is written as one part: the first in the north, south, east and west
-/// of which each place is held and none is of a lot.
-fn chosen_half<L: Land>(land: &L, section: Section, block: Block) -> Option<Side>
+/// Which quarters of a square are full.
+#[inline(always)]
+fn full_quarters<L: Land>(land: &L, section: Section, block: Block) -> FullQuarters
     requires { CanQuarter block }
     ensures { (quarters : List Corner) → IsBlockOf PLACE_DIGITS (square quarters) block
-        → ¬ IsFull PLACE_DIGITS (off_lots PLACE_DIGITS section (L.places land.now section))
-        (square quarters)
-        → IsChoice PLACE_DIGITS (off_lots PLACE_DIGITS section (L.places land.now section))
+        → AreFull PLACE_DIGITS (off_lots PLACE_DIGITS section (L.places land.now section))
         quarters result }
 {
-    if half_is_full(land, section, block, Side::N) {
-        return Some(Side::N);
+    FullQuarters {
+        ne: quarter_is_full(land, section, block, Corner::NE),
+        nw: quarter_is_full(land, section, block, Corner::NW),
+        sw: quarter_is_full(land, section, block, Corner::SW),
+        se: quarter_is_full(land, section, block, Corner::SE),
     }
-    if half_is_full(land, section, block, Side::S) {
-        return Some(Side::S);
-    }
-    if half_is_full(land, section, block, Side::E) {
-        return Some(Side::E);
-    }
-    if half_is_full(land, section, block, Side::W) {
-        return Some(Side::W);
-    }
-    None
 }
 
-/// Whether each place of a half of a block is held and none is of a lot.
-fn half_is_full<L: Land>(land: &L, section: Section, block: Block, side: Side) -> bool
+/// Which of four places are held. The south-eastern one is of this column and row.
+#[inline(always)]
+fn held_places<L: Land>(land: &L, section: Section, column: u8, row: u8) -> FullQuarters
+    requires column { column + 1 < places_across PLACE_DIGITS }
+    requires row { row + 1 < places_across PLACE_DIGITS }
+    ensures ne { result.ne ≡ L.places land.now section column (row + 1) }
+    ensures nw { result.nw ≡ L.places land.now section (column + 1) (row + 1) }
+    ensures sw { result.sw ≡ L.places land.now section (column + 1) row }
+    ensures se { result.se ≡ L.places land.now section column row }
+{
+    FullQuarters {
+        ne: land.holds(section, column, row + 1),
+        nw: land.holds(section, column + 1, row + 1),
+        sw: land.holds(section, column + 1, row),
+        se: land.holds(section, column, row),
+    }
+}
+
+/// Whether each place of a quarter of a block is held and none is of a lot.
+#[inline(always)]
+fn quarter_is_full<L: Land>(land: &L, section: Section, block: Block, corner: Corner) -> bool
     requires { CanQuarter block }
     ensures { (quarters : List Corner) → IsBlockOf PLACE_DIGITS (square quarters) block
         → (IsTrue result ↔ IsFull PLACE_DIGITS
         (off_lots PLACE_DIGITS section (L.places land.now section))
-        (half_of_square side quarters)) }
+        (square (corner ∷ quarters))) }
 {
-    is_full(land, section, block.half(side).unwrap())
+    is_full(land, section, block.quarter(corner).unwrap())
 }
 
 /// Whether each place of a block is held and none is of a lot.
+#[inline(always)]
 fn is_full<L: Land>(land: &L, section: Section, block: Block) -> bool
     ensures { (part : Part) → IsBlockOf PLACE_DIGITS part block
         → (IsTrue result ↔ IsFull PLACE_DIGITS
         (off_lots PLACE_DIGITS section (L.places land.now section)) part) }
 {
     land.full(section, block) && !holds_of_lot(section, block)
-}
-
-/// The half towards a side, as it is written.
-fn half_step(side: Side) -> &'static [u8]
-    ensures { result.now ≡ step_text (Half side) }
-{
-    match side {
-        Side::N => b"N1/2",
-        Side::S => b"S1/2",
-        Side::E => b"E1/2",
-        Side::W => b"W1/2",
-    }
-}
-
-/// The quarter at a corner, as it is written.
-fn quarter_step(corner: Corner) -> &'static [u8]
-    ensures { result.now ≡ step_text (Quarter corner) }
-{
-    match corner {
-        Corner::NE => b"NE1/4",
-        Corner::NW => b"NW1/4",
-        Corner::SW => b"SW1/4",
-        Corner::SE => b"SE1/4",
-    }
 }
 
 #[cfg(test)]

@@ -1,6 +1,8 @@
 use super::*;
+use std::alloc::Global;
 use std::process::Abort;
 use std::test::Fail;
+use twp_grid::Side;
 use twp_land::Grid;
 
 /// The parts that are written of blocks of a section.
@@ -11,7 +13,7 @@ fn parts(alloc: Global, number: u8, blocks: &[Block]) -> Result<Vec<u8>, Fail> {
         land.add(section, *block);
     }
     let mut text = Vec::new(alloc);
-    write_parts(alloc, &land, section, &mut text)?;
+    write_parts(&land, section, &mut text)?;
     Ok(text)
 }
 

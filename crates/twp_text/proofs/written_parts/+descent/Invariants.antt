@@ -3,10 +3,7 @@ use Rattle.std.proofs.Common.{◌*◌, ◌-◌}
 use Rattle.twp_text.proofs.written_parts.+descent.Given as goal
 
 abbrev pub decreases-write_square : goal.decreases-write_square
-decreases-write_square g l = 3 * l.block.columns.len
+decreases-write_square g l = 2 * l.block.columns.len
 
 abbrev pub decreases-write_quarter : goal.decreases-write_quarter
-decreases-write_quarter g l = 3 * l.block.columns.len - 1
-
-abbrev pub decreases-write_inner : goal.decreases-write_inner
-decreases-write_inner g l = 3 * l.block.columns.len - 2
+decreases-write_quarter g l = 2 * l.block.columns.len - 1
