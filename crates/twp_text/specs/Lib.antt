@@ -15,5 +15,6 @@ pub mod SpellingLaws
 pub mod Taking
 pub mod Cutting
 pub mod Machine
+pub mod Passing
 pub mod Laws
 pub mod ReadBack

@@ -12,6 +12,7 @@ mod items;
 mod kind;
 pub mod laws;
 mod lexeme;
+mod passing;
 mod place_fault;
 mod ranges;
 mod resolving;
