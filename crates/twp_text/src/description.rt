@@ -71,6 +71,7 @@ impl Description {
             };
             items.take(alloc, state, token.kind, token.at as u32)?;
             let reached = behind_fraction(text, token.at + token.text.len(), behind);
+            let reached = items.take_steps(text, reached)?;
             state = reached.state;
             at = reached.at;
         }
