@@ -75,16 +75,11 @@ pub fn step_at(text: &[u8], at: usize) -> Option<UsualStep>
     let Some(first) = letter_at(text, at, 0) else {
         return None;
     };
-    if goes_on(text, at + 1, b"1/2") {
-        return half(first);
+    match letter_at(text, at, 1) {
+        Some(second) if goes_on(text, at + 2, b"1/4") => quarter(first, second),
+        None if goes_on(text, at + 1, b"1/2") => half(first),
+        _ => None,
     }
-    let Some(second) = letter_at(text, at, 1) else {
-        return None;
-    };
-    if goes_on(text, at + 2, b"1/4") {
-        return quarter(first, second);
-    }
-    None
 }
 
 /// The half that a small letter begins.
