@@ -9,6 +9,7 @@ pub mod WordFacts
 pub mod Cuts
 pub mod TokenFacts
 pub mod ReaderFacts
+pub mod PassingFacts
 pub mod OneAnswer
 pub mod StepFacts
 pub mod LetterFacts

@@ -13,11 +13,10 @@ use Rattle.twp_grid.specs.declared.refusal.Refusal.{Refusal}
 use Rattle.twp_text.specs.Tokens.{Token}
 use Rattle.twp_text.specs.Grammar.{class_of}
 use Rattle.twp_text.specs.Sentences.{HasItems, IsSentence, IsFault}
-use Rattle.twp_text.specs.Machine.{next, take_token}
+use Rattle.twp_text.specs.Machine.{next, take_token, run}
 use Rattle.twp_text.specs.TextFaults.{TEXT_LIMIT, IsReadAs, refusal, refusal_of, number_of_bad, NoneBad, IsFirstBad, place_of, IsFirstTextFault, too_large, bad_token, syntax}
 use Rattle.twp_text.proofs.TokenFacts.{one_token_list}
 use Rattle.twp_text.proofs.Table as table
-use Rattle.twp_text.proofs.Walk.{run}
 use Rattle.twp_text.proofs.Reading as reading
 
 -- the front of a front

@@ -13,7 +13,7 @@ use Rattle.twp_text.specs.Grammar.{class_of, heading, description}
 use Rattle.twp_text.specs.declared.item.Numeral.{Numeral}
 use Rattle.twp_text.specs.Items.{Tree, ◌&◌, behind, items, numeral, end_of, range_of, whole_sections_item, parts_items, group_items, heading_item, BeginWithSections}
 use Rattle.twp_text.specs.Sentences.{IsSentence, HasItems}
-use Rattle.twp_text.specs.Machine.{next, is_final, take_token}
+use Rattle.twp_text.specs.Machine.{next, is_final, take_token, run}
 use Rattle.twp_text.specs.declared.kind.Kind.{Kind}
 use Rattle.twp_text.specs.declared.kind.Kind.TheVariants.{BadByte, BadNumber}
 use Rattle.twp_text.specs.declared.fault.TextFault.{TextFault}
@@ -22,7 +22,7 @@ use Rattle.twp_text.specs.declared.expected.Expected.{Expected}
 use Rattle.twp_text.specs.Expected.{expected_of}
 use Rattle.twp_text.specs.TextFaults.{refusal_of, fault_of_bad, TEXT_LIMIT, IsReadAs, refusal, number_of_bad, NoneBad, place_of, IsBadToken, IsSyntaxFault, GoesWrong, Helps, HasNoneBad}
 use Rattle.twp_text.proofs.TokenFacts.{one_token_list, has_token_list}
-use Rattle.twp_text.proofs.Walk.{run, newest_first}
+use Rattle.twp_text.proofs.Walk.{newest_first}
 use Rattle.twp_text.proofs.Reading.{ended, go_on, run-append, accepted, fault_here, fault_at_end, what_follows}
 
 -- the tokens before some place: those behind it are the rest of the text's

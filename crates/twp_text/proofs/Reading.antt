@@ -14,11 +14,11 @@ use Rattle.twp_text.specs.Tokens.{Token}
 use Rattle.twp_text.specs.Grammar.{Class, sec, lot, all, and, to, inclusive, of, the, t, r, north_south, east_west, corner, half, quarter, number, comma, semicolon, colon, stop, other, bad_number, bad_byte, Value, class_of, kind_of, description}
 use Rattle.twp_text.specs.Items.{tokens, items}
 use Rattle.twp_text.specs.Sentences.{HasItems, IsSentence, IsFront, IsFault}
-use Rattle.twp_text.specs.Machine.{next, is_final, take_token}
+use Rattle.twp_text.specs.Machine.{next, is_final, take_token, run}
 use Rattle.twp_text.specs.Expected.{named, expected_of, IsNamed}
 use Rattle.twp_text.proofs.Derivatives.{same_class, same_class_tells, Derives, derives_none, takes_token}
 use Rattle.twp_text.proofs.Table as table
-use Rattle.twp_text.proofs.Walk.{run, newest_first, IsRead, read_description}
+use Rattle.twp_text.proofs.Walk.{newest_first, IsRead, read_description}
 
 -- turned round twice
 turned : (xs ys zs : List Item) → newest_first (newest_first xs ys) zs ≡ newest_first ys (xs ++ zs)

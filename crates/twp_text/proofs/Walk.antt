@@ -14,13 +14,7 @@ use Rattle.twp_grid.specs.declared.township.EastWest.TheVariants as ew
 use Rattle.twp_text.specs.Tokens.{Token}
 use Rattle.twp_text.specs.Grammar.{sec, lot, all, and, of, the, t, r, north_south, east_west, number, comma, semicolon, stop, class_of, Ebnf, never, nothing, one, ◌⨾◌, ◌∣◌, many, maybe, step, through, entry, separator, several, part, parts, comma_or_colon, group, heading, description}
 use Rattle.twp_text.specs.Items.{Leaf, token_of, ◌&◌, behind, Tree, tokens, numeral, step_of, place_of_step, Range, end_of, range_of, ranges_of_several, lots_item, whole_sections_item, part_items, parts_items, group_items, heading_item, items}
-use Rattle.twp_text.specs.Machine.{next, is_final, take_token, before_parts}
-
--- where the machine stands behind the tokens, and the items with the newest first; None where it can't take one
-abbrev pub run : Option State → List Item → List Token → Option (State × List Item)
-run None is ts = None
-run (Some s) is [] = Some (s, is)
-run (Some s) is (token ∷ ts) = run (next s (class_of token.kind)) (take_token s token.kind token.at is) ts
+use Rattle.twp_text.specs.Machine.{next, is_final, take_token, before_parts, run}
 
 -- the tokens of trees, before others
 abbrev pub each_onto : {A : Type 0} → (A → List Token → List Token) → List A → List Token → List Token

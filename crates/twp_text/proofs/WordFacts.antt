@@ -17,11 +17,11 @@ letters : List ℕ → ℕ
 letters bytes = prefix_len is_ascii_alphabetic bytes
 
 -- the letter and what it says of the byte
-record IsLetter (byte small : ℕ) : Type 0 where
-  letter : is_ascii_alphabetic byte ≡ true
-  value : to_ascii_lowercase byte ≡ small
+pub record IsLetter (byte small : ℕ) : Type 0 where
+  pub letter : is_ascii_alphabetic byte ≡ true
+  pub value : to_ascii_lowercase byte ≡ small
 
-is_letter : (byte small : ℕ) → small_letter byte ≡ Some small → IsLetter byte small
+pub is_letter : (byte small : ℕ) → small_letter byte ≡ Some small → IsLetter byte small
 is_letter byte small h = by_test (is_ascii_alphabetic byte) refl h
   where
     by_test : (x : Bool) → is_ascii_alphabetic byte ≡ x → cond x (Some (to_ascii_lowercase byte)) None ≡ Some small → IsLetter byte small

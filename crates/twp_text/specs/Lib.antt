@@ -15,6 +15,7 @@ pub mod SpellingLaws
 pub mod Taking
 pub mod Cutting
 pub mod Machine
+pub mod Passing
 pub mod Laws
 pub mod ReadBack
 pub mod DescribedLand

@@ -18,7 +18,8 @@ use Rattle.twp_text.specs.declared.change.Change.TheVariants as change
 use Rattle.twp_text.specs.Items.{north_or_south, east_or_west}
 use Rattle.twp_text.specs.declared.state.State.{State}
 use Rattle.twp_text.specs.declared.state.State.TheVariants as past
-use Rattle.twp_text.specs.Grammar.{Class, sec, lot, all, and, to, inclusive, of, the, t, r, north_south, east_west, corner, half, quarter, number, comma, semicolon, colon, stop}
+use Rattle.twp_text.specs.Tokens.{Token}
+use Rattle.twp_text.specs.Grammar.{Class, class_of, sec, lot, all, and, to, inclusive, of, the, t, r, north_south, east_west, corner, half, quarter, number, comma, semicolon, colon, stop}
 
 -- a group ends
 abbrev pub group_end : Class → Option State
@@ -253,3 +254,11 @@ take_token state kind.Lot at items = before_parts state items
 take_token state kind.Colon at items = before_parts state items
 take_token state kind.All at items = take_all state at items
 take_token state _ at items = items
+
+-- where the machine stands behind the tokens, and the items with the newest first; None where it can't
+-- take one
+abbrev pub run : Option State → List Item → List Token → Option (State × List Item)
+run None items tokens = None
+run (Some state) items [] = Some (state, items)
+run (Some state) items (token ∷ tokens) =
+    run (next state (class_of token.kind)) (take_token state token.kind token.at items) tokens

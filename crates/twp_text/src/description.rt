@@ -6,6 +6,7 @@ use crate::fault::{TEXT_LIMIT, TextFault};
 use crate::item::Item;
 use crate::items::Items;
 use crate::kind::Kind;
+use crate::passing::behind_fraction;
 use crate::state::State;
 use crate::token::{Token, Tokens};
 use std::alloc::Global;
@@ -69,8 +70,10 @@ impl Description {
                 return Err(fault_of(text, token.at, state.expected()));
             };
             items.take(alloc, state, token.kind, token.at as u32)?;
-            state = behind;
-            at = token.at + token.text.len();
+            let reached = behind_fraction(text, token.at + token.text.len(), behind);
+            let reached = items.take_steps(text, reached)?;
+            state = reached.state;
+            at = reached.at;
         }
         if !state.is_final() {
             return Err(fault_of(text, text.len(), state.expected()));

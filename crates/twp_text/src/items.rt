@@ -1,9 +1,11 @@
-ghost use Rattle.std.specs.Prelude.{◌≡◌, ◌∷◌, [], IfOk, OnOk};
+ghost use Rattle.std.specs.Prelude.{◌≡◌, ◌≤◌, ◌∷◌, [], length, IfOk, OnOk};
 ghost use Rattle.twp_text.specs.Items.{north_or_south, east_or_west};
+ghost use Rattle.twp_text.specs.Passing.{Leads};
 
 use crate::change::Change;
 use crate::item::{Item, Numeral, Step, Steps};
 use crate::kind::Kind;
+use crate::passing::{Reached, behind_step, step_at};
 use crate::state::State;
 use std::alloc::{AllocError, Global};
 use std::marker::Model;
@@ -162,6 +164,25 @@ impl Items {
         }
     }
 
+    /// The steps by which a chain goes on, as long as each is spelled as is usual: they are taken as they
+    /// stand, and not token by token. Gives the place that is reached so, and the state there.
+    #[inline(always)]
+    pub fn take_steps(&mut self, text: &[u8], from: Reached) -> Result<Reached, AllocError>
+        requires { from.at ≤ length text.now }
+        ensures { IfOk result
+            (λ to. Leads text.now from.at from.state self.old to.at to.state self.new) }
+    {
+        let mut reached = from;
+        while reached.state.is_in_chain() {
+            let Some(usual) = step_at(text, reached.at) else {
+                break;
+            };
+            self.change(Change::Grown(usual.step))?;
+            reached = behind_step(text, reached.at + usual.size);
+        }
+        Ok(reached)
+    }
+
     /// A chain of one step.
     #[inline(always)]
     fn push_chain(&mut self, alloc: Global, step: Step, at: u32) -> Result<(), AllocError>
@@ -228,7 +249,7 @@ impl Items {
 }
 
 #[inline(always)]
-fn north_or_south(side: NorthSouth) -> Side
+pub(crate) fn north_or_south(side: NorthSouth) -> Side
     ensures { result ≡ north_or_south side }
 {
     match side {
@@ -238,7 +259,7 @@ fn north_or_south(side: NorthSouth) -> Side
 }
 
 #[inline(always)]
-fn east_or_west(side: EastWest) -> Side
+pub(crate) fn east_or_west(side: EastWest) -> Side
     ensures { result ≡ east_or_west side }
 {
     match side {

@@ -16,6 +16,7 @@ pub mod laws;
 mod lexeme;
 mod part_text;
 mod path;
+mod passing;
 mod place_fault;
 mod ranges;
 mod resolving;

@@ -6,7 +6,11 @@ ghost use Rattle.std.specs.List.{prefix_len};
 
 use crate::kind::Kind;
 use crate::lexeme::Lexeme;
+use crate::passing::goes_on;
 use std::marker::Model;
+
+/// Lines are often indented by many spaces.
+const EIGHT_SPACES: &[u8] = b"        ";
 
 /// A piece of a description: a word, a number, a half or a quarter, a mark, or what is none of these.
 #[derive(Clone, Copy, Debug, PartialEq, Eq)]
@@ -96,7 +100,11 @@ fn behind_white(text: &[u8], from: usize) -> usize
 {
     let mut at = from;
     while at < text.len() && is_white(text[at]) {
-        at += 1;
+        at += if goes_on(text, at, EIGHT_SPACES) {
+            8
+        } else {
+            1
+        };
     }
     at
 }

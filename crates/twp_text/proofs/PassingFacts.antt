@@ -1,0 +1,297 @@
+-- What the reader takes as a whole leads it on as if it were cut token by token.
+use Rattle.std.proofs.Common.{◌≡◌, ◌==◌, ℕ, ◌+◌, ◌<◌, ◌≤◌, Bool, true, false, List, [], ◌∷◌, ◌++◌, Option, Some, None, IfSome, length, take, drop, slice_index, refl, sym, ap, subst, ◌∙◌, append_assoc, arith, codes, length-append, length-drop}
+use Rattle.std.specs.Char.{is_ascii_alphabetic, to_ascii_lowercase}
+use Rattle.std.specs.List.{AllPass, prefix_len, starts_with}
+use Rattle.std.proofs.lemmas.Bool.Decides.{Decides-eqb}
+use Rattle.std.proofs.lemmas.List.{drop-drop}
+use Rattle.std.proofs.lemmas.List.Sums.{AllPass-from_list_all, list_all-from_AllPass}
+use Rattle.std.proofs.lemmas.Slice.Eq.{starts_is}
+use Rattle.twp_grid.specs.declared.block.Side.TheVariants as side
+use Rattle.twp_text.specs.declared.change.Change.TheVariants.{Grown}
+use Rattle.twp_text.specs.declared.item.Item.{Item}
+use Rattle.twp_text.specs.declared.item.Step.{Step}
+use Rattle.twp_text.specs.declared.item.Step.TheVariants as step
+use Rattle.twp_text.specs.declared.kind.Kind.{Kind}
+use Rattle.twp_text.specs.declared.kind.Kind.TheVariants.{Half, Quarter, Of, The}
+use Rattle.twp_text.specs.declared.passing.UsualStep.{UsualStep}
+use Rattle.twp_text.specs.declared.state.State.{State}
+use Rattle.twp_text.specs.declared.state.State.TheVariants as past
+use Rattle.twp_text.specs.declared.state.State.TheVariants.{Start}
+use Rattle.twp_text.specs.Cutting.{small_letter}
+use Rattle.twp_text.specs.Tokens.{Token, StartsWith, HasTokens, IsToken, IsGoodToken, is_white, kind_of_word, kind_among, words}
+use Rattle.twp_text.specs.Tokens.IsToken.{good}
+use Rattle.twp_text.specs.Tokens.IsGoodToken.{a_word, a_half, a_quarter}
+use Rattle.twp_text.specs.Grammar.{class_of}
+use Rattle.twp_text.specs.Machine.{next, take_token, run, with_newest, is_in_chain}
+use Rattle.twp_text.specs.Passing.{Leads, StandsAt, IsStepAt, end_of, letters_of, fraction_of}
+use Rattle.twp_text.proofs.WordFacts.{IsLetter, is_letter}
+use Rattle.twp_text.proofs.Reading.{run-append, go_on}
+use Rattle.twp_text.proofs.ReaderFacts.{Front}
+
+-- the reader goes on by what leads on
+pub goes_further : (text : List ℕ) (at : ℕ) (state : State) (its : List Item) (to : ℕ) (behind : State) (grown : List Item) → Front text at (drop at text) state its → Leads text at state its to behind grown → Front text to (drop to text) behind grown
+goes_further text at state its to behind grown f l =
+    let within : to ≤ length text = l.within in
+    record {
+      tokens = f.tokens ++ l.tokens;
+      before = record { joins = λ left has. rw append_assoc (f.before.joins (l.tokens ++ left) (l.cut left has)) };
+      walked = run-append (Some Start) [] f.tokens l.tokens ∙ ap (λ o. go_on o l.tokens) f.walked ∙ l.walked;
+      within = rw (length-drop to text) (omega arith);
+    }
+
+-- nothing leads nowhere else
+pub leads_nowhere : (text : List ℕ) (at : ℕ) (state : State) (its : List Item) → at ≤ length text → Leads text at state its at state its
+leads_nowhere text at state its within =
+    record { tokens = []; cut = λ left has. has; walked = refl; forward = omega arith; within = within }
+
+-- what leads to where more leads on
+pub leads_then : (text : List ℕ) (at : ℕ) (state : State) (its : List Item) (mid : ℕ) (between : State) (some : List Item) (to : ℕ) (behind : State) (grown : List Item) → Leads text at state its mid between some → Leads text mid between some to behind grown → Leads text at state its to behind grown
+leads_then text at state its mid between some to behind grown f g =
+    let first : at ≤ mid = f.forward in
+    let then : mid ≤ to = g.forward in
+    record {
+      tokens = f.tokens ++ g.tokens;
+      cut = λ left has. rw append_assoc (f.cut (g.tokens ++ left) (g.cut left has));
+      walked = run-append (Some state) its f.tokens g.tokens ∙ ap (λ o. go_on o g.tokens) f.walked ∙ g.walked;
+      forward = omega arith;
+      within = g.within;
+    }
+
+-- one token
+leads_token : (text : List ℕ) (at : ℕ) (state : State) (its : List Item) (token : Token) (to : ℕ) (behind : State) → StartsWith at (drop at text) token (drop to text) → end_of token ≡ to → to ≤ length text → next state (class_of token.kind) ≡ Some behind → Leads text at state its to behind (take_token state token.kind token.at its)
+leads_token text at state its token to behind starts ends within is =
+    let place : token.at ≡ at + length starts.space = starts.place in
+    record {
+      tokens = token ∷ [];
+      cut = λ left has. (drop to text, starts, subst (λ (n : ℕ). HasTokens n (drop to text) left) (sym ends) has);
+      walked = ap (λ o. run o (take_token state token.kind token.at its) []) is;
+      forward = omega arith;
+      within = within;
+    }
+
+-- a space before tokens
+spaced : (text : List ℕ) (at : ℕ) → drop at text ≡ codes " " ++ drop (at + 1) text → (left : List Token) → HasTokens (at + 1) (drop (at + 1) text) left → HasTokens at (drop at text) left
+spaced text at spelt [] has =
+    subst (λ (b : List ℕ). AllPass is_white b) (sym spelt) (AllPass-from_list_all is_white (32 ∷ drop (at + 1) text) (list_all-from_AllPass is_white (drop (at + 1) text) has))
+spaced text at spelt (token ∷ tokens) (rest, starts, more) =
+    let place : token.at ≡ (at + 1) + length starts.space = starts.place in (
+      rest,
+      record {
+        space = 32 ∷ starts.space;
+        white = AllPass-from_list_all is_white (32 ∷ starts.space) (list_all-from_AllPass is_white starts.space starts.white);
+        spelt = spelt ∙ ap (λ b. 32 ∷ b) starts.spelt;
+        place = omega arith;
+        is = starts.is;
+      },
+      more,
+    )
+
+leads_space : (text : List ℕ) (at : ℕ) (state : State) (its : List Item) → drop at text ≡ codes " " ++ drop (at + 1) text → at + 1 ≤ length text → Leads text at state its (at + 1) state its
+leads_space text at state its spelt within =
+    record { tokens = []; cut = spaced text at spelt; walked = refl; forward = omega arith; within = within }
+
+abbrev made : Kind → List ℕ → ℕ → Token
+made kind text at = record { kind = kind; text = text; at = at }
+
+-- a half and a quarter, right at a place
+half_starts : (text : List ℕ) (at : ℕ) → drop at text ≡ codes "1/2" ++ drop (at + 3) text → StartsWith at (drop at text) (made Half (codes "1/2") at) (drop (at + 3) text)
+half_starts text at spelt =
+    record { space = []; white = AllPass-from_list_all is_white [] refl; spelt = spelt; place = omega arith; is = good (a_half refl refl) }
+
+quarter_starts : (text : List ℕ) (at : ℕ) → drop at text ≡ codes "1/4" ++ drop (at + 3) text → StartsWith at (drop at text) (made Quarter (codes "1/4") at) (drop (at + 3) text)
+quarter_starts text at spelt =
+    record { space = []; white = AllPass-from_list_all is_white [] refl; spelt = spelt; place = omega arith; is = good (a_quarter refl refl) }
+
+-- a fraction behind the letters of its step, and what follows the step
+pub half_leads : (text : List ℕ) (at to : ℕ) (behind : State) (its : List Item) → drop at text ≡ codes "1/2" ++ drop (at + 3) text → at + 3 ≤ length text → Leads text (at + 3) past.Step its to behind its → Leads text at past.Side its to behind its
+half_leads text at to behind its spelt within more =
+    leads_then text at past.Side its (at + 3) past.Step its to behind its
+    (leads_token text at past.Side its (made Half (codes "1/2") at) (at + 3) past.Step (half_starts text at spelt) refl within refl) more
+
+pub quarter_leads : (text : List ℕ) (at to : ℕ) (behind : State) (its : List Item) → drop at text ≡ codes "1/4" ++ drop (at + 3) text → at + 3 ≤ length text → Leads text (at + 3) past.Step its to behind its → Leads text at past.Corner its to behind its
+quarter_leads text at to behind its spelt within more =
+    leads_then text at past.Corner its (at + 3) past.Step its to behind its
+    (leads_token text at past.Corner its (made Quarter (codes "1/4") at) (at + 3) past.Step (quarter_starts text at spelt) refl within refl) more
+
+-- what is left of a text behind some bytes that it goes on with
+left_behind : (text : List ℕ) (at n : ℕ) (bytes : List ℕ) → drop at text ≡ bytes → drop (at + n) text ≡ drop n bytes
+left_behind text at n bytes spelt = sym (drop-drop n at text) ∙ ap (λ b. drop n b) spelt
+
+-- `of` and `the` behind a step, and the space behind them
+pub of_the_leads : (text : List ℕ) (at : ℕ) (its : List Item) → drop at text ≡ codes " of the " ++ drop (at + 8) text → at + 8 ≤ length text → Leads text at past.Step its (at + 8) past.OfThe its
+of_the_leads text at its spelt within =
+    let more : List ℕ = drop (at + 8) text in
+    let behind_of : drop (at + 3) text ≡ codes " the " ++ more = left_behind text at 3 (codes " of the " ++ more) spelt in
+    let behind_the : drop (at + 7) text ≡ codes " " ++ more = left_behind text at 7 (codes " of the " ++ more) spelt in
+    let of_starts : StartsWith at (drop at text) (made Of (codes "of") (at + 1)) (drop (at + 3) text) = record {
+      space = codes " ";
+      white = AllPass-from_list_all is_white (codes " ") refl;
+      spelt = rw behind_of spelt;
+      place = refl;
+      is = rw behind_of (good (a_word (record { some = omega arith; all = AllPass-from_list_all is_ascii_alphabetic (codes "of") refl; ends = refl }) refl));
+    } in
+    let the_starts : StartsWith (at + 3) (drop (at + 3) text) (made The (codes "the") (at + 4)) (drop (at + 7) text) = record {
+      space = codes " ";
+      white = AllPass-from_list_all is_white (codes " ") refl;
+      spelt = rw behind_the behind_of;
+      place = omega arith;
+      is = rw behind_the (good (a_word (record { some = omega arith; all = AllPass-from_list_all is_ascii_alphabetic (codes "the") refl; ends = refl }) refl));
+    } in
+    let the_end : (at + 7) + 1 ≡ at + 8 = omega arith in
+    let space : drop (at + 7) text ≡ codes " " ++ drop ((at + 7) + 1) text = rw the_end behind_the in
+    leads_then text at past.Step its (at + 7) past.OfThe its (at + 8) past.OfThe its
+    (leads_then text at past.Step its (at + 3) past.Of its (at + 7) past.OfThe its
+    (leads_token text at past.Step its (made Of (codes "of") (at + 1)) (at + 3) past.Of of_starts (omega arith) (omega arith) refl)
+    (leads_token text (at + 3) past.Of its (made The (codes "the") (at + 4)) (at + 7) past.OfThe the_starts (omega arith) (omega arith) refl))
+    (subst (λ (n : ℕ). Leads text (at + 7) past.OfThe its n past.OfThe its) the_end (leads_space text (at + 7) past.OfThe its space (omega arith)))
+
+-- the letters that bytes begin with are those of a step, where its fraction follows
+record AreLetters (bytes : List ℕ) (size : ℕ) (kind : Kind) : Type 0 where
+  fits : length (take size bytes) ≡ size
+  spelt : bytes ≡ take size bytes ++ drop size bytes
+  is : IsToken (take size bytes) (drop size bytes) kind
+
+one_letter : (bytes rest : List ℕ) (first : ℕ) (kind : Kind) → Some first ≡ small_letter (slice_index bytes 0) → drop 1 bytes ≡ codes "1/2" ++ rest → kind_among (first ∷ []) words ≡ kind → AreLetters bytes 1 kind
+one_letter [] rest first kind h0 behind is = cc h0
+one_letter (x ∷ bytes) rest first kind h0 behind is =
+    let letter : IsLetter x first = is_letter x first (sym h0) in
+    record {
+      fits = refl;
+      spelt = refl;
+      is = good (a_word (record {
+        some = omega arith;
+        all = AllPass-from_list_all is_ascii_alphabetic (x ∷ []) (rw letter.letter refl);
+        ends = rw behind refl;
+      }) (sym is ∙ ap (λ u. kind_among (u ∷ []) words) (sym letter.value)));
+    }
+
+two_letters : (bytes rest : List ℕ) (first second : ℕ) (kind : Kind) → Some first ≡ small_letter (slice_index bytes 0) → Some second ≡ small_letter (slice_index bytes 1) → drop 2 bytes ≡ codes "1/4" ++ rest → kind_among (first ∷ second ∷ []) words ≡ kind → AreLetters bytes 2 kind
+two_letters [] rest first second kind h0 h1 behind is = cc h0
+two_letters (x ∷ []) rest first second kind h0 h1 behind is = cc h1
+two_letters (x ∷ y ∷ bytes) rest first second kind h0 h1 behind is =
+    let letter : IsLetter x first = is_letter x first (sym h0) in
+    let more : IsLetter y second = is_letter y second (sym h1) in
+    record {
+      fits = refl;
+      spelt = refl;
+      is = good (a_word (record {
+        some = omega arith;
+        all = AllPass-from_list_all is_ascii_alphabetic (x ∷ y ∷ []) (rw (letter.letter, more.letter) refl);
+        ends = rw behind refl;
+      }) (sym is ∙ ap (λ u. kind_among (u ∷ second ∷ []) words) (sym letter.value) ∙ ap (λ u. kind_among (to_ascii_lowercase x ∷ u ∷ []) words) (sym more.value)));
+    }
+
+letters_stand : (text : List ℕ) (at size : ℕ) (kind : Kind) → AreLetters (drop at text) size kind → at + size ≤ length text → StandsAt text at kind size
+letters_stand text at size kind are within =
+    let left : drop size (drop at text) ≡ drop (at + size) text = drop-drop size at text in
+    record {
+      token = made kind (take size (drop at text)) at;
+      starts = record {
+        space = [];
+        white = AllPass-from_list_all is_white [] refl;
+        spelt = are.spelt ∙ ap (λ b. take size (drop at text) ++ b) left;
+        place = omega arith;
+        is = subst (λ (b : List ℕ). IsToken (take size (drop at text)) b kind) left are.is;
+      };
+      kind_is = refl;
+      ends = ap (λ n. at + n) are.fits;
+      within = within;
+    }
+
+-- a half and a quarter that stand behind their letters are steps
+half_stands : (text : List ℕ) (at first : ℕ) (it : Step) (size : ℕ) → Some first ≡ small_letter (slice_index (drop at text) 0) → drop (at + 1) text ≡ codes "1/2" ++ drop ((at + 1) + 3) text → (at + 1) + 3 ≤ length text → kind_among (first ∷ []) words ≡ letters_of it → fraction_of it ≡ Half → size ≡ 4 → IsStepAt text at it size
+half_stands text at first it size letter spelt within is fraction size_is = record {
+  letters_size = 1;
+  letters = letters_stand text at 1 (letters_of it) (one_letter (drop at text) (drop ((at + 1) + 3) text) first (letters_of it) letter (drop-drop 1 at text ∙ spelt) is) (omega arith);
+  fraction_size = 3;
+  fraction = record { token = made Half (codes "1/2") (at + 1); starts = half_starts text (at + 1) spelt; kind_is = sym fraction; ends = refl; within = within };
+  size_is = size_is;
+  some = omega arith;
+}
+
+quarter_stands : (text : List ℕ) (at first second : ℕ) (it : Step) (size : ℕ) → Some first ≡ small_letter (slice_index (drop at text) 0) → Some second ≡ small_letter (slice_index (drop at text) 1) → drop (at + 2) text ≡ codes "1/4" ++ drop ((at + 2) + 3) text → (at + 2) + 3 ≤ length text → kind_among (first ∷ second ∷ []) words ≡ letters_of it → fraction_of it ≡ Quarter → size ≡ 5 → IsStepAt text at it size
+quarter_stands text at first second it size letter more spelt within is fraction size_is = record {
+  letters_size = 2;
+  letters = letters_stand text at 2 (letters_of it) (two_letters (drop at text) (drop ((at + 2) + 3) text) first second (letters_of it) letter more (drop-drop 2 at text ∙ spelt) is) (omega arith);
+  fraction_size = 3;
+  fraction = record { token = made Quarter (codes "1/4") (at + 2); starts = quarter_starts text (at + 2) spelt; kind_is = sym fraction; ends = refl; within = within };
+  size_is = size_is;
+  some = omega arith;
+}
+
+-- what is found of letters, where a fraction follows them
+pub if_half : (text : List ℕ) (at first : ℕ) (found : Option UsualStep) → Some first ≡ small_letter (slice_index (drop at text) 0) → drop (at + 1) text ≡ codes "1/2" ++ drop ((at + 1) + 3) text → (at + 1) + 3 ≤ length text → IfSome found (λ usual. (kind_among (first ∷ []) words ≡ letters_of usual.step) × (fraction_of usual.step ≡ Half) × (usual.size ≡ 4)) → IfSome found (λ usual. IsStepAt text at usual.step usual.size)
+if_half text at first None letter spelt within h = tt
+if_half text at first (Some usual) letter spelt within (is, fraction, size) = half_stands text at first usual.step usual.size letter spelt within is fraction size
+
+pub if_quarter : (text : List ℕ) (at first second : ℕ) (found : Option UsualStep) → Some first ≡ small_letter (slice_index (drop at text) 0) → Some second ≡ small_letter (slice_index (drop at text) 1) → drop (at + 2) text ≡ codes "1/4" ++ drop ((at + 2) + 3) text → (at + 2) + 3 ≤ length text → IfSome found (λ usual. (kind_among (first ∷ second ∷ []) words ≡ letters_of usual.step) × (fraction_of usual.step ≡ Quarter) × (usual.size ≡ 5)) → IfSome found (λ usual. IsStepAt text at usual.step usual.size)
+if_quarter text at first second None letter more spelt within h = tt
+if_quarter text at first second (Some usual) letter more spelt within (is, fraction, size) = quarter_stands text at first second usual.step usual.size letter more spelt within is fraction size
+
+-- a chain goes on with the letters of a step and with its fraction
+record GrowsBy (state : State) (it : Step) : Type 0 where
+  between : State
+  letters : next state (class_of (letters_of it)) ≡ Some between
+  fraction : next between (class_of (fraction_of it)) ≡ Some past.Step
+  grown : (at : ℕ) (its : List Item) → take_token state (letters_of it) at its ≡ with_newest (Grown it) its
+  kept : (at : ℕ) (its : List Item) → take_token between (fraction_of it) at its ≡ its
+
+grows_by : (state : State) (it : Step) → is_in_chain state ≡ true → GrowsBy state it
+grows_by past.Step (step.Half side.N) h = record { between = past.Side; letters = refl; fraction = refl; grown = λ at its. refl; kept = λ at its. refl }
+grows_by past.Step (step.Half side.S) h = record { between = past.Side; letters = refl; fraction = refl; grown = λ at its. refl; kept = λ at its. refl }
+grows_by past.Step (step.Half side.E) h = record { between = past.Side; letters = refl; fraction = refl; grown = λ at its. refl; kept = λ at its. refl }
+grows_by past.Step (step.Half side.W) h = record { between = past.Side; letters = refl; fraction = refl; grown = λ at its. refl; kept = λ at its. refl }
+grows_by past.Step (step.Quarter corner) h = record { between = past.Corner; letters = refl; fraction = refl; grown = λ at its. refl; kept = λ at its. refl }
+grows_by past.Of (step.Half side.N) h = record { between = past.Side; letters = refl; fraction = refl; grown = λ at its. refl; kept = λ at its. refl }
+grows_by past.Of (step.Half side.S) h = record { between = past.Side; letters = refl; fraction = refl; grown = λ at its. refl; kept = λ at its. refl }
+grows_by past.Of (step.Half side.E) h = record { between = past.Side; letters = refl; fraction = refl; grown = λ at its. refl; kept = λ at its. refl }
+grows_by past.Of (step.Half side.W) h = record { between = past.Side; letters = refl; fraction = refl; grown = λ at its. refl; kept = λ at its. refl }
+grows_by past.Of (step.Quarter corner) h = record { between = past.Corner; letters = refl; fraction = refl; grown = λ at its. refl; kept = λ at its. refl }
+grows_by past.OfThe (step.Half side.N) h = record { between = past.Side; letters = refl; fraction = refl; grown = λ at its. refl; kept = λ at its. refl }
+grows_by past.OfThe (step.Half side.S) h = record { between = past.Side; letters = refl; fraction = refl; grown = λ at its. refl; kept = λ at its. refl }
+grows_by past.OfThe (step.Half side.E) h = record { between = past.Side; letters = refl; fraction = refl; grown = λ at its. refl; kept = λ at its. refl }
+grows_by past.OfThe (step.Half side.W) h = record { between = past.Side; letters = refl; fraction = refl; grown = λ at its. refl; kept = λ at its. refl }
+grows_by past.OfThe (step.Quarter corner) h = record { between = past.Corner; letters = refl; fraction = refl; grown = λ at its. refl; kept = λ at its. refl }
+grows_by _ it h = cc h
+
+stands_leads : (text : List ℕ) (at : ℕ) (state : State) (its : List Item) (kind : Kind) (size : ℕ) (behind : State) (grown : List Item) → StandsAt text at kind size → next state (class_of kind) ≡ Some behind → ((place : ℕ) → take_token state kind place its ≡ grown) → Leads text at state its (at + size) behind grown
+stands_leads text at state its kind size behind grown s is grows =
+    let step_is : next state (class_of s.token.kind) ≡ Some behind = ap (λ k. next state (class_of k)) s.kind_is ∙ is in
+    let grown_is : take_token state s.token.kind s.token.at its ≡ grown = ap (λ k. take_token state k s.token.at its) s.kind_is ∙ grows s.token.at in
+    subst (λ (js : List Item). Leads text at state its (at + size) behind js) grown_is
+    (leads_token text at state its s.token (at + size) behind s.starts s.ends s.within step_is)
+
+-- a chain goes on with a step, and with what follows it
+pub step_leads : (text : List ℕ) (from : ℕ) (begun : State) (its : List Item) (at : ℕ) (state : State) (some : List Item) (it : Step) (size to : ℕ) (behind : State) → is_in_chain state ≡ true → Leads text from begun its at state some → IsStepAt text at it size → Leads text (at + size) past.Step (with_newest (Grown it) some) to behind (with_newest (Grown it) some) → Leads text from begun its to behind (with_newest (Grown it) some)
+step_leads text from begun its at state some it size to behind in_chain so_far s more =
+    let by : GrowsBy state it = grows_by state it in_chain in
+    let grown : List Item = with_newest (Grown it) some in
+    let end : (at + s.letters_size) + s.fraction_size ≡ at + size = rw (s.size_is) (omega arith) in
+    let letters : Leads text at state some (at + s.letters_size) by.between grown =
+    stands_leads text at state some (letters_of it) s.letters_size by.between grown s.letters by.letters (λ place. by.grown place some) in
+    let fraction : Leads text (at + s.letters_size) by.between grown ((at + s.letters_size) + s.fraction_size) past.Step grown =
+    stands_leads text (at + s.letters_size) by.between grown (fraction_of it) s.fraction_size past.Step grown s.fraction by.fraction (λ place. by.kept place grown) in
+    let both : Leads text at state some (at + size) past.Step grown =
+    subst (λ (n : ℕ). Leads text at state some n past.Step grown) end
+    (leads_then text at state some (at + s.letters_size) by.between grown ((at + s.letters_size) + s.fraction_size) past.Step grown letters fraction) in
+    leads_then text from begun its at state some to behind grown so_far
+    (leads_then text at state some (at + size) past.Step grown to behind grown both more)
+
+-- where a step that stands at a place ends
+pub step_within : (text : List ℕ) (at : ℕ) (it : Step) (size : ℕ) → IsStepAt text at it size → at + size ≤ length text
+step_within text at it size s =
+    let fits : (at + s.letters_size) + s.fraction_size ≤ length text = s.fraction.within in
+    rw s.size_is (omega arith)
+
+-- eight spaces are white space
+pub eight_further : (text : List ℕ) (at end : ℕ) → drop at text ≡ codes "        " ++ drop (at + 8) text → at + prefix_len is_white (drop at text) ≡ end → (at + 8) + prefix_len is_white (drop (at + 8) text) ≡ end
+eight_further text at end spelt is =
+    let left : ℕ = prefix_len is_white (drop (at + 8) text) in
+    let run : prefix_len is_white (drop at text) ≡ 1 + (1 + (1 + (1 + (1 + (1 + (1 + (1 + left))))))) = ap (λ b. prefix_len is_white b) spelt in
+    omega arith
+
+-- what a test of the bytes at a place says
+pub begins_there : (text : List ℕ) (at : ℕ) (bytes left : List ℕ) (found : Bool) → left ≡ drop at text → found ≡ starts_with ◌==◌ left bytes → found ≡ true → drop at text ≡ bytes ++ drop (at + length bytes) text
+begins_there text at bytes left found left_is value is_true =
+    let spelt : left ≡ bytes ++ drop (length bytes) left = (starts_is Decides-eqb left bytes found value).0 is_true in
+    sym left_is ∙ spelt ∙ ap (λ b. bytes ++ drop (length bytes) b) left_is ∙ ap (λ b. bytes ++ b) (drop-drop (length bytes) at text)

@@ -1,0 +1,56 @@
+-- What the reader takes as a whole, though it is several tokens. No public promise speaks of it.
+use Rattle.std.specs.Prelude.{◌≡◌, ◌≤◌, ◌<◌, ℕ, ◌+◌, List, ◌++◌, Some, length, drop}
+use Rattle.twp_grid.specs.declared.block.Side.TheVariants as side
+use Rattle.twp_grid.specs.declared.township.NorthSouth.TheVariants as ns
+use Rattle.twp_grid.specs.declared.township.EastWest.TheVariants as ew
+use Rattle.twp_text.specs.declared.item.Item.{Item}
+use Rattle.twp_text.specs.declared.item.Step.{Step}
+use Rattle.twp_text.specs.declared.item.Step.TheVariants as step
+use Rattle.twp_text.specs.declared.kind.Kind.{Kind}
+use Rattle.twp_text.specs.declared.kind.Kind.TheVariants.{NorthSouth, EastWest, Corner, Half, Quarter}
+use Rattle.twp_text.specs.declared.state.State.{State}
+use Rattle.twp_text.specs.Tokens.{Token, StartsWith, HasTokens}
+use Rattle.twp_text.specs.Machine.{run}
+
+-- The tokens of a text between two places lead the machine from a state and items to others.
+pub record Leads (text : List ℕ) (at : ℕ) (state : State) (items : List Item)
+    (to : ℕ) (behind : State) (grown : List Item) : Type 0 where
+  pub tokens : List Token
+  pub cut : (left : List Token) → HasTokens to (drop to text) left
+      → HasTokens at (drop at text) (tokens ++ left)
+  pub walked : run (Some state) items tokens ≡ Some (behind, grown)
+  pub forward : at ≤ to
+  pub within : to ≤ length text
+
+-- what the letters of a step are, and what its fraction is
+abbrev pub letters_of : Step → Kind
+letters_of (step.Half side.N) = NorthSouth ns.N
+letters_of (step.Half side.S) = NorthSouth ns.S
+letters_of (step.Half side.E) = EastWest ew.E
+letters_of (step.Half side.W) = EastWest ew.W
+letters_of (step.Quarter corner) = Corner corner
+
+abbrev pub fraction_of : Step → Kind
+fraction_of (step.Half side) = Half
+fraction_of (step.Quarter corner) = Quarter
+
+-- where a token ends
+abbrev pub end_of : Token → ℕ
+end_of token = token.at + length token.text
+
+-- at a place of a text stands a token of this kind, as so many bytes
+pub record StandsAt (text : List ℕ) (at : ℕ) (kind : Kind) (size : ℕ) : Type 0 where
+  pub token : Token
+  pub starts : StartsWith at (drop at text) token (drop (at + size) text)
+  pub kind_is : token.kind ≡ kind
+  pub ends : end_of token ≡ at + size
+  pub within : at + size ≤ length text
+
+-- at a place of a text stand the letters of a step, and its fraction right behind them
+pub record IsStepAt (text : List ℕ) (at : ℕ) (step : Step) (size : ℕ) : Type 0 where
+  pub letters_size : ℕ
+  pub letters : StandsAt text at (letters_of step) letters_size
+  pub fraction_size : ℕ
+  pub fraction : StandsAt text (at + letters_size) (fraction_of step) fraction_size
+  pub size_is : size ≡ letters_size + fraction_size
+  pub some : 0 < size
