@@ -39,14 +39,17 @@ pub fn area_of<L: Land>(plat: &Plat, land: &L) -> Area
     let mut units = 0;
     for number in 1..SECTIONS + 1 {
         let section = Section::new(number).unwrap();
+        if !land.meets(section, Block::whole()) {
+            continue;
+        }
         units += units_in_section(plat, land, section);
     }
     Area::new(units, over).unwrap()
 }
 
-/// What a land holds of a section, in parts of the plat's denominator: mostly nothing, as a land
-/// lies in few sections. A lot is held whole, so one of its places tells whether it is held, and
-/// then its piece is added; what is off the lots is counted.
+/// What a land holds of a section, in parts of the plat's denominator. A lot is held whole, so one
+/// of its places tells whether it is held, and then its piece is added; what is off the lots is
+/// counted.
 fn units_in_section<L: Land>(plat: &Plat, land: &L, section: Section) -> u128
     requires whole { HasWholeLots PLACE_DIGITS (L.places land.now) }
     ensures sum { (pieces : ℕ → ℕ → ℕ → ℕ) → ArePieces plat.now pieces
@@ -54,12 +57,8 @@ fn units_in_section<L: Land>(plat: &Plat, land: &L, section: Section) -> u128
         ≡ section_sum PLACE_DIGITS (pieces section) (L.places land.now section) }
     ensures most { result ≤ SECTION_UNITS_MOST * over_of plat.now }
 {
-    let whole = Block::whole();
-    if !land.meets(section, whole) {
-        return 0;
-    }
     let over = plat.over();
-    let mut off_lots = land.count(section, whole);
+    let mut off_lots = land.count(section, Block::whole());
     let mut units = 0;
     for lot in 1..lot_count(section) + 1 {
         let (column, row) = lot_place(section, lot).unwrap();

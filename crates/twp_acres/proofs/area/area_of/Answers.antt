@@ -1,11 +1,33 @@
-use Rattle.std.proofs.Common.{sym, arith}
+use Rattle.std.proofs.Common.{◌≡◌, ℕ, ◌+◌, ◌-◌, ◌*◌, Bool, sym, subst, arith}
+use Rattle.twp_grid.specs.Places.{PLACE_DIGITS}
 use Rattle.twp_grid.proofs.TotalFacts.{total-zero}
 use Rattle.twp_land.proofs.LotFacts.{section_is}
-use Rattle.twp_acres.proofs.AreaFacts.{grows, sum-next, area_is, land_area}
+use Rattle.twp_plat.specs.Pieces.{over_of}
+use Rattle.twp_acres.specs.Bounds.{SECTION_UNITS_MOST}
+use Rattle.twp_acres.specs.LandAreas.{section_sum}
+use Rattle.twp_acres.proofs.AreaFacts.{IsSumOf, grows, sum-next, area_is, land_area}
+use Rattle.twp_acres.proofs.SectionSums.{none_held}
 use Rattle.twp_acres.proofs.area.area_of.Goals as goal
 
 pub loop-number-init : goal.loop-number-init
 loop-number-init g c = record { sum = λ pieces are. sym (total-zero _); most = omega arith; first = omega arith }
+
+pub loop-number-preserved-then-not-meets : goal.loop-number-preserved-then-not-meets
+loop-number-preserved-then-not-meets g c =
+    let at = c.loop-number.invariant in
+    let places : ℕ → ℕ → ℕ → Bool = g.L.Land.places c.args.land.now in
+    let number = section_is c.loop-number.number c.unwrap-section.result _ c.new.ensures c.unwrap-section.ensures in
+    let met = rw c.whole.ensures at c.meets.ensures in
+    let none : (pieces : ℕ → ℕ → ℕ) → section_sum PLACE_DIGITS pieces (places c.unwrap-section.result) ≡ 0 =
+    λ pieces. none_held pieces (places c.unwrap-section.result) (λ held. cc (met.1 held, c.if-not-meets.true)) in
+    let same : c.loop-number.units + 0 ≡ c.loop-number.units = omega arith in
+    let sum = sum-next c.args.plat.now places c.loop-number.number c.unwrap-section.result c.loop-number.units 0 at.first number at.sum (λ pieces are. sym (none (pieces c.unwrap-section.result))) in
+    let most = grows c.loop-number.number (SECTION_UNITS_MOST * over_of c.args.plat.now) c.loop-number.units 0 at.first at.most (omega arith) in
+    record {
+      sum = subst (IsSumOf c.args.plat.now places (c.loop-number.number + 1 - 1)) same sum;
+      most = rw same at most;
+      first = omega arith;
+    }
 
 pub loop-number-preserved : goal.loop-number-preserved
 loop-number-preserved g c =

@@ -2,7 +2,7 @@
 use Rattle.std.proofs.Common.{◌≡◌, ℕ, ◌+◌, ◌-◌, ◌≤◌, sym, arith}
 use Rattle.twp_land.proofs.LotFacts.{few_lots}
 use Rattle.twp_plat.specs.Pieces.{over_of}
-use Rattle.twp_acres.proofs.SectionSums.{places_where, piece_where, places_held, places_not_held, piece_held, piece_not_held, of_lots-none, of_lots-next, lots_within, few_places, sum_of_section, none_held}
+use Rattle.twp_acres.proofs.SectionSums.{places_where, piece_where, places_held, places_not_held, piece_held, piece_not_held, of_lots-none, of_lots-next, lots_within, few_places, sum_of_section}
 use Rattle.twp_plat.proofs.SectionPieces.{piece_at}
 use Rattle.twp_acres.proofs.AreaFacts.{lot_at_is, grows, bounded}
 use Rattle.twp_acres.proofs.area.units_in_section.Goals as goal
@@ -15,7 +15,7 @@ pub loop-lot-init : goal.loop-lot-init
 loop-lot-init g c =
     let held = g.L.Land.places c.args.land.now c.args.section in
     let range = c.lot_count-lot-end.ensures.section in
-    let counted = rw c.whole-whole.ensures at c.count-off_lots.ensures in
+    let counted = rw c.whole.ensures at c.count-off_lots.ensures in
     let none = of_lots-none c.args.section (places_where held) range in
     record {
       taken = omega arith;
@@ -72,11 +72,6 @@ loop-lot-preserved g c =
   where
     plus_none : (n : ℕ) → n + 0 ≡ n
     plus_none n = omega arith
-
-pub returns-then-not-meets-clause-sum : goal.returns-then-not-meets-clause-sum
-returns-then-not-meets-clause-sum g c = λ pieces are.
-    let met = rw c.whole-whole.ensures at c.meets.ensures in
-    sym (none_held (pieces c.args.section) (g.L.Land.places c.args.land.now c.args.section) (λ held. cc (met.1 held, c.if-not-meets.true)))
 
 pub regular_units-requires-clause-places : goal.regular_units-requires-clause-places
 regular_units-requires-clause-places g c = let few = few_places (g.L.Land.places c.args.land.now c.args.section) in omega (arith, c.loop-lot.invariant.taken)
