@@ -4,9 +4,10 @@ ghost use Rattle.twp_land.specs.WholeLots.{HasWholeLots};
 ghost use Rattle.twp_plat.specs.Pieces.{over_of, OVER_MOST};
 ghost use Rattle.twp_plat.specs.PlatAreas.{ArePieces};
 ghost use Rattle.twp_acres.specs.LandAreas.{places_of_position, section_sum, IsLandArea};
+ghost use Rattle.twp_acres.specs.Bounds.{REGULAR_PLACE_UNITS};
 ghost use Rattle.twp_acres.specs.Bounds.{SECTION_PLACES_MOST, SECTION_UNITS_MOST};
 
-use twp_grid::{Block, Section, lot_count, lot_place};
+use twp_grid::{Block, PLACES_ACROSS, Section, lot_count, lot_place};
 use twp_land::Land;
 use twp_measure::Area;
 use twp_plat::Plat;
@@ -14,13 +15,19 @@ use twp_plat::Plat;
 /// How many sections a township has.
 const SECTIONS: u8 = 36;
 
+/// How many positions a side of a section has.
+const POSITIONS_ACROSS: u8 = 4;
+
 /// How many places a side of a position has, and how many the position.
-const PLACES_TO_POSITION: u8 = 4;
+const PLACES_TO_POSITION: u8 = PLACES_ACROSS as u8 / POSITIONS_ACROSS;
 
-const PLACES_OF_POSITION: u32 = 16;
+const PLACES_OF_POSITION: u32 = PLACES_TO_POSITION as u32 * PLACES_TO_POSITION as u32;
 
-/// The area of a place that lies in no lot: a sixteenth of 20 by 20 chains, in square thousandths.
-const REGULAR_PLACE: u128 = 20_000 * 20_000 / 16;
+/// The side of a position that is no lot, in thousandths of a chain.
+const QUARTER_MILE: u128 = 20_000;
+
+/// The area of a place that lies in no lot, in square thousandths.
+const REGULAR_PLACE: u128 = QUARTER_MILE * QUARTER_MILE / PLACES_OF_POSITION as u128;
 
 /// The area of a land: each place counts as a sixteenth of its position's area on the plat, and nothing
 /// is rounded (this project's rule; a lot is taken whole: Specifications for Descriptions of Land).
@@ -67,7 +74,7 @@ fn units_in_section<L: Land>(plat: &Plat, land: &L, section: Section) -> u128
 fn regular_units(places: u32, over: u64) -> u128
     requires places { places ≤ SECTION_PLACES_MOST }
     requires over { over ≤ OVER_MOST }
-    ensures { result ≡ 25000000 * (over * places) }
+    ensures { result ≡ REGULAR_PLACE_UNITS * (over * places) }
 {
     REGULAR_PLACE * (u128::from(over) * u128::from(places))
 }
