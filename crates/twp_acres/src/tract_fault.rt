@@ -80,3 +80,56 @@ impl<T: Drop> From<AllocFailed<T>> for TractFault {
         TractFault::Memory
     }
 }
+
+#[cfg(test)]
+mod tests {
+    use super::*;
+    use std::test::Fail;
+
+    /// The verdict of one refusal.
+    fn refused(number: u8, at: u32) -> Option<Verdict> {
+        Some(Verdict::Refused(Refusal { number, at }))
+    }
+
+    #[test]
+    fn tells_faults(rt: HostRuntime) -> Result<(), Fail> {
+        let inner = Refusal { number: 66, at: 8 };
+        for (fault, verdict, text) in [
+            (
+                TractFault::TooLarge,
+                refused(80, 1_048_576),
+                "the list of tracts has more than 1,048,576 bytes",
+            ),
+            (
+                TractFault::Row(3),
+                refused(81, 3),
+                "record 3 isn't a name of 1 to 64 printed ASCII characters and a description",
+            ),
+            (
+                TractFault::NameRepeated(4),
+                refused(82, 4),
+                "record 4 has the name of an earlier tract",
+            ),
+            (
+                TractFault::Description { at: 5, inner },
+                Some(Verdict::TractRefused { at: 5, inner }),
+                "record 5 has a description that is refused: 66 at 8",
+            ),
+            (
+                TractFault::Overlap(6),
+                refused(84, 6),
+                "record 6 has a place that an earlier tract has",
+            ),
+            (
+                TractFault::TooMany,
+                refused(85, 1_002),
+                "there are more than 1,000 tracts",
+            ),
+            (TractFault::Memory, None, "out of memory"),
+        ] {
+            assert_eq!(rt; fault.to_string(rt.alloc())?.as_str(), text);
+            assert_eq!(rt; fault.verdict(), verdict);
+        }
+        Ok(())
+    }
+}
