@@ -377,8 +377,8 @@ ended 'little memory' "$status" 3 '' 'township: out of memory'
     find "$root/crates" -path '*/src/*' -name '*.rt' -exec \
         sed -n 's/^ *[A-Za-z]*Fault::\([A-Za-z]*\).* => (\([0-9][0-9]*\), .*/\2 \1/p' {} +
     # 83 is the one refusal with two lines, so it is a verdict of its own.
-    grep -q 'TractFault::Description { at, inner } =>' "$root/crates/twp_acres/src/tract_fault.rt" &&
-        echo '83 Description'
+    grep -q 'TractFault::TractRefused { at, inner } =>' "$root/crates/twp_acres/src/tract_fault.rt" &&
+        echo '83 TractRefused'
 } | sort > in_code
 sed -n 's/^| \([0-9][0-9]*\) | \([A-Za-z]*\) |.*/\1 \2/p' "$root/docs/REFUSALS.md" | sort > out
 : > err

@@ -40,43 +40,43 @@ module _ (plat : TownshipPlat) (rows : List Fields) (count : ℕ) (tally : Tally
 
   pub refused_next : (tract_fault : TractFault) → IsTractRefused plat.township (record_at rows count) tally (count + 2) tract_fault
       → AreTractsRefused plat.township rows tract_fault
-  refused_next (fault.Row number) (at_record, bad) = refused (fault.Row number) (at_record, bad) least
+  refused_next (fault.TractRow number) (at_record, bad) = refused (fault.TractRow number) (at_record, bad) least
     where
       least : (other : TractFault) → HasAt plat.township rows count other → 1 ≤ turn_of other
-      least (fault.Row n) has = omega arith
+      least (fault.TractRow n) has = omega arith
       least (fault.NameRepeated n) has = omega arith
-      least (fault.Description n inner) has = omega arith
-      least (fault.Overlap n) has = omega arith
-      least fault.TooLarge has = absurd has
-      least fault.TooMany has = absurd has
+      least (fault.TractRefused n inner) has = omega arith
+      least (fault.TractsOverlap n) has = omega arith
+      least fault.TractsTooLarge has = absurd has
+      least fault.TooManyTracts has = absurd has
       least fault.Memory has = absurd has
   refused_next (fault.NameRepeated number) (at_record, is, known) =
       let found = before.names (name_in (record_at rows count)) known in
       refused (fault.NameRepeated number) (at_record, record { earlier = found.0; is_earlier = found.1; same = found.2 }) (least is)
     where
       least : IsTractRecord (record_at rows count) → (other : TractFault) → HasAt plat.township rows count other → 2 ≤ turn_of other
-      least is (fault.Row n) (e, bad) = absurd (bad is)
+      least is (fault.TractRow n) (e, bad) = absurd (bad is)
       least is (fault.NameRepeated n) has = omega arith
-      least is (fault.Description n inner) has = omega arith
-      least is (fault.Overlap n) has = omega arith
-      least is fault.TooLarge has = absurd has
-      least is fault.TooMany has = absurd has
+      least is (fault.TractRefused n inner) has = omega arith
+      least is (fault.TractsOverlap n) has = omega arith
+      least is fault.TractsTooLarge has = absurd has
+      least is fault.TooManyTracts has = absurd has
       least is fault.Memory has = absurd has
-  refused_next (fault.Description number inner) (at_record, (is, anew), none) =
-      refused (fault.Description number inner) (at_record, none) (least is anew)
+  refused_next (fault.TractRefused number inner) (at_record, (is, anew), none) =
+      refused (fault.TractRefused number inner) (at_record, none) (least is anew)
     where
       least : IsTractRecord (record_at rows count) → has_name tally.names (name_in (record_at rows count)) ≡ false
           → (other : TractFault) → HasAt plat.township rows count other → 3 ≤ turn_of other
-      least is anew (fault.Row n) (e, bad) = absurd (bad is)
+      least is anew (fault.TractRow n) (e, bad) = absurd (bad is)
       least is anew (fault.NameRepeated n) (e, repeated) = absurd (not_repeated anew repeated)
-      least is anew (fault.Description n inner) has = omega arith
-      least is anew (fault.Overlap n) has = omega arith
-      least is anew fault.TooLarge has = absurd has
-      least is anew fault.TooMany has = absurd has
+      least is anew (fault.TractRefused n inner) has = omega arith
+      least is anew (fault.TractsOverlap n) has = omega arith
+      least is anew fault.TractsTooLarge has = absurd has
+      least is anew fault.TooManyTracts has = absurd has
       least is anew fault.Memory has = absurd has
-  refused_next (fault.Overlap number) (at_record, (is, anew), overlaps) =
+  refused_next (fault.TractsOverlap number) (at_record, (is, anew), overlaps) =
       let there = (before.land overlaps.shared.section overlaps.shared.column overlaps.shared.row).0 overlaps.shared.in_first in
-      refused (fault.Overlap number) (
+      refused (fault.TractsOverlap number) (
         at_record,
         record {
           earlier = there.index;
@@ -100,39 +100,39 @@ module _ (plat : TownshipPlat) (rows : List Fields) (count : ℕ) (tally : Tally
       least : IsTractRecord (record_at rows count) → has_name tally.names (name_in (record_at rows count)) ≡ false
           → OverlapsTally plat.township (record_at rows count) tally
           → (other : TractFault) → HasAt plat.township rows count other → 4 ≤ turn_of other
-      least is anew overlaps (fault.Row n) (e, bad) = absurd (bad is)
+      least is anew overlaps (fault.TractRow n) (e, bad) = absurd (bad is)
       least is anew overlaps (fault.NameRepeated n) (e, repeated) = absurd (not_repeated anew repeated)
-      least is anew overlaps (fault.Description n inner) (e, none) =
+      least is anew overlaps (fault.TractRefused n inner) (e, none) =
           absurd (not_described plat.township (description_in (record_at rows count)) inner overlaps.more none overlaps.land)
-      least is anew overlaps (fault.Overlap n) has = omega arith
-      least is anew overlaps fault.TooLarge has = absurd has
-      least is anew overlaps fault.TooMany has = absurd has
+      least is anew overlaps (fault.TractsOverlap n) has = omega arith
+      least is anew overlaps fault.TractsTooLarge has = absurd has
+      least is anew overlaps fault.TooManyTracts has = absurd has
       least is anew overlaps fault.Memory has = absurd has
   refused_next fault.Memory is = tt
-  refused_next fault.TooLarge is = absurd is
-  refused_next fault.TooMany is = absurd is
+  refused_next fault.TractsTooLarge is = absurd is
+  refused_next fault.TooManyTracts is = absurd is
 
 -- a list whose first record is another than the heading
 pub no_heading_first : (township : Designation) (bytes : List ℕ) → length bytes ≤ TRACTS_LIMIT → record_numbered (records_of bytes) 1 ≢ tracts_heading
-    → IsFirstTractFault township bytes (fault.Row 1)
+    → IsFirstTractFault township bytes (fault.TractRow 1)
 no_heading_first township bytes size differs = record { is = inl (refl, differs); first = first }
   where
     first : (other : TractFault) → HasTractFault township bytes other → IsFrom 1 1 other
-    first fault.TooLarge large = absurd (omega arith)
-    first fault.TooMany many = inl (omega arith)
-    first (fault.Row n) (inl (e, bad)) = inr (omega arith, omega arith)
-    first (fault.Row n) (inr at_tract) = inl (let e : n ≡ at_tract.index + 2 = at_tract.has.0 in omega arith)
+    first fault.TractsTooLarge large = absurd (omega arith)
+    first fault.TooManyTracts many = inl (omega arith)
+    first (fault.TractRow n) (inl (e, bad)) = inr (omega arith, omega arith)
+    first (fault.TractRow n) (inr at_tract) = inl (let e : n ≡ at_tract.index + 2 = at_tract.has.0 in omega arith)
     first (fault.NameRepeated n) (inl none) = absurd none
     first (fault.NameRepeated n) (inr at_tract) = inl (let e : n ≡ at_tract.index + 2 = at_tract.has.0 in omega arith)
-    first (fault.Description n inner) (inl none) = absurd none
-    first (fault.Description n inner) (inr at_tract) = inl (let e : n ≡ at_tract.index + 2 = at_tract.has.0 in omega arith)
-    first (fault.Overlap n) (inl none) = absurd none
-    first (fault.Overlap n) (inr at_tract) = inl (let e : n ≡ at_tract.index + 2 = at_tract.has.0 in omega arith)
+    first (fault.TractRefused n inner) (inl none) = absurd none
+    first (fault.TractRefused n inner) (inr at_tract) = inl (let e : n ≡ at_tract.index + 2 = at_tract.has.0 in omega arith)
+    first (fault.TractsOverlap n) (inl none) = absurd none
+    first (fault.TractsOverlap n) (inr at_tract) = inl (let e : n ≡ at_tract.index + 2 = at_tract.has.0 in omega arith)
     first fault.Memory (inl none) = absurd none
     first fault.Memory (inr at_tract) = absurd at_tract.has
 
 -- more bytes than a list may have
-pub large_first : (township : Designation) (bytes : List ℕ) → TRACTS_LIMIT < length bytes → IsFirstTractFault township bytes fault.TooLarge
+pub large_first : (township : Designation) (bytes : List ℕ) → TRACTS_LIMIT < length bytes → IsFirstTractFault township bytes fault.TractsTooLarge
 large_first township bytes large = record { is = large; first = λ other has. from (record_of other) (turn_of other) }
   where
     from : (number turn : ℕ) → (0 < number) ⊎ ((0 ≡ number) × (0 ≤ turn))
@@ -147,22 +147,22 @@ module _ (township : Designation) (bytes : List ℕ) (size : length bytes ≤ TR
   none_before index tracts other at_tract earlier = at_earlier other at_tract.has
     where
       at_earlier : (other : TractFault) → HasAt township (tract_records bytes) at_tract.index other → ⊥
-      at_earlier (fault.Row n) (e, bad) = bad (tracts.each at_tract.index earlier).is_record
+      at_earlier (fault.TractRow n) (e, bad) = bad (tracts.each at_tract.index earlier).is_record
       at_earlier (fault.NameRepeated n) (e, repeated) = tracts.once repeated.earlier at_tract.index repeated.is_earlier earlier repeated.same
-      at_earlier (fault.Description n inner) (e, none) =
+      at_earlier (fault.TractRefused n inner) (e, none) =
           not_described township (description_in (record_at (tract_records bytes) at_tract.index)) inner (tracts.each at_tract.index earlier).places none (tracts.each at_tract.index earlier).land
-      at_earlier (fault.Overlap n) (e, overlaps) = tracts.apart overlaps.earlier at_tract.index overlaps.is_earlier earlier overlaps.overlap
-      at_earlier fault.TooLarge has = has
-      at_earlier fault.TooMany has = has
+      at_earlier (fault.TractsOverlap n) (e, overlaps) = tracts.apart overlaps.earlier at_tract.index overlaps.is_earlier earlier overlaps.overlap
+      at_earlier fault.TractsTooLarge has = has
+      at_earlier fault.TooManyTracts has = has
       at_earlier fault.Memory has = has
 
   number_is : (index : ℕ) (other : TractFault) → HasAt township (tract_records bytes) index other → record_of other ≡ index + 2
-  number_is index (fault.Row n) has = has.0
+  number_is index (fault.TractRow n) has = has.0
   number_is index (fault.NameRepeated n) has = has.0
-  number_is index (fault.Description n inner) has = has.0
-  number_is index (fault.Overlap n) has = has.0
-  number_is index fault.TooLarge has = absurd has
-  number_is index fault.TooMany has = absurd has
+  number_is index (fault.TractRefused n inner) has = has.0
+  number_is index (fault.TractsOverlap n) has = has.0
+  number_is index fault.TractsTooLarge has = absurd has
+  number_is index fault.TooManyTracts has = absurd has
   number_is index fault.Memory has = absurd has
 
   -- each fault is at the record too many, in the list's size, or at a tract
@@ -171,16 +171,16 @@ module _ (township : Designation) (bytes : List ℕ) (size : length bytes ≤ TR
     at_tract : HasAtTract township (tract_records bytes) other → Where other
 
   where_is : (other : TractFault) → HasTractFault township bytes other → Where other
-  where_is fault.TooLarge large = absurd (omega arith)
-  where_is fault.TooMany many = too_many refl
-  where_is (fault.Row n) (inl (e, bad)) = absurd (bad heading_is)
-  where_is (fault.Row n) (inr is) = at_tract is
+  where_is fault.TractsTooLarge large = absurd (omega arith)
+  where_is fault.TooManyTracts many = too_many refl
+  where_is (fault.TractRow n) (inl (e, bad)) = absurd (bad heading_is)
+  where_is (fault.TractRow n) (inr is) = at_tract is
   where_is (fault.NameRepeated n) (inl none) = absurd none
   where_is (fault.NameRepeated n) (inr is) = at_tract is
-  where_is (fault.Description n inner) (inl none) = absurd none
-  where_is (fault.Description n inner) (inr is) = at_tract is
-  where_is (fault.Overlap n) (inl none) = absurd none
-  where_is (fault.Overlap n) (inr is) = at_tract is
+  where_is (fault.TractRefused n inner) (inl none) = absurd none
+  where_is (fault.TractRefused n inner) (inr is) = at_tract is
+  where_is (fault.TractsOverlap n) (inl none) = absurd none
+  where_is (fault.TractsOverlap n) (inr is) = at_tract is
   where_is fault.Memory (inl none) = absurd none
   where_is fault.Memory (inr is) = at_tract is
 
@@ -206,11 +206,11 @@ module _ (township : Designation) (bytes : List ℕ) (size : length bytes ≤ TR
 
   pub first_refused : (tract_fault : TractFault) → AreTractsRefused township (tract_records bytes) tract_fault
       → IfSome (verdict_of tract_fault) (λ _. IsFirstTractFault township bytes tract_fault)
-  first_refused (fault.Row n) next = first_of_next (fault.Row n) next (inr (record { index = next.index; within = next.within; has = next.has }))
+  first_refused (fault.TractRow n) next = first_of_next (fault.TractRow n) next (inr (record { index = next.index; within = next.within; has = next.has }))
   first_refused (fault.NameRepeated n) next = first_of_next (fault.NameRepeated n) next (inr (record { index = next.index; within = next.within; has = next.has }))
-  first_refused (fault.Description n inner) next = first_of_next (fault.Description n inner) next (inr (record { index = next.index; within = next.within; has = next.has }))
-  first_refused (fault.Overlap n) next = first_of_next (fault.Overlap n) next (inr (record { index = next.index; within = next.within; has = next.has }))
-  first_refused fault.TooMany (many, tracts) = record { is = many; first = λ other there. first other (where_is other there) }
+  first_refused (fault.TractRefused n inner) next = first_of_next (fault.TractRefused n inner) next (inr (record { index = next.index; within = next.within; has = next.has }))
+  first_refused (fault.TractsOverlap n) next = first_of_next (fault.TractsOverlap n) next (inr (record { index = next.index; within = next.within; has = next.has }))
+  first_refused fault.TooManyTracts (many, tracts) = record { is = many; first = λ other there. first other (where_is other there) }
     where
       first : (other : TractFault) → Where other → IsFrom (TRACTS_MOST + 2) 0 other
       first other (too_many e) = inr (sym e, omega arith)
@@ -224,7 +224,7 @@ module _ (township : Designation) (bytes : List ℕ) (size : length bytes ≤ TR
             ]
       ]
   first_refused fault.Memory next = tt
-  first_refused fault.TooLarge next = absurd (next.has)
+  first_refused fault.TractsTooLarge next = absurd (next.has)
 
 -- the first of the records, and those behind it
 pub record AreBehind (bytes : List ℕ) (fields : Fields) (rest : List Fields) : Type 0 where

@@ -43,20 +43,20 @@ one_account plat rows text text' is is' =
 
 -- a list of tracts has no fault
 not_faulty : (township : Designation) (bytes : List ℕ) (tract_fault : TractFault) → IsTractList township bytes → HasTractFault township bytes tract_fault → ⊥
-not_faulty township bytes fault.TooLarge list has = let most = list.size in omega arith
-not_faulty township bytes fault.TooMany list has = let most = list.few in omega arith
-not_faulty township bytes (fault.Row n) list (inl (e, bad)) = bad list.heading_is
-not_faulty township bytes (fault.Row n) list (inr is) =
-    none_before township bytes list.size list.heading_is (length (tract_records bytes)) list.tracts (fault.Row n) is is.within
+not_faulty township bytes fault.TractsTooLarge list has = let most = list.size in omega arith
+not_faulty township bytes fault.TooManyTracts list has = let most = list.few in omega arith
+not_faulty township bytes (fault.TractRow n) list (inl (e, bad)) = bad list.heading_is
+not_faulty township bytes (fault.TractRow n) list (inr is) =
+    none_before township bytes list.size list.heading_is (length (tract_records bytes)) list.tracts (fault.TractRow n) is is.within
 not_faulty township bytes (fault.NameRepeated n) list (inl none) = none
 not_faulty township bytes (fault.NameRepeated n) list (inr is) =
     none_before township bytes list.size list.heading_is (length (tract_records bytes)) list.tracts (fault.NameRepeated n) is is.within
-not_faulty township bytes (fault.Description n inner) list (inl none) = none
-not_faulty township bytes (fault.Description n inner) list (inr is) =
-    none_before township bytes list.size list.heading_is (length (tract_records bytes)) list.tracts (fault.Description n inner) is is.within
-not_faulty township bytes (fault.Overlap n) list (inl none) = none
-not_faulty township bytes (fault.Overlap n) list (inr is) =
-    none_before township bytes list.size list.heading_is (length (tract_records bytes)) list.tracts (fault.Overlap n) is is.within
+not_faulty township bytes (fault.TractRefused n inner) list (inl none) = none
+not_faulty township bytes (fault.TractRefused n inner) list (inr is) =
+    none_before township bytes list.size list.heading_is (length (tract_records bytes)) list.tracts (fault.TractRefused n inner) is is.within
+not_faulty township bytes (fault.TractsOverlap n) list (inl none) = none
+not_faulty township bytes (fault.TractsOverlap n) list (inr is) =
+    none_before township bytes list.size list.heading_is (length (tract_records bytes)) list.tracts (fault.TractsOverlap n) is is.within
 not_faulty township bytes fault.Memory list (inl none) = none
 not_faulty township bytes fault.Memory list (inr is) = is.has
 
@@ -67,21 +67,21 @@ same_fault township bytes fault.Memory other (inl none) has' at_ turn = absurd n
 same_fault township bytes fault.Memory other (inr is) has' at_ turn = absurd is.has
 same_fault township bytes one fault.Memory has (inl none) at_ turn = absurd none
 same_fault township bytes one fault.Memory has (inr is) at_ turn = absurd is.has
-same_fault township bytes fault.TooLarge fault.TooLarge has has' at_ turn = refl
-same_fault township bytes fault.TooMany fault.TooMany has has' at_ turn = refl
-same_fault township bytes (fault.Row n) (fault.Row n') has has' at_ turn = ap (λ k. fault.Row k) at_
+same_fault township bytes fault.TractsTooLarge fault.TractsTooLarge has has' at_ turn = refl
+same_fault township bytes fault.TooManyTracts fault.TooManyTracts has has' at_ turn = refl
+same_fault township bytes (fault.TractRow n) (fault.TractRow n') has has' at_ turn = ap (λ k. fault.TractRow k) at_
 same_fault township bytes (fault.NameRepeated n) (fault.NameRepeated n') has has' at_ turn = ap (λ k. fault.NameRepeated k) at_
-same_fault township bytes (fault.Overlap n) (fault.Overlap n') has has' at_ turn = ap (λ k. fault.Overlap k) at_
-same_fault township bytes (fault.Description n inner) (fault.Description n' inner') (inl none) has' at_ turn = absurd none
-same_fault township bytes (fault.Description n inner) (fault.Description n' inner') (inr is) (inl none) at_ turn = absurd none
-same_fault township bytes (fault.Description n inner) (fault.Description n' inner') (inr is) (inr is') at_ turn =
+same_fault township bytes (fault.TractsOverlap n) (fault.TractsOverlap n') has has' at_ turn = ap (λ k. fault.TractsOverlap k) at_
+same_fault township bytes (fault.TractRefused n inner) (fault.TractRefused n' inner') (inl none) has' at_ turn = absurd none
+same_fault township bytes (fault.TractRefused n inner) (fault.TractRefused n' inner') (inr is) (inl none) at_ turn = absurd none
+same_fault township bytes (fault.TractRefused n inner) (fault.TractRefused n' inner') (inr is) (inr is') at_ turn =
     let here : n ≡ is.index + 2 = is.has.0 in
     let there : n' ≡ is'.index + 2 = is'.has.0 in
     let index : is.index ≡ is'.index = omega arith in
     let same : inner ≡ inner' =
     one_description_refusal township (description_in (record_at (tract_records bytes) is'.index)) inner inner'
     (subst (λ i. IsNoDescription township (description_in (record_at (tract_records bytes) i)) inner) index is.has.1) is'.has.1 in
-    ap (λ k. fault.Description k inner) at_ ∙ ap (λ r. fault.Description n' r) same
+    ap (λ k. fault.TractRefused k inner) at_ ∙ ap (λ r. fault.TractRefused n' r) same
 same_fault township bytes one other has has' at_ turn = absurd (omega arith)
 
 -- of two faults, each at the other or behind it

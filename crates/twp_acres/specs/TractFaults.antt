@@ -13,12 +13,12 @@ use Rattle.twp_acres.specs.declared.tract_fault.TractFault.TheVariants as fault
 
 -- the verdict on a list that has the fault; want of memory has none
 abbrev pub verdict_of : TractFault → Option Verdict
-verdict_of fault.TooLarge = Some (Refused (record { number = 80; at = TRACTS_LIMIT }))
-verdict_of (fault.Row number) = Some (Refused (record { number = 81; at = number }))
+verdict_of fault.TractsTooLarge = Some (Refused (record { number = 80; at = TRACTS_LIMIT }))
+verdict_of (fault.TractRow number) = Some (Refused (record { number = 81; at = number }))
 verdict_of (fault.NameRepeated number) = Some (Refused (record { number = 82; at = number }))
-verdict_of (fault.Description number inner) = Some (TractRefused number inner)
-verdict_of (fault.Overlap number) = Some (Refused (record { number = 84; at = number }))
-verdict_of fault.TooMany = Some (Refused (record { number = 85; at = TRACTS_MOST + 2 }))
+verdict_of (fault.TractRefused number inner) = Some (TractRefused number inner)
+verdict_of (fault.TractsOverlap number) = Some (Refused (record { number = 84; at = number }))
+verdict_of fault.TooManyTracts = Some (Refused (record { number = 85; at = TRACTS_MOST + 2 }))
 verdict_of fault.Memory = None
 
 -- the tract has the name of an earlier one
@@ -35,13 +35,13 @@ pub record OverlapsEarlier (township : Designation) (rows : List Fields) (index 
 
 -- the tract at the index has the fault, which is answered at its record
 abbrev pub HasAt : Designation → List Fields → ℕ → TractFault → Type 0
-HasAt township rows index (fault.Row number) =
+HasAt township rows index (fault.TractRow number) =
     (number ≡ index + 2) × ¬ IsTractRecord (record_at rows index)
 HasAt township rows index (fault.NameRepeated number) =
     (number ≡ index + 2) × IsNameRepeated rows index
-HasAt township rows index (fault.Description number inner) = (number ≡ index + 2)
+HasAt township rows index (fault.TractRefused number inner) = (number ≡ index + 2)
     × IsNoDescription township (description_in (record_at rows index)) inner
-HasAt township rows index (fault.Overlap number) =
+HasAt township rows index (fault.TractsOverlap number) =
     (number ≡ index + 2) × OverlapsEarlier township rows index
 HasAt township rows index other = ⊥
 
@@ -54,34 +54,34 @@ pub record HasAtTract (township : Designation) (rows : List Fields) (tract_fault
 
 -- the first record is another than the heading, or is missing
 abbrev pub HasNoHeading : List ℕ → TractFault → Type 0
-HasNoHeading bytes (fault.Row number) =
+HasNoHeading bytes (fault.TractRow number) =
     (number ≡ 1) × (record_numbered (records_of bytes) 1 ≢ tracts_heading)
 HasNoHeading bytes other = ⊥
 
 -- the fault is there
 abbrev pub HasTractFault : Designation → List ℕ → TractFault → Type 0
-HasTractFault township bytes fault.TooLarge = TRACTS_LIMIT < length bytes
-HasTractFault township bytes fault.TooMany = TRACTS_MOST < length (tract_records bytes)
+HasTractFault township bytes fault.TractsTooLarge = TRACTS_LIMIT < length bytes
+HasTractFault township bytes fault.TooManyTracts = TRACTS_MOST < length (tract_records bytes)
 HasTractFault township bytes other =
     HasNoHeading bytes other ⊎ HasAtTract township (tract_records bytes) other
 
 -- The size of the list is looked at first, then its records one after another.
 abbrev pub record_of : TractFault → ℕ
-record_of fault.TooLarge = 0
-record_of (fault.Row number) = number
+record_of fault.TractsTooLarge = 0
+record_of (fault.TractRow number) = number
 record_of (fault.NameRepeated number) = number
-record_of (fault.Description number inner) = number
-record_of (fault.Overlap number) = number
-record_of fault.TooMany = TRACTS_MOST + 2
+record_of (fault.TractRefused number inner) = number
+record_of (fault.TractsOverlap number) = number
+record_of fault.TooManyTracts = TRACTS_MOST + 2
 record_of fault.Memory = 0
 
 -- Of one tract too many nothing else is looked at. Else a record's faults are looked for by number.
 abbrev pub turn_of : TractFault → ℕ
-turn_of fault.TooMany = 0
-turn_of (fault.Row number) = 1
+turn_of fault.TooManyTracts = 0
+turn_of (fault.TractRow number) = 1
 turn_of (fault.NameRepeated number) = 2
-turn_of (fault.Description number inner) = 3
-turn_of (fault.Overlap number) = 4
+turn_of (fault.TractRefused number inner) = 3
+turn_of (fault.TractsOverlap number) = 4
 turn_of other = 0
 
 -- the fault is at this record and turn, or behind it

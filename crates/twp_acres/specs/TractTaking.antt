@@ -84,21 +84,21 @@ IsNamedAnew fields tally =
 
 -- the numbered record isn't taken, for this fault and none before it
 abbrev pub IsTractRefused : Designation → Fields → Tally → ℕ → TractFault → Type 0
-IsTractRefused township fields tally number (fault.Row at_) =
+IsTractRefused township fields tally number (fault.TractRow at_) =
     (at_ ≡ number) × ¬ IsTractRecord fields
 IsTractRefused township fields tally number (fault.NameRepeated at_) =
     (at_ ≡ number) × IsTractRecord fields × (has_name tally.names (name_in fields) ≡ true)
-IsTractRefused township fields tally number (fault.Description at_ inner) =
+IsTractRefused township fields tally number (fault.TractRefused at_ inner) =
     (at_ ≡ number) × IsNamedAnew fields tally
     × IsNoDescription township (description_in fields) inner
-IsTractRefused township fields tally number (fault.Overlap at_) =
+IsTractRefused township fields tally number (fault.TractsOverlap at_) =
     (at_ ≡ number) × IsNamedAnew fields tally × OverlapsTally township fields tally
 IsTractRefused township fields tally number fault.Memory = ⊤
 IsTractRefused township fields tally number other = ⊥
 
 -- the fault of the numbered record whose description stopped for this
 abbrev pub fault_of_stop : Stop → ℕ → TractFault
-fault_of_stop (stop.Refused inner) number = fault.Description number inner
+fault_of_stop (stop.Refused inner) number = fault.TractRefused number inner
 fault_of_stop (stop.Failed failed) number = fault.Memory
 
 -- the tally is that of the first so many records, which are tracts
@@ -138,7 +138,7 @@ pub record IsNextRefused (township : Designation) (rows : List Fields) (tract_fa
 
 -- the records are one tract too many, or one of them is refused, or there was no memory
 abbrev pub AreTractsRefused : Designation → List Fields → TractFault → Type 0
-AreTractsRefused township rows fault.TooMany =
+AreTractsRefused township rows fault.TooManyTracts =
     (TRACTS_MOST < length rows) × AreTracts township rows TRACTS_MOST
 AreTractsRefused township rows fault.Memory = ⊤
 AreTractsRefused township rows other = IsNextRefused township rows other

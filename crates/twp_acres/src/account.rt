@@ -60,7 +60,7 @@ impl<L: Land> Account<L> {
             (tally_of L.places self.old) number) }
     {
         let Some(tract) = tract_of(row) else {
-            return Err(TractFault::Row(number));
+            return Err(TractFault::TractRow(number));
         };
         if !self.names.add(alloc, tract.name)? {
             return Err(TractFault::NameRepeated(number));
@@ -70,7 +70,7 @@ impl<L: Land> Account<L> {
             Err(stop) => return Err(fault_of(stop, number)),
         };
         if self.land.meets_land(&land) {
-            return Err(TractFault::Overlap(number));
+            return Err(TractFault::TractsOverlap(number));
         }
         let area = area_of(plat, &land);
         self.totals.take(&area);
@@ -85,7 +85,7 @@ fn fault_of(stop: Stop, number: u32) -> TractFault
     ensures { result ≡ fault_of_stop stop number }
 {
     match stop {
-        Stop::Refused(inner) => TractFault::Description { at: number, inner },
+        Stop::Refused(inner) => TractFault::TractRefused { at: number, inner },
         Stop::Failed(_) => TractFault::Memory,
     }
 }

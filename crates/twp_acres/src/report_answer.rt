@@ -58,7 +58,7 @@ fn report_on<T: Source>(alloc: Global, plat: &Plat, tracts: &mut T) -> Result<An
         IfOk result (λ answer. AnswersList plat.now t answer.text.items answer.verdict)) }
 {
     let Some(bytes) = read_whole(alloc, tracts, TRACTS_LIMIT as usize)? else {
-        return refuse_list(alloc, TractFault::TooLarge);
+        return refuse_list(alloc, TractFault::TractsTooLarge);
     };
     match account_of(alloc, plat, bytes.as_slice()) {
         Ok(text) => Ok(Answer {

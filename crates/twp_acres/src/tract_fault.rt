@@ -15,22 +15,22 @@ pub const TRACTS_MOST: u32 = 1_000;
 pub enum TractFault {
     /// 80, at the limit: there are more bytes than a list may have.
     #[error("the list of tracts has more than 1,048,576 bytes")]
-    TooLarge,
+    TractsTooLarge,
     /// 81, at the record: it isn't a name and a description, or record 1 isn't the heading.
     #[error("record {0} isn't a name of 1 to 64 printed ASCII characters and a description")]
-    Row(u32),
+    TractRow(u32),
     /// 82, at the record: an earlier tract has its name.
     #[error("record {0} has the name of an earlier tract")]
     NameRepeated(u32),
     /// 83, at the record: its description is refused itself.
     #[error("record {at} has a description that is refused: {} at {}", inner.number, inner.at)]
-    Description { at: u32, inner: Refusal },
+    TractRefused { at: u32, inner: Refusal },
     /// 84, at the record: a place of the tract is in an earlier one.
     #[error("record {0} has a place that an earlier tract has")]
-    Overlap(u32),
+    TractsOverlap(u32),
     /// 85, at the first record too many.
     #[error("there are more than 1,000 tracts")]
-    TooMany,
+    TooManyTracts,
     /// There was no memory.
     #[error("out of memory")]
     Memory,
@@ -45,14 +45,14 @@ impl TractFault {
         ensures { result ≡ verdict_of self.now }
     {
         let (number, at) = match *self {
-            TractFault::TooLarge => (80, TRACTS_LIMIT),
-            TractFault::Row(record) => (81, record),
+            TractFault::TractsTooLarge => (80, TRACTS_LIMIT),
+            TractFault::TractRow(record) => (81, record),
             TractFault::NameRepeated(record) => (82, record),
-            TractFault::Description { at, inner } => {
+            TractFault::TractRefused { at, inner } => {
                 return Some(Verdict::TractRefused { at, inner });
             }
-            TractFault::Overlap(record) => (84, record),
-            TractFault::TooMany => (85, TRACTS_MOST + 2),
+            TractFault::TractsOverlap(record) => (84, record),
+            TractFault::TooManyTracts => (85, TRACTS_MOST + 2),
             TractFault::Memory => return None,
         };
         Some(Verdict::Refused(Refusal { number, at }))
@@ -96,12 +96,12 @@ mod tests {
         let inner = Refusal { number: 66, at: 8 };
         for (fault, verdict, text) in [
             (
-                TractFault::TooLarge,
+                TractFault::TractsTooLarge,
                 refused(80, 1_048_576),
                 "the list of tracts has more than 1,048,576 bytes",
             ),
             (
-                TractFault::Row(3),
+                TractFault::TractRow(3),
                 refused(81, 3),
                 "record 3 isn't a name of 1 to 64 printed ASCII characters and a description",
             ),
@@ -111,17 +111,17 @@ mod tests {
                 "record 4 has the name of an earlier tract",
             ),
             (
-                TractFault::Description { at: 5, inner },
+                TractFault::TractRefused { at: 5, inner },
                 Some(Verdict::TractRefused { at: 5, inner }),
                 "record 5 has a description that is refused: 66 at 8",
             ),
             (
-                TractFault::Overlap(6),
+                TractFault::TractsOverlap(6),
                 refused(84, 6),
                 "record 6 has a place that an earlier tract has",
             ),
             (
-                TractFault::TooMany,
+                TractFault::TooManyTracts,
                 refused(85, 1_002),
                 "there are more than 1,000 tracts",
             ),

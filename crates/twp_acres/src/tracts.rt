@@ -27,10 +27,10 @@ pub(crate) fn account_of(alloc: Global, plat: &Plat, bytes: &[u8]) -> Result<Vec
     let mut records = Records::new(alloc, bytes);
     let mut row = ByteRecord::new(alloc);
     if !records.read(&mut row)? {
-        return Err(TractFault::Row(1));
+        return Err(TractFault::TractRow(1));
     }
     if !is_heading(&row) {
-        return Err(TractFault::Row(1));
+        return Err(TractFault::TractRow(1));
     }
     let mut account: Account<Lanes> = take_tracts(alloc, plat, &mut records, &mut row)?;
     account.totals.write(&mut account.text)?;
@@ -55,7 +55,7 @@ fn take_tracts<L: Land>(
     let mut taken = 0;
     'records: while records.read(row)? {
         if taken == TRACTS_MOST {
-            return Err(TractFault::TooMany);
+            return Err(TractFault::TooManyTracts);
         }
         account.take(alloc, plat, row, taken + FIRST_TRACT)?;
         taken += 1;

@@ -3,7 +3,7 @@ use Rattle.std.proofs.Common.{[]}
 use Rattle.std.specs.Prelude.{unwrap_or}
 use Rattle.std.proofs.lemmas.Result.{err_from_is_err_and}
 use Rattle.twp_acres.proofs.RunFacts.{some_bytes, if_ok}
-use Rattle.twp_acres.specs.declared.tract_fault.TractFault.TheVariants.{TooLarge}
+use Rattle.twp_acres.specs.declared.tract_fault.TractFault.TheVariants.{TractsTooLarge}
 use Rattle.twp_acres.proofs.FirstTractFaults.{large_first, list_refused}
 use Rattle.twp_acres.proofs.report_answer.report_on.Goals as goal
 
@@ -20,5 +20,5 @@ returns-in_default-clause-answer g c =
       bytes = read.0;
       tells = read.1;
       holds = if_ok c.refuse_list.result _ _ c.refuse_list.ensures.answer (λ answer is.
-          list_refused c.args.plat.now read.0 answer.text.items answer.verdict TooLarge (large_first c.args.plat.now.township read.0 read.2) is.0 is.1 is.2);
+          list_refused c.args.plat.now read.0 answer.text.items answer.verdict TractsTooLarge (large_first c.args.plat.now.township read.0 read.2) is.0 is.1 is.2);
     }
