@@ -158,10 +158,12 @@ fn answers_each_front(rt: HostRuntime) -> Result<(), Fail> {
 
 #[test]
 fn refuses_too_large_texts_before_all(rt: HostRuntime) -> Result<(), Fail> {
-    let spaces = vec![in rt.alloc(); b' '; 65_537]?;
-    assert_eq!(rt; answer(rt.alloc(), spaces.as_slice())?, Some((41, 65_536)));
-    assert_eq!(rt; spaces.len(), 65_537);
-    assert_eq!(rt; answer(rt.alloc(), &spaces[..65_536])?, Some((44, 65_536)));
+    for (byte, refusal) in [(b' ', (44, 65_536)), (0xFF, (42, 0))] {
+        let most = vec![in rt.alloc(); byte; 65_536]?;
+        assert_eq!(rt; answer(rt.alloc(), most.as_slice())?, Some(refusal));
+        let more = vec![in rt.alloc(); byte; 65_537]?;
+        assert_eq!(rt; answer(rt.alloc(), more.as_slice())?, Some((41, 65_536)));
+    }
     Ok(())
 }
 
@@ -293,7 +295,7 @@ fn tells_what_could_stand_there(rt: HostRuntime) -> Result<(), Fail> {
         ),
         (
             "sec. 14, lots 1 and.",
-            "the description goes wrong at 19: here could stand another lot's number, or another part",
+            "the description goes wrong at 19: here could stand another lot's number, `inclusive` of a range, or another part",
         ),
         (
             "T. 2 N. R. 3 W.",
