@@ -317,3 +317,72 @@ fn tells_what_could_stand_there(rt: HostRuntime) -> Result<(), Fail> {
     }
     Ok(())
 }
+
+/// What is told at a word that is none of a description, behind a front of each kind: worked out by hand
+/// from the grammar.
+const TOLD: [(&str, &str); 25] = [
+    ("", "`T.` of a heading, or `sec.`"),
+    ("t", "the township's number"),
+    ("t 2", "`N` or `S`"),
+    ("t 2 n", "`R.` of the range"),
+    ("t 2 n r", "the range's number"),
+    ("t 2 n r 3", "`E` or `W`"),
+    ("t 2 n r 3 w", "`sec.`"),
+    ("sec", "a section's number"),
+    (
+        "sec 1",
+        "parts of the section, more sections, `;`, or the end",
+    ),
+    (
+        "sec 1,",
+        "a part of the section, or another section's number",
+    ),
+    (
+        "sec 1 to 4",
+        "more sections, `inclusive` of a range, `all`, `;`, or the end",
+    ),
+    ("sec 1 to", "the number of the last section"),
+    (
+        "sec 1 to 4,",
+        "another section's number, `inclusive` of a range, or `all`",
+    ),
+    ("sec 1, 2:", "`all`"),
+    ("sec 1, 2 all", "`;`, or the end"),
+    ("sec 1 lot", "a lot's number"),
+    (
+        "sec 1 lot 2 to 3",
+        "more lots, `inclusive` of a range, another part, `;`, or the end",
+    ),
+    ("sec 1 lot 2 to", "the number of the last lot"),
+    (
+        "sec 1 lot 2 to 3,",
+        "another lot's number, `inclusive` of a range, or another part",
+    ),
+    ("sec 1:", "`lot`, an aliquot part, or `all`"),
+    ("sec 1 n", "`1/2`"),
+    ("sec 1 ne", "`1/4`"),
+    (
+        "sec 1 ne1/4",
+        "`of` or more steps of an aliquot part, another part, `;`, or the end",
+    ),
+    ("sec 1 ne1/4 of", "what the aliquot part is of, as `NE1/4`"),
+    ("sec 1.", "nothing more"),
+];
+
+#[test]
+fn tells_it_of_each_kind_of_front(rt: HostRuntime) -> Result<(), Fail> {
+    for (front, told) in TOLD {
+        let mut text = Vec::from_slice(rt.alloc(), front.as_bytes())?;
+        text.push(b' ')?;
+        let at = text.len();
+        text.push(b'x')?;
+        let message = format!(in rt.alloc();
+            "the description goes wrong at {at}: here could stand {told}"
+        )?;
+        match Description::read(rt.alloc(), text.as_slice()) {
+            Ok(_) => assert!(rt; false, "{front}"),
+            Err(fault) => assert_eq!(rt; fault.to_string(rt.alloc())?.as_str(), message.as_str()),
+        }
+    }
+    Ok(())
+}
