@@ -8,7 +8,7 @@ use Rattle.twp_text.specs.Grammar.{Class, sec, lot, all, and, to, inclusive, of,
 
 -- marks that may stand before what is named
 abbrev pub marks : List Class
-marks = comma ∷ colon ∷ stop ∷ []
+marks = comma ∷ stop ∷ []
 
 -- a part: lots, an aliquot part, or all
 abbrev pub part_begins : List Class
@@ -24,9 +24,9 @@ named expected.RangeNumber = number ∷ stop ∷ []
 named expected.RangeSide = east_west ∷ []
 named expected.Sections = sec ∷ and ∷ stop ∷ comma ∷ []
 named expected.SectionNumber = number ∷ stop ∷ []
-named expected.PartsOrSections = to ∷ and ∷ semicolon ∷ marks ++ part_begins
+named expected.PartsOrSections = to ∷ and ∷ semicolon ∷ colon ∷ marks ++ part_begins
 named expected.PartOrSection = and ∷ number ∷ part_begins
-named expected.MoreSections = to ∷ inclusive ∷ and ∷ all ∷ semicolon ∷ marks
+named expected.MoreSections = to ∷ inclusive ∷ and ∷ all ∷ semicolon ∷ colon ∷ marks
 named expected.LastSection = number ∷ []
 named expected.SectionOrAll = number ∷ and ∷ all ∷ inclusive ∷ []
 named expected.All = all ∷ []

@@ -3,30 +3,55 @@ use std::fmt;
 /// What could stand where a description goes wrong, by what stands before it.
 #[derive(Clone, Copy, Debug, PartialEq, Eq, Hash)]
 pub enum Expected {
+    /// Before the first token.
     Beginning,
+    /// Behind the `T` of a heading.
     TownshipNumber,
+    /// Behind the township's number.
     TownshipSide,
+    /// Behind the township's side.
     Range,
+    /// Behind the `R` of a heading.
     RangeNumber,
+    /// Behind the range's number.
     RangeSide,
+    /// Behind a heading, or behind the semicolon after a group.
     Sections,
+    /// Behind `sec`, or behind `and` in a list of sections.
     SectionNumber,
+    /// Behind the number of one section.
     PartsOrSections,
+    /// Behind the comma after it.
     PartOrSection,
+    /// Behind an entry of a list of sections.
     MoreSections,
+    /// Behind `to` in a list of sections.
     LastSection,
+    /// Behind a comma in a list of sections.
     SectionOrAll,
+    /// Behind the colon after several sections.
     All,
+    /// Behind the `all` of several sections.
     GroupEnd,
+    /// Behind `lot`.
     LotNumber,
+    /// Behind an entry of a list of lots.
     MoreLots,
+    /// Behind `to` in a list of lots.
     LastLot,
+    /// Behind a comma or `and` in a list of lots.
     LotOrPart,
+    /// Behind the colon after one section, or what separates its parts.
     Part,
+    /// Behind the letter of a half.
     Half,
+    /// Behind the letters of a quarter.
     Quarter,
+    /// Behind a step of an aliquot part, or behind the `all` of one section.
     MoreParts,
+    /// Behind `of`.
     Step,
+    /// Behind the last full stop.
     Nothing,
 }
 
@@ -43,19 +68,22 @@ impl fmt::Display for Expected {
             Expected::SectionNumber => "a section's number",
             Expected::PartsOrSections => "parts of the section, more sections, `;`, or the end",
             Expected::PartOrSection => "a part of the section, or another section's number",
-            Expected::MoreSections => "more sections, `all`, `;`, or the end",
+            Expected::MoreSections =>
+                "more sections, `inclusive` of a range, `all`, `;`, or the end",
             Expected::LastSection => "the number of the last section",
-            Expected::SectionOrAll => "another section's number, or `all`",
+            Expected::SectionOrAll => "another section's number, `inclusive` of a range, or `all`",
             Expected::All => "`all`",
             Expected::GroupEnd => "`;`, or the end",
             Expected::LotNumber => "a lot's number",
-            Expected::MoreLots => "more lots, another part, `;`, or the end",
+            Expected::MoreLots =>
+                "more lots, `inclusive` of a range, another part, `;`, or the end",
             Expected::LastLot => "the number of the last lot",
-            Expected::LotOrPart => "another lot's number, or another part",
+            Expected::LotOrPart => "another lot's number, `inclusive` of a range, or another part",
             Expected::Part => "`lot`, an aliquot part, or `all`",
             Expected::Half => "`1/2`",
             Expected::Quarter => "`1/4`",
-            Expected::MoreParts => "another part, `;`, or the end",
+            Expected::MoreParts =>
+                "`of` or more steps of an aliquot part, another part, `;`, or the end",
             Expected::Step => "what the aliquot part is of, as `NE1/4`",
             Expected::Nothing => "nothing more",
         })
