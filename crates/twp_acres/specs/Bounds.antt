@@ -5,8 +5,8 @@ use Rattle.twp_plat.specs.Closing.{CLOSING_MOST, QUARTER_MILE}
 use Rattle.twp_acres.specs.LandAreas.{places_of_position}
 
 -- the units of a place that lies in no lot, whose position is a quarter mile each way
-abbrev pub REGULAR_PLACE : ℕ
-REGULAR_PLACE = QUARTER_MILE * QUARTER_MILE / places_of_position PLACE_DIGITS
+abbrev pub REGULAR_PLACE_UNITS : ℕ
+REGULAR_PLACE_UNITS = QUARTER_MILE * QUARTER_MILE / places_of_position PLACE_DIGITS
 
 -- the places of a section
 abbrev pub SECTION_PLACES_MOST : ℕ

@@ -4,7 +4,7 @@ ghost use Rattle.twp_land.specs.WholeLots.{HasWholeLots};
 ghost use Rattle.twp_plat.specs.Pieces.{over_of, OVER_MOST};
 ghost use Rattle.twp_plat.specs.PlatAreas.{ArePieces};
 ghost use Rattle.twp_acres.specs.LandAreas.{places_of_position, section_sum, IsLandArea};
-ghost use Rattle.twp_acres.specs.Bounds.{REGULAR_PLACE, SECTION_PLACES_MOST, SECTION_UNITS_MOST};
+ghost use Rattle.twp_acres.specs.Bounds.{REGULAR_PLACE_UNITS, SECTION_PLACES_MOST, SECTION_UNITS_MOST};
 
 use twp_grid::{Block, PLACES_ACROSS, Section, lot_count, lot_place};
 use twp_land::Land;
@@ -78,7 +78,7 @@ fn units_in_section<L: Land>(plat: &Plat, land: &L, section: Section) -> u128
 fn regular_units(places: u32, over: u64) -> u128
     requires places { places ≤ SECTION_PLACES_MOST }
     requires over { over ≤ OVER_MOST }
-    ensures { result ≡ REGULAR_PLACE * (over * places) }
+    ensures { result ≡ REGULAR_PLACE_UNITS * (over * places) }
 {
     REGULAR_PLACE * (u128::from(over) * u128::from(places))
 }
