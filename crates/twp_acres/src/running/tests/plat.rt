@@ -18,7 +18,8 @@ sec. 2: lot 1 40.00, lot 2 40.00, lot 3 40.00, lot 4 40.00, total 640.00\n\
 sec. 3: lot 1 40.00, lot 2 40.00, lot 3 40.00, lot 4 40.00, total 640.00\n\
 sec. 4: lot 1 40.05, lot 2 40.15, lot 3 40.25, lot 4 40.35, total 640.80\n\
 sec. 5: lot 1 40.45, lot 2 40.55, lot 3 40.65, lot 4 40.75, total 642.40\n\
-sec. 6: lot 1 40.90, lot 2 41.10, lot 3 41.31, lot 4 39.95, lot 5 38.70, lot 6 38.90, lot 7 39.10, total 639.97\n\
+sec. 6: lot 1 40.90, lot 2 41.10, lot 3 41.31, lot 4 39.95, lot 5 38.70, lot 6 38.90, \
+lot 7 39.10, total 639.97\n\
 sec. 7: lot 1 39.18, lot 2 39.13, lot 3 39.08, lot 4 39.03, total 636.40\n\
 sec. 8: total 640.00\n\
 sec. 9: total 640.00\n\
