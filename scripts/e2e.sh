@@ -251,6 +251,18 @@ Arguments:
 
 Options:
   -h, --help  Print help"
+normal_text="Writes the one canonical spelling of the land that a description names
+
+Usage: township normal <NOTES> <DESCRIPTION>
+
+Arguments:
+  <NOTES>        field notes of the township's 84 section lines, CSV
+  <DESCRIPTION>  description of land, as: sec. 5, lot 1.
+
+Options:
+  -h, --help  Print help"
+run normal --help; ended 'normal --help' $? 0 "$normal_text" ''
+run help normal; ended 'help normal' $? 0 "$normal_text" ''
 run report --help; ended 'report --help' $? 0 "$report_text" ''
 run help report; ended 'help report' $? 0 "$report_text" ''
 
@@ -260,6 +272,9 @@ usage="Usage: township <COMMAND>
 
 $more"
 acres_usage="Usage: township acres <NOTES> <DESCRIPTION>
+
+$more"
+normal_usage="Usage: township normal <NOTES> <DESCRIPTION>
 
 $more"
 report_usage="Usage: township report <NOTES> <TRACTS>
@@ -291,6 +306,13 @@ run report n.csv; ended 'report without a list' $? 2 '' "error: the following re
   <TRACTS>
 
 $report_usage"
+run normal n.csv; ended 'normal without a description' $? 2 '' "error: the following required arguments were not provided:
+  <DESCRIPTION>
+
+$normal_usage"
+run normal n.csv parts d.txt; ended 'a word too many for normal' $? 2 '' "error: unexpected argument 'd.txt' found
+
+$normal_usage"
 run report n.csv t.csv d.txt; ended 'a word too many for report' $? 2 '' "error: unexpected argument 'd.txt' found
 
 $report_usage"
@@ -343,6 +365,8 @@ broken='township: cannot write'
 "$program" acres n.csv d.txt >&- 2> err; ended 'acres, closed' $? 3 '' "$broken"
 "$program" plat n.csv >&- 2> err; ended 'plat, closed' $? 3 '' "$broken"
 "$program" report n.csv t.csv >&- 2> err; ended 'report, closed' $? 3 '' "$broken"
+"$program" normal n.csv parts > /dev/full 2> err; ended 'normal, full' $? 3 '' "$broken"
+"$program" normal n.csv parts >&- 2> err; ended 'normal, closed' $? 3 '' "$broken"
 "$program" < joined >&- 2> err; ended 'joined, closed' $? 3 '' "$broken"
 "$program" --help >&- 2> err; ended 'help, closed' $? 3 '' "$broken"
 "$program" acres n.csv d.txt <&- >&- 2> err; ended 'both closed' $? 3 '' "$broken"
@@ -352,6 +376,7 @@ unread() { (exec 3<> pipe 4> pipe 3>&-; exec "$program" "$@" >&4 2> err); }
 unread acres n.csv d.txt; ended 'acres, no reader' $? 3 '' "$broken"
 unread plat n.csv; ended 'plat, no reader' $? 3 '' "$broken"
 unread report n.csv t.csv; ended 'report, no reader' $? 3 '' "$broken"
+unread normal n.csv parts; ended 'normal, no reader' $? 3 '' "$broken"
 unread < joined; ended 'joined, no reader' $? 3 '' "$broken"
 unread help; ended 'help, no reader' $? 3 '' "$broken"
 
