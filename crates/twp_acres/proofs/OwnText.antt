@@ -1,15 +1,14 @@
 -- A canonical text that is given back is its own canonical text, or is too long to be a description.
 use Rattle.std.proofs.Common.{ℕ, ◌<◌, ◌≤◌, ◌≢◌, List, length, refl, subst, sym, inl, inr}
 use Rattle.twp_grid.specs.Places.{PLACE_DIGITS}
-use Rattle.twp_grid.specs.Townships.{Designation}
 use Rattle.twp_land.specs.Lands.{no_places}
 use Rattle.twp_plat.specs.Plats.{TownshipPlat}
-use Rattle.twp_text.specs.TextFaults.{TEXT_LIMIT, IsFirstTextFault}
+use Rattle.twp_text.specs.TextFaults.{TEXT_LIMIT}
 use Rattle.twp_text.specs.TextFaults.IsFirstTextFault.{too_large as longer}
 use Rattle.twp_text.specs.ReadBack.{IsTownshipLand, HasTownshipNumbers}
 use Rattle.twp_text.proofs.DescribedLand.{names_some_place, is_of_township}
 use Rattle.twp_text.proofs.ReadBack.{read_back}
-use Rattle.twp_acres.specs.Answers.{ArePlatted, IsRefusal, IsNoLandOnPlat, refusal_line}
+use Rattle.twp_acres.specs.Answers.{ArePlatted, refusal_line}
 use Rattle.twp_acres.specs.NormalAnswers.{IsNormalForm, IsNormalAnswer}
 use Rattle.twp_acres.specs.NormalLaws.{too_large}
 use Rattle.twp_acres.specs.declared.verdict.Verdict.TheVariants.{Accepted, Refused}

@@ -1,5 +1,5 @@
 -- A section's places without those of a block, as they are kept.
-use Rattle.std.proofs.Common.{◌≡◌, ◌==◌, ℕ, zero, suc, ◌+◌, ◌-◌, ◌<◌, ◌&&◌, Bool, true, false, not, List, [], length, get_or, nat_lt, ap, refl, sym, ◌∙◌, inl, inr, arith, min, map, w16}
+use Rattle.std.proofs.Common.{◌≡◌, ◌==◌, ℕ, zero, suc, ◌-◌, ◌<◌, ◌&&◌, Bool, true, false, not, List, length, get_or, nat_lt, ap, refl, sym, ◌∙◌, inl, inr, arith, min, map, w16}
 use Rattle.std.proofs.Math.Path.{fun_ext}
 use Rattle.std.specs.Int.{bit_at, bit_not}
 use Rattle.std.specs.Int.Bits.{bit_and}

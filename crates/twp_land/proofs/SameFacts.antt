@@ -1,5 +1,5 @@
 -- Two sets of one section that hold the same places, as they are kept.
-use Rattle.std.proofs.Common.{◌≡◌, ◌↔◌, IsTrue, ◌==◌, ℕ, zero, suc, ◌+◌, ◌%◌, ◌^◌, ◌<◌, ◌&&◌, Bool, true, false, List, [], length, get_or, nat_lt, ap, refl, sym, ◌∙◌, inl, inr, arith}
+use Rattle.std.proofs.Common.{◌≡◌, ◌↔◌, IsTrue, ◌==◌, ℕ, zero, suc, ◌+◌, ◌%◌, ◌<◌, Bool, true, List, [], length, get_or, nat_lt, ap, refl, sym, ◌∙◌, inl, inr, arith}
 use Rattle.std.specs.Int.{bit_at}
 use Rattle.std.specs.Int.Bits.{bit_or, bit_xor, xor_self}
 use Rattle.std.specs.Simd.Lanes.{zip2, fold_l}

@@ -1,5 +1,5 @@
 -- What the reader takes as a whole leads it on as if it were cut token by token.
-use Rattle.std.proofs.Common.{◌≡◌, ◌==◌, ℕ, ◌+◌, ◌<◌, ◌≤◌, Bool, true, false, List, [], ◌∷◌, ◌++◌, Option, Some, None, IfSome, length, take, drop, slice_index, refl, sym, ap, subst, ◌∙◌, append_assoc, arith, codes, length-append, length-drop}
+use Rattle.std.proofs.Common.{◌≡◌, ◌==◌, ℕ, ◌+◌, ◌≤◌, Bool, true, List, [], ◌∷◌, ◌++◌, Option, Some, None, IfSome, length, take, drop, slice_index, refl, sym, ap, subst, ◌∙◌, append_assoc, arith, codes, length-drop}
 use Rattle.std.specs.Char.{is_ascii_alphabetic, to_ascii_lowercase}
 use Rattle.std.specs.List.{AllPass, prefix_len, starts_with}
 use Rattle.std.proofs.lemmas.Bool.Decides.{Decides-eqb}
@@ -18,7 +18,7 @@ use Rattle.twp_text.specs.declared.state.State.{State}
 use Rattle.twp_text.specs.declared.state.State.TheVariants as past
 use Rattle.twp_text.specs.declared.state.State.TheVariants.{Start}
 use Rattle.twp_text.specs.Cutting.{small_letter}
-use Rattle.twp_text.specs.Tokens.{Token, StartsWith, HasTokens, IsToken, IsGoodToken, is_white, kind_of_word, kind_among, words}
+use Rattle.twp_text.specs.Tokens.{Token, StartsWith, HasTokens, IsToken, is_white, kind_among, words}
 use Rattle.twp_text.specs.Tokens.IsToken.{good}
 use Rattle.twp_text.specs.Tokens.IsGoodToken.{a_word, a_half, a_quarter}
 use Rattle.twp_text.specs.Grammar.{class_of}

@@ -1,6 +1,6 @@
 -- The machine reads a sentence along its derivation: behind the tokens of a tree it stands where the tree says,
 -- and has the tree's items. Each lemma reads one nonterminal of the grammar.
-use Rattle.std.proofs.Common.{◌≡◌, ℕ, true, false, List, [], ◌∷◌, ◌++◌, map, Option, Some, None, refl, sym, ap, ◌∙◌, inl, inr, append_assoc}
+use Rattle.std.proofs.Common.{◌≡◌, ℕ, true, false, List, [], ◌∷◌, ◌++◌, map, Some, refl, sym, ap, ◌∙◌, inl, inr, append_assoc}
 use Rattle.std.specs.List.{flat_map}
 use Rattle.std.proofs.lemmas.List.{append-nil}
 use Rattle.twp_text.specs.declared.item.Item.{Item}
@@ -12,9 +12,9 @@ use Rattle.twp_text.specs.declared.state.State.TheVariants as past
 use Rattle.twp_grid.specs.declared.township.NorthSouth.TheVariants as ns
 use Rattle.twp_grid.specs.declared.township.EastWest.TheVariants as ew
 use Rattle.twp_text.specs.Tokens.{Token}
-use Rattle.twp_text.specs.Grammar.{sec, lot, all, and, of, the, t, r, north_south, east_west, number, comma, semicolon, stop, class_of, Ebnf, never, nothing, one, ◌⨾◌, ◌∣◌, many, maybe, step, through, entry, separator, several, part, parts, comma_or_colon, group, heading, description}
+use Rattle.twp_text.specs.Grammar.{sec, lot, all, and, of, the, t, r, north_south, east_west, number, comma, semicolon, stop, Ebnf, never, nothing, one, ◌⨾◌, ◌∣◌, many, maybe, step, through, entry, separator, several, part, parts, comma_or_colon, group, heading, description}
 use Rattle.twp_text.specs.Items.{Leaf, token_of, ◌&◌, behind, Tree, tokens, numeral, step_of, place_of_step, Range, end_of, range_of, ranges_of_several, lots_item, whole_sections_item, part_items, parts_items, group_items, heading_item, items}
-use Rattle.twp_text.specs.Machine.{next, is_final, take_token, before_parts, run}
+use Rattle.twp_text.specs.Machine.{is_final, before_parts, run}
 
 -- the tokens of trees, before others
 abbrev pub each_onto : {A : Type 0} → (A → List Token → List Token) → List A → List Token → List Token

@@ -1,5 +1,3 @@
-use Rattle.std.proofs.Common.{◌≡◌, ◌++◌, ◌+◌, ℕ, List, length, drop, ap, sym, ◌∙◌}
-use Rattle.std.proofs.lemmas.List.{drop-drop}
 use Rattle.twp_text.proofs.PassingFacts.{begins_there}
 use Rattle.twp_text.proofs.passing.goes_on.Goals as goal
 
