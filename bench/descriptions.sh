@@ -1,12 +1,12 @@
 #!/bin/sh
 # Prints how many instructions it takes to read descriptions: the whole process of twp_bench_text, less what
 # it takes to read nothing. Without files: 65,536 bytes of fine parts, the same in small letters, half as
-# many, and 65,536 bytes of the same parts in words.
+# many, and 65,536 bytes of halves of halves in words.
 set -eu
 program=crates/twp_bench_text/out/twp_bench_text
 [ -x "$program" ] || (cd crates/twp_bench_text && rt run < stdin > /dev/null)
 count() {
-    valgrind --tool=callgrind --callgrind-out-file=/dev/null "$program" < "$1" 2>&1 >/dev/null |
+    env -i PATH="$PATH" valgrind --tool=callgrind --callgrind-out-file=/dev/null "$program" < "$1" 2>&1 >/dev/null |
         sed -n 's/.*Collected : *//p'
 }
 work=$(mktemp -d)

@@ -3,9 +3,10 @@
 # input on the sample, on the longest that is refused and on one of fine parts; of subcommands on the sample,
 # and of a report on 1,000 tracts.
 set -eu
-# What is counted stands on standard input, or is named by words.
+# What is counted stands on standard input, or is named by words. The environment is left out, since each
+# of its variables is counted too.
 count() {
-    valgrind --tool=callgrind --callgrind-out-file=/dev/null ./township "$@" 2>&1 >/dev/null |
+    env -i PATH="$PATH" valgrind --tool=callgrind --callgrind-out-file=/dev/null ./township "$@" 2>&1 >/dev/null |
         sed -n 's/.*Collected : *//p'
 }
 work=$(mktemp -d)
@@ -31,9 +32,24 @@ cat samples/description.txt samples/b1.csv > "$work/sample"
                     corners[int(p / 4) % 4 + 1], corners[p % 4 + 1]
         }
         printf ".\n"
-    }'
+    }' | tee "$work/parts"
     cat samples/b1.csv
 } > "$work/places"
+# A chessboard: each other place of the 25 sections without lots, which no two parts can be joined of.
+awk 'BEGIN {
+    quarter[0, 0] = "SE\xc2\xbc"; quarter[1, 0] = "SW\xc2\xbc"
+    quarter[0, 1] = "NE\xc2\xbc"; quarter[1, 1] = "NW\xc2\xbc"
+    for (s = 8; s <= 36; s++) {
+        if (s == 18 || s == 19 || s == 30 || s == 31) continue
+        printf "%ssec %s", (s > 8 ? ";" : ""), s
+        for (c = 0; c < 16; c++)
+            for (r = c % 2; r < 16; r += 2) {
+                printf ","
+                for (size = 1; size < 16; size *= 2)
+                    printf "%s", quarter[int(c / size) % 2, int(r / size) % 2]
+            }
+    }
+}' > "$work/chessboard"
 # A list of 1,000 tracts, each another place of sections 8 to 11.
 awk 'BEGIN {
     split("NE1/4 NW1/4 SW1/4 SE1/4", corners, " ")
@@ -51,6 +67,9 @@ printf '%-44s %12s\n' 'nothing (the start of the process)' "$(count < "$work/emp
 printf 'secs. 1 thru 36.' > "$work/all"
 printf '%-44s %12s\n' 'acres of all 36 sections' "$(count acres samples/b1.csv "$work/all")"
 printf '%-44s %12s\n' 'plat' "$(count plat samples/b1.csv)"
+printf '%-44s %12s\n' 'normal of the places' "$(count normal samples/b1.csv "$work/parts")"
+printf '%-44s %12s\n' "normal of a chessboard ($(wc -c < "$work/chessboard") bytes)" \
+    "$(count normal samples/b1.csv "$work/chessboard")"
 printf '%-44s %12s\n' 'report of the sample' "$(count report samples/b1.csv samples/tracts.csv)"
 printf '%-44s %12s\n' "report of 1,000 tracts ($(wc -c < "$work/tracts") bytes)" \
     "$(count report samples/b1.csv "$work/tracts")"

@@ -4,7 +4,7 @@
 # sections and blocks alone. `take` is `meets` and then `add` of one block.
 set -eu
 count() {
-    valgrind --tool=callgrind --callgrind-out-file=/dev/null crates/twp_bench/out/twp_bench "$1" "$2" 1000 \
+    env -i PATH="$PATH" valgrind --tool=callgrind --callgrind-out-file=/dev/null crates/twp_bench/out/twp_bench "$1" "$2" 1000 \
         2>&1 >/dev/null | sed -n 's/.*Collected : *//p'
 }
 printf '%-28s %12s %12s\n' '1,000 calls on mixed blocks' 'Grid' 'Lanes'
