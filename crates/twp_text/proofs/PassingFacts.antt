@@ -1,9 +1,9 @@
 -- What the reader takes as a whole leads it on as if it were cut token by token.
-use Rattle.std.proofs.Common.{◌≡◌, ◌==◌, ℕ, ◌+◌, ◌≤◌, Bool, true, List, [], ◌∷◌, ◌++◌, Option, Some, None, IfSome, length, take, drop, slice_index, refl, sym, ap, subst, ◌∙◌, append_assoc, arith, codes, length-drop}
-use Rattle.std.specs.Char.{is_ascii_alphabetic, to_ascii_lowercase}
+use Rattle.std.proofs.Common.{◌≡◌, ◌==◌, ℕ, ◌+◌, ◌≤◌, Bool, true, List, [], ◌∷◌, ◌++◌, Option, Some, None, IfSome, length, take, drop, slice_index, refl, sym, ap, subst, ◌∙◌, append_assoc, arith, codes, length-drop, ◌-◌, bit_or, slice_index_or, inl, inr, ◌<◌}
+use Rattle.std.specs.Char.{is_ascii_lowercase, is_ascii_alphabetic, to_ascii_lowercase}
 use Rattle.std.specs.List.{AllPass, prefix_len, starts_with}
 use Rattle.std.proofs.lemmas.Bool.Decides.{Decides-eqb}
-use Rattle.std.proofs.lemmas.List.{drop-drop}
+use Rattle.std.proofs.lemmas.List.{get_or-drop, drop-drop}
 use Rattle.std.proofs.lemmas.List.Sums.{AllPass-from_list_all, list_all-from_AllPass}
 use Rattle.std.proofs.lemmas.Slice.Eq.{starts_is}
 use Rattle.twp_grid.specs.declared.block.Side.TheVariants as side
@@ -23,7 +23,8 @@ use Rattle.twp_text.specs.Tokens.IsToken.{good}
 use Rattle.twp_text.specs.Tokens.IsGoodToken.{a_word, a_half, a_quarter}
 use Rattle.twp_text.specs.Grammar.{class_of}
 use Rattle.twp_text.specs.Machine.{next, take_token, run, with_newest, is_in_chain}
-use Rattle.twp_text.specs.Passing.{Leads, StandsAt, IsStepAt, end_of, letters_of, fraction_of}
+use Rattle.twp_text.specs.Passing.{Leads, StandsAt, IsStepAt, end_of, letters_of, fraction_of, BeginWithStep, AreHalf, AreQuarter}
+use Rattle.twp_text.proofs.LetterFacts.{by_bit, by_its_bit}
 use Rattle.twp_text.proofs.WordFacts.{IsLetter, is_letter}
 use Rattle.twp_text.proofs.Reading.{run-append, go_on}
 use Rattle.twp_text.proofs.ReaderFacts.{Front}
@@ -219,14 +220,41 @@ quarter_stands text at first second it size letter more spelt within is fraction
   some = omega arith;
 }
 
--- what is found of letters, where a fraction follows them
-pub if_half : (text : List ℕ) (at first : ℕ) (found : Option UsualStep) → Some first ≡ small_letter (slice_index (drop at text) 0) → drop (at + 1) text ≡ codes "1/2" ++ drop ((at + 1) + 3) text → (at + 1) + 3 ≤ length text → IfSome found (λ usual. (kind_among (first ∷ []) words ≡ letters_of usual.step) × (fraction_of usual.step ≡ Half) × (usual.size ≡ 4)) → IfSome found (λ usual. IsStepAt text at usual.step usual.size)
-if_half text at first None letter spelt within h = tt
-if_half text at first (Some usual) letter spelt within (is, fraction, size) = half_stands text at first usual.step usual.size letter spelt within is fraction size
+-- a letter by the bit in which a small one differs
+pub small_by_bit : (byte small : ℕ) → byte < 256 → bit_or byte 32 ≡ small → is_ascii_lowercase small ≡ true → Some small ≡ small_letter byte
+small_by_bit byte small fits is lower =
+    let same : by_bit byte ≡ small_letter byte = by_its_bit byte fits in
+    let here : by_bit byte ≡ Some small = rw (is, lower) refl in
+    sym here ∙ same
 
-pub if_quarter : (text : List ℕ) (at first second : ℕ) (found : Option UsualStep) → Some first ≡ small_letter (slice_index (drop at text) 0) → Some second ≡ small_letter (slice_index (drop at text) 1) → drop (at + 2) text ≡ codes "1/4" ++ drop ((at + 2) + 3) text → (at + 2) + 3 ≤ length text → IfSome found (λ usual. (kind_among (first ∷ second ∷ []) words ≡ letters_of usual.step) × (fraction_of usual.step ≡ Quarter) × (usual.size ≡ 5)) → IfSome found (λ usual. IsStepAt text at usual.step usual.size)
-if_quarter text at first second None letter more spelt within h = tt
-if_quarter text at first second (Some usual) letter more spelt within (is, fraction, size) = quarter_stands text at first second usual.step usual.size letter more spelt within is fraction size
+-- the bytes of a text further on
+ahead : (text : List ℕ) (at k i : ℕ) → slice_index (drop (at + k) text) i ≡ slice_index (drop at text) (k + i)
+ahead text at k i =
+    let further : (at + k) + i ≡ at + (k + i) = omega arith in
+    get_or-drop (at + k) text i 0 ∙ ap (λ n. slice_index_or text n 0) further ∙ sym (get_or-drop at text (k + i) 0)
+
+three_in_front : (bytes : List ℕ) (a b c : ℕ) → 3 ≤ length bytes → slice_index bytes 0 ≡ a → slice_index bytes 1 ≡ b → slice_index bytes 2 ≡ c → bytes ≡ a ∷ b ∷ c ∷ drop 3 bytes
+three_in_front [] a b c fits ha hb hc = absurd (omega arith)
+three_in_front (x ∷ []) a b c fits ha hb hc = absurd (omega arith)
+three_in_front (x ∷ y ∷ []) a b c fits ha hb hc = absurd (omega arith)
+three_in_front (x ∷ y ∷ z ∷ bytes) a b c fits ha hb hc = rw (sym ha, sym hb, sym hc) refl
+
+three_at : (text : List ℕ) (at k a b c : ℕ) → (at + k) + 3 ≤ length text → slice_index (drop at text) (k + 0) ≡ a → slice_index (drop at text) (k + 1) ≡ b → slice_index (drop at text) (k + 2) ≡ c → drop (at + k) text ≡ (a ∷ b ∷ c ∷ []) ++ drop ((at + k) + 3) text
+three_at text at k a b c fits ha hb hc =
+    three_in_front (drop (at + k) text) a b c (rw (length-drop (at + k) text) (omega arith)) (ahead text at k 0 ∙ ha) (ahead text at k 1 ∙ hb) (ahead text at k 2 ∙ hc)
+    ∙ ap (λ r. a ∷ b ∷ c ∷ r) (drop-drop 3 (at + k) text)
+
+-- five bytes that begin with a step
+pub step_stands : (text bytes : List ℕ) (at : ℕ) (found : Option UsualStep) → bytes ≡ drop at text → 5 ≤ length bytes
+    → IfSome found (λ usual. BeginWithStep (slice_index bytes 0) (slice_index bytes 1) (slice_index bytes 2) (slice_index bytes 3) (slice_index bytes 4) usual.step usual.size)
+    → IfSome found (λ usual. IsStepAt text at usual.step usual.size)
+step_stands text bytes at None here fits h = tt
+step_stands text bytes at (Some usual) here fits (inl (half, a, b, c)) =
+    let within : 5 ≤ length text - at = rw (sym (length-drop at text), sym here) fits in
+    half_stands text at half.small usual.step usual.size (rw (sym here) half.letter) (three_at text at 1 49 47 50 (omega arith) (rw (sym here) a) (rw (sym here) b) (rw (sym here) c)) (omega arith) half.letters half.fraction half.size_is
+step_stands text bytes at (Some usual) here fits (inr (quarter, a, b, c)) =
+    let within : 5 ≤ length text - at = rw (sym (length-drop at text), sym here) fits in
+    quarter_stands text at quarter.small quarter.behind usual.step usual.size (rw (sym here) quarter.letter) (rw (sym here) quarter.letter_behind) (three_at text at 2 49 47 52 (omega arith) (rw (sym here) a) (rw (sym here) b) (rw (sym here) c)) (omega arith) quarter.letters quarter.fraction quarter.size_is
 
 -- a chain goes on with the letters of a step and with its fraction
 record GrowsBy (state : State) (it : Step) : Type 0 where

@@ -1,5 +1,5 @@
 -- What the reader takes as a whole, though it is several tokens. No public promise speaks of it.
-use Rattle.std.specs.Prelude.{◌≡◌, ◌≤◌, ◌<◌, ℕ, ◌+◌, List, ◌++◌, Some, length, drop}
+use Rattle.std.specs.Prelude.{◌≡◌, ◌⊎◌, ◌≤◌, ◌<◌, ℕ, ◌+◌, List, [], ◌∷◌, ◌++◌, Some, length, drop}
 use Rattle.twp_grid.specs.declared.block.Side.TheVariants as side
 use Rattle.twp_grid.specs.declared.township.NorthSouth.TheVariants as ns
 use Rattle.twp_grid.specs.declared.township.EastWest.TheVariants as ew
@@ -9,7 +9,8 @@ use Rattle.twp_text.specs.declared.item.Step.TheVariants as step
 use Rattle.twp_text.specs.declared.kind.Kind.{Kind}
 use Rattle.twp_text.specs.declared.kind.Kind.TheVariants.{NorthSouth, EastWest, Corner, Half, Quarter}
 use Rattle.twp_text.specs.declared.state.State.{State}
-use Rattle.twp_text.specs.Tokens.{Token, StartsWith, HasTokens}
+use Rattle.twp_text.specs.Tokens.{Token, StartsWith, HasTokens, kind_among, words}
+use Rattle.twp_text.specs.Cutting.{small_letter}
 use Rattle.twp_text.specs.Machine.{run}
 
 -- The tokens of a text between two places lead the machine from a state and items to others.
@@ -54,3 +55,27 @@ pub record IsStepAt (text : List ℕ) (at : ℕ) (step : Step) (size : ℕ) : Ty
   pub fraction : StandsAt text (at + letters_size) (fraction_of step) fraction_size
   pub size_is : size ≡ letters_size + fraction_size
   pub some : 0 < size
+
+-- a letter is that of a half, which has four bytes with `1/2` behind it
+pub record AreHalf (first : ℕ) (it : Step) (size : ℕ) : Type 0 where
+  pub small : ℕ
+  pub letter : Some small ≡ small_letter first
+  pub letters : kind_among (small ∷ []) words ≡ letters_of it
+  pub fraction : fraction_of it ≡ Half
+  pub size_is : size ≡ 4
+
+-- two letters are those of a quarter, which has five bytes with `1/4` behind them
+pub record AreQuarter (first second : ℕ) (it : Step) (size : ℕ) : Type 0 where
+  pub small : ℕ
+  pub letter : Some small ≡ small_letter first
+  pub behind : ℕ
+  pub letter_behind : Some behind ≡ small_letter second
+  pub letters : kind_among (small ∷ behind ∷ []) words ≡ letters_of it
+  pub fraction : fraction_of it ≡ Quarter
+  pub size_is : size ≡ 5
+
+-- five bytes begin with a step: with the letter of a half and 1/2, or with those of a quarter and 1/4
+abbrev pub BeginWithStep : ℕ → ℕ → ℕ → ℕ → ℕ → Step → ℕ → Type 0
+BeginWithStep first second third fourth fifth it size =
+    (AreHalf first it size × (second ≡ 49) × (third ≡ 47) × (fourth ≡ 50))
+    ⊎ (AreQuarter first second it size × (third ≡ 49) × (fourth ≡ 47) × (fifth ≡ 52))

@@ -249,7 +249,7 @@ impl Items {
 }
 
 #[inline(always)]
-pub(crate) fn north_or_south(side: NorthSouth) -> Side
+fn north_or_south(side: NorthSouth) -> Side
     ensures { result ≡ north_or_south side }
 {
     match side {
@@ -259,7 +259,7 @@ pub(crate) fn north_or_south(side: NorthSouth) -> Side
 }
 
 #[inline(always)]
-pub(crate) fn east_or_west(side: EastWest) -> Side
+fn east_or_west(side: EastWest) -> Side
     ensures { result ≡ east_or_west side }
 {
     match side {

@@ -50,7 +50,7 @@ fn byte_at(text: &[u8], at: usize, ahead: usize) -> u8
 /// The letter that stands so many bytes ahead of a place, as a small one.
 #[inline(always)]
 #[tactic(auto, using(crate::proofs::LetterFacts::letter_counts))]
-pub fn letter_at(text: &[u8], at: usize, ahead: usize) -> Option<u8>
+fn letter_at(text: &[u8], at: usize, ahead: usize) -> Option<u8>
     requires { at + ahead ≤ length text.now }
     ensures letter { result ≡ small_letter (slice_index (drop at text.now) ahead) }
     ensures inside { IfSome result (λ _. at + ahead < length text.now) }

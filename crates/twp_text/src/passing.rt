@@ -1,19 +1,23 @@
 //! What the reader takes as a whole, though it is several tokens: steps in their usual spelling.
-ghost use Rattle.std.specs.Prelude.{◌≡◌, ◌≤◌, ◌∷◌, ◌++◌, ◌+◌, [], Some, List, length, drop, slice_index, IsTrue, IfSome};
-ghost use Rattle.twp_text.specs.declared.item.Item.{Item};
+ghost use Rattle.std.specs.Prelude.{◌≡◌, ◌≤◌, ◌∷◌, ◌++◌, ◌+◌, [], true, List, length, drop, IsTrue, IfSome};
+ghost use Rattle.std.specs.Char.{is_ascii_lowercase};
 ghost use Rattle.twp_text.specs.Tokens.{kind_among, words};
-ghost use Rattle.twp_text.specs.Cutting.{small_letter};
-ghost use Rattle.twp_text.specs.Passing.{Leads, IsStepAt, letters_of, fraction_of};
+ghost use Rattle.twp_text.specs.declared.item.Item.{Item};
+ghost use Rattle.twp_text.specs.Passing.{Leads, IsStepAt, BeginWithStep, AreHalf, AreQuarter};
+ghost use Rattle.twp_text.specs.Passing.{letters_of};
 
 use crate::item::Step;
-use crate::items::{east_or_west, north_or_south};
-use crate::kind::Kind;
-use crate::lexeme::letter_at;
 use crate::state::State;
-use crate::word::{one_letter, two_letters};
+use twp_grid::{Corner, Side};
 
 /// How many bytes a half or a quarter has.
 const FRACTION: usize = 3;
+
+/// How many bytes the longest step in its usual spelling has.
+const LONGEST: usize = 5;
+
+/// The bit in which a small letter differs from a capital one.
+const SMALL: u8 = 0x20;
 
 /// How many bytes `of the` has, with a space on either side.
 const OF_THE: usize = 8;
@@ -72,26 +76,35 @@ pub fn step_at(text: &[u8], at: usize) -> Option<UsualStep>
     requires { at ≤ length text.now }
     ensures { IfSome result (λ usual. IsStepAt text.now at usual.step usual.size) }
 {
-    let Some(first) = letter_at(text, at, 0) else {
+    let (_, bytes) = text.split_at(at);
+    if bytes.len() < LONGEST {
         return None;
-    };
-    match letter_at(text, at, 1) {
-        Some(second) if goes_on(text, at + 2, b"1/4") => quarter(first, second),
-        None if goes_on(text, at + 1, b"1/2") => half(first),
-        _ => None,
     }
+    step_of(bytes[0], bytes[1], bytes[2], bytes[3], bytes[4])
 }
 
-/// The half that a small letter begins.
+/// The step that five bytes begin with, if they do.
+#[inline(always)]
+fn step_of(first: u8, second: u8, third: u8, fourth: u8, fifth: u8) -> Option<UsualStep>
+    ensures { IfSome result
+        (λ usual. BeginWithStep first second third fourth fifth usual.step usual.size) }
+{
+    if third == b'1' && fourth == b'/' && fifth == b'4' {
+        return quarter(first, second);
+    }
+    if second == b'1' && third == b'/' && fourth == b'2' {
+        return half(first);
+    }
+    None
+}
+
+/// The half of a letter, capital or small.
 #[inline(always)]
 fn half(first: u8) -> Option<UsualStep>
-    ensures { IfSome result (λ usual. (kind_among (first ∷ []) words ≡ letters_of usual.step)
-        × (fraction_of usual.step ≡ Kind.Half) × (usual.size ≡ 4)) }
+    ensures { IfSome result (λ usual. AreHalf first usual.step usual.size) }
 {
-    let side = match one_letter(first) {
-        Kind::NorthSouth(side) => north_or_south(side),
-        Kind::EastWest(side) => east_or_west(side),
-        _ => return None,
+    let Some(side) = side_of(first | SMALL) else {
+        return None;
     };
     Some(UsualStep {
         step: Step::Half(side),
@@ -99,19 +112,51 @@ fn half(first: u8) -> Option<UsualStep>
     })
 }
 
-/// The quarter that two small letters begin.
+/// The quarter of two letters, capital or small.
 #[inline(always)]
 fn quarter(first: u8, second: u8) -> Option<UsualStep>
-    ensures { IfSome result (λ usual. (kind_among (first ∷ second ∷ []) words ≡ letters_of usual.step)
-        × (fraction_of usual.step ≡ Kind.Quarter) × (usual.size ≡ 5)) }
+    ensures { IfSome result (λ usual. AreQuarter first second usual.step usual.size) }
 {
-    let Kind::Corner(corner) = two_letters(first, second) else {
+    let Some(corner) = corner_of(first | SMALL, second | SMALL) else {
         return None;
     };
     Some(UsualStep {
         step: Step::Quarter(corner),
         size: 2 + FRACTION,
     })
+}
+
+/// The side of a small letter.
+#[inline(always)]
+fn side_of(small: u8) -> Option<Side>
+    ensures kind { IfSome result
+        (λ side. kind_among (small ∷ []) words ≡ letters_of (Step.Half side)) }
+    ensures letter { IfSome result (λ _. is_ascii_lowercase small ≡ true) }
+{
+    match small {
+        b'n' => Some(Side::N),
+        b's' => Some(Side::S),
+        b'e' => Some(Side::E),
+        b'w' => Some(Side::W),
+        _ => None,
+    }
+}
+
+/// The corner of two small letters.
+#[inline(always)]
+fn corner_of(small: u8, behind: u8) -> Option<Corner>
+    ensures kind { IfSome result
+        (λ corner. kind_among (small ∷ behind ∷ []) words ≡ letters_of (Step.Quarter corner)) }
+    ensures letter { IfSome result (λ _. is_ascii_lowercase small ≡ true) }
+    ensures letter_behind { IfSome result (λ _. is_ascii_lowercase behind ≡ true) }
+{
+    match behind {
+        b'e' if small == b'n' => Some(Corner::NE),
+        b'w' if small == b'n' => Some(Corner::NW),
+        b'w' if small == b's' => Some(Corner::SW),
+        b'e' if small == b's' => Some(Corner::SE),
+        _ => None,
+    }
 }
 
 /// Whether a text goes on with these bytes at a place.
