@@ -1,18 +1,22 @@
 -- What the reader takes as a whole leads it on as if it were cut token by token.
-use Rattle.std.proofs.Common.{◌≡◌, ◌==◌, ℕ, ◌+◌, ◌≤◌, Bool, true, List, [], ◌∷◌, ◌++◌, Option, Some, None, IfSome, length, take, drop, slice_index, refl, sym, ap, subst, ◌∙◌, append_assoc, arith, codes, length-drop, ◌-◌, bit_or, slice_index_or, inl, inr, ◌<◌}
+use Rattle.std.proofs.Common.{◌≡◌, ◌==◌, ℕ, ◌+◌, ◌≤◌, Bool, true, List, [], ◌∷◌, ◌++◌, Option, Some, None, IfSome, length, take, drop, slice_index, refl, sym, ap, subst, ◌∙◌, append_assoc, arith, codes, length-drop, ◌-◌, bit_or, slice_index_or, inl, inr, ◌<◌, length-append, Result, Ok, Err, IfOk}
 use Rattle.std.specs.Char.{is_ascii_lowercase, is_ascii_alphabetic, to_ascii_lowercase}
-use Rattle.std.specs.List.{AllPass, prefix_len, starts_with}
+use Rattle.std.specs.List.{AllPass, prefix_len, starts_with, list_all}
+use Rattle.std.specs.Option.{is_some}
 use Rattle.std.proofs.lemmas.Bool.Decides.{Decides-eqb}
-use Rattle.std.proofs.lemmas.List.{get_or-drop, drop-drop}
+use Rattle.std.proofs.lemmas.List.Folds.{length-prefix_len}
+use Rattle.std.proofs.lemmas.List.{take-append-drop, get_or-drop, drop-drop}
 use Rattle.std.proofs.lemmas.List.Sums.{AllPass-from_list_all, list_all-from_AllPass}
 use Rattle.std.proofs.lemmas.Slice.Eq.{starts_is}
 use Rattle.twp_grid.specs.declared.block.Side.TheVariants as side
 use Rattle.twp_text.specs.declared.change.Change.TheVariants.{Grown}
 use Rattle.twp_text.specs.declared.item.Item.{Item}
+use Rattle.twp_text.specs.declared.item.Item.TheVariants.{Chain}
 use Rattle.twp_text.specs.declared.item.Step.{Step}
 use Rattle.twp_text.specs.declared.item.Step.TheVariants as step
 use Rattle.twp_text.specs.declared.kind.Kind.{Kind}
 use Rattle.twp_text.specs.declared.kind.Kind.TheVariants.{Half, Quarter, Of, The}
+use Rattle.twp_text.specs.declared.passing.Reached.{Reached}
 use Rattle.twp_text.specs.declared.passing.UsualStep.{UsualStep}
 use Rattle.twp_text.specs.declared.state.State.{State}
 use Rattle.twp_text.specs.declared.state.State.TheVariants as past
@@ -21,11 +25,12 @@ use Rattle.twp_text.specs.Cutting.{small_letter}
 use Rattle.twp_text.specs.Tokens.{Token, StartsWith, HasTokens, IsToken, is_white, kind_among, words}
 use Rattle.twp_text.specs.Tokens.IsToken.{good}
 use Rattle.twp_text.specs.Tokens.IsGoodToken.{a_word, a_half, a_quarter}
-use Rattle.twp_text.specs.Grammar.{class_of}
-use Rattle.twp_text.specs.Machine.{next, take_token, run, with_newest, is_in_chain}
+use Rattle.twp_text.specs.Grammar.{class_of, lot}
+use Rattle.twp_text.specs.Machine.{next, take_token, run, with_newest, is_in_chain, before_parts}
 use Rattle.twp_text.specs.Passing.{Leads, StandsAt, IsStepAt, end_of, letters_of, fraction_of, BeginWithStep, AreHalf, AreQuarter}
 use Rattle.twp_text.proofs.LetterFacts.{by_bit, by_its_bit}
-use Rattle.twp_text.proofs.WordFacts.{IsLetter, is_letter}
+use Rattle.twp_text.proofs.TokenFacts.{all_white}
+use Rattle.twp_text.proofs.WordFacts.{both, IsLetter, is_letter}
 use Rattle.twp_text.proofs.Reading.{run-append, go_on}
 use Rattle.twp_text.proofs.ReaderFacts.{Front}
 
@@ -195,6 +200,7 @@ letters_stand text at size kind are within =
         is = subst (λ (b : List ℕ). IsToken (take size (drop at text)) b kind) left are.is;
       };
       kind_is = refl;
+      here = refl;
       ends = ap (λ n. at + n) are.fits;
       within = within;
     }
@@ -205,7 +211,7 @@ half_stands text at first it size letter spelt within is fraction size_is = reco
   letters_size = 1;
   letters = letters_stand text at 1 (letters_of it) (one_letter (drop at text) (drop ((at + 1) + 3) text) first (letters_of it) letter (drop-drop 1 at text ∙ spelt) is) (omega arith);
   fraction_size = 3;
-  fraction = record { token = made Half (codes "1/2") (at + 1); starts = half_starts text (at + 1) spelt; kind_is = sym fraction; ends = refl; within = within };
+  fraction = record { token = made Half (codes "1/2") (at + 1); starts = half_starts text (at + 1) spelt; kind_is = sym fraction; here = refl; ends = refl; within = within };
   size_is = size_is;
   some = omega arith;
 }
@@ -215,7 +221,7 @@ quarter_stands text at first second it size letter more spelt within is fraction
   letters_size = 2;
   letters = letters_stand text at 2 (letters_of it) (two_letters (drop at text) (drop ((at + 2) + 3) text) first second (letters_of it) letter more (drop-drop 2 at text ∙ spelt) is) (omega arith);
   fraction_size = 3;
-  fraction = record { token = made Quarter (codes "1/4") (at + 2); starts = quarter_starts text (at + 2) spelt; kind_is = sym fraction; ends = refl; within = within };
+  fraction = record { token = made Quarter (codes "1/4") (at + 2); starts = quarter_starts text (at + 2) spelt; kind_is = sym fraction; here = refl; ends = refl; within = within };
   size_is = size_is;
   some = omega arith;
 }
@@ -305,6 +311,97 @@ step_leads text from begun its at state some it size to behind in_chain so_far s
     leads_then text from begun its at state some to behind grown so_far
     (leads_then text at state some (at + size) past.Step grown to behind grown both more)
 
+-- a part begins with the letters of a step and with its fraction
+record BeginsWith (state : State) (it : Step) : Type 0 where
+  between : State
+  letters : next state (class_of (letters_of it)) ≡ Some between
+  fraction : next between (class_of (fraction_of it)) ≡ Some past.Step
+  begun : (at : ℕ) (its : List Item) → take_token state (letters_of it) at its ≡ Chain (it ∷ []) at ∷ before_parts state its
+  kept : (at : ℕ) (its : List Item) → take_token between (fraction_of it) at its ≡ its
+
+begins_with : (state : State) (it : Step) → is_some (next state lot) ≡ true → BeginsWith state it
+begins_with past.SectionNumber (step.Half side.N) h = record { between = past.Side; letters = refl; fraction = refl; begun = λ at its. refl; kept = λ at its. refl }
+begins_with past.SectionNumber (step.Half side.S) h = record { between = past.Side; letters = refl; fraction = refl; begun = λ at its. refl; kept = λ at its. refl }
+begins_with past.SectionNumber (step.Half side.E) h = record { between = past.Side; letters = refl; fraction = refl; begun = λ at its. refl; kept = λ at its. refl }
+begins_with past.SectionNumber (step.Half side.W) h = record { between = past.Side; letters = refl; fraction = refl; begun = λ at its. refl; kept = λ at its. refl }
+begins_with past.SectionNumber (step.Quarter which) h = record { between = past.Corner; letters = refl; fraction = refl; begun = λ at its. refl; kept = λ at its. refl }
+begins_with past.SectionComma (step.Half side.N) h = record { between = past.Side; letters = refl; fraction = refl; begun = λ at its. refl; kept = λ at its. refl }
+begins_with past.SectionComma (step.Half side.S) h = record { between = past.Side; letters = refl; fraction = refl; begun = λ at its. refl; kept = λ at its. refl }
+begins_with past.SectionComma (step.Half side.E) h = record { between = past.Side; letters = refl; fraction = refl; begun = λ at its. refl; kept = λ at its. refl }
+begins_with past.SectionComma (step.Half side.W) h = record { between = past.Side; letters = refl; fraction = refl; begun = λ at its. refl; kept = λ at its. refl }
+begins_with past.SectionComma (step.Quarter which) h = record { between = past.Corner; letters = refl; fraction = refl; begun = λ at its. refl; kept = λ at its. refl }
+begins_with past.LotComma (step.Half side.N) h = record { between = past.Side; letters = refl; fraction = refl; begun = λ at its. refl; kept = λ at its. refl }
+begins_with past.LotComma (step.Half side.S) h = record { between = past.Side; letters = refl; fraction = refl; begun = λ at its. refl; kept = λ at its. refl }
+begins_with past.LotComma (step.Half side.E) h = record { between = past.Side; letters = refl; fraction = refl; begun = λ at its. refl; kept = λ at its. refl }
+begins_with past.LotComma (step.Half side.W) h = record { between = past.Side; letters = refl; fraction = refl; begun = λ at its. refl; kept = λ at its. refl }
+begins_with past.LotComma (step.Quarter which) h = record { between = past.Corner; letters = refl; fraction = refl; begun = λ at its. refl; kept = λ at its. refl }
+begins_with past.LotLastComma (step.Half side.N) h = record { between = past.Side; letters = refl; fraction = refl; begun = λ at its. refl; kept = λ at its. refl }
+begins_with past.LotLastComma (step.Half side.S) h = record { between = past.Side; letters = refl; fraction = refl; begun = λ at its. refl; kept = λ at its. refl }
+begins_with past.LotLastComma (step.Half side.E) h = record { between = past.Side; letters = refl; fraction = refl; begun = λ at its. refl; kept = λ at its. refl }
+begins_with past.LotLastComma (step.Half side.W) h = record { between = past.Side; letters = refl; fraction = refl; begun = λ at its. refl; kept = λ at its. refl }
+begins_with past.LotLastComma (step.Quarter which) h = record { between = past.Corner; letters = refl; fraction = refl; begun = λ at its. refl; kept = λ at its. refl }
+begins_with past.LotAnd (step.Half side.N) h = record { between = past.Side; letters = refl; fraction = refl; begun = λ at its. refl; kept = λ at its. refl }
+begins_with past.LotAnd (step.Half side.S) h = record { between = past.Side; letters = refl; fraction = refl; begun = λ at its. refl; kept = λ at its. refl }
+begins_with past.LotAnd (step.Half side.E) h = record { between = past.Side; letters = refl; fraction = refl; begun = λ at its. refl; kept = λ at its. refl }
+begins_with past.LotAnd (step.Half side.W) h = record { between = past.Side; letters = refl; fraction = refl; begun = λ at its. refl; kept = λ at its. refl }
+begins_with past.LotAnd (step.Quarter which) h = record { between = past.Corner; letters = refl; fraction = refl; begun = λ at its. refl; kept = λ at its. refl }
+begins_with past.BeforePart (step.Half side.N) h = record { between = past.Side; letters = refl; fraction = refl; begun = λ at its. refl; kept = λ at its. refl }
+begins_with past.BeforePart (step.Half side.S) h = record { between = past.Side; letters = refl; fraction = refl; begun = λ at its. refl; kept = λ at its. refl }
+begins_with past.BeforePart (step.Half side.E) h = record { between = past.Side; letters = refl; fraction = refl; begun = λ at its. refl; kept = λ at its. refl }
+begins_with past.BeforePart (step.Half side.W) h = record { between = past.Side; letters = refl; fraction = refl; begun = λ at its. refl; kept = λ at its. refl }
+begins_with past.BeforePart (step.Quarter which) h = record { between = past.Corner; letters = refl; fraction = refl; begun = λ at its. refl; kept = λ at its. refl }
+begins_with past.PartComma (step.Half side.N) h = record { between = past.Side; letters = refl; fraction = refl; begun = λ at its. refl; kept = λ at its. refl }
+begins_with past.PartComma (step.Half side.S) h = record { between = past.Side; letters = refl; fraction = refl; begun = λ at its. refl; kept = λ at its. refl }
+begins_with past.PartComma (step.Half side.E) h = record { between = past.Side; letters = refl; fraction = refl; begun = λ at its. refl; kept = λ at its. refl }
+begins_with past.PartComma (step.Half side.W) h = record { between = past.Side; letters = refl; fraction = refl; begun = λ at its. refl; kept = λ at its. refl }
+begins_with past.PartComma (step.Quarter which) h = record { between = past.Corner; letters = refl; fraction = refl; begun = λ at its. refl; kept = λ at its. refl }
+begins_with _ it h = cc h
+
+white_append : (xs ys : List ℕ) → list_all is_white xs ≡ true → list_all is_white ys ≡ true → list_all is_white (xs ++ ys) ≡ true
+white_append [] ys h k = k
+white_append (x ∷ xs) ys h k =
+    let parts = both (is_white x) (list_all is_white xs) h in
+    rw parts.0 (white_append xs ys parts.1 k)
+
+-- a token behind white space starts where the white space does
+behind_space : (text : List ℕ) (from at : ℕ) (token : Token) (rest : List ℕ) → at ≡ from + prefix_len is_white (drop from text) → StartsWith at (drop at text) token rest → StartsWith from (drop from text) token rest
+behind_space text from at token rest is s =
+    let bytes : List ℕ = drop from text in
+    let n : ℕ = prefix_len is_white bytes in
+    let left : drop n bytes ≡ drop at text = drop-drop n from text ∙ ap (λ m. drop m text) (sym is) in
+    let size : length (take n bytes) ≡ n = length-prefix_len is_white bytes in
+    let place : token.at ≡ at + length s.space = s.place in
+    record {
+      space = take n bytes ++ s.space;
+      white = AllPass-from_list_all is_white _ (white_append (take n bytes) s.space (list_all-from_AllPass is_white (take n bytes) (all_white bytes)) (list_all-from_AllPass is_white s.space s.white));
+      spelt = sym (take-append-drop n bytes) ∙ ap (λ b. take n bytes ++ b) (left ∙ s.spelt) ∙ sym (append_assoc (take n bytes) s.space (token.text ++ rest));
+      place = rw (length-append (take n bytes) s.space, size) (omega arith);
+      is = s.is;
+    }
+
+-- a token that stands at a place leads on from there, or from white space before it
+token_leads : (text : List ℕ) (from at : ℕ) (state : State) (its : List Item) (kind : Kind) (size : ℕ) (behind : State) (grown : List Item) (s : StandsAt text at kind size) → StartsWith from (drop from text) s.token (drop (at + size) text) → next state (class_of kind) ≡ Some behind → take_token state kind at its ≡ grown → Leads text from state its (at + size) behind grown
+token_leads text from at state its kind size behind grown s starts is grows =
+    let step_is : next state (class_of s.token.kind) ≡ Some behind = ap (λ k. next state (class_of k)) s.kind_is ∙ is in
+    let grown_is : take_token state s.token.kind s.token.at its ≡ grown = ap (λ k. take_token state k s.token.at its) s.kind_is ∙ ap (λ n. take_token state kind n its) s.here ∙ grows in
+    subst (λ (js : List Item). Leads text from state its (at + size) behind js) grown_is
+    (leads_token text from state its s.token (at + size) behind starts s.ends s.within step_is)
+
+-- white space and the first step of a part lead on, and then what follows the step
+pub first_leads : (text : List ℕ) (from : ℕ) (state : State) (its : List Item) (at : ℕ) (it : Step) (size to : ℕ) (behind : State) → true ≡ is_some (next state lot) → at ≡ from + prefix_len is_white (drop from text) → IsStepAt text at it size → Leads text (at + size) past.Step (Chain (it ∷ []) at ∷ before_parts state its) to behind (Chain (it ∷ []) at ∷ before_parts state its) → Leads text from state its to behind (Chain (it ∷ []) at ∷ before_parts state its)
+first_leads text from state its at it size to behind begins white s more =
+    let by : BeginsWith state it = begins_with state it (sym begins) in
+    let begun : List Item = Chain (it ∷ []) at ∷ before_parts state its in
+    let end : (at + s.letters_size) + s.fraction_size ≡ at + size = rw (s.size_is) (omega arith) in
+    let letters : Leads text from state its (at + s.letters_size) by.between begun =
+    token_leads text from at state its (letters_of it) s.letters_size by.between begun s.letters (behind_space text from at s.letters.token (drop (at + s.letters_size) text) white s.letters.starts) by.letters (by.begun at its) in
+    let fraction : Leads text (at + s.letters_size) by.between begun ((at + s.letters_size) + s.fraction_size) past.Step begun =
+    token_leads text (at + s.letters_size) (at + s.letters_size) by.between begun (fraction_of it) s.fraction_size past.Step begun s.fraction s.fraction.starts by.fraction (by.kept (at + s.letters_size) begun) in
+    let both : Leads text from state its (at + size) past.Step begun =
+    subst (λ (n : ℕ). Leads text from state its n past.Step begun) end
+    (leads_then text from state its (at + s.letters_size) by.between begun ((at + s.letters_size) + s.fraction_size) past.Step begun letters fraction) in
+    leads_then text from state its (at + size) past.Step begun to behind begun both more
+
 -- where a step that stands at a place ends
 pub step_within : (text : List ℕ) (at : ℕ) (it : Step) (size : ℕ) → IsStepAt text at it size → at + size ≤ length text
 step_within text at it size s =
@@ -323,3 +420,8 @@ pub begins_there : (text : List ℕ) (at : ℕ) (bytes left : List ℕ) (found :
 begins_there text at bytes left found left_is value is_true =
     let spelt : left ≡ bytes ++ drop (length bytes) left = (starts_is Decides-eqb left bytes found value).0 is_true in
     sym left_is ∙ spelt ∙ ap (λ b. bytes ++ drop (length bytes) b) left_is ∙ ap (λ b. bytes ++ b) (drop-drop (length bytes) at text)
+
+-- the steps behind the first one lead on
+pub more_lead : {E : Type 0} (text : List ℕ) (at : ℕ) (state : State) (its : List Item) (mid : ℕ) (between : State) (some grown : List Item) (o : Result Reached E) → Leads text at state its mid between some → IfOk o (λ to. Leads text mid between some to.at to.state grown) → IfOk o (λ to. Leads text at state its to.at to.state grown)
+more_lead text at state its mid between some grown (Ok to) first more = leads_then text at state its mid between some to.at to.state grown first more
+more_lead text at state its mid between some grown (Err e) first more = tt

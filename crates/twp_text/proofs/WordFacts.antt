@@ -93,7 +93,7 @@ long (x ∷ y ∷ z ∷ w ∷ bytes) a b c d h0 h1 h2 h3 =
     one_more x (y ∷ z ∷ w ∷ bytes) (1 + (1 + (1 + more))) (is_letter x a h0).letter (one_more y (z ∷ w ∷ bytes) (1 + (1 + more)) (is_letter y b h1).letter (one_more z (w ∷ bytes) (1 + more) (is_letter z c h2).letter (one_more w bytes more (is_letter w d h3).letter refl))) in
     rw size (omega arith)
 
-both : (x y : Bool) → (x && y) ≡ true → (x ≡ true) × (y ≡ true)
+pub both : (x y : Bool) → (x && y) ≡ true → (x ≡ true) × (y ≡ true)
 both true y h = (refl, h)
 both false y h = cc h
 

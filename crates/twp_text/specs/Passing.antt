@@ -44,6 +44,7 @@ pub record StandsAt (text : List ℕ) (at : ℕ) (kind : Kind) (size : ℕ) : Ty
   pub token : Token
   pub starts : StartsWith at (drop at text) token (drop (at + size) text)
   pub kind_is : token.kind ≡ kind
+  pub here : token.at ≡ at
   pub ends : end_of token ≡ at + size
   pub within : at + size ≤ length text
 

@@ -1,12 +1,14 @@
 ghost use Rattle.std.specs.Prelude.{◌≡◌, ◌≤◌, ◌∷◌, [], length, IfOk, OnOk};
 ghost use Rattle.twp_text.specs.Items.{north_or_south, east_or_west};
 ghost use Rattle.twp_text.specs.Passing.{Leads};
+ghost use Rattle.twp_text.specs.TextFaults.{TEXT_LIMIT};
 
 use crate::change::Change;
 use crate::item::{Item, Numeral, Step, Steps};
 use crate::kind::Kind;
 use crate::passing::{Reached, behind_step, step_at};
 use crate::state::State;
+use crate::token::behind_white;
 use std::alloc::{AllocError, Global};
 use std::marker::Model;
 use twp_grid::{Corner, EastWest, NorthSouth, Side};
@@ -164,10 +166,52 @@ impl Items {
         }
     }
 
-    /// The steps by which a chain goes on, as long as each is spelled as is usual: they are taken as they
-    /// stand, and not token by token. Gives the place that is reached so, and the state there.
+    /// Takes the steps that stand next, as long as each is spelled as is usual: as they stand, and not token
+    /// by token. Gives the place that is reached so, and the state there.
     #[inline(always)]
-    pub fn take_steps(&mut self, text: &[u8], from: Reached) -> Result<Reached, AllocError>
+    pub fn take_steps(
+        &mut self,
+        alloc: Global,
+        text: &[u8],
+        from: Reached,
+    ) -> Result<Reached, AllocError>
+        requires place { from.at ≤ length text.now }
+        requires limit { length text.now ≤ TEXT_LIMIT }
+        ensures { IfOk result
+            (λ to. Leads text.now from.at from.state self.old to.at to.state self.new) }
+    {
+        let first = self.take_first(alloc, text, from)?;
+        self.take_more(text, first)
+    }
+
+    /// Takes a step that a part begins with.
+    #[inline(always)]
+    fn take_first(
+        &mut self,
+        alloc: Global,
+        text: &[u8],
+        from: Reached,
+    ) -> Result<Reached, AllocError>
+        requires place { from.at ≤ length text.now }
+        requires limit { length text.now ≤ TEXT_LIMIT }
+        ensures { IfOk result
+            (λ to. Leads text.now from.at from.state self.old to.at to.state self.new) }
+    {
+        if !from.state.begins_part() {
+            return Ok(from);
+        }
+        let at = behind_white(text, from.at);
+        let Some(usual) = step_at(text, at) else {
+            return Ok(from);
+        };
+        self.before_parts(from.state)?;
+        self.push_chain(alloc, usual.step, at as u32)?;
+        Ok(behind_step(text, at + usual.size))
+    }
+
+    /// Takes the steps by which a chain goes on.
+    #[inline(always)]
+    fn take_more(&mut self, text: &[u8], from: Reached) -> Result<Reached, AllocError>
         requires { from.at ≤ length text.now }
         ensures { IfOk result
             (λ to. Leads text.now from.at from.state self.old to.at to.state self.new) }

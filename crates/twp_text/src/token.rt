@@ -93,7 +93,7 @@ impl<'a> Iterator for Tokens<'a> {
 
 /// The first place from a place on that has no white space, or the text's length.
 #[inline(always)]
-fn behind_white(text: &[u8], from: usize) -> usize
+pub(crate) fn behind_white(text: &[u8], from: usize) -> usize
     requires { from ≤ length text.now }
     ensures value { result ≡ from + prefix_len is_white (drop from text.now) }
     ensures range { result ≤ length text.now }

@@ -33,7 +33,7 @@ loop-token-preserved c =
     (subst (λ is. Front text passed.at (drop passed.at text) passed.state is) (sym c.in_ok-take.ensures) behind_it) c.in_ok-reached.ensures
 
 pub take_steps-requires : goal.take_steps-requires
-take_steps-requires c = (c.behind_fraction-reached.ensures []).within
+take_steps-requires c = record { place = (c.behind_fraction-reached.ensures []).within; limit = c.requires }
 
 pub loop-token-smaller : goal.loop-token-smaller
 loop-token-smaller c =

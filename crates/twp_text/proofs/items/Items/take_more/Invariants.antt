@@ -1,6 +1,6 @@
 use Rattle.std.proofs.Common.{length, ◌-◌}
 use Rattle.twp_text.specs.Passing.{Leads}
-use Rattle.twp_text.proofs.items.Items.take_steps.Given as goal
+use Rattle.twp_text.proofs.items.Items.take_more.Given as goal
 
 -- the steps so far led here
 abbrev pub invariant-loop-usual : goal.invariant-loop-usual
