@@ -27,7 +27,7 @@ use Rattle.twp_text.specs.Tokens.IsToken.{good}
 use Rattle.twp_text.specs.Tokens.IsGoodToken.{a_word, a_half, a_quarter}
 use Rattle.twp_text.specs.Grammar.{class_of, lot}
 use Rattle.twp_text.specs.Machine.{next, take_token, run, with_newest, is_in_chain, before_parts}
-use Rattle.twp_text.specs.Passing.{Leads, StandsAt, IsStepAt, end_of, letters_of, fraction_of, BeginWithStep, AreHalf, AreQuarter}
+use Rattle.twp_text.specs.Passing.{Leads, StandsAt, IsStepAt, end_of, letters_of, fraction_of, BeginWithStep}
 use Rattle.twp_text.proofs.LetterFacts.{by_bit, by_its_bit}
 use Rattle.twp_text.proofs.TokenFacts.{all_white}
 use Rattle.twp_text.proofs.WordFacts.{both, IsLetter, is_letter}
