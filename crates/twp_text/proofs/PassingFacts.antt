@@ -15,7 +15,7 @@ use Rattle.twp_text.specs.declared.item.Item.TheVariants.{Chain}
 use Rattle.twp_text.specs.declared.item.Step.{Step}
 use Rattle.twp_text.specs.declared.item.Step.TheVariants as step
 use Rattle.twp_text.specs.declared.kind.Kind.{Kind}
-use Rattle.twp_text.specs.declared.kind.Kind.TheVariants.{Half, Quarter, Of, The}
+use Rattle.twp_text.specs.declared.kind.Kind.TheVariants.{Half, Quarter, Of, The, Comma}
 use Rattle.twp_text.specs.declared.passing.Reached.{Reached}
 use Rattle.twp_text.specs.declared.passing.UsualStep.{UsualStep}
 use Rattle.twp_text.specs.declared.state.State.{State}
@@ -24,7 +24,7 @@ use Rattle.twp_text.specs.declared.state.State.TheVariants.{Start}
 use Rattle.twp_text.specs.Cutting.{small_letter}
 use Rattle.twp_text.specs.Tokens.{Token, StartsWith, HasTokens, IsToken, is_white, kind_among, words}
 use Rattle.twp_text.specs.Tokens.IsToken.{good}
-use Rattle.twp_text.specs.Tokens.IsGoodToken.{a_word, a_half, a_quarter}
+use Rattle.twp_text.specs.Tokens.IsGoodToken.{a_word, a_half, a_quarter, a_comma}
 use Rattle.twp_text.specs.Grammar.{class_of, lot}
 use Rattle.twp_text.specs.Machine.{next, take_token, run, with_newest, is_in_chain, before_parts}
 use Rattle.twp_text.specs.Passing.{Leads, StandsAt, IsStepAt, end_of, letters_of, fraction_of, BeginWithStep}
@@ -150,6 +150,13 @@ of_the_leads text at its spelt within =
     (leads_token text at past.Step its (made Of (codes "of") (at + 1)) (at + 3) past.Of of_starts (omega arith) (omega arith) refl)
     (leads_token text (at + 3) past.Of its (made The (codes "the") (at + 4)) (at + 7) past.OfThe the_starts (omega arith) (omega arith) refl))
     (subst (λ (n : ℕ). Leads text (at + 7) past.OfThe its n past.OfThe its) the_end (leads_space text (at + 7) past.OfThe its space (omega arith)))
+
+-- a comma behind a part
+pub comma_leads : (text : List ℕ) (at : ℕ) (its : List Item) → drop at text ≡ codes "," ++ drop (at + 1) text → at + 1 ≤ length text → Leads text at past.Step its (at + 1) past.PartComma its
+comma_leads text at its spelt within =
+    leads_token text at past.Step its (made Comma (codes ",") at) (at + 1) past.PartComma
+    (record { space = []; white = AllPass-from_list_all is_white [] refl; spelt = spelt; place = omega arith; is = good (a_comma refl refl) })
+    refl within refl
 
 -- the letters that bytes begin with are those of a step, where its fraction follows
 record AreLetters (bytes : List ℕ) (size : ℕ) (kind : Kind) : Type 0 where

@@ -9,6 +9,7 @@ mod description;
 mod expected;
 mod fault;
 mod full_quarters;
+mod growing;
 mod item;
 mod items;
 mod kind;

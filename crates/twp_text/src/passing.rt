@@ -70,6 +70,22 @@ pub fn behind_step(text: &[u8], at: usize) -> Reached
     }
 }
 
+/// Passes over the comma behind a part.
+#[inline(always)]
+pub fn behind_comma(text: &[u8], end: Reached) -> Reached
+    requires { end.at ≤ length text.now }
+    ensures { (items : List Item)
+        → Leads text.now end.at end.state items result.at result.state items }
+{
+    match end.state {
+        State::Step if goes_on(text, end.at, b",") => Reached {
+            at: end.at + 1,
+            state: State::PartComma,
+        },
+        _ => end,
+    }
+}
+
 /// The step that stands at a place, if its fraction stands right behind its letters, as `1/2` or `1/4`.
 #[inline(always)]
 pub fn step_at(text: &[u8], at: usize) -> Option<UsualStep>
