@@ -1,5 +1,5 @@
 -- What the reader takes as a whole leads it on as if it were cut token by token.
-use Rattle.std.proofs.Common.{◌≡◌, ◌==◌, ℕ, ◌+◌, ◌≤◌, Bool, true, List, [], ◌∷◌, ◌++◌, Option, Some, None, IfSome, length, take, drop, slice_index, refl, sym, ap, subst, ◌∙◌, append_assoc, arith, codes, length-drop, ◌-◌, bit_or, slice_index_or, inl, inr, ◌<◌, length-append, Result, Ok, Err, IfOk}
+use Rattle.std.proofs.Common.{◌≡◌, ◌==◌, ℕ, ◌+◌, ◌≤◌, Bool, true, List, [], ◌∷◌, ◌++◌, Option, Some, None, IfSome, length, take, drop, slice_index, refl, sym, ap, subst, ◌∙◌, append_assoc, arith, codes, length-drop, ◌-◌, bit_or, slice_index_or, inl, inr, ◌<◌, length-append}
 use Rattle.std.specs.Char.{is_ascii_lowercase, is_ascii_alphabetic, to_ascii_lowercase}
 use Rattle.std.specs.List.{AllPass, prefix_len, starts_with, list_all}
 use Rattle.std.specs.Option.{is_some}
@@ -16,7 +16,6 @@ use Rattle.twp_text.specs.declared.item.Step.{Step}
 use Rattle.twp_text.specs.declared.item.Step.TheVariants as step
 use Rattle.twp_text.specs.declared.kind.Kind.{Kind}
 use Rattle.twp_text.specs.declared.kind.Kind.TheVariants.{Half, Quarter, Of, The, Comma}
-use Rattle.twp_text.specs.declared.passing.Reached.{Reached}
 use Rattle.twp_text.specs.declared.passing.UsualStep.{UsualStep}
 use Rattle.twp_text.specs.declared.state.State.{State}
 use Rattle.twp_text.specs.declared.state.State.TheVariants as past
@@ -108,16 +107,14 @@ quarter_starts : (text : List ℕ) (at : ℕ) → drop at text ≡ codes "1/4" +
 quarter_starts text at spelt =
     record { space = []; white = AllPass-from_list_all is_white [] refl; spelt = spelt; place = omega arith; is = good (a_quarter refl refl) }
 
--- a fraction behind the letters of its step, and what follows the step
-pub half_leads : (text : List ℕ) (at to : ℕ) (behind : State) (its : List Item) → drop at text ≡ codes "1/2" ++ drop (at + 3) text → at + 3 ≤ length text → Leads text (at + 3) past.Step its to behind its → Leads text at past.Side its to behind its
-half_leads text at to behind its spelt within more =
-    leads_then text at past.Side its (at + 3) past.Step its to behind its
-    (leads_token text at past.Side its (made Half (codes "1/2") at) (at + 3) past.Step (half_starts text at spelt) refl within refl) more
+-- a fraction behind the letters of its step
+pub half_leads : (text : List ℕ) (at : ℕ) (its : List Item) → drop at text ≡ codes "1/2" ++ drop (at + 3) text → at + 3 ≤ length text → Leads text at past.Side its (at + 3) past.Step its
+half_leads text at its spelt within =
+    leads_token text at past.Side its (made Half (codes "1/2") at) (at + 3) past.Step (half_starts text at spelt) refl within refl
 
-pub quarter_leads : (text : List ℕ) (at to : ℕ) (behind : State) (its : List Item) → drop at text ≡ codes "1/4" ++ drop (at + 3) text → at + 3 ≤ length text → Leads text (at + 3) past.Step its to behind its → Leads text at past.Corner its to behind its
-quarter_leads text at to behind its spelt within more =
-    leads_then text at past.Corner its (at + 3) past.Step its to behind its
-    (leads_token text at past.Corner its (made Quarter (codes "1/4") at) (at + 3) past.Step (quarter_starts text at spelt) refl within refl) more
+pub quarter_leads : (text : List ℕ) (at : ℕ) (its : List Item) → drop at text ≡ codes "1/4" ++ drop (at + 3) text → at + 3 ≤ length text → Leads text at past.Corner its (at + 3) past.Step its
+quarter_leads text at its spelt within =
+    leads_token text at past.Corner its (made Quarter (codes "1/4") at) (at + 3) past.Step (quarter_starts text at spelt) refl within refl
 
 -- what is left of a text behind some bytes that it goes on with
 left_behind : (text : List ℕ) (at n : ℕ) (bytes : List ℕ) → drop at text ≡ bytes → drop (at + n) text ≡ drop n bytes
@@ -151,12 +148,16 @@ of_the_leads text at its spelt within =
     (leads_token text (at + 3) past.Of its (made The (codes "the") (at + 4)) (at + 7) past.OfThe the_starts (omega arith) (omega arith) refl))
     (subst (λ (n : ℕ). Leads text (at + 7) past.OfThe its n past.OfThe its) the_end (leads_space text (at + 7) past.OfThe its space (omega arith)))
 
--- a comma behind a part
-pub comma_leads : (text : List ℕ) (at : ℕ) (its : List Item) → drop at text ≡ codes "," ++ drop (at + 1) text → at + 1 ≤ length text → Leads text at past.Step its (at + 1) past.PartComma its
+-- a comma behind a part, and the space behind it
+pub comma_leads : (text : List ℕ) (at : ℕ) (its : List Item) → drop at text ≡ codes ", " ++ drop (at + 2) text → at + 2 ≤ length text → Leads text at past.Step its (at + 2) past.PartComma its
 comma_leads text at its spelt within =
-    leads_token text at past.Step its (made Comma (codes ",") at) (at + 1) past.PartComma
-    (record { space = []; white = AllPass-from_list_all is_white [] refl; spelt = spelt; place = omega arith; is = good (a_comma refl refl) })
-    refl within refl
+    let behind : drop (at + 1) text ≡ codes " " ++ drop (at + 2) text = left_behind text at 1 (codes ", " ++ drop (at + 2) text) spelt in
+    let end : (at + 1) + 1 ≡ at + 2 = omega arith in
+    let starts : StartsWith at (drop at text) (made Comma (codes ",") at) (drop (at + 1) text) =
+    record { space = []; white = AllPass-from_list_all is_white [] refl; spelt = rw behind spelt; place = omega arith; is = good (a_comma refl refl) } in
+    leads_then text at past.Step its (at + 1) past.PartComma its (at + 2) past.PartComma its
+    (leads_token text at past.Step its (made Comma (codes ",") at) (at + 1) past.PartComma starts refl (omega arith) refl)
+    (subst (λ (n : ℕ). Leads text (at + 1) past.PartComma its n past.PartComma its) end (leads_space text (at + 1) past.PartComma its (rw end behind) (omega arith)))
 
 -- the letters that bytes begin with are those of a step, where its fraction follows
 record AreLetters (bytes : List ℕ) (size : ℕ) (kind : Kind) : Type 0 where
@@ -302,9 +303,9 @@ stands_leads text at state its kind size behind grown s is grows =
     subst (λ (js : List Item). Leads text at state its (at + size) behind js) grown_is
     (leads_token text at state its s.token (at + size) behind s.starts s.ends s.within step_is)
 
--- a chain goes on with a step, and with what follows it
-pub step_leads : (text : List ℕ) (from : ℕ) (begun : State) (its : List Item) (at : ℕ) (state : State) (some : List Item) (it : Step) (size to : ℕ) (behind : State) → is_in_chain state ≡ true → Leads text from begun its at state some → IsStepAt text at it size → Leads text (at + size) past.Step (with_newest (Grown it) some) to behind (with_newest (Grown it) some) → Leads text from begun its to behind (with_newest (Grown it) some)
-step_leads text from begun its at state some it size to behind in_chain so_far s more =
+-- a chain goes on with a step
+pub step_leads : (text : List ℕ) (from : ℕ) (begun : State) (its : List Item) (at : ℕ) (state : State) (some : List Item) (it : Step) (size : ℕ) → is_in_chain state ≡ true → Leads text from begun its at state some → IsStepAt text at it size → Leads text from begun its (at + size) past.Step (with_newest (Grown it) some)
+step_leads text from begun its at state some it size in_chain so_far s =
     let by : GrowsBy state it = grows_by state it in_chain in
     let grown : List Item = with_newest (Grown it) some in
     let end : (at + s.letters_size) + s.fraction_size ≡ at + size = rw (s.size_is) (omega arith) in
@@ -312,11 +313,9 @@ step_leads text from begun its at state some it size to behind in_chain so_far s
     stands_leads text at state some (letters_of it) s.letters_size by.between grown s.letters by.letters (λ place. by.grown place some) in
     let fraction : Leads text (at + s.letters_size) by.between grown ((at + s.letters_size) + s.fraction_size) past.Step grown =
     stands_leads text (at + s.letters_size) by.between grown (fraction_of it) s.fraction_size past.Step grown s.fraction by.fraction (λ place. by.kept place grown) in
-    let both : Leads text at state some (at + size) past.Step grown =
-    subst (λ (n : ℕ). Leads text at state some n past.Step grown) end
-    (leads_then text at state some (at + s.letters_size) by.between grown ((at + s.letters_size) + s.fraction_size) past.Step grown letters fraction) in
-    leads_then text from begun its at state some to behind grown so_far
-    (leads_then text at state some (at + size) past.Step grown to behind grown both more)
+    leads_then text from begun its at state some (at + size) past.Step grown so_far
+    (subst (λ (n : ℕ). Leads text at state some n past.Step grown) end
+    (leads_then text at state some (at + s.letters_size) by.between grown ((at + s.letters_size) + s.fraction_size) past.Step grown letters fraction))
 
 -- a part begins with the letters of a step and with its fraction
 record BeginsWith (state : State) (it : Step) : Type 0 where
@@ -395,8 +394,8 @@ token_leads text from at state its kind size behind grown s starts is grows =
     (leads_token text from state its s.token (at + size) behind starts s.ends s.within step_is)
 
 -- white space and the first step of a part lead on, and then what follows the step
-pub first_leads : (text : List ℕ) (from : ℕ) (state : State) (its : List Item) (at : ℕ) (it : Step) (size to : ℕ) (behind : State) → true ≡ is_some (next state lot) → at ≡ from + prefix_len is_white (drop from text) → IsStepAt text at it size → Leads text (at + size) past.Step (Chain (it ∷ []) at ∷ before_parts state its) to behind (Chain (it ∷ []) at ∷ before_parts state its) → Leads text from state its to behind (Chain (it ∷ []) at ∷ before_parts state its)
-first_leads text from state its at it size to behind begins white s more =
+pub first_leads : (text : List ℕ) (from : ℕ) (state : State) (its : List Item) (at : ℕ) (it : Step) (size to : ℕ) (behind : State) (grown : List Item) → true ≡ is_some (next state lot) → at ≡ from + prefix_len is_white (drop from text) → IsStepAt text at it size → Leads text (at + size) past.Step (Chain (it ∷ []) at ∷ before_parts state its) to behind grown → Leads text from state its to behind grown
+first_leads text from state its at it size to behind grown begins white s more =
     let by : BeginsWith state it = begins_with state it (sym begins) in
     let begun : List Item = Chain (it ∷ []) at ∷ before_parts state its in
     let end : (at + s.letters_size) + s.fraction_size ≡ at + size = rw (s.size_is) (omega arith) in
@@ -407,7 +406,7 @@ first_leads text from state its at it size to behind begins white s more =
     let both : Leads text from state its (at + size) past.Step begun =
     subst (λ (n : ℕ). Leads text from state its n past.Step begun) end
     (leads_then text from state its (at + s.letters_size) by.between begun ((at + s.letters_size) + s.fraction_size) past.Step begun letters fraction) in
-    leads_then text from state its (at + size) past.Step begun to behind begun both more
+    leads_then text from state its (at + size) past.Step begun to behind grown both more
 
 -- where a step that stands at a place ends
 pub step_within : (text : List ℕ) (at : ℕ) (it : Step) (size : ℕ) → IsStepAt text at it size → at + size ≤ length text
@@ -427,8 +426,3 @@ pub begins_there : (text : List ℕ) (at : ℕ) (bytes left : List ℕ) (found :
 begins_there text at bytes left found left_is value is_true =
     let spelt : left ≡ bytes ++ drop (length bytes) left = (starts_is Decides-eqb left bytes found value).0 is_true in
     sym left_is ∙ spelt ∙ ap (λ b. bytes ++ drop (length bytes) b) left_is ∙ ap (λ b. bytes ++ b) (drop-drop (length bytes) at text)
-
--- the steps behind the first one lead on
-pub more_lead : {E : Type 0} (text : List ℕ) (at : ℕ) (state : State) (its : List Item) (mid : ℕ) (between : State) (some grown : List Item) (o : Result Reached E) → Leads text at state its mid between some → IfOk o (λ to. Leads text mid between some to.at to.state grown) → IfOk o (λ to. Leads text at state its to.at to.state grown)
-more_lead text at state its mid between some grown (Ok to) first more = leads_then text at state its mid between some to.at to.state grown first more
-more_lead text at state its mid between some grown (Err e) first more = tt

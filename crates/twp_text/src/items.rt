@@ -1,13 +1,14 @@
-ghost use Rattle.std.specs.Prelude.{◌≡◌, ◌≤◌, ◌∷◌, ℕ, List, [], length, IfOk, OnOk};
+ghost use Rattle.std.specs.Prelude.{◌≡◌, ◌≤◌, ◌∷◌, ◌+◌, [], length, IfOk, OnOk};
 ghost use Rattle.twp_text.specs.Items.{north_or_south, east_or_west};
-ghost use Rattle.twp_text.specs.Passing.{Leads};
+ghost use Rattle.twp_text.specs.Passing.{Leads, IsStepAt};
 ghost use Rattle.twp_text.specs.declared.item.Item.{Item};
 ghost use Rattle.twp_text.specs.TextFaults.{TEXT_LIMIT};
 
 use crate::change::Change;
+use crate::growing::take_steps;
 use crate::item::{Item, Numeral, Step, Steps};
 use crate::kind::Kind;
-use crate::passing::{Reached, behind_step, step_at};
+use crate::passing::{Reached, UsualStep, behind_comma, behind_step, step_at};
 use crate::state::State;
 use crate::token::behind_white;
 use std::alloc::{AllocError, Global};
@@ -184,27 +185,53 @@ impl Items {
         let mut reached = self.take_more(text, from)?;
         while reached.state.begins_part() {
             let at = behind_white(text, reached.at);
-            let Some(usual) = step_at(text, at) else {
+            let Some(first) = step_at(text, at) else {
                 break;
             };
             self.before_parts(reached.state)?;
-            self.push_chain(alloc, usual.step, at as u32)?;
-            reached = self.take_more(text, behind_step(text, at + usual.size))?;
+            reached = self.take_chain(alloc, text, at, first)?;
         }
         Ok(reached)
     }
 
-    /// Takes what the newest item goes on by.
+    /// Takes what the newest item goes on by, where it is a chain that may go on.
     #[inline(always)]
     fn take_more(&mut self, text: &[u8], from: Reached) -> Result<Reached, AllocError>
         requires { from.at ≤ length text.now }
         ensures { IfOk result
             (λ to. Leads text.now from.at from.state self.old to.at to.state self.new) }
     {
+        if !from.state.is_in_chain() {
+            return Ok(from);
+        }
         let Some(item) = self.items.last_mut() else {
             return Ok(from);
         };
         item.take_more(text, from)
+    }
+
+    /// Takes a chain whose first step is known, and the comma behind it.
+    #[inline(always)]
+    fn take_chain(
+        &mut self,
+        alloc: Global,
+        text: &[u8],
+        at: usize,
+        first: UsualStep,
+    ) -> Result<Reached, AllocError>
+        requires first { IsStepAt text.now at first.step first.size }
+        requires limit { length text.now ≤ TEXT_LIMIT }
+        ensures { IfOk result (λ to. Leads text.now (at + first.size) State.Step
+            (Item.Chain (first.step ∷ []) at ∷ self.old) to.at to.state self.new) }
+    {
+        let mut steps = Steps::none(alloc);
+        steps.push(first.step)?;
+        let end = take_steps(&mut steps, text, behind_step(at + first.size))?;
+        self.push(Item::Chain {
+            steps,
+            at: at as u32,
+        })?;
+        Ok(behind_comma(text, end))
     }
 
     /// A chain of one step.

@@ -1,8 +1,9 @@
 //! What the reader takes as a whole, though it is several tokens: steps in their usual spelling.
-ghost use Rattle.std.specs.Prelude.{◌≡◌, ◌≤◌, ◌∷◌, ◌++◌, ◌+◌, [], true, List, length, drop, IsTrue, IfSome};
+ghost use Rattle.std.specs.Prelude.{◌≡◌, ◌≤◌, ◌<◌, ◌∷◌, ◌++◌, ◌+◌, [], true, List, length, drop, IsTrue, IfSome};
 ghost use Rattle.std.specs.Char.{is_ascii_lowercase};
 ghost use Rattle.twp_text.specs.Tokens.{kind_among, words};
 ghost use Rattle.twp_text.specs.declared.item.Item.{Item};
+ghost use Rattle.twp_text.specs.Machine.{is_in_chain};
 ghost use Rattle.twp_text.specs.Passing.{Leads, IsStepAt, BeginWithStep, AreHalf, AreQuarter};
 ghost use Rattle.twp_text.specs.Passing.{letters_of};
 
@@ -22,6 +23,9 @@ const SMALL: u8 = 0x20;
 /// How many bytes `of the` has, with a space on either side.
 const OF_THE: usize = 8;
 
+/// How many bytes a comma has, with a space behind it.
+const COMMA: usize = 2;
+
 /// A place in a text, and what the tokens before it are the beginning of.
 #[derive(Clone, Copy)]
 pub struct Reached {
@@ -36,8 +40,8 @@ pub struct UsualStep {
     pub size: usize,
 }
 
-/// Passes over what mostly stands behind the letters of a step: the half or the quarter, and then `of
-/// the`. Nothing of it says more of the items; what is spelled otherwise is left as it is.
+/// Passes over the half or the quarter that mostly stands behind the letters of a step. It says nothing more
+/// of the items; what is spelled otherwise is left as it is.
 #[inline(always)]
 pub fn behind_fraction(text: &[u8], at: usize, state: State) -> Reached
     requires { at ≤ length text.now }
@@ -45,32 +49,42 @@ pub fn behind_fraction(text: &[u8], at: usize, state: State) -> Reached
         → Leads text.now at state items result.at result.state items }
 {
     match state {
-        State::Side if goes_on(text, at, b"1/2") => behind_step(text, at + FRACTION),
-        State::Corner if goes_on(text, at, b"1/4") => behind_step(text, at + FRACTION),
+        State::Side if goes_on(text, at, b"1/2") => behind_step(at + FRACTION),
+        State::Corner if goes_on(text, at, b"1/4") => behind_step(at + FRACTION),
         _ => Reached { at, state },
     }
 }
 
-/// Passes over `of the` behind a step, if it stands there in these very bytes.
+/// The place behind a step.
 #[inline(always)]
-pub fn behind_step(text: &[u8], at: usize) -> Reached
-    requires { at ≤ length text.now }
-    ensures { (items : List Item)
-        → Leads text.now at State.Step items result.at result.state items }
+pub fn behind_step(at: usize) -> Reached
+    ensures { result ≡ record { at = at; state = State.Step } }
 {
-    if goes_on(text, at, b" of the ") {
-        return Reached {
-            at: at + OF_THE,
-            state: State::OfThe,
-        };
-    }
     Reached {
         at,
         state: State::Step,
     }
 }
 
-/// Passes over the comma behind a part.
+/// The place behind `of the`, if it stands behind a step in these very bytes.
+#[inline(always)]
+pub fn behind_of_the(text: &[u8], end: Reached) -> Option<Reached>
+    requires { end.at ≤ length text.now }
+    ensures leads { IfSome result (λ behind. (items : List Item)
+        → Leads text.now end.at end.state items behind.at behind.state items) }
+    ensures chain { IfSome result (λ behind. is_in_chain behind.state ≡ true) }
+    ensures forward { IfSome result (λ behind. end.at < behind.at) }
+{
+    match end.state {
+        State::Step if goes_on(text, end.at, b" of the ") => Some(Reached {
+            at: end.at + OF_THE,
+            state: State::OfThe,
+        }),
+        _ => None,
+    }
+}
+
+/// Passes over the comma behind a part, and the space behind the comma.
 #[inline(always)]
 pub fn behind_comma(text: &[u8], end: Reached) -> Reached
     requires { end.at ≤ length text.now }
@@ -78,8 +92,8 @@ pub fn behind_comma(text: &[u8], end: Reached) -> Reached
         → Leads text.now end.at end.state items result.at result.state items }
 {
     match end.state {
-        State::Step if goes_on(text, end.at, b",") => Reached {
-            at: end.at + 1,
+        State::Step if goes_on(text, end.at, b", ") => Reached {
+            at: end.at + COMMA,
             state: State::PartComma,
         },
         _ => end,

@@ -1,34 +1,26 @@
-use Rattle.std.proofs.Common.{◌<◌, ◌≤◌, ◌+◌, ℕ, List, [], ◌∷◌, length, sym, subst, arith}
+use Rattle.std.proofs.Common.{ℕ, List, [], ◌∷◌}
 use Rattle.twp_text.specs.declared.item.Item.{Item}
 use Rattle.twp_text.specs.declared.item.Item.TheVariants.{Chain}
-use Rattle.twp_text.specs.declared.item.Step.{Step}
 use Rattle.twp_text.specs.declared.passing.Reached.{Reached}
-use Rattle.twp_text.specs.declared.passing.UsualStep.{UsualStep}
-use Rattle.twp_text.specs.Passing.{Leads}
-use Rattle.twp_text.proofs.PassingFacts.{step_leads, step_within}
+use Rattle.twp_text.proofs.PassingFacts.{leads_then}
 use Rattle.twp_text.proofs.growing.take_steps.Goals as goal
 
-pub step_at-requires : goal.step_at-requires
-step_at-requires c = c.loop-usual.invariant.0
+pub take_row-requires-in-Some-clause-place : goal.take_row-requires-in-Some-clause-place
+take_row-requires-in-Some-clause-place c = (c.in-Some.ensures.leads []).within
 
-pub loop-usual-smaller : goal.loop-usual-smaller
-loop-usual-smaller c =
-    let text : List ℕ = c.args.text.now in
-    let usual : UsualStep = c.in-Some.usual in
-    let some : 0 < usual.size = c.in-Some.ensures.some in
-    let within : c.loop-usual.reached.at + usual.size ≤ length text = step_within text c.loop-usual.reached.at usual.step usual.size c.in-Some.ensures in
-    let further : c.loop-usual.reached.at + usual.size ≤ c.behind_step-reached.result.at = (c.behind_step-reached.ensures []).forward in
-    omega arith
-
-pub loop-usual-preserved : goal.loop-usual-preserved
-loop-usual-preserved c =
+pub loop-behind-preserved : goal.loop-behind-preserved
+loop-behind-preserved c =
     let text : List ℕ = c.args.text.now in
     let from : Reached = c.args.from in
-    let reached : Reached = c.loop-usual.reached in
-    let usual : UsualStep = c.in-Some.usual in
-    let to : Reached = c.behind_step-reached.result in
-    ((c.behind_step-reached.ensures []).within,
-    λ place items. subst (λ (steps : List Step). Leads text from.at from.state (Chain c.args.steps.now place ∷ items) to.at to.state (Chain steps place ∷ items)) (sym c.in_ok-push.ensures)
-    (step_leads text from.at from.state (Chain c.args.steps.now place ∷ items) reached.at reached.state (Chain c.loop-usual.steps place ∷ items) usual.step usual.size to.at to.state
-    (sym c.loop-usual-test.ensures) (c.loop-usual.invariant.1 place items) c.in-Some.ensures
-    (c.behind_step-reached.ensures _)))
+    let reached : Reached = c.loop-behind.reached in
+    let behind : Reached = c.in-Some.behind in
+    let to : Reached = c.in_ok-reached-2.reached in
+    (c.in_ok-reached-2.ensures.within,
+    λ place items.
+        let begun : List Item = Chain c.args.steps.now place ∷ items in
+        let some : List Item = Chain c.loop-behind.steps place ∷ items in
+        let grown : List Item = Chain c.take_row-in-Some.new.steps place ∷ items in
+        leads_then text from.at from.state begun reached.at reached.state some to.at to.state grown
+        (c.loop-behind.invariant.1 place items)
+        (leads_then text reached.at reached.state some behind.at behind.state some to.at to.state grown
+        (c.in-Some.ensures.leads some) (c.in_ok-reached-2.ensures.leads place items)))

@@ -1,4 +1,4 @@
-use Rattle.std.proofs.Common.{List, ◌∷◌}
+use Rattle.std.proofs.Common.{◌∷◌}
 use Rattle.twp_text.specs.declared.item.Item.{Item}
 use Rattle.twp_text.specs.declared.item.Item.TheVariants.{Chain}
 use Rattle.twp_text.specs.declared.passing.Reached.{Reached}
