@@ -224,14 +224,8 @@ impl Items {
         ensures { IfOk result (λ to. Leads text.now (at + first.size) State.Step
             (Item.Chain (first.step ∷ []) at ∷ self.old) to.at to.state self.new) }
     {
-        let mut steps = Steps::none(alloc);
-        steps.push(first.step)?;
-        let end = take_steps(&mut steps, text, behind_step(at + first.size))?;
-        self.push(Item::Chain {
-            steps,
-            at: at as u32,
-        })?;
-        Ok(behind_comma(text, end))
+        self.push_chain(alloc, first.step, at as u32)?;
+        self.take_more(text, behind_step(at + first.size))
     }
 
     /// A chain of one step.
