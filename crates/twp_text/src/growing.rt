@@ -31,11 +31,7 @@ impl Item {
 /// Takes the steps by which a chain goes on, as long as each is spelled as is usual: those that stand right
 /// behind each other, and those behind `of the`.
 #[inline(always)]
-pub(crate) fn take_steps(
-    steps: &mut Steps,
-    text: &[u8],
-    from: Reached,
-) -> Result<Reached, AllocError>
+fn take_steps(steps: &mut Steps, text: &[u8], from: Reached) -> Result<Reached, AllocError>
     requires place { from.at ≤ length text.now }
     requires chain { is_in_chain from.state ≡ true }
     ensures within { IfOk result (λ to. to.at ≤ length text.now) }
@@ -43,16 +39,16 @@ pub(crate) fn take_steps(
         → Leads text.now from.at from.state (Chain steps.old place ∷ items)
         to.at to.state (Chain steps.new place ∷ items)) }
 {
-    let mut reached = take_row(steps, text, from)?;
+    let mut reached = take_adjoining(steps, text, from)?;
     while let Some(behind) = behind_of_the(text, reached) {
-        reached = take_row(steps, text, behind)?;
+        reached = take_adjoining(steps, text, behind)?;
     }
     Ok(reached)
 }
 
 /// Takes the steps that stand right behind each other.
 #[inline(always)]
-fn take_row(steps: &mut Steps, text: &[u8], from: Reached) -> Result<Reached, AllocError>
+fn take_adjoining(steps: &mut Steps, text: &[u8], from: Reached) -> Result<Reached, AllocError>
     requires place { from.at ≤ length text.now }
     requires chain { is_in_chain from.state ≡ true }
     ensures within { IfOk result (λ to. to.at ≤ length text.now) }

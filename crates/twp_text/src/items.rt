@@ -5,10 +5,9 @@ ghost use Rattle.twp_text.specs.declared.item.Item.{Item};
 ghost use Rattle.twp_text.specs.TextFaults.{TEXT_LIMIT};
 
 use crate::change::Change;
-use crate::growing::take_steps;
 use crate::item::{Item, Numeral, Step, Steps};
 use crate::kind::Kind;
-use crate::passing::{Reached, UsualStep, behind_comma, behind_step, step_at};
+use crate::passing::{Reached, UsualStep, behind_step, step_at};
 use crate::state::State;
 use crate::token::behind_white;
 use std::alloc::{AllocError, Global};
@@ -168,10 +167,10 @@ impl Items {
         }
     }
 
-    /// Takes the steps that stand next, as long as each is spelled as is usual: as they stand, and not token
-    /// by token. Gives the place that is reached so, and the state there.
+    /// Takes what stands next of a chain, and the parts behind it, as long as each step is spelled as is usual:
+    /// as they stand, and not token by token. Gives the place that is reached so, and the state there.
     #[inline(always)]
-    pub fn take_steps(
+    pub fn take_parts(
         &mut self,
         alloc: Global,
         text: &[u8],

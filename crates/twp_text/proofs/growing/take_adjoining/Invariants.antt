@@ -3,7 +3,7 @@ use Rattle.twp_text.specs.declared.item.Item.{Item}
 use Rattle.twp_text.specs.declared.item.Item.TheVariants.{Chain}
 use Rattle.twp_text.specs.Machine.{is_in_chain}
 use Rattle.twp_text.specs.Passing.{Leads}
-use Rattle.twp_text.proofs.growing.take_row.Given as goal
+use Rattle.twp_text.proofs.growing.take_adjoining.Given as goal
 
 -- the steps so far led here, wherever their chain begins and whatever stands before it
 abbrev pub invariant-loop-usual : goal.invariant-loop-usual

@@ -1,6 +1,6 @@
 use Rattle.std.proofs.Common.{length, ◌-◌}
 use Rattle.twp_text.specs.Passing.{Leads}
-use Rattle.twp_text.proofs.items.Items.take_steps.Given as goal
+use Rattle.twp_text.proofs.items.Items.take_parts.Given as goal
 
 -- the parts so far led here
 abbrev pub invariant-loop-alloc : goal.invariant-loop-alloc

@@ -6,7 +6,7 @@ use Rattle.twp_text.specs.declared.passing.UsualStep.{UsualStep}
 use Rattle.twp_text.specs.declared.state.State.TheVariants as past
 use Rattle.twp_text.specs.Passing.{Leads}
 use Rattle.twp_text.proofs.PassingFacts.{first_leads, leads_then}
-use Rattle.twp_text.proofs.items.Items.take_steps.Goals as goal
+use Rattle.twp_text.proofs.items.Items.take_parts.Goals as goal
 
 pub loop-alloc-preserved : goal.loop-alloc-preserved
 loop-alloc-preserved c =
