@@ -1,4 +1,4 @@
-ghost use Rattle.std.specs.Prelude.{◌≡◌, ◌+◌, ◌≤◌, ◌↔◌, length, IfSome, IfOk, IfErr, IsTrue, MatchOption};
+ghost use Rattle.std.specs.Prelude.{◌≡◌, ◌+◌, ◌≤◌, ◌↔◌, List, length, IfSome, IfOk, IfErr, IsTrue, MatchOption};
 ghost use Rattle.std.specs.Option.{SomeIff};
 ghost use Rattle.twp_grid.specs.Places.{PLACE_DIGITS, places_across};
 ghost use Rattle.twp_grid.specs.Cuts.{AreWithin, part_of, reached};
@@ -8,6 +8,7 @@ ghost use Rattle.twp_land.specs.Lands.{Meets};
 ghost use Rattle.twp_text.specs.ItemPlaces.{cut_of, cuts_of};
 ghost use Rattle.twp_text.specs.Taking.{CanCut, IsCutTo, IsTaken, IsFirstFlaw, HoldsLotPlace, Cross};
 ghost use Rattle.twp_text.specs.declared.item.Item.TheVariants.{Chain};
+ghost use Rattle.twp_text.specs.declared.item.Step.{Step as TakenStep};
 
 use crate::item::{Step, Steps};
 use crate::place_fault::PlaceFault;
@@ -31,9 +32,31 @@ pub(crate) fn take_chain<L: Land>(
     ensures refused { IfErr result (λ fault. (township : Designation)
         → IsFirstFlaw PLACE_DIGITS township section (Chain steps.now at) (L.places land.old) fault) }
 {
+    if let Some(place) = place_of(steps) {
+        return take_block(land, section, place, at);
+    }
     let Some(block) = block_of(steps) else {
         return Err(PlaceFault::TooFine { at });
     };
+    take_block(land, section, block, at)
+}
+
+/// Takes the block that an aliquot part's steps leave of a section.
+#[inline(always)]
+fn take_block<L: Land>(
+    land: &mut L,
+    section: Section,
+    block: Block,
+    at: u32,
+) -> Result<(), PlaceFault>
+    ensures taken { (steps : List TakenStep) → IsCutTo PLACE_DIGITS steps 0 block
+        → IfOk result (λ _. (township : Designation)
+        → IsTaken PLACE_DIGITS township section (Chain steps at)
+        (L.places land.old) (L.places land.new)) }
+    ensures refused { (steps : List TakenStep) → IsCutTo PLACE_DIGITS steps 0 block
+        → IfErr result (λ fault. (township : Designation)
+        → IsFirstFlaw PLACE_DIGITS township section (Chain steps at) (L.places land.old) fault) }
+{
     if holds_of_lot(section, block) {
         return Err(PlaceFault::OnLot { at });
     }
@@ -46,10 +69,6 @@ fn block_of(steps: &Steps) -> Option<Block>
     ensures { SomeIff result (AreWithin PLACE_DIGITS (cuts_of steps.now))
         (reached PLACE_DIGITS (cuts_of steps.now)) }
 {
-    let place = place_of(steps);
-    if place.is_some() {
-        return place;
-    }
     let first = steps.first();
     let mut block = block_behind(steps, first.len())?;
     for index in (0..first.len()).rev() {
@@ -108,12 +127,15 @@ fn cut(block: Block, step: Step) -> Option<Block>
     }
 }
 
-/// Whether a block of a section holds a place of a lot. A block no larger than a position lies in one,
-/// of which one look tells.
+/// Whether a block of a section holds a place of a lot. Most sections have none, and a block no larger
+/// than a position lies in one, of which one look tells.
 #[inline(always)]
 pub(crate) fn holds_of_lot(section: Section, block: Block) -> bool
     ensures { IsTrue result ↔ HoldsLotPlace PLACE_DIGITS section block }
 {
+    if lot_count(section) == 0 {
+        return false;
+    }
     if block.width() > PLACES_TO_POSITION || block.height() > PLACES_TO_POSITION {
         return shares_lot(section, block);
     }
