@@ -90,9 +90,9 @@ abbrev pub IsOffChosen : ℕ → (ℕ → ℕ → Bool) → List Corner → Corn
 IsOffChosen g held quarters corner =
     (side : Side) → IsChosenHalf g held quarters side → ¬ IsOnSide side corner
 
--- the bytes of the longest path, of as many quarters as places have digits
+-- the bytes that are kept of a path: three quarters, which is the longest behind a part, have 15
 abbrev pub PATH_MOST : ℕ
-PATH_MOST = 20
+PATH_MOST = 16
 
 -- quarters as they are written behind a smaller part
 abbrev pub quarters_text : List Corner → List ℕ

@@ -1,6 +1,6 @@
-//! The text of a written part: its step behind a comma, and its path.
+//! The text of a written half: its step behind a comma, and its path.
 ghost use Rattle.std.specs.Prelude.{◌≡◌, ◌↔◌, ◌++◌, Some, IsTrue, OnOk, MatchOption, codes};
-ghost use Rattle.twp_text.specs.declared.item.Step.TheVariants.{Half, Quarter};
+ghost use Rattle.twp_text.specs.declared.item.Step.TheVariants.{Half};
 ghost use Rattle.twp_text.specs.WrittenParts.{IsOnSide};
 ghost use Rattle.twp_text.specs.CanonicalText.{step_text};
 ghost use Rattle.twp_text.specs.Spelling.{quarter_on};
@@ -45,7 +45,7 @@ pub(crate) fn write_half(
 
 /// Appends a step behind a comma, and its path.
 #[inline(always)]
-pub(crate) fn write_part(step: &[u8], path: &Path, text: &mut Vec<u8>) -> Result<(), AllocError>
+fn write_part(step: &[u8], path: &Path, text: &mut Vec<u8>) -> Result<(), AllocError>
     ensures { OnOk result (text.new.items ≡ text.old.items ++ (step.now ++ path.now)) }
 {
     text.extend_from_slice(step)?;
@@ -88,18 +88,5 @@ fn half_step(side: Side) -> &'static [u8]
         Side::S => b", S1/2",
         Side::E => b", E1/2",
         Side::W => b", W1/2",
-    }
-}
-
-/// The quarter at a corner, as it is written behind a comma.
-#[inline(always)]
-pub(crate) fn quarter_step(corner: Corner) -> &'static [u8]
-    ensures { result.now ≡ codes ", " ++ step_text (Quarter corner) }
-{
-    match corner {
-        Corner::NE => b", NE1/4",
-        Corner::NW => b", NW1/4",
-        Corner::SW => b", SW1/4",
-        Corner::SE => b", SE1/4",
     }
 }

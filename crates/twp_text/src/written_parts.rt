@@ -1,5 +1,5 @@
 //! The written parts of a section, quarter by quarter.
-ghost use Rattle.std.specs.Prelude.{◌≡◌, ◌↔◌, ◌+◌, ◌<◌, ◌∷◌, ℕ, Bool, List, length, IsTrue, OnOk};
+ghost use Rattle.std.specs.Prelude.{◌≡◌, ◌↔◌, ◌+◌, ◌<◌, ◌∷◌, ℕ, Bool, List, length, None, IsTrue, OnOk};
 ghost use Rattle.twp_grid.specs.Places.{PLACE_DIGITS, places_across};
 ghost use Rattle.twp_grid.specs.Blocks.{CanQuarter};
 ghost use Rattle.twp_grid.specs.declared.block.Corner.{Corner};
@@ -7,11 +7,11 @@ ghost use Rattle.twp_text.specs.WrittenParts.{Part, IsFull, AreWrittenParts};
 ghost use Rattle.twp_text.specs.WrittenParts.Part.{square};
 ghost use Rattle.twp_text.specs.CanonicalText.{off_lots, HoldsEach};
 ghost use Rattle.twp_text.specs.Spelling.{IsBlockOf, AreOfSquare, AreOfQuarter};
-ghost use Rattle.twp_text.specs.Spelling.{AreWritten, AreFull, quarters_text};
+ghost use Rattle.twp_text.specs.Spelling.{AreWritten, AreFull, chosen_of, quarters_text};
 
 use crate::chain::holds_of_lot;
 use crate::full_quarters::FullQuarters;
-use crate::part_text::{half_at, quarter_step, write_half, write_part};
+use crate::part_text::{half_at, write_half};
 use crate::path::Path;
 use std::alloc::AllocError;
 use twp_grid::{Block, Corner, Section, lot_at};
@@ -93,7 +93,7 @@ fn write_quarter<L: Land>(
         return write_half(side, corner, path, text);
     }
     if full.at(corner) {
-        return write_part(quarter_step(corner), path, text);
+        return path.write_quarter(corner, text);
     }
     let quarter = block.quarter(corner).unwrap();
     if quarter.width() == 1 {
@@ -144,13 +144,69 @@ fn write_position<L: Land>(
         sw: sw.all(),
         se: se.all(),
     };
+    if full.has_half() {
+        return write_fours(full, ne, nw, sw, se, path, text);
+    }
+    write_single_four(full, ne, Corner::NE, path, text)?;
+    write_single_four(full, nw, Corner::NW, path, text)?;
+    write_single_four(full, sw, Corner::SW, path, text)?;
+    write_single_four(full, se, Corner::SE, path, text)
+}
+
+/// Appends the written parts of such a position, of which the quarters have four places each.
+#[inline(never)]
+fn write_fours(
+    full: FullQuarters,
+    ne: FullQuarters,
+    nw: FullQuarters,
+    sw: FullQuarters,
+    se: FullQuarters,
+    path: &Path,
+    text: &mut Vec<u8>,
+) -> Result<(), AllocError>
+    ensures { (held : ℕ → ℕ → Bool) (quarters : List Corner) → length quarters + 2 ≡ PLACE_DIGITS
+        → path.now ≡ quarters_text quarters
+        → ¬ IsFull PLACE_DIGITS held (square quarters)
+        → AreFull PLACE_DIGITS held quarters full
+        → AreFull PLACE_DIGITS held (Corner.NE ∷ quarters) ne
+        → AreFull PLACE_DIGITS held (Corner.NW ∷ quarters) nw
+        → AreFull PLACE_DIGITS held (Corner.SW ∷ quarters) sw
+        → AreFull PLACE_DIGITS held (Corner.SE ∷ quarters) se
+        → OnOk result (AreWritten (AreOfSquare PLACE_DIGITS held quarters)
+        text.old.items text.new.items) }
+{
     write_four(full, ne, Corner::NE, path, text)?;
     write_four(full, nw, Corner::NW, path, text)?;
     write_four(full, sw, Corner::SW, path, text)?;
     write_four(full, se, Corner::SE, path, text)
 }
 
-/// Appends the written parts that begin in a quarter of such a position, which has four places.
+/// Appends the written parts that begin in a quarter of such a position, where none of its halves is
+/// full.
+#[inline(always)]
+fn write_single_four(
+    full: FullQuarters,
+    places: FullQuarters,
+    corner: Corner,
+    path: &Path,
+    text: &mut Vec<u8>,
+) -> Result<(), AllocError>
+    ensures { (held : ℕ → ℕ → Bool) (quarters : List Corner) → length quarters + 2 ≡ PLACE_DIGITS
+        → path.now ≡ quarters_text quarters
+        → ¬ IsFull PLACE_DIGITS held (square quarters)
+        → AreFull PLACE_DIGITS held quarters full
+        → (chosen_of full ≡ None)
+        → AreFull PLACE_DIGITS held (corner ∷ quarters) places
+        → OnOk result (AreWritten (AreOfQuarter PLACE_DIGITS held quarters corner)
+        text.old.items text.new.items) }
+{
+    if full.at(corner) {
+        return path.write_quarter(corner, text);
+    }
+    write_places_apart(places, &path.quarter(corner), text)
+}
+
+/// Appends the written parts that begin in a quarter of such a position.
 #[inline(always)]
 fn write_four(
     full: FullQuarters,
@@ -171,9 +227,51 @@ fn write_four(
         return write_half(side, corner, path, text);
     }
     if full.at(corner) {
-        return write_part(quarter_step(corner), path, text);
+        return path.write_quarter(corner, text);
     }
     write_places(places, &path.quarter(corner), text)
+}
+
+/// Appends the written parts of a square of four places that isn't full, each behind a comma. Mostly
+/// none of its halves is full.
+#[inline(always)]
+fn write_places_apart(full: FullQuarters, path: &Path, text: &mut Vec<u8>) -> Result<(), AllocError>
+    ensures { (held : ℕ → ℕ → Bool) (quarters : List Corner) → length quarters + 1 ≡ PLACE_DIGITS
+        → path.now ≡ quarters_text quarters
+        → ¬ IsFull PLACE_DIGITS held (square quarters)
+        → AreFull PLACE_DIGITS held quarters full
+        → OnOk result (AreWritten (AreOfSquare PLACE_DIGITS held quarters)
+        text.old.items text.new.items) }
+{
+    if full.has_half() {
+        return write_places(full, path, text);
+    }
+    write_single_place(full, Corner::NE, path, text)?;
+    write_single_place(full, Corner::NW, path, text)?;
+    write_single_place(full, Corner::SW, path, text)?;
+    write_single_place(full, Corner::SE, path, text)
+}
+
+/// Appends a place of such a square as a part, if it is held, where none of the square's halves is full.
+#[inline(always)]
+fn write_single_place(
+    full: FullQuarters,
+    corner: Corner,
+    path: &Path,
+    text: &mut Vec<u8>,
+) -> Result<(), AllocError>
+    ensures { (held : ℕ → ℕ → Bool) (quarters : List Corner) → length quarters + 1 ≡ PLACE_DIGITS
+        → path.now ≡ quarters_text quarters
+        → ¬ IsFull PLACE_DIGITS held (square quarters)
+        → AreFull PLACE_DIGITS held quarters full
+        → (chosen_of full ≡ None)
+        → OnOk result (AreWritten (AreOfQuarter PLACE_DIGITS held quarters corner)
+        text.old.items text.new.items) }
+{
+    if full.at(corner) {
+        return path.write_quarter(corner, text);
+    }
+    Ok(())
 }
 
 /// Appends the written parts of a square of four places that isn't full, each behind a comma.
@@ -211,7 +309,7 @@ fn write_place(
         return write_half(side, corner, path, text);
     }
     if full.at(corner) {
-        return write_part(quarter_step(corner), path, text);
+        return path.write_quarter(corner, text);
     }
     Ok(())
 }

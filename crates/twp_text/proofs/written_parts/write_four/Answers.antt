@@ -1,5 +1,7 @@
 -- A quarter of a position is written as the half that it begins, or as a quarter, or by its places.
-use Rattle.std.proofs.Common.{◌∷◌, sym, ◌∙◌, arith}
+use Rattle.std.proofs.Common.{◌∷◌, ◌++◌, codes, refl, sym, ◌∙◌, arith}
+use Rattle.twp_text.specs.CanonicalText.{step_text}
+use Rattle.twp_text.specs.declared.item.Step.TheVariants.{Quarter}
 use Rattle.std.proofs.lemmas.Bool.{false≢true}
 use Rattle.twp_grid.specs.Places.{PLACE_DIGITS}
 use Rattle.twp_text.proofs.HalfQuarters.{choice_made}
@@ -16,8 +18,8 @@ returns-in-Some c = λ held quarters level path_is short are are_places.
 pub returns-then-at : goal.returns-then-at
 returns-then-at c = λ held quarters level path_is short are are_places.
     let choice = choice_made PLACE_DIGITS held quarters c.args.full c.chosen_half.result (omega (arith, level)) c.chosen_half.ensures are short in
-    full_written c.write_part.result PLACE_DIGITS held quarters c.args.corner c.quarter_step.result.now c.args.path.now c.args.text.now.items c.write_part.new.text.items
-    path_is c.quarter_step.ensures short (off_choice PLACE_DIGITS held quarters c.chosen_half.result c.args.corner choice c.in_default.ensures) ((are c.args.corner).0 (sym c.at.ensures ∙ c.if-at.true)) c.write_part.ensures
+    full_written c.write_quarter.result PLACE_DIGITS held quarters c.args.corner (codes ", " ++ step_text (Quarter c.args.corner)) c.args.path.now c.args.text.now.items c.write_quarter.new.text.items
+    path_is refl short (off_choice PLACE_DIGITS held quarters c.chosen_half.result c.args.corner choice c.in_default.ensures) ((are c.args.corner).0 (sym c.at.ensures ∙ c.if-at.true)) c.write_quarter.ensures
 
 pub returns : goal.returns
 returns c = λ held quarters level path_is short are are_places.
