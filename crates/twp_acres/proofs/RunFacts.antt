@@ -1,11 +1,12 @@
 -- What runs read and write, over plain values.
-use Rattle.std.proofs.Common.{◌≡◌, ℕ, List, [], Option, Some, None, Result, Ok, Err, inl, inr, refl, subst, sym}
+use Rattle.std.proofs.Common.{◌≡◌, ℕ, List, [], Option, Some, None, Result, Ok, Err, inl, inr, refl}
+use Rattle.std.proofs.Common.{subst, sym}
 use Rattle.std.specs.Prelude.{IfOk, IfErr, OnOk, OnErr, unwrap_or}
 use Rattle.std.specs.Io.KnownBytes.{Appends}
 use Rattle.twp_grid.specs.Devices.{Tells}
 use Rattle.twp_notes.specs.declared.reading.ReadFault.{ReadFault}
 use Rattle.twp_notes.specs.declared.reading.ReadFault.TheVariants as reading
-use Rattle.twp_acres.specs.Passing.{run_fault_of, IsStopOfPlaces}
+use Rattle.twp_acres.specs.PassedFaults.{run_fault_of, IsStopOfPlaces}
 use Rattle.twp_acres.specs.Runs.{AnswerRelation, AppendsFront, IsAnswered, IsRun, Reads, ReadsTwo}
 use Rattle.twp_grid.specs.Places.{PLACE_DIGITS}
 use Rattle.twp_grid.specs.Townships.{Designation}

@@ -1,5 +1,6 @@
 -- What a run reads, and what it does to its writer.
-use Rattle.std.specs.Prelude.{◌≡◌, ◌⊎◌, ℕ, ◌≤◌, Bool, true, List, length, take, Option, Result, Ok, Err, IfOk}
+use Rattle.std.specs.Prelude.{◌≡◌, ◌⊎◌, ℕ, ◌≤◌, Bool, true, List, length, take, Option, Result, Ok}
+use Rattle.std.specs.Prelude.{Err, IfOk}
 use Rattle.std.specs.Io.KnownBytes.{Appends, Keeps}
 use Rattle.twp_grid.specs.Devices.{Tells}
 use Rattle.twp_acres.specs.declared.verdict.Verdict.{Verdict}
@@ -30,8 +31,8 @@ pub record WritesFront (Answers : AnswerRelation) (old new : Option (List ℕ)) 
   pub answers : Answers answer verdict
   pub front : AppendsFront old new answer
 
--- What a run leaves in its writer: the whole answer at a verdict, which is the answer's; a front of an
--- answer where the writer failed; and nothing else where a reader or memory did.
+-- What a run leaves in its writer: the whole answer at a verdict, which is the answer's; a front of
+-- an answer where the writer failed; and nothing else where a reader or memory did.
 abbrev pub IsRun : AnswerRelation → Option (List ℕ) → Option (List ℕ)
     → Result Verdict RunFault → Type 0
 IsRun Answers old new (Ok verdict) = Writes Answers old new verdict
@@ -51,7 +52,8 @@ pub record Reads (told : Option (List ℕ)) (Holds : List ℕ → Type 0) : Type
   pub tells : Tells told bytes
   pub holds : Holds bytes
 
--- The same of two sources, of which the second was read only where the first one's bytes go on to it.
+-- The same of two sources, of which the second was read only where the first one's bytes go on to
+-- it.
 pub record ReadsTwo (first second : Option (List ℕ)) (GoesOn : List ℕ → Type 0) (unread : Type 0)
     (Holds : List ℕ → List ℕ → Type 0) : Type 0 where
   pub first_bytes : List ℕ
