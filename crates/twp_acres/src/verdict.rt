@@ -51,7 +51,7 @@ impl<T: Drop> From<AllocFailed<T>> for RunFault {
 }
 
 impl From<ReadFault> for RunFault {
-    ghost use Rattle.twp_acres.specs.Passing.{IsRunFaultOf};
+    ghost use Rattle.twp_acres.specs.PassedFaults.{IsRunFaultOf};
 
     ghost from_gives = { IsRunFaultOf };
 
