@@ -14,6 +14,9 @@ use twp_grid::{Corner, Side};
 /// How many bytes a half or a quarter has.
 const FRACTION: usize = 3;
 
+/// How many bytes the sign of a half or a quarter has.
+const SIGN: usize = 2;
+
 /// How many bytes the longest step in its usual spelling has.
 const LONGEST: usize = 5;
 
@@ -100,7 +103,8 @@ pub fn behind_comma(text: &[u8], end: Reached) -> Reached
     }
 }
 
-/// The step that stands at a place, if its fraction stands right behind its letters, as `1/2` or `1/4`.
+/// The step that stands at a place, if its fraction stands right behind its letters, as `1/2`, `1/4` or one
+/// sign.
 #[inline(always)]
 pub fn step_at(text: &[u8], at: usize) -> Option<UsualStep>
     requires { at ≤ length text.now }
@@ -113,46 +117,55 @@ pub fn step_at(text: &[u8], at: usize) -> Option<UsualStep>
     step_of(bytes[0], bytes[1], bytes[2], bytes[3], bytes[4])
 }
 
-/// The step that five bytes begin with, if they do.
+/// The step that five bytes begin with, if they do. U+00BC is the bytes C2 BC, and U+00BD is C2 BD.
 #[inline(always)]
 fn step_of(first: u8, second: u8, third: u8, fourth: u8, fifth: u8) -> Option<UsualStep>
     ensures { IfSome result
         (λ usual. BeginWithStep first second third fourth fifth usual.step usual.size) }
 {
     if third == b'1' && fourth == b'/' && fifth == b'4' {
-        return quarter(first, second);
+        return quarter(first, second, FRACTION);
     }
     if second == b'1' && third == b'/' && fourth == b'2' {
-        return half(first);
+        return half(first, FRACTION);
+    }
+    if third == 0xC2 && fourth == 0xBC {
+        return quarter(first, second, SIGN);
+    }
+    if second == 0xC2 && third == 0xBD {
+        return half(first, SIGN);
     }
     None
 }
 
-/// The half of a letter, capital or small.
+/// The half of a letter, capital or small, with so many bytes behind it.
 #[inline(always)]
-fn half(first: u8) -> Option<UsualStep>
-    ensures { IfSome result (λ usual. AreHalf first usual.step usual.size) }
+fn half(first: u8, fraction: usize) -> Option<UsualStep>
+    requires { fraction ≤ 3 }
+    ensures { IfSome result (λ usual. AreHalf first usual.step × (usual.size ≡ 1 + fraction)) }
 {
     let Some(side) = side_of(first | SMALL) else {
         return None;
     };
     Some(UsualStep {
         step: Step::Half(side),
-        size: 1 + FRACTION,
+        size: 1 + fraction,
     })
 }
 
-/// The quarter of two letters, capital or small.
+/// The quarter of two letters, capital or small, with so many bytes behind them.
 #[inline(always)]
-fn quarter(first: u8, second: u8) -> Option<UsualStep>
-    ensures { IfSome result (λ usual. AreQuarter first second usual.step usual.size) }
+fn quarter(first: u8, second: u8, fraction: usize) -> Option<UsualStep>
+    requires { fraction ≤ 3 }
+    ensures { IfSome result
+        (λ usual. AreQuarter first second usual.step × (usual.size ≡ 2 + fraction)) }
 {
     let Some(corner) = corner_of(first | SMALL, second | SMALL) else {
         return None;
     };
     Some(UsualStep {
         step: Step::Quarter(corner),
-        size: 2 + FRACTION,
+        size: 2 + fraction,
     })
 }
 
