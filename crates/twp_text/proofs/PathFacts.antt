@@ -1,5 +1,5 @@
 -- Paths of squares: the bytes of a quarter ahead of those of its square.
-use Rattle.std.proofs.Common.{◌≡◌, ℕ, zero, suc, ◌+◌, ◌*◌, ◌<◌, ◌≤◌, List, [], ◌∷◌, ◌++◌, length, length-append, take, min, refl, sym, ap, ◌∙◌, inl, inr, arith, codes}
+use Rattle.std.proofs.Common.{◌≡◌, ℕ, zero, suc, ◌+◌, ◌*◌, ◌<◌, ◌≤◌, List, [], ◌∷◌, ◌++◌, length, length-append, take, min, refl, sym, ap, ◌∙◌, inl, inr, arith}
 use Rattle.std.proofs.lemmas.Bool.{cases_lt}
 use Rattle.std.proofs.lemmas.List.{take-append-le, length-take}
 use Rattle.twp_grid.specs.declared.block.Corner.{Corner}
@@ -8,12 +8,12 @@ use Rattle.twp_text.specs.declared.item.Step.TheVariants.{Quarter}
 use Rattle.twp_text.specs.CanonicalText.{step_text}
 use Rattle.twp_text.specs.Spelling.{PATH_MOST, quarters_text}
 
-take_front : (n k : ℕ) (xs ys : List ℕ) → n ≡ length xs + k → take n (xs ++ ys) ≡ xs ++ take k ys
+pub take_front : (n k : ℕ) (xs ys : List ℕ) → n ≡ length xs + k → take n (xs ++ ys) ≡ xs ++ take k ys
 take_front n k [] ys is = let same : n ≡ k = omega arith in ap (λ m. take m ys) same
 take_front zero k (x ∷ xs) ys is = absurd (omega arith)
 take_front (suc n) k (x ∷ xs) ys is = ap (λ l. x ∷ l) (take_front n k xs ys (omega arith))
 
-take_less : (n m : ℕ) (xs : List ℕ) → n ≤ m → take n (take m xs) ≡ take n xs
+pub take_less : (n m : ℕ) (xs : List ℕ) → n ≤ m → take n (take m xs) ≡ take n xs
 take_less zero m xs less = refl
 take_less (suc n) zero xs less = absurd (omega arith)
 take_less (suc n) (suc m) [] less = refl
@@ -86,20 +86,3 @@ pub path_of_quarter : (corner : Corner) (quarters : List Corner) (path inner : L
 path_of_quarter corner quarters path inner less path_is inner_is =
     inner_is ∙ ap (λ p. take 16 (step_text (Quarter corner) ++ p)) path_is
     ∙ take_all 16 (quarters_text (corner ∷ quarters)) (let long = long_path (corner ∷ quarters) in omega arith)
-
--- the bytes of a part, of which those behind the path's end are cut off
-pub part_behind : (step front zeros text mid rest path old : List ℕ) (len end : ℕ) → front ≡ step → length step ≡ 7 → mid ≡ text → length text ≡ 16 → take len text ≡ path → len ≤ 16
-    → end ≡ length old + 7 + len → take end (old ++ (take 7 (front ++ zeros) ++ (mid ++ rest))) ≡ old ++ (step ++ path)
-part_behind step front zeros text mid rest path old len end front_is seven mid_is sixteen path_is within end_is =
-    ap (λ l. take end (old ++ (l ++ (mid ++ rest)))) (take-append-le 7 front zeros (let long : length front ≡ 7 = ap length front_is ∙ seven in omega arith) ∙ take_all 7 front (let long : length front ≡ 7 = ap length front_is ∙ seven in omega arith) ∙ front_is)
-    ∙ ap (λ m. take end (old ++ (step ++ (m ++ rest)))) mid_is
-    ∙ take_front end (7 + len) old (step ++ (text ++ rest)) (omega arith)
-    ∙ ap (λ l. old ++ l) (take_front (7 + len) len step (text ++ rest) (omega arith))
-    ∙ ap (λ l. old ++ (step ++ l)) (take-append-le len text rest (omega arith) ∙ path_is)
-
--- a quarter behind a comma has seven bytes
-pub long_step : (corner : Corner) → length (codes ", " ++ step_text (Quarter corner)) ≡ 7
-long_step NE = refl
-long_step NW = refl
-long_step SW = refl
-long_step SE = refl

@@ -94,6 +94,14 @@ IsOffChosen g held quarters corner =
 abbrev pub PATH_MOST : ℕ
 PATH_MOST = 16
 
+-- the bytes that are kept of a part: a quarter behind a comma, and a path
+abbrev pub PART_MOST : ℕ
+PART_MOST = 23
+
+-- the bytes of as many parts as a position has places
+abbrev pub PIECES_MOST : ℕ
+PIECES_MOST = 368
+
 -- quarters as they are written behind a smaller part
 abbrev pub quarters_text : List Corner → List ℕ
 quarters_text quarters = flat_map step_text (map (λ corner. Quarter corner) quarters)

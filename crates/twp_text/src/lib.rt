@@ -18,6 +18,7 @@ mod lexeme;
 mod part_text;
 mod passing;
 mod path;
+mod pieces;
 mod place_fault;
 mod ranges;
 mod resolving;

@@ -1,22 +1,18 @@
 //! The path of a square, as it is written behind a smaller part.
-ghost use Rattle.std.specs.Prelude.{◌≡◌, ◌++◌, [], take, codes, OnOk};
+ghost use Rattle.std.specs.Prelude.{◌≡◌, ◌≤◌, ◌++◌, [], length, take};
 ghost use Rattle.twp_text.specs.CanonicalText.{step_text};
 ghost use Rattle.twp_text.specs.Spelling.{PATH_MOST};
 ghost use Rattle.twp_text.specs.declared.item.Step.TheVariants.{Quarter};
 
-use std::alloc::AllocError;
 use std::marker::Model;
 use twp_grid::Corner;
 
 /// The bytes that are kept of a path. The longest one that stands behind a part has three quarters, or
 /// 15 bytes; 16 are copied at once.
-const PATH_BYTES: usize = 16;
+pub(crate) const PATH_BYTES: usize = 16;
 
 /// The bytes of one quarter.
 const QUARTER_BYTES: usize = 5;
-
-/// The bytes of one quarter behind a comma.
-const STEP_BYTES: usize = 7;
 
 /// The quarters that reach a square, smallest first, as `NE1/4SW1/4`. No memory is taken for them.
 #[derive(Drop)]
@@ -58,45 +54,21 @@ impl Path {
         Path { text, len }
     }
 
-    /// Appends the path. The whole array is copied, since a copy of a known length is quick, and
-    /// what stands behind the path's end is cut off again.
+    /// How many bytes the path has.
     #[inline(always)]
-    pub(crate) fn write(&self, text: &mut Vec<u8>) -> Result<(), AllocError>
-        ensures { OnOk result (text.new.items ≡ text.old.items ++ self.now) }
+    pub(crate) fn len(&self) -> usize
+        ensures value { result ≡ length self.now }
+        ensures most { result ≤ PATH_MOST }
     {
-        let end = text.len() + self.len;
-        text.extend_from_slice(&self.text)?;
-        text.truncate(end);
-        Ok(())
+        self.len
     }
 
-    /// Appends a quarter behind a comma, and the path. They are copied together, as many bytes for
-    /// each path, and what stands behind the path's end is cut off again.
-    #[inline(never)]
-    pub(crate) fn write_quarter(&self, corner: Corner, text: &mut Vec<u8>) -> Result<(), AllocError>
-        ensures { OnOk result
-            (text.new.items ≡ text.old.items ++ ((codes ", " ++ step_text (Quarter corner)) ++ self.now)) }
+    /// The path's bytes, and behind them others.
+    #[inline(always)]
+    pub(crate) fn bytes(&self) -> &[u8; PATH_BYTES]
+        ensures { take (length self.now) result.now ≡ self.now }
     {
-        let mut part = [0; STEP_BYTES + PATH_BYTES];
-        part[..STEP_BYTES].copy_from_slice(quarter_step(corner));
-        part[STEP_BYTES..].copy_from_slice(&self.text);
-        let end = text.len() + STEP_BYTES + self.len;
-        text.extend_from_slice(&part)?;
-        text.truncate(end);
-        Ok(())
-    }
-}
-
-/// A quarter, as it is written behind a comma.
-#[inline(always)]
-fn quarter_step(corner: Corner) -> &'static [u8; STEP_BYTES]
-    ensures { result.now ≡ codes ", " ++ step_text (Quarter corner) }
-{
-    match corner {
-        Corner::NE => b", NE1/4",
-        Corner::NW => b", NW1/4",
-        Corner::SW => b", SW1/4",
-        Corner::SE => b", SE1/4",
+        &self.text
     }
 }
 
