@@ -2,7 +2,7 @@ use Rattle.std.proofs.Common.{drop}
 use Rattle.twp_grid.specs.Places.{PLACE_DIGITS}
 use Rattle.twp_text.specs.Taking.{number_of_section}
 use Rattle.twp_text.proofs.ResolvingFacts.{AreTaken, SectionKnown}
-use Rattle.twp_text.proofs.resolving.resolve.Given as goal
+use Rattle.twp_text.proofs.resolving.resolve_into.Given as goal
 
 -- the items so far are taken, and parts of a section come behind it
 abbrev pub invariant-loop-index : goal.invariant-loop-index

@@ -9,11 +9,11 @@ use Rattle.twp_text.specs.Taking.{number_of_section}
 use Rattle.twp_text.proofs.LandLots.{land_has_whole_lots}
 use Rattle.twp_text.proofs.PlaceAnswers.{no_fault}
 use Rattle.twp_text.proofs.ResolvingFacts.{taken_none, taken_next, refused_here, taken_all, not_known, may_be_taken, known_next}
-use Rattle.twp_text.proofs.resolving.resolve.Goals as goal
+use Rattle.twp_text.proofs.resolving.resolve_into.Goals as goal
 
 pub loop-index-init : goal.loop-index-init
 loop-index-init g c = record {
-  taken = taken_none PLACE_DIGITS c.args.township c.items-items.result.now (g.L.Land.places c.empty-land.result) c.empty-land.ensures;
+  taken = taken_none PLACE_DIGITS c.args.township c.items-items.result.now (g.L.Land.places c.clear.new.self) c.clear.ensures;
   known = not_known c.items-items.result.now (rw c.items-items.ensures.items c.items-items.ensures.sections_first);
 }
 
