@@ -45,8 +45,8 @@ pub fn resolve_into<L: Land>(
     let items = description.items();
     let mut section = None;
     land.clear();
-    for index in 0..items.len() {
-        section = take_item(land, section, &items[index], township)?;
+    for item in items {
+        section = take_item(land, section, item, township)?;
     }
     Ok(())
 }

@@ -5,8 +5,8 @@ use Rattle.twp_text.proofs.ResolvingFacts.{AreTaken, SectionKnown}
 use Rattle.twp_text.proofs.resolving.resolve_into.Given as goal
 
 -- the items so far are taken, and parts of a section come behind it
-abbrev pub invariant-loop-index : goal.invariant-loop-index
-invariant-loop-index g l = record {
-  taken : AreTaken PLACE_DIGITS l.township l.items l.index (number_of_section l.section) (g.L.Land.places l.land);
-  known : SectionKnown l.section (drop l.index l.items);
+abbrev pub invariant-loop-item : goal.invariant-loop-item
+invariant-loop-item g l = record {
+  taken : AreTaken PLACE_DIGITS l.township l.items l.item-index (number_of_section l.section) (g.L.Land.places l.land);
+  known : SectionKnown l.section (drop l.item-index l.items);
 }
