@@ -1,17 +1,21 @@
 -- The steps of the code that adds areas up.
-use Rattle.std.proofs.Common.{◌≡◌, ℕ, zero, suc, ◌+◌, ◌-◌, ◌*◌, ◌≤◌, Bool, Option, Some, IfSome, ap, sym, ◌∙◌, arith}
+use Rattle.std.proofs.Common.{◌≡◌, ℕ, zero, suc, ◌+◌, ◌-◌, ◌*◌, ◌<◌, ◌≤◌, Bool, Option, Some, IfSome, ap, sym, ◌∙◌, arith}
 use Rattle.std.specs.Option.{SomeIff}
 use Rattle.std.proofs.lemmas.Nat.{mul-le}
 use Rattle.twp_measure.specs.Areas.{Fraction, IsArea}
 use Rattle.twp_grid.specs.Lots.{IsPosition, position_of_lot}
 use Rattle.twp_grid.specs.Places.{PLACE_DIGITS}
+use Rattle.twp_grid.specs.Spans.{whole_block}
 use Rattle.twp_grid.specs.Totals.{total}
-use Rattle.twp_grid.proofs.TotalFacts.{total-next}
+use Rattle.twp_grid.proofs.TotalFacts.{total-next, total-zero}
+use Rattle.twp_land.specs.Lands.{no_places, Meets, LieWithin}
+use Rattle.twp_land.proofs.LandFacts.{nothing_within}
 use Rattle.twp_plat.specs.Plats.{TownshipPlat, IsPlat}
 use Rattle.twp_plat.specs.Pieces.{over_of}
 use Rattle.twp_plat.specs.PlatAreas.{ArePieces}
 use Rattle.twp_acres.specs.LandAreas.{section_sum, township_sum, IsLandArea}
 use Rattle.twp_plat.proofs.SectionPieces.{pieces_of}
+use Rattle.twp_acres.proofs.SectionSums.{none_held}
 
 -- where a lot is
 pub record LotAt (section lot column row : ℕ) : Type 0 where
@@ -62,6 +66,39 @@ sum-next plat places number section units more first is so_far added pieces are 
   where
     both : (u m s s' sum : ℕ) → 16 * u ≡ s → 16 * m ≡ s' → sum ≡ s + s' → 16 * (u + m) ≡ sum
     both u m s s' sum e e' is = omega arith
+
+-- the sum over more sections, of which no place is held
+sum-without : (pieces : ℕ → ℕ → ℕ → ℕ) (places : ℕ → ℕ → ℕ → Bool) (count more : ℕ)
+    → ((section : ℕ) → count < section → section ≤ count + more → ¬ Meets (places section) (whole_block PLACE_DIGITS))
+    → sections_sum pieces places (count + more) ≡ sections_sum pieces places count
+sum-without pieces places count zero none = ap (sections_sum pieces places) (omega arith)
+sum-without pieces places count (suc more) none =
+    let f : ℕ → ℕ = λ before. section_sum PLACE_DIGITS (pieces (before + 1)) (places (before + 1)) in
+    let empty : f (count + more) ≡ 0 = none_held (pieces (count + more + 1)) (places (count + more + 1)) (none (count + more + 1) (omega arith) (omega arith)) in
+    let before : total (count + more) f ≡ total count f = sum-without pieces places count more (λ section above below. none section above (omega arith)) in
+    ap (λ n. total n f) next ∙ total-next (count + more) f ∙ omega (arith, empty, before)
+  where
+    next : count + suc more ≡ count + more + 1
+    next = omega arith
+
+-- no place is held before the first section
+pub sum-first : (plat : TownshipPlat) (places : ℕ → ℕ → ℕ → Bool) (first last : ℕ) → LieWithin places first last → IsSumOf plat places (first - 1) 0
+sum-first plat places first last within pieces are =
+    let none = sum-without pieces places 0 (first - 1) (λ section above below held. let lies = within section held.column held.row held.is_held in omega (arith, lies.0)) in
+    let all : 0 + (first - 1) ≡ first - 1 = omega arith in
+    sym (sym (ap (sections_sum pieces places) all) ∙ none ∙ total-zero _)
+
+-- no place is held behind the last section
+pub sum-last : (plat : TownshipPlat) (places : ℕ → ℕ → ℕ → Bool) (first last number units : ℕ) → LieWithin places first last → 1 ≤ number → last < number → number ≤ 37
+    → IsSumOf plat places (number - 1) units → IsSumOf plat places (37 - 1) units
+sum-last plat places first last number units within least behind most so_far pieces are =
+    let none = sum-without pieces places (number - 1) (37 - number) (λ section above below held. let lies = within section held.column held.row held.is_held in omega (arith, lies.1)) in
+    let all : number - 1 + (37 - number) ≡ 36 = omega arith in
+    so_far pieces are ∙ sym (sym (ap (sections_sum pieces places) all) ∙ none)
+
+-- no place is held at all
+pub sum-none : (plat : TownshipPlat) (places : ℕ → ℕ → ℕ → Bool) → places ≡ no_places → IsSumOf plat places (37 - 1) 0
+sum-none plat places none = sum-first plat places 37 36 (nothing_within places 37 36 none)
 
 -- the value of a fraction in bounds
 pub area_is : (units over : ℕ) (found : Option Fraction) (area : Fraction) → SomeIff found (IsArea units over) (record { units = units; over = over }) → found ≡ Some area

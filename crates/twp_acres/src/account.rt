@@ -10,7 +10,7 @@ ghost use Rattle.twp_acres.specs.TractTaking.{IsTractRefused, fault_of_stop};
 use crate::answer::write_acres_line;
 use crate::area::area_of;
 use crate::names::Names;
-use crate::stages::land_of;
+use crate::stages::describe_into;
 use crate::stop::Stop;
 use crate::totals::Totals;
 use crate::tract::tract_of;
@@ -20,11 +20,13 @@ use std::alloc::{AllocError, Global};
 use twp_land::Land;
 use twp_plat::Plat;
 
-/// What is known of the tracts so far.
+/// What is known of the tracts so far. One land is kept for the tract at hand, so that none has to be made
+/// for each.
 #[derive(Drop)]
 pub(crate) struct Account<L> {
     pub(crate) names: Names,
     pub(crate) land: L,
+    tract: L,
     pub(crate) totals: Totals,
     pub(crate) text: Vec<u8>,
 }
@@ -40,6 +42,7 @@ impl<L: Land> Account<L> {
         Account {
             names: Names::new(alloc),
             land: L::empty(),
+            tract: L::empty(),
             totals: Totals::new(plat),
             text: Vec::new(alloc),
         }
@@ -65,16 +68,20 @@ impl<L: Land> Account<L> {
         if !self.names.add(alloc, tract.name)? {
             return Err(TractFault::NameRepeated(number));
         }
-        let land: L = match land_of(alloc, plat.township(), tract.description) {
-            Ok(land) => land,
-            Err(stop) => return Err(fault_of(stop, number)),
-        };
-        if self.land.meets_land(&land) {
+        if let Err(stop) = describe_into(
+            alloc,
+            &mut self.tract,
+            plat.township(),
+            tract.description,
+        ) {
+            return Err(fault_of(stop, number));
+        }
+        if self.land.meets_land(&self.tract) {
             return Err(TractFault::TractsOverlap(number));
         }
-        let area = area_of(plat, &land);
+        let area = area_of(plat, &self.tract);
         self.totals.take(&area);
-        self.land.add_land(&land);
+        self.land.add_land(&self.tract);
         write_tract(tract.name, area.hundredths(), &mut self.text)?;
         Ok(())
     }

@@ -11,9 +11,6 @@ use twp_land::Land;
 use twp_measure::Area;
 use twp_plat::Plat;
 
-/// How many sections a township has.
-const SECTIONS: u8 = 36;
-
 /// How many positions a side of a section has.
 const POSITIONS_ACROSS: u8 = 4;
 
@@ -36,8 +33,11 @@ pub fn area_of<L: Land>(plat: &Plat, land: &L) -> Area
     ensures { IsLandArea PLACE_DIGITS plat.now (L.places land.now) result }
 {
     let over = plat.over();
+    let Some((first, last)) = land.sections() else {
+        return Area::zero(over);
+    };
     let mut units = 0;
-    for number in 1..SECTIONS + 1 {
+    for number in first.number()..last.number() + 1 {
         let section = Section::new(number).unwrap();
         if !land.meets(section, Block::whole()) {
             continue;

@@ -1,5 +1,5 @@
 //! The stages of a run: the plat of the field notes, and the land of a description on it.
-ghost use Rattle.std.specs.Prelude.{◌≡◌, ◌≢◌, ◌+◌, ◌↔◌, true, false, IfOk, IfErr, IsErrOf};
+ghost use Rattle.std.specs.Prelude.{◌≡◌, ◌≢◌, ◌+◌, ◌↔◌, true, false, IfOk, OnOk, IfErr, IsErrOf};
 ghost use Rattle.twp_grid.specs.Devices.{TakesAtMost};
 ghost use Rattle.twp_grid.specs.Places.{PLACE_DIGITS};
 ghost use Rattle.twp_notes.specs.FieldNotes.{NOTES_MOST};
@@ -17,7 +17,7 @@ use twp_grid::{Source, Township};
 use twp_land::Land;
 use twp_notes::{Notes, read_whole};
 use twp_plat::Plat;
-use twp_text::{Description, TEXT_LIMIT, TextFault, resolve};
+use twp_text::{Description, TEXT_LIMIT, TextFault, resolve_into};
 
 /// The plat of the notes that a source gives.
 pub fn read_plat<N: Source>(alloc: Global, notes: &mut N) -> Result<Plat, Stop>
@@ -50,17 +50,24 @@ pub fn read_land<D: Source, L: Land>(
     let Some(text) = read_whole(alloc, description, TEXT_LIMIT)? else {
         return Err(Stop::from(TextFault::TooLarge));
     };
-    land_of(alloc, township, text.as_slice())
+    let mut land = L::empty();
+    describe_into(alloc, &mut land, township, text.as_slice())?;
+    Ok(land)
 }
 
-/// The land of a description, on the plat of a township.
-pub fn land_of<L: Land>(alloc: Global, township: Township, text: &[u8]) -> Result<L, Stop>
+/// Makes a land the one of a description, on the plat of a township. What it held before is gone.
+pub fn describe_into<L: Land>(
+    alloc: Global,
+    land: &mut L,
+    township: Township,
+    text: &[u8],
+) -> Result<(), Stop>
     ensures memory { IfErr result (λ stop. IfFailed stop (λ fault. fault ≡ RunFault.Memory)) }
-    ensures land { IsDescribed L.places township text.now result }
-    ensures whole_lots { IfOk result (λ land. HasWholeLots PLACE_DIGITS (L.places land)) }
+    ensures land { IsDescribed (λ _. L.places land.new) township text.now result }
+    ensures whole_lots { OnOk result (HasWholeLots PLACE_DIGITS (L.places land.new)) }
 {
     let description = Description::read(alloc, text)?;
-    Ok(resolve(&description, township)?)
+    Ok(resolve_into(land, &description, township)?)
 }
 
 /// The plat of field notes, and the land of a description on it.

@@ -1,14 +1,14 @@
 -- Sets of places as they are kept by section.
-use Rattle.std.proofs.Common.{get_or, sym, ◌∙◌, if◌then◌else◌, ◌≡◌, ◌≢◌, ◌==◌, ℕ, zero, suc, ◌-◌, ◌<◌, ◌≤◌, ◌+◌, ◌&&◌, ◌||◌, nat_le, Bool, true, false, List, [], ◌∷◌, length, Some, ap, refl, inl, inr, arith, replicate}
+use Rattle.std.proofs.Common.{get_or, sym, subst, ◌∙◌, if◌then◌else◌, ◌≡◌, ◌≢◌, ◌==◌, ℕ, zero, suc, ◌-◌, ◌<◌, ◌≤◌, ◌+◌, ◌&&◌, ◌||◌, ◌⊎◌, nat_le, Bool, true, false, List, [], ◌∷◌, length, Some, ap, refl, inl, inr, arith, replicate}
 use Rattle.std.proofs.Math.Path.{fun_ext}
 use Rattle.std.proofs.Math.ListN.{set}
 use Rattle.std.specs.List.{slice_get}
 use Rattle.std.specs.Option.{option_map_or}
-use Rattle.std.proofs.lemmas.Bool.{cases_eq, cases_Bool, ne_eqb, eq-eqb, and_right, and_parts}
+use Rattle.std.proofs.lemmas.Bool.{cases_eq, cases_Bool, ne_eqb, eq-eqb, eqb-true, and_right, and_parts}
 use Rattle.std.proofs.lemmas.Bool.Decides.{nat_tests}
 use Rattle.twp_grid.specs.Winding.{SECTION_COUNT, IsSection}
 use Rattle.twp_grid.specs.Spans.{Rectangle}
-use Rattle.twp_land.specs.Lands.{no_places, union, difference, block_places, SharePlace, SamePlaces}
+use Rattle.twp_land.specs.Lands.{no_places, union, difference, block_places, SharePlace, SamePlaces, LieWithin}
 use Rattle.twp_land.specs.Storage.{is_section, held_by_section, with_block, without_block, nothing_held, held_by_either, ShareHeld, SameHeld}
 
 -- the set with one section's part exchanged
@@ -130,6 +130,54 @@ removed_where_kept held plots section block plot plot' range all removed =
     changed_where_kept held (λ part. without_block part block) plots section plot plot' range all removed
     ∙ exchanged_is_difference (held_by_section held plots) section block
 
+-- a set without any place has none elsewhere
+pub nothing_within : (places : ℕ → ℕ → ℕ → Bool) (first last : ℕ) → places ≡ no_places → LieWithin places first last
+nothing_within places first last none section column row held = cc (ap (λ p. p section column row) none, held)
+
+-- where no section is left there is no place
+pub none_within : (places : ℕ → ℕ → ℕ → Bool) (first last : ℕ) → LieWithin places first last → last < first → places ≡ no_places
+none_within places first last within none =
+    fun_ext (λ section. fun_ext (λ column. fun_ext (λ row. elim (cases_Bool (places section column row)) [
+      | inl held ↦ let lies = within section column row held in absurd (omega (arith, lies.0, lies.1))
+      | inr not ↦ not
+    ])))
+
+-- the places of one section
+block_within : (section : ℕ) (block : Rectangle) → LieWithin (block_places section block) section section
+block_within section block other column row held =
+    let same : section ≡ other = eqb-true section other (and_parts (section == other) _ held).0 in
+    (omega arith, omega arith)
+
+-- in a wider range
+pub within_wider : (places : ℕ → ℕ → ℕ → Bool) (first last first' last' : ℕ) → first' ≤ first → last ≤ last' → LieWithin places first last
+    → LieWithin places first' last'
+within_wider places first last first' last' down up is section column row held =
+    let lies = is section column row held in
+    (omega (arith, lies.0), omega (arith, lies.1))
+
+-- the places of two sets
+union_within : (places more : ℕ → ℕ → ℕ → Bool) (first last : ℕ) → LieWithin places first last → LieWithin more first last
+    → LieWithin (union places more) first last
+union_within places more first last is is' section column row held = elim (cases_Bool (places section column row)) [
+  | inl there ↦ is section column row there
+  | inr not ↦ is' section column row (rw not at held)
+]
+
+-- a block is added, and the range made as wide
+pub added_within : (places now : ℕ → ℕ → ℕ → Bool) (section : ℕ) (block : Rectangle) (first last first' last' : ℕ)
+    → now ≡ union places (block_places section block) → first' ≤ first → last ≤ last' → first' ≤ section → section ≤ last'
+    → LieWithin places first last → LieWithin now first' last'
+added_within places now section block first last first' last' is down up below above before =
+    subst (λ p. LieWithin p first' last') (sym is)
+    (union_within places (block_places section block) first' last' (within_wider places first last first' last' down up before)
+    (within_wider (block_places section block) section section first' last' below above (block_within section block)))
+
+-- a block is taken away
+pub removed_within : (places now less : ℕ → ℕ → ℕ → Bool) (first last : ℕ) → now ≡ difference places less → LieWithin places first last
+    → LieWithin now first last
+removed_within places now less first last is before section column row held =
+    before section column row (and_parts (places section column row) _ (sym (ap (λ p. p section column row) is) ∙ held)).0
+
 -- what is kept at an index is the part of the section behind it
 kept_at : {P : Type 0} (held : P → ℕ → ℕ → Bool) (plots : List P) (index : ℕ) (plot : P) → index < SECTION_COUNT → length plots ≡ SECTION_COUNT
     → held_by_section held plots (index + 1) ≡ held (get_or plots index plot)
@@ -167,11 +215,6 @@ abbrev pub AreApartTo : ℕ → (ℕ → ℕ → ℕ → Bool) → (ℕ → ℕ 
 AreApartTo most places more = (section column row : ℕ) → section ≤ most
     → places section column row ≡ true → more section column row ≡ true → ⊥
 
-pub apart_first : {P : Type 0} (held : P → ℕ → ℕ → Bool) (plots others : List P) → AreApartTo 0 (held_by_section held plots) (held_by_section held others)
-apart_first held plots others section column row most is is' =
-    let range = section_held held plots section column row is in
-    omega arith
-
 pub apart_next : {P : Type 0} (held : P → ℕ → ℕ → Bool) (plots others : List P) (index : ℕ) (plot other : P) → index < SECTION_COUNT
     → length plots ≡ SECTION_COUNT → length others ≡ SECTION_COUNT
     → (ShareHeld (held (get_or plots index plot)) (held (get_or others index other)) → ⊥)
@@ -190,24 +233,9 @@ apart_next held plots others index plot other below all all-others apart before 
   | inr earlier ↦ before section column row (omega arith) is is'
 ]
 
-pub apart_all : {P : Type 0} (held : P → ℕ → ℕ → Bool) (plots others : List P) → AreApartTo SECTION_COUNT (held_by_section held plots) (held_by_section held others)
-    → SharePlace (held_by_section held plots) (held_by_section held others) → ⊥
-apart_all held plots others apart shared =
-    let range = section_held held plots shared.section shared.column shared.row shared.in_first in
-    apart shared.section shared.column shared.row range.1 shared.in_first shared.in_second
-
 -- up to a section the same places are in both sets
 abbrev pub AreSameTo : ℕ → (ℕ → ℕ → ℕ → Bool) → (ℕ → ℕ → ℕ → Bool) → Type 0
 AreSameTo most places more = (section column row : ℕ) → section ≤ most → places section column row ≡ more section column row
-
-not_section : {P : Type 0} (held : P → ℕ → ℕ → Bool) (plots : List P) (section column row : ℕ) → is_section section ≡ false
-    → held_by_section held plots section column row ≡ false
-not_section held plots section column row none = rw none refl
-
-pub same_first : {P : Type 0} (held : P → ℕ → ℕ → Bool) (plots others : List P) → AreSameTo 0 (held_by_section held plots) (held_by_section held others)
-same_first held plots others section column row most =
-    let none : is_section section ≡ false = grind (arith, nat_tests) in
-    not_section held plots section column row none ∙ sym (not_section held others section column row none)
 
 pub same_next : {P : Type 0} (held : P → ℕ → ℕ → Bool) (plots others : List P) (index : ℕ) (plot other : P) → index < SECTION_COUNT
     → length plots ≡ SECTION_COUNT → length others ≡ SECTION_COUNT
@@ -223,15 +251,6 @@ same_next held plots others index plot other below all all-others same before se
   | inr earlier ↦ before section column row (omega arith)
 ]
 
-pub same_all : {P : Type 0} (held : P → ℕ → ℕ → Bool) (plots others : List P) → AreSameTo SECTION_COUNT (held_by_section held plots) (held_by_section held others)
-    → SamePlaces (held_by_section held plots) (held_by_section held others)
-same_all held plots others same section column row = elim (cases_Bool (is_section section)) [
-  | inl is ↦
-      let sides = and_parts (nat_le 1 section) (nat_le section SECTION_COUNT) is in
-      same section column row (grind (arith, nat_tests))
-  | inr none ↦ not_section held plots section column row none ∙ sym (not_section held others section column row none)
-]
-
 -- where the sets are the same, so are the parts at one index
 pub same_at : {P : Type 0} (held : P → ℕ → ℕ → Bool) (plots others : List P) (index : ℕ) (plot other : P) → index < SECTION_COUNT
     → length plots ≡ SECTION_COUNT → length others ≡ SECTION_COUNT → SamePlaces (held_by_section held plots) (held_by_section held others)
@@ -244,28 +263,43 @@ same_at held plots others index plot other below all all-others same column row 
 abbrev pub joined_to : ℕ → (ℕ → ℕ → ℕ → Bool) → (ℕ → ℕ → ℕ → Bool) → ℕ → ℕ → ℕ → Bool
 joined_to most places more section column row = places section column row || (nat_le section most && more section column row)
 
-pub joined_first : {P : Type 0} (held : P → ℕ → ℕ → Bool) (plots others : List P)
-    → held_by_section held plots ≡ joined_to 0 (held_by_section held plots) (held_by_section held others)
-joined_first held plots others =
-    fun_ext (λ section. fun_ext (λ column. fun_ext (λ row. nothing section (held_by_section held plots section column row) column row)))
+pub joined_first : (places more : ℕ → ℕ → ℕ → Bool) (before first last : ℕ) → LieWithin more first last → before < first
+    → places ≡ joined_to before places more
+joined_first places more before first last within behind =
+    fun_ext (λ section. fun_ext (λ column. fun_ext (λ row. none section column row (cases_Bool (more section column row)) (places section column row))))
   where
-    nothing : (section : ℕ) (b : Bool) (column row : ℕ) → b ≡ (b || (nat_le section 0 && held_by_section held others section column row))
-    nothing section true column row = refl
-    nothing zero false column row = refl
-    nothing (suc section) false column row = let none : nat_le (suc section) 0 ≡ false = grind (arith, nat_tests) in rw none refl
+    none : (section column row : ℕ) → (more section column row ≡ true) ⊎ (more section column row ≡ false) → (b : Bool)
+        → b ≡ (b || (nat_le section before && more section column row))
+    none section column row held true = refl
+    none section column row (inl held) false =
+        let lies = within section column row held in
+        let above : nat_le section before ≡ false = grind (arith, nat_tests) in
+        rw above refl
+    none section column row (inr not) false = rw not (sym (and_right (nat_le section before) false refl))
 
-pub joined_all : {P : Type 0} (held : P → ℕ → ℕ → Bool) (plots others : List P)
-    → joined_to SECTION_COUNT (held_by_section held plots) (held_by_section held others) ≡ union (held_by_section held plots) (held_by_section held others)
-joined_all held plots others =
-    fun_ext (λ section. fun_ext (λ column. fun_ext (λ row.
-    ap (λ b. held_by_section held plots section column row || b) (inside section column row (held_by_section held others section column row) refl))))
+pub joined_all : (places more : ℕ → ℕ → ℕ → Bool) (first last most : ℕ) → LieWithin more first last → last ≤ most
+    → joined_to most places more ≡ union places more
+joined_all places more first last most within all =
+    fun_ext (λ section. fun_ext (λ column. fun_ext (λ row. ap (λ b. places section column row || b) (inside section column row (cases_Bool (more section column row))))))
   where
-    inside : (section column row : ℕ) (b : Bool) → held_by_section held others section column row ≡ b → (nat_le section SECTION_COUNT && b) ≡ b
-    inside section column row true is =
-        let range = section_held held others section column row is in
-        let most : nat_le section SECTION_COUNT ≡ true = grind (arith, nat_tests) in
-        rw most refl
-    inside section column row false is = and_right (nat_le section SECTION_COUNT) false refl
+    inside : (section column row : ℕ) → (more section column row ≡ true) ⊎ (more section column row ≡ false)
+        → (nat_le section most && more section column row) ≡ more section column row
+    inside section column row (inl held) =
+        let lies = within section column row held in
+        let below : nat_le section most ≡ true = grind (arith, nat_tests) in
+        rw below refl
+    inside section column row (inr not) = rw not (and_right (nat_le section most) false refl)
+
+-- joined in a range that is as wide
+pub joined_within : (places more now : ℕ → ℕ → ℕ → Bool) (most first last first' last' : ℕ) → now ≡ joined_to most places more
+    → first ≤ first' → last' ≤ last → LieWithin places first last → LieWithin more first' last' → LieWithin now first last
+joined_within places more now most first last first' last' is down up before added section column row held = elim (cases_Bool (places section column row)) [
+  | inl there ↦ before section column row there
+  | inr not ↦
+      let joined : joined_to most places more section column row ≡ true = sym (ap (λ p. p section column row) is) ∙ held in
+      let lies = added section column row (and_parts (nat_le section most) _ (rw not at joined)).1 in
+      (omega (arith, lies.0), omega (arith, lies.1))
+]
 
 pub joined_next : {P : Type 0} (held : P → ℕ → ℕ → Bool) (plots others now : List P) (index : ℕ) (plot other joined : P) → index < SECTION_COUNT
     → length now ≡ SECTION_COUNT → length others ≡ SECTION_COUNT
@@ -302,3 +336,22 @@ joined_next held plots others now index plot other joined below all all-others i
               let same : nat_le section index ≡ nat_le section (index + 1) = grind (arith, nat_tests) in
               rw test (ap (λ b. places section column row || (b && more section column row)) same)
         ])))
+
+-- one section's part is emptied
+pub cleared_next : {P : Type 0} (held : P → ℕ → ℕ → Bool) (now : List P) (index last : ℕ) (empty : P) → index < SECTION_COUNT → length now ≡ SECTION_COUNT
+    → held empty ≡ nothing_held → LieWithin (held_by_section held now) (index + 1) last
+    → LieWithin (held_by_section held (set now index empty)) (index + 1 + 1) last
+cleared_next held now index last empty below all none before section column row is =
+    let back : index + 1 - 1 ≡ index = omega arith in
+    let put : held_by_section held (set now index empty) ≡ exchanged (held_by_section held now) (index + 1) (held empty) =
+    ap (λ i. held_by_section held (set now i empty)) (sym back) ∙ held_after held now (index + 1) empty (omega arith, omega arith) all in
+    let there : exchanged (held_by_section held now) (index + 1) (held empty) section column row ≡ true = sym (ap (λ p. p section column row) put) ∙ is in
+    elim (cases_eq (index + 1) section) [
+      | inl same ↦
+          let test : (index + 1 == section) ≡ true = eq-eqb (index + 1) section same in
+          absurd (cc (rw test at there, ap (λ h. h column row) none))
+      | inr apart ↦
+          let test : (index + 1 == section) ≡ false = ne_eqb (index + 1) section apart in
+          let lies = before section column row (rw test at there) in
+          (omega (arith, lies.0, apart), lies.1)
+    ]

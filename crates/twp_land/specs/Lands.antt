@@ -1,6 +1,6 @@
 -- Lands: sets of places of a township. A set is a test of section, column and row; what of it lies in one
 -- section is a test of column and row.
-use Rattle.std.specs.Prelude.{◌≡◌, ◌==◌, ℕ, ◌&&◌, ◌||◌, not, Bool, true, false}
+use Rattle.std.specs.Prelude.{◌≡◌, ◌==◌, ℕ, ◌≤◌, ◌&&◌, ◌||◌, not, Bool, true, false}
 use Rattle.twp_grid.specs.Spans.{Rectangle, in_rectangle}
 use Rattle.twp_grid.specs.Totals.{total_over, one_where}
 
@@ -49,3 +49,8 @@ pub record SharePlace (places more : ℕ → ℕ → ℕ → Bool) : Type 0 wher
 abbrev pub SamePlaces : (ℕ → ℕ → ℕ → Bool) → (ℕ → ℕ → ℕ → Bool) → Type 0
 SamePlaces places more =
     (section column row : ℕ) → places section column row ≡ more section column row
+
+-- each place is in a section from the first to the last
+abbrev pub LieWithin : (ℕ → ℕ → ℕ → Bool) → ℕ → ℕ → Type 0
+LieWithin places first last =
+    (section column row : ℕ) → places section column row ≡ true → (first ≤ section) × (section ≤ last)

@@ -1,7 +1,7 @@
-ghost use Rattle.std.specs.Prelude.{◌≡◌, ◌<◌, ◌↔◌, ℕ, Bool, true, IsTrue};
+ghost use Rattle.std.specs.Prelude.{◌≡◌, ◌<◌, ◌≤◌, ◌↔◌, ℕ, Bool, true, IsTrue, MatchOption};
 ghost use Rattle.twp_grid.specs.Winding.{IsSection};
 ghost use Rattle.twp_grid.specs.Places.{PLACE_DIGITS, places_across, IsPlace};
-ghost use Rattle.twp_land.specs.Lands.{no_places, union, difference, block_places, Meets, HoldsAll, count_held, SharePlace, SamePlaces};
+ghost use Rattle.twp_land.specs.Lands.{no_places, union, difference, block_places, Meets, HoldsAll, count_held, SharePlace, SamePlaces, LieWithin};
 
 use twp_grid::{Block, Section};
 
@@ -40,6 +40,15 @@ pub trait Land: Drop {
     /// Takes away the places of a section's block.
     fn remove(&mut self, section: Section, block: Block)
         ensures { places self.new ≡ difference (places self.old) (block_places section block) };
+
+    /// Takes away all places.
+    fn clear(&mut self)
+        ensures { places self.new ≡ no_places };
+
+    /// A first and a last section, outside of which no place is held. None only where none is held at all.
+    fn sections(&self) -> Option<(Section, Section)>
+        ensures { MatchOption result (places self.now ≡ no_places) (λ (first, last).
+            (first ≤ last) × LieWithin (places self.now) first last) };
 
     /// Whether both hold the same places.
     fn same(&self, other: &Self) -> bool

@@ -7,6 +7,7 @@ mod land;
 mod lanes;
 mod lots;
 mod plot;
+mod reach;
 mod row;
 mod rows;
 mod sections;

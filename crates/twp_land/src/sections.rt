@@ -1,17 +1,30 @@
-ghost use Rattle.std.specs.Prelude.{◌≡◌};
+ghost use Rattle.std.specs.Prelude.{◌≡◌, ◌+◌, ◌≤◌};
+ghost use Rattle.twp_grid.specs.Winding.{SECTION_COUNT};
+ghost use Rattle.twp_land.specs.Lands.{LieWithin};
 ghost use Rattle.twp_land.specs.Storage.{held_by_section};
 
 use crate::land::Land;
 use crate::plot::Plot;
+use crate::reach::Reach;
 use twp_grid::{Block, Section};
 
 /// The sections of a township.
 const SECTIONS: usize = 36;
 
-/// A land that keeps a set of places for each section, by number.
+/// No set at all.
+const NOWHERE: Reach = Reach {
+    first: SECTIONS,
+    end: 0,
+};
+
+/// A land that keeps a set of places for each section, by number. No set that it doesn't reach holds any
+/// place: what is asked of a whole land looks at the others alone.
 #[derive(Debug, Drop)]
-pub struct Sections<P> {
+pub struct Sections<P: Plot> {
     plots: [P; SECTIONS],
+    reach: Reach,
+    ghost few: { reach.end ≤ SECTION_COUNT },
+    ghost within: { LieWithin (held_by_section P.held plots) (reach.first + 1) reach.end },
 }
 
 impl<P: Plot> Sections<P> {
@@ -34,6 +47,7 @@ impl<P: Plot> Land for Sections<P> {
     fn empty() -> Self {
         Sections {
             plots: [P::empty(); SECTIONS],
+            reach: NOWHERE,
         }
     }
 
@@ -54,15 +68,33 @@ impl<P: Plot> Land for Sections<P> {
     }
 
     fn add(&mut self, section: Section, block: Block) {
-        self.plots[usize::from(section.number() - 1)].add(block);
+        let index = usize::from(section.number() - 1);
+        self.plots[index].add(block);
+        self.reach.widen(index, index + 1);
     }
 
     fn remove(&mut self, section: Section, block: Block) {
         self.plots[usize::from(section.number() - 1)].remove(block);
     }
 
+    fn clear(&mut self) {
+        for index in self.reach.first..self.reach.end {
+            self.plots[index] = P::empty();
+        }
+        self.reach = NOWHERE;
+    }
+
+    fn sections(&self) -> Option<(Section, Section)> {
+        if self.reach.first >= self.reach.end {
+            return None;
+        }
+        let first = Section::new(self.reach.first as u8 + 1)?;
+        let last = Section::new(self.reach.end as u8)?;
+        Some((first, last))
+    }
+
     fn same(&self, other: &Self) -> bool {
-        for index in 0..SECTIONS {
+        for index in self.reach.first.min(other.reach.first)..self.reach.end.max(other.reach.end) {
             if !self.plots[index].same_plot(&other.plots[index]) {
                 return false;
             }
@@ -71,7 +103,7 @@ impl<P: Plot> Land for Sections<P> {
     }
 
     fn meets_land(&self, other: &Self) -> bool {
-        for index in 0..SECTIONS {
+        for index in self.reach.first.max(other.reach.first)..self.reach.end.min(other.reach.end) {
             if self.plots[index].meets_plot(&other.plots[index]) {
                 return true;
             }
@@ -80,7 +112,8 @@ impl<P: Plot> Land for Sections<P> {
     }
 
     fn add_land(&mut self, other: &Self) {
-        for index in 0..SECTIONS {
+        self.reach.widen(other.reach.first, other.reach.end);
+        for index in other.reach.first..other.reach.end {
             self.plots[index].add_plot(&other.plots[index]);
         }
     }

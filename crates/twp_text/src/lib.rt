@@ -36,6 +36,6 @@ pub use fault::{TEXT_LIMIT, TextFault};
 pub use item::{Item, Numeral, Step, Steps};
 pub use kind::Kind;
 pub use place_fault::PlaceFault;
-pub use resolving::resolve;
+pub use resolving::{resolve, resolve_into};
 pub use spelling::spell;
 pub use token::{Token, Tokens};

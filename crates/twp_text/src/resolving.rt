@@ -1,4 +1,4 @@
-ghost use Rattle.std.specs.Prelude.{◌≡◌, ◌↔◌, ◌⊎◌, IsSome, IfOk, IfErr, IsTrue, is_ok, MatchResult};
+ghost use Rattle.std.specs.Prelude.{◌≡◌, ◌↔◌, ◌⊎◌, IsSome, IfOk, OnOk, IfErr, IsTrue, is_ok, MatchResult};
 ghost use Rattle.twp_grid.specs.Places.{PLACE_DIGITS};
 ghost use Rattle.twp_grid.specs.Townships.{Designation};
 ghost use Rattle.twp_land.specs.WholeLots.{HasWholeLots};
@@ -25,13 +25,30 @@ pub fn resolve<L: Land>(description: &Description, township: Township) -> Result
     ensures refused { IfErr result (IsFirstPlaceFault PLACE_DIGITS township description.now) }
     ensures on_plat { IsTrue (is_ok result) ↔ AreOnPlat PLACE_DIGITS township description.now }
 {
-    let items = description.items();
     let mut land = L::empty();
-    let mut section = None;
-    for index in 0..items.len() {
-        section = take_item(&mut land, section, &items[index], township)?;
-    }
+    resolve_into(&mut land, description, township)?;
     Ok(land)
+}
+
+/// Makes a land the one that `resolve` gives. What it held before is gone; after a fault it is of no use.
+pub fn resolve_into<L: Land>(
+    land: &mut L,
+    description: &Description,
+    township: Township,
+) -> Result<(), PlaceFault>
+    ensures land { OnOk result
+        (IsLandOfItems PLACE_DIGITS township description.now (L.places land.new)) }
+    ensures whole_lots { OnOk result (HasWholeLots PLACE_DIGITS (L.places land.new)) }
+    ensures refused { IfErr result (IsFirstPlaceFault PLACE_DIGITS township description.now) }
+    ensures on_plat { IsTrue (is_ok result) ↔ AreOnPlat PLACE_DIGITS township description.now }
+{
+    let items = description.items();
+    let mut section = None;
+    land.clear();
+    for item in items {
+        section = take_item(land, section, item, township)?;
+    }
+    Ok(())
 }
 
 /// Takes an item into the land of the items before it, and gives the section of what follows.

@@ -241,6 +241,69 @@ fn check_removed<L: Land>(rt: &impl Abort) -> Result<(), Fail> {
     Ok(())
 }
 
+#[test]
+fn grids_reach_sections_far_apart(rt: HostRuntime) -> Result<(), Fail> {
+    check_far_apart::<Grid>(&rt)
+}
+
+#[test]
+fn lanes_reach_sections_far_apart(rt: HostRuntime) -> Result<(), Fail> {
+    check_far_apart::<Lanes>(&rt)
+}
+
+// The first and the last number of the sections that may hold places, or zeros.
+fn numbers<L: Land>(land: &L) -> (u8, u8) {
+    match land.sections() {
+        Some((first, last)) => (first.number(), last.number()),
+        None => (0, 0),
+    }
+}
+
+// Sections 1 and 36 have 34 others between them, and a land may begin with either.
+fn check_far_apart<L: Land>(rt: &impl Abort) -> Result<(), Fail> {
+    let first = Section::new(1).ok_or("a section")?;
+    let middle = Section::new(18).ok_or("a section")?;
+    let last = Section::new(36).ok_or("a section")?;
+    let whole = Block::whole();
+    let mut rising = L::empty();
+    let mut falling = L::empty();
+    assert_eq!(rt; numbers(&rising), (0, 0));
+    rising.add(first, whole);
+    falling.add(last, whole);
+    assert_eq!(rt; (numbers(&rising), numbers(&falling)), ((1, 1), (36, 36)));
+    assert!(rt; !rising.meets_land(&falling) && !rising.same(&falling));
+    assert!(rt; !rising.same(&L::empty()) && !L::empty().same(&falling));
+    rising.add(last, whole);
+    assert!(rt; rising.meets_land(&falling) && falling.meets_land(&rising));
+    assert!(rt; !rising.same(&falling) && !falling.same(&rising));
+    falling.add(first, whole);
+    assert!(rt; rising.same(&falling) && falling.same(&rising));
+    assert_eq!(rt; (numbers(&rising), numbers(&falling)), ((1, 36), (1, 36)));
+
+    // Without section 36 in the one and section 1 in the other they have no place in common.
+    rising.remove(last, whole);
+    falling.remove(first, whole);
+    assert!(rt; !rising.meets_land(&falling) && !falling.meets_land(&rising));
+    let mut joined = L::empty();
+    joined.add(middle, whole);
+    joined.add_land(&falling);
+    assert!(rt; joined.meets_land(&falling) && !joined.meets_land(&rising));
+    joined.add_land(&rising);
+    assert!(rt; joined.meets_land(&rising) && joined.full(middle, whole));
+    joined.add_land(&L::empty());
+    assert_eq!(rt; joined.count(first, whole), 256);
+    assert_eq!(rt; joined.count(last, whole), 256);
+
+    // A land that was cleared is as good as a new one.
+    joined.clear();
+    assert!(rt; joined.same(&L::empty()) && !joined.meets(last, whole));
+    assert_eq!(rt; numbers(&joined), (0, 0));
+    joined.add(middle, whole);
+    assert!(rt; !joined.meets_land(&rising) && !joined.meets_land(&falling));
+    assert!(rt; joined.full(middle, whole) && !joined.meets(first, whole));
+    Ok(())
+}
+
 // All blocks that halving gives.
 fn blocks(alloc: Global, rt: &impl Abort) -> Result<Vec<Block>, Fail> {
     let mut blocks = Vec::new(alloc);

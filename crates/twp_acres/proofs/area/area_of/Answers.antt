@@ -1,16 +1,15 @@
-use Rattle.std.proofs.Common.{◌≡◌, ℕ, ◌+◌, ◌-◌, ◌*◌, Bool, sym, subst, arith}
+use Rattle.std.proofs.Common.{◌≡◌, ℕ, ◌+◌, ◌-◌, ◌*◌, Bool, refl, sym, subst, arith}
 use Rattle.twp_grid.specs.Places.{PLACE_DIGITS}
-use Rattle.twp_grid.proofs.TotalFacts.{total-zero}
 use Rattle.twp_land.proofs.LotFacts.{section_is}
 use Rattle.twp_plat.specs.Pieces.{over_of}
 use Rattle.twp_acres.specs.Bounds.{SECTION_UNITS_MOST}
 use Rattle.twp_acres.specs.LandAreas.{section_sum}
-use Rattle.twp_acres.proofs.AreaFacts.{IsSumOf, grows, sum-next, area_is, land_area}
+use Rattle.twp_acres.proofs.AreaFacts.{IsSumOf, grows, sum-first, sum-next, sum-last, sum-none, area_is, land_area}
 use Rattle.twp_acres.proofs.SectionSums.{none_held}
 use Rattle.twp_acres.proofs.area.area_of.Goals as goal
 
 pub loop-number-init : goal.loop-number-init
-loop-number-init g c = record { sum = λ pieces are. sym (total-zero _); most = omega arith; first = omega arith }
+loop-number-init g c = record { sum = rw c.number-number.ensures.value (sum-first c.args.plat.now _ _ _ c.in-Some.ensures.1); most = omega arith; first = omega arith }
 
 pub loop-number-preserved-then-not-meets : goal.loop-number-preserved-then-not-meets
 loop-number-preserved-then-not-meets g c =
@@ -40,7 +39,14 @@ loop-number-preserved g c =
       first = omega arith;
     }
 
+pub returns-in_default : goal.returns-in_default
+returns-in_default g c =
+    land_area c.args.plat.now (g.L.Land.places c.args.land.now) 37 0 c.over-over.result c.zero.result c.over-over.ensures.plat c.over-over.ensures.value refl
+    (sum-none c.args.plat.now _ c.in_default.ensures) c.zero.ensures
+
 pub returns : goal.returns
 returns g c =
-    land_area c.args.plat.now (g.L.Land.places c.args.land.now) c.loop-number.number c.loop-number.units c.over-over.result c.unwrap.result c.over-over.ensures.plat c.over-over.ensures.value (omega arith)
-    c.loop-number.invariant.sum (area_is c.loop-number.units c.over-over.result _ c.unwrap.result c.new-2.ensures c.unwrap.ensures)
+    let lies = c.in-Some.ensures in
+    land_area c.args.plat.now (g.L.Land.places c.args.land.now) 37 c.loop-number.units c.over-over.result c.unwrap.result c.over-over.ensures.plat c.over-over.ensures.value refl
+    (sum-last c.args.plat.now (g.L.Land.places c.args.land.now) _ _ c.loop-number.number c.loop-number.units lies.1 (omega arith) (omega arith) (omega arith) c.loop-number.invariant.sum)
+    (area_is c.loop-number.units c.over-over.result _ c.unwrap.result c.new-2.ensures c.unwrap.ensures)

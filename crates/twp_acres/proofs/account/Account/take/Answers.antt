@@ -18,8 +18,8 @@ returns-then-meets_land-clause-fault g c =
       refl,
       (tract.0, anew),
       record {
-        more = g.L.Land.places c.in-Ok.land;
-        land = rw (c.township.ensures, tract.2) at c.in-Ok.ensures.land;
+        more = g.L.Land.places c.describe_into.new.land;
+        land = rw (c.township.ensures, tract.2) at c.in_default-describe_into.ensures.land;
         shared = c.meets_land.ensures.0 c.if-meets_land.true;
       },
     )
@@ -39,9 +39,9 @@ returns-clause-taken g c =
       is_record = tract.0;
       is_new = anew;
       names_are = rw tract.1 at c.in_ok-add.ensures.names;
-      more = g.L.Land.places c.in-Ok.land;
-      land = rw (c.township.ensures, tract.2) at c.in-Ok.ensures.land;
-      whole = c.in-Ok.ensures.whole_lots;
+      more = g.L.Land.places c.describe_into.new.land;
+      land = rw (c.township.ensures, tract.2) at c.in_default-describe_into.ensures.land;
+      whole = c.in_default-describe_into.ensures.whole_lots;
       apart = λ shared. absurd (cc (c.meets_land.ensures.1 shared));
       places_are = c.add_land.ensures;
       hundredths = c.hundredths.result;

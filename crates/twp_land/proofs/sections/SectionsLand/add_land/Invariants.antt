@@ -5,5 +5,8 @@ use Rattle.twp_land.proofs.LandFacts.{joined_to}
 use Rattle.twp_land.proofs.sections.SectionsLand.add_land.Given as goal
 
 abbrev pub invariant-loop-index : goal.invariant-loop-index
-invariant-loop-index g l = (length l.self.plots ≡ SECTION_COUNT)
-    × (held_by_section g.P.Plot.held l.self.plots ≡ joined_to l.index (held_by_section g.P.Plot.held l.initial.self.plots) (held_by_section g.P.Plot.held l.other.plots))
+invariant-loop-index g l = record {
+  all : length l.self.plots ≡ SECTION_COUNT;
+  reach : l.self.reach ≡ l.initial.self.reach;
+  joined : held_by_section g.P.Plot.held l.self.plots ≡ joined_to l.index (held_by_section g.P.Plot.held l.initial.self.plots) (held_by_section g.P.Plot.held l.other.plots);
+}
