@@ -436,28 +436,47 @@ behind_space text from at token rest is s =
       is = s.is;
     }
 
--- a token that stands at a place leads on from there, or from white space before it
-token_leads : (text : List ℕ) (from at : ℕ) (state : State) (its : List Item) (kind : Kind) (size : ℕ) (behind : State) (grown : List Item) (s : StandsAt text at kind size) → StartsWith from (drop from text) s.token (drop (at + size) text) → next state (class_of kind) ≡ Some behind → take_token state kind at its ≡ grown → Leads text from state its (at + size) behind grown
-token_leads text from at state its kind size behind grown s starts is grows =
+-- a token that stands at a place leads on from there
+token_leads : (text : List ℕ) (at : ℕ) (state : State) (its : List Item) (kind : Kind) (size : ℕ) (behind : State) (grown : List Item) (s : StandsAt text at kind size) → next state (class_of kind) ≡ Some behind → take_token state kind at its ≡ grown → Leads text at state its (at + size) behind grown
+token_leads text at state its kind size behind grown s is grows =
     let step_is : next state (class_of s.token.kind) ≡ Some behind = ap (λ k. next state (class_of k)) s.kind_is ∙ is in
     let grown_is : take_token state s.token.kind s.token.at its ≡ grown = ap (λ k. take_token state k s.token.at its) s.kind_is ∙ ap (λ n. take_token state kind n its) s.here ∙ grows in
-    subst (λ (js : List Item). Leads text from state its (at + size) behind js) grown_is
-    (leads_token text from state its s.token (at + size) behind starts s.ends s.within step_is)
+    subst (λ (js : List Item). Leads text at state its (at + size) behind js) grown_is
+    (leads_token text at state its s.token (at + size) behind s.starts s.ends s.within step_is)
 
--- white space and the first step of a part lead on, and then what follows the step
-pub first_leads : (text : List ℕ) (from : ℕ) (state : State) (its : List Item) (at : ℕ) (it : Step) (size to : ℕ) (behind : State) (grown : List Item) → true ≡ is_some (next state lot) → at ≡ from + prefix_len is_white (drop from text) → IsStepAt text at it size → Leads text (at + size) past.Step (Chain (it ∷ []) at ∷ before_parts state its) to behind grown → Leads text from state its to behind grown
-first_leads text from state its at it size to behind grown begins white s more =
+-- white space leads on
+pub white_leads : (text : List ℕ) (from at : ℕ) (state : State) (its : List Item) → at ≡ from + prefix_len is_white (drop from text) → at ≤ length text → Leads text from state its at state its
+white_leads text from at state its is within =
+    record { tokens = []; cut = before; walked = refl; forward = omega arith; within = within }
+  where
+    bytes : List ℕ
+    bytes = drop from text
+
+    behind : drop (prefix_len is_white bytes) bytes ≡ drop at text
+    behind = drop-drop (prefix_len is_white bytes) from text ∙ ap (λ m. drop m text) (sym is)
+
+    before : (left : List Token) → HasTokens at (drop at text) left → HasTokens from (drop from text) left
+    before [] has =
+        let front : List ℕ = take (prefix_len is_white bytes) bytes in
+        let all : list_all is_white (front ++ drop at text) ≡ true =
+        white_append front (drop at text) (list_all-from_AllPass is_white front (all_white bytes)) (list_all-from_AllPass is_white (drop at text) has) in
+        subst (λ (b : List ℕ). AllPass is_white b) (ap (λ b. front ++ b) (sym behind) ∙ take-append-drop (prefix_len is_white bytes) bytes) (AllPass-from_list_all is_white (front ++ drop at text) all)
+    before (token ∷ tokens) (rest, starts, more) = (rest, behind_space text from at token rest is starts, more)
+
+-- the first step of a part leads on, and then what follows the step
+pub first_leads : (text : List ℕ) (at : ℕ) (state : State) (its : List Item) (it : Step) (size to : ℕ) (behind : State) (grown : List Item) → true ≡ is_some (next state lot) → IsStepAt text at it size → Leads text (at + size) past.Step (Chain (it ∷ []) at ∷ before_parts state its) to behind grown → Leads text at state its to behind grown
+first_leads text at state its it size to behind grown begins s more =
     let by : BeginsWith state it = part_begins_with state it (sym begins) in
     let begun : List Item = Chain (it ∷ []) at ∷ before_parts state its in
     let end : (at + s.letters_size) + s.fraction_size ≡ at + size = rw (s.size_is) (omega arith) in
-    let letters : Leads text from state its (at + s.letters_size) by.between begun =
-    token_leads text from at state its (letters_of it) s.letters_size by.between begun s.letters (behind_space text from at s.letters.token (drop (at + s.letters_size) text) white s.letters.starts) by.letters (by.begun at its) in
+    let letters : Leads text at state its (at + s.letters_size) by.between begun =
+    token_leads text at state its (letters_of it) s.letters_size by.between begun s.letters by.letters (by.begun at its) in
     let fraction : Leads text (at + s.letters_size) by.between begun ((at + s.letters_size) + s.fraction_size) past.Step begun =
-    token_leads text (at + s.letters_size) (at + s.letters_size) by.between begun (fraction_of it) s.fraction_size past.Step begun s.fraction s.fraction.starts by.fraction (by.kept (at + s.letters_size) begun) in
-    let both : Leads text from state its (at + size) past.Step begun =
-    subst (λ (n : ℕ). Leads text from state its n past.Step begun) end
-    (leads_then text from state its (at + s.letters_size) by.between begun ((at + s.letters_size) + s.fraction_size) past.Step begun letters fraction) in
-    leads_then text from state its (at + size) past.Step begun to behind grown both more
+    token_leads text (at + s.letters_size) by.between begun (fraction_of it) s.fraction_size past.Step begun s.fraction by.fraction (by.kept (at + s.letters_size) begun) in
+    let both : Leads text at state its (at + size) past.Step begun =
+    subst (λ (n : ℕ). Leads text at state its n past.Step begun) end
+    (leads_then text at state its (at + s.letters_size) by.between begun ((at + s.letters_size) + s.fraction_size) past.Step begun letters fraction) in
+    leads_then text at state its (at + size) past.Step begun to behind grown both more
 
 -- where a step that stands at a place ends
 pub step_within : (text : List ℕ) (at : ℕ) (it : Step) (size : ℕ) → IsStepAt text at it size → at + size ≤ length text

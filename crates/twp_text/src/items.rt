@@ -7,9 +7,8 @@ ghost use Rattle.twp_text.specs.TextFaults.{TEXT_LIMIT};
 use crate::change::Change;
 use crate::item::{Item, Numeral, Step, Steps};
 use crate::kind::Kind;
-use crate::passing::{Reached, UsualStep, behind_step, step_at};
+use crate::passing::{Reached, UsualStep, ahead_of_part, behind_step, step_at};
 use crate::state::State;
-use crate::token::behind_white;
 use std::alloc::{AllocError, Global};
 use std::marker::Model;
 use twp_grid::{Corner, EastWest, NorthSouth, Side};
@@ -181,14 +180,14 @@ impl Items {
         ensures { IfOk result
             (λ to. Leads text.now from.at from.state self.old to.at to.state self.new) }
     {
-        let mut reached = self.take_more(text, from)?;
+        let begun = self.take_more(text, from)?;
+        let mut reached = ahead_of_part(text, begun);
         while reached.state.begins_part() {
-            let at = behind_white(text, reached.at);
-            let Some(first) = step_at(text, at) else {
+            let Some(first) = step_at(text, reached.at) else {
                 break;
             };
             self.before_parts(reached.state)?;
-            reached = self.take_chain(alloc, text, at, first)?;
+            reached = self.take_chain(alloc, text, reached.at, first)?;
         }
         Ok(reached)
     }

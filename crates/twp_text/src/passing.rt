@@ -9,6 +9,7 @@ ghost use Rattle.twp_text.specs.Passing.{letters_of};
 
 use crate::item::Step;
 use crate::state::State;
+use crate::token::behind_white;
 use twp_grid::{Corner, Side};
 
 /// How many bytes a half or a quarter has.
@@ -84,6 +85,22 @@ pub fn behind_of_the(text: &[u8], end: Reached) -> Option<Reached>
             state: State::OfThe,
         }),
         _ => None,
+    }
+}
+
+/// Passes over the white space ahead of a part.
+#[inline(always)]
+pub fn ahead_of_part(text: &[u8], from: Reached) -> Reached
+    requires { from.at ≤ length text.now }
+    ensures { (items : List Item)
+        → Leads text.now from.at from.state items result.at result.state items }
+{
+    if !from.state.begins_part() {
+        return from;
+    }
+    Reached {
+        at: behind_white(text, from.at),
+        state: from.state,
     }
 }
 

@@ -8,17 +8,24 @@ use Rattle.twp_text.specs.Passing.{Leads}
 use Rattle.twp_text.proofs.PassingFacts.{first_leads, leads_then}
 use Rattle.twp_text.proofs.items.Items.take_parts.Goals as goal
 
+pub loop-alloc-init : goal.loop-alloc-init
+loop-alloc-init c =
+    let from : Reached = c.args.from in
+    let begun : Reached = c.in_ok-begun.begun in
+    let reached : Reached = c.ahead_of_part-reached.result in
+    leads_then c.args.text.now from.at from.state c.args.self.now begun.at begun.state c.take_more.new.self reached.at reached.state c.take_more.new.self
+    c.in_ok-begun.ensures (c.ahead_of_part-reached.ensures c.take_more.new.self)
+
 pub loop-alloc-preserved : goal.loop-alloc-preserved
 loop-alloc-preserved c =
     let text : List ℕ = c.args.text.now in
     let from : Reached = c.args.from in
     let reached : Reached = c.loop-alloc.reached in
-    let at : ℕ = c.behind_white-at.result in
     let first : UsualStep = c.in-Some.first in
-    let to : Reached = c.in_ok-reached-2.reached in
+    let to : Reached = c.in_ok-reached.reached in
     let grown : List Item = c.take_chain.new.self in
     leads_then text from.at from.state c.args.self.now reached.at reached.state c.loop-alloc.self to.at to.state grown
     c.loop-alloc.invariant
-    (first_leads text reached.at reached.state c.loop-alloc.self at first.step first.size to.at to.state grown
-    c.loop-alloc-test.ensures c.behind_white-at.ensures.value c.in-Some.ensures
-    (subst (λ (items : List Item). Leads text (at + first.size) past.Step (Chain (first.step ∷ []) at ∷ items) to.at to.state grown) c.in_ok-before_parts.ensures c.in_ok-reached-2.ensures))
+    (first_leads text reached.at reached.state c.loop-alloc.self first.step first.size to.at to.state grown
+    c.loop-alloc-test.ensures c.in-Some.ensures
+    (subst (λ (items : List Item). Leads text (reached.at + first.size) past.Step (Chain (first.step ∷ []) reached.at ∷ items) to.at to.state grown) c.in_ok-before_parts.ensures c.in_ok-reached.ensures))
