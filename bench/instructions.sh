@@ -1,7 +1,7 @@
 #!/bin/sh
 # Prints how many instructions the whole process of ./township takes, from its start to its end: of joined
-# input on the sample, on the longest that is refused and on one of fine parts; of subcommands on the sample,
-# and of a report on 1,000 tracts.
+# input on the sample, on the longest that is refused and on one of fine parts; of subcommands on the sample;
+# of the spelling of fine parts and of half as many; and of reports on 1,000 tracts and on 500.
 set -eu
 # What is counted stands on standard input, or is named by words. The environment is left out, since each
 # of its variables is counted too.
@@ -58,6 +58,25 @@ awk 'BEGIN {
         printf "%s,\"sec. %s, %s%s%s%s.\"\n", n + 1, 8 + int(n / 256), corners[int(n / 64) % 4 + 1],
             corners[int(n / 16) % 4 + 1], corners[int(n / 4) % 4 + 1], corners[n % 4 + 1]
 }' > "$work/tracts"
+head -n 501 "$work/tracts" > "$work/half-of-tracts"
+# A list of 1,000 tracts near its limit, each of six places in words, on a line of its own each.
+awk 'BEGIN {
+    print "name,description"
+    for (n = 0; n < 1000; n++) {
+        printf "parcel %s,\"", n + 1
+        for (p = 6 * n; p < 6 * n + 6; p++) {
+            s = int(p / 256)
+            if (p == 6 * n || p % 256 == 0)
+                printf "%ssec. %s", (p == 6 * n ? "" : "; "), 8 + s + 2 * (s > 9) + 2 * (s > 19)
+            printf ",\n%60s", ""
+            for (size = 1; size < 16; size *= 2)
+                printf "%s%s1/2 of the %s1/2", (size > 1 ? " of the " : ""),
+                    (int(p / size) % 2 ? "N" : "S"), (int(p / 16 / size) % 2 ? "W" : "E")
+        }
+        print ".\""
+    }
+}' > "$work/words"
+head -c $(($(wc -c < "$work/parts") / 2)) "$work/parts" | sed '$s/[,;][^,;]*$//' > "$work/half-of-parts"
 : > "$work/empty"
 printf '%-44s %12s\n' 'input' 'instructions'
 printf '%-44s %12s\n' 'the sample (1,653 bytes, accepted)' "$(count < "$work/sample")"
@@ -68,9 +87,13 @@ printf 'secs. 1 thru 36.' > "$work/all"
 printf '%-44s %12s\n' 'acres of all 36 sections' "$(count acres samples/b1.csv "$work/all")"
 printf '%-44s %12s\n' 'plat' "$(count plat samples/b1.csv)"
 printf '%-44s %12s\n' 'normal of the places' "$(count normal samples/b1.csv "$work/parts")"
+printf '%-44s %12s\n' 'normal of half of the places' "$(count normal samples/b1.csv "$work/half-of-parts")"
 printf '%-44s %12s\n' "normal of a chessboard ($(wc -c < "$work/chessboard") bytes)" \
     "$(count normal samples/b1.csv "$work/chessboard")"
 printf '%-44s %12s\n' 'report of the sample' "$(count report samples/b1.csv samples/tracts.csv)"
 printf '%-44s %12s\n' "report of 1,000 tracts ($(wc -c < "$work/tracts") bytes)" \
     "$(count report samples/b1.csv "$work/tracts")"
+printf '%-44s %12s\n' 'report of half of the tracts' "$(count report samples/b1.csv "$work/half-of-tracts")"
+printf '%-44s %12s\n' "report of 1,000 tracts ($(wc -c < "$work/words") bytes)" \
+    "$(count report samples/b1.csv "$work/words")"
 printf '%-44s %12s\n' 'help' "$(count --help)"

@@ -398,13 +398,9 @@ done 2> lost
 ended 'little memory' "$status" 3 '' 'township: out of memory'
 
 # The table of docs/REFUSALS.md has the numbers and names of the code, and no other.
-{
-    find "$root/crates" -path '*/src/*' -name '*.rt' -exec \
-        sed -n 's/^ *[A-Za-z]*Fault::\([A-Za-z]*\).* => (\([0-9][0-9]*\), .*/\2 \1/p' {} +
-    # 83 is the one refusal with two lines, so it is a verdict of its own.
-    grep -q 'TractFault::TractRefused { at, inner } =>' "$root/crates/twp_acres/src/tract_fault.rt" &&
-        echo '83 TractRefused'
-} | sort > in_code
+find "$root/crates" -path '*/src/*' -name '*.rt' -exec \
+    sed -n 's/^ *[A-Za-z]*Fault::\([A-Za-z]*\).* => (\([0-9][0-9]*\), .*/\2 \1/p' {} + |
+    sort > in_code
 sed -n 's/^| \([0-9][0-9]*\) | \([A-Za-z]*\) |.*/\1 \2/p' "$root/docs/REFUSALS.md" | sort > out
 : > err
 [ -s in_code ]; ended 'the table of refusals' $? 0 "$(cat in_code)" ''

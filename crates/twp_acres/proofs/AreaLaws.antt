@@ -1,5 +1,6 @@
 -- One land, one area; and the areas of disjoint lands add up.
-use Rattle.std.proofs.Common.{◌≡◌, ℕ, ◌+◌, ◌*◌, ◌/◌, ◌<◌, ◌≤◌, ◌-◌, ◌||◌, ◌&&◌, not, Bool, true, false, ap, refl, sym, ◌∙◌, arith, if◌then◌else◌}
+use Rattle.std.proofs.Common.{◌≡◌, ℕ, ◌+◌, ◌*◌, ◌/◌, ◌<◌, ◌≤◌, ◌-◌, ◌||◌, ◌&&◌, not, Bool, true}
+use Rattle.std.proofs.Common.{false, ap, refl, sym, ◌∙◌, arith, if◌then◌else◌}
 use Rattle.std.proofs.Math.Nat.{le_of_mul-le-mul_left, mul-sub}
 use Rattle.std.proofs.lemmas.Bool.Decides.{nat_tests}
 use Rattle.std.proofs.lemmas.Nat.{mul-le}
@@ -15,7 +16,8 @@ use Rattle.twp_land.specs.Lands.{union}
 use Rattle.twp_plat.specs.Plats.{TownshipPlat}
 use Rattle.twp_plat.proofs.RatioFacts.{cancelled}
 use Rattle.twp_plat.specs.PlatAreas.{ArePieces}
-use Rattle.twp_acres.specs.LandAreas.{IsLandArea, places_of_position, piece_where_held, township_sum}
+use Rattle.twp_acres.specs.LandAreas.{IsLandArea, places_of_position, piece_where_held}
+use Rattle.twp_acres.specs.LandAreas.{township_sum}
 use Rattle.twp_acres.specs.Laws.{OneLandArea, DisjointAreasAdd, township_places}
 use Rattle.twp_plat.proofs.SectionPieces.{same_pieces}
 

@@ -1,5 +1,6 @@
 -- The figures of a plat: there are some, and they are one.
-use Rattle.std.proofs.Common.{◌≡◌, ℕ, suc, ◌+◌, ◌-◌, ◌*◌, ◌/◌, ◌<◌, ◌≤◌, List, [], ◌++◌, Option, Some, ap, refl, sym, ◌∙◌, arith, append_assoc}
+use Rattle.std.proofs.Common.{◌≡◌, ℕ, suc, ◌+◌, ◌-◌, ◌*◌, ◌/◌, ◌<◌, ◌≤◌, List, [], ◌++◌, Option}
+use Rattle.std.proofs.Common.{Some, ap, refl, sym, ◌∙◌, arith, append_assoc}
 use Rattle.std.specs.Prelude.{OnOk, Result, Ok, Err, unwrap_or}
 use Rattle.std.proofs.lemmas.List.{append-nil}
 use Rattle.twp_measure.specs.Areas.{Fraction, IsRounded}
@@ -15,7 +16,8 @@ use Rattle.twp_plat.specs.Pieces.{IsPieceArea, over_of}
 use Rattle.twp_plat.specs.PlatAreas.{IsSectionArea, IsTownshipArea}
 use Rattle.twp_plat.proofs.OneAnswer.{one_area}
 use Rattle.twp_acres.specs.Laws.{section_places, township_places}
-use Rattle.twp_acres.specs.PlatAnswers.{IsLotFigure, IsSectionFigure, IsTownshipFigure, PlatFigures, AreFigures, texts_to}
+use Rattle.twp_acres.specs.PlatAnswers.{IsLotFigure, IsSectionFigure, IsTownshipFigure, PlatFigures}
+use Rattle.twp_acres.specs.PlatAnswers.{AreFigures, texts_to}
 use Rattle.twp_acres.proofs.AreaLaws.{one_land_area}
 use Rattle.twp_acres.proofs.WholeAreas.{section_area_is_of_land, township_area_is_of_land}
 

@@ -1,5 +1,6 @@
 -- Two texts have one answer: each part of it is determined.
-use Rattle.std.proofs.Common.{◌≡◌, ℕ, Bool, List, Some, Result, Ok, Err, refl, ap, subst, sym, ◌∙◌, inl, inr, arith}
+use Rattle.std.proofs.Common.{◌≡◌, ℕ, Bool, List, Some, Result, Ok, Err, refl, ap, subst, sym, ◌∙◌}
+use Rattle.std.proofs.Common.{inl, inr, arith}
 use Rattle.twp_measure.proofs.RoundingFacts.{one_rounding}
 use Rattle.twp_grid.specs.Places.{PLACE_DIGITS}
 use Rattle.twp_grid.specs.Townships.{Designation}
@@ -14,7 +15,8 @@ use Rattle.twp_text.specs.PlaceFaults as place_faults
 use Rattle.twp_text.specs.declared.place_fault.PlaceFault.{PlaceFault}
 use Rattle.twp_text.proofs.OneAnswer as texts
 use Rattle.twp_text.proofs.PlaceAnswers as lands
-use Rattle.twp_acres.specs.Answers.{ArePlatted, Describe, IsLandOnPlat, AreRefused, IsNoDescription, IsNoPlat, IsRefusal}
+use Rattle.twp_acres.specs.Answers.{ArePlatted, Describe, IsLandOnPlat, AreRefused, IsNoDescription}
+use Rattle.twp_acres.specs.Answers.{IsNoPlat, IsRefusal}
 use Rattle.twp_acres.specs.AcresAnswers.{AreHundredthsOf, HasAcres, IsAcresAnswer}
 use Rattle.twp_acres.specs.Laws.{OneAnswerOfLand}
 use Rattle.twp_acres.specs.declared.verdict.Verdict.{Verdict}

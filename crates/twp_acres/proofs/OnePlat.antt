@@ -1,5 +1,6 @@
 -- Notes have one printed plat: its figures are one, and so its text.
-use Rattle.std.proofs.Common.{◌≡◌, ◌==◌, ◌&&◌, ℕ, zero, suc, ◌-◌, ◌≤◌, List, ◌++◌, Bool, true, false, Some, ap, refl, subst, sym, ◌∙◌, arith, nat_le, nat_lt}
+use Rattle.std.proofs.Common.{◌≡◌, ◌==◌, ◌&&◌, ℕ, zero, suc, ◌-◌, ◌≤◌, List, ◌++◌, Bool, true}
+use Rattle.std.proofs.Common.{false, Some, ap, refl, subst, sym, ◌∙◌, arith, nat_le, nat_lt}
 use Rattle.std.proofs.lemmas.Bool.{ne_eqb}
 use Rattle.std.proofs.lemmas.Bool.Decides.{nat_tests}
 use Rattle.twp_grid.specs.Winding.{IsSection}
@@ -8,7 +9,9 @@ use Rattle.twp_grid.proofs.LotFacts.{position_of_lot_is, lot_count_is, count_by_
 use Rattle.twp_grid.specs.declared.refusal.Refusal.{Refusal}
 use Rattle.twp_plat.specs.Plats.{TownshipPlat}
 use Rattle.twp_acres.specs.Answers.{IsNoPlat}
-use Rattle.twp_acres.specs.PlatAnswers.{PlatFigures, AreFigures, texts_to, lot_text, lots_text, section_line, section_name, total_text, plat_text, IsPrintedPlat, IsPlatAnswer}
+use Rattle.twp_acres.specs.PlatAnswers.{PlatFigures, AreFigures, texts_to, lot_text, lots_text}
+use Rattle.twp_acres.specs.PlatAnswers.{section_line, section_name, total_text, plat_text}
+use Rattle.twp_acres.specs.PlatAnswers.{IsPrintedPlat, IsPlatAnswer}
 use Rattle.twp_acres.specs.declared.verdict.Verdict.{Verdict}
 use Rattle.twp_acres.specs.declared.verdict.Verdict.TheVariants.{Accepted, Refused, TractRefused}
 use Rattle.twp_acres.proofs.FigureFacts.{same_lot, same_section, same_township}

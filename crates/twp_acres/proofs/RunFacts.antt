@@ -1,12 +1,15 @@
 -- What runs read and write, over plain values.
-use Rattle.std.proofs.Common.{◌≡◌, ℕ, List, [], Option, Some, None, Result, Ok, Err, inl, inr, refl, subst, sym}
-use Rattle.std.specs.Prelude.{IfOk, IfErr, OnOk, OnErr, unwrap_or}
+use Rattle.std.proofs.Common.{◌≡◌, ℕ, List, [], Option, Some, None, Result, Ok, Err, inl, inr, refl}
+use Rattle.std.proofs.Common.{ap, subst, sym, ◌∙◌, ◌+◌, Bool, true, false, ◌⊎◌, ◌↔◌}
+use Rattle.std.specs.Prelude.{IfOk, IfErr, OnOk, OnErr, IsErrOf, IsOkUnless, is_err, unwrap_or}
 use Rattle.std.specs.Io.KnownBytes.{Appends}
-use Rattle.twp_grid.specs.Devices.{Tells}
+use Rattle.twp_grid.specs.Devices.{Tells, TakesAtMost}
+use Rattle.twp_notes.specs.FieldNotes.{NOTES_MOST}
 use Rattle.twp_notes.specs.declared.reading.ReadFault.{ReadFault}
 use Rattle.twp_notes.specs.declared.reading.ReadFault.TheVariants as reading
-use Rattle.twp_acres.specs.Passing.{run_fault_of, IsStopOfPlaces}
-use Rattle.twp_acres.specs.Runs.{AnswerRelation, AppendsFront, IsAnswered, IsRun, Reads, ReadsTwo}
+use Rattle.twp_acres.specs.PassedFaults.{run_fault_of, IsStopOfPlaces}
+use Rattle.twp_acres.specs.Runs.{AnswerRelation, AnyFailed, AppendsFront, IsAnswered, IsRun}
+use Rattle.twp_acres.specs.Runs.{Reads, ReadsTwo, RunsOnPlat, Use}
 use Rattle.twp_grid.specs.Places.{PLACE_DIGITS}
 use Rattle.twp_grid.specs.Townships.{Designation}
 use Rattle.twp_plat.specs.Plats.{TownshipPlat}
@@ -14,12 +17,12 @@ use Rattle.twp_text.specs.TextFaults.{IsReadAs}
 use Rattle.twp_text.specs.PlaceFaults.{IsFirstPlaceFault}
 use Rattle.twp_text.specs.declared.item.Item.{Item}
 use Rattle.twp_text.specs.declared.place_fault.PlaceFault.{PlaceFault}
-use Rattle.twp_acres.specs.Answers.{ArePlatted, IsNoDescription, IsNoPlat, IsRefusal}
+use Rattle.twp_acres.specs.Answers.{ArePlatted, IsNoDescription, IsNoPlat, IsRefusal, MakePlat}
 use Rattle.twp_acres.specs.Stops.{IfRefused, IfFailed}
 use Rattle.twp_acres.specs.declared.stop.Stop.{Stop}
 use Rattle.twp_acres.specs.declared.stop.Stop.TheVariants as stop
 use Rattle.twp_acres.specs.declared.verdict.RunFault.{RunFault}
-use Rattle.twp_acres.specs.declared.verdict.RunFault.TheVariants.{Write}
+use Rattle.twp_acres.specs.declared.verdict.RunFault.TheVariants.{Memory, Read, Write}
 use Rattle.twp_acres.specs.declared.verdict.Verdict.{Verdict}
 
 -- the bytes that a device tells, or some where it tells none
@@ -72,6 +75,62 @@ pub written : (Answers : AnswerRelation) (old new : Option (List ℕ)) (text : L
 written Answers old new text verdict (Ok v) answer is whole front fault = record { answer = text; answers = rw is answer; appended = whole }
 written Answers old new text verdict (Err e) answer is whole front fault =
     rw fault (record { answer = text; verdict = verdict; answers = answer; front = front })
+
+-- what the notes show of themselves holds of the told bytes
+pub unread_of : (first second : Option (List ℕ)) (bytes : List ℕ) (GoesOn : List ℕ → Type 0) (unread : Type 0) (Holds : List ℕ → List ℕ → Type 0)
+    → ReadsTwo first second GoesOn unread Holds → first ≡ Some bytes → (GoesOn bytes → ⊥) → unread
+unread_of first second bytes GoesOn unread Holds read is stops =
+    unread_or (read.order) where
+      unread_or : (GoesOn read.first_bytes ⊎ unread) → unread
+      unread_or (inl goes) = absurd (stops (subst GoesOn (told_are first bytes read.first_bytes is read.first_tells) goes))
+      unread_or (inr left) = left
+
+-- the writer failed, or a verdict was given
+pub write_answered : (r : Result Verdict RunFault) (failed : Bool) → IfErr r (λ fault. fault ≡ Write) → failed ≡ is_err r → IsErrOf r Write ↔ (failed ≡ true)
+write_answered (Ok v) failed by is = ((λ wrong. cc wrong), (λ fails. cc (sym is ∙ fails)))
+write_answered (Err e) failed by is = ((λ _. is), (λ _. ap Err by))
+
+-- where the writer didn't fail there is a verdict
+pub verdict_given : (r : Result Verdict RunFault) (failed : Bool) → failed ≡ is_err r → failed ≡ false → IsOkUnless r Memory
+verdict_given (Ok v) failed is holds = tt
+verdict_given (Err e) failed is holds = cc (sym is ∙ holds)
+
+-- an answer that was written, or not, is no fault of a reader
+pub read_answered : (r : Result Verdict RunFault) → IfErr r (λ fault. fault ≡ Write) → IsErrOf r Read → ⊥
+read_answered (Ok v) by wrong = cc wrong
+read_answered (Err e) by wrong = cc (sym (ap Err by) ∙ wrong)
+
+-- a run that had an answer of two texts, and wrote it
+pub run_on_plat : (Answers : List ℕ → List ℕ → AnswerRelation) (most : ℕ) (notes second out : Use) (unread : Type 0) (text : List ℕ) (verdict : Verdict) (r : Result Verdict RunFault)
+    → ReadsTwo notes.old second.old MakePlat unread (λ n s. Answers n s text verdict)
+    → (AnyFailed notes.has_failed second.has_failed → ⊥) → (notes.has_failed ≡ true → unread)
+    → TakesAtMost notes.old notes.new (NOTES_MOST + 1) → TakesAtMost second.old second.new (most + 1)
+    → IfOk r (λ v. v ≡ verdict) → OnOk r (Appends out.old out.new text) → OnErr r (AppendsFront out.old out.new text)
+    → IfErr r (λ fault. fault ≡ Write) → out.has_failed ≡ is_err r
+    → RunsOnPlat Answers most notes second out unread r
+run_on_plat Answers most notes second out unread text verdict r read none_failed after notes_most second_most is whole front by failed =
+    let wrote : (n s : List ℕ) → Answers n s text verdict → IsRun (Answers n s) out.old out.new r
+    = λ n s answers. written (Answers n s) out.old out.new text verdict r answers is whole front by in
+    let ran : ReadsTwo notes.old second.old MakePlat unread (λ n s. IsRun (Answers n s) out.old out.new r)
+    = record {
+      first_bytes = read.first_bytes;
+      second_bytes = read.second_bytes;
+      first_tells = read.first_tells;
+      second_tells = read.second_tells;
+      holds = wrote read.first_bytes read.second_bytes read.holds;
+      order = read.order;
+    } in
+    record {
+      told = λ n s is-n is-s. told_two notes.old second.old n s MakePlat unread _ ran is-n is-s;
+      answers = λ _ _ out_open. verdict_given r out.has_failed failed out_open;
+      ran = ran;
+      unread = λ n is-n stops. unread_of notes.old second.old n MakePlat unread _ ran is-n stops;
+      unread_after_fault = after;
+      read = ((λ is. absurd (read_answered r by is)), (λ any. absurd (none_failed any)));
+      write = write_answered r out.has_failed by failed;
+      notes_most = notes_most;
+      second_most = second_most;
+    }
 
 -- what was answered is the one answer that there is
 pub answered : (Answers : AnswerRelation) (old new : Option (List ℕ)) (answer : List ℕ) (verdict : Verdict) (r : Result Verdict RunFault) → IsRun Answers old new r

@@ -1,5 +1,6 @@
 -- The areas of what tracts have together, and of what they leave.
-use Rattle.std.proofs.Common.{◌≡◌, ℕ, ◌+◌, ◌-◌, ◌*◌, ◌≤◌, ◌||◌, ◌&&◌, not, Bool, true, false, ap, refl, sym, ◌∙◌, subst, arith}
+use Rattle.std.proofs.Common.{◌≡◌, ℕ, ◌+◌, ◌-◌, ◌*◌, ◌≤◌, ◌||◌, ◌&&◌, not, Bool, true, false, ap}
+use Rattle.std.proofs.Common.{refl, sym, ◌∙◌, subst, arith}
 use Rattle.twp_measure.specs.Areas.{Fraction}
 use Rattle.twp_grid.specs.Places.{PLACE_DIGITS}
 use Rattle.twp_grid.proofs.TotalFacts.{total-all_zero}
@@ -13,7 +14,8 @@ use Rattle.twp_acres.specs.ReportAnswers.{other_places}
 use Rattle.twp_acres.specs.TractLaws.{RestAddsUp}
 use Rattle.twp_acres.specs.TractTaking.{AreTotals, TakesArea}
 use Rattle.twp_acres.specs.declared.totals.Totals.{Totals}
-use Rattle.twp_acres.proofs.AreaLaws.{one_land_area, disjoint_areas_add, rest_of_places, rest_within, is_place_of}
+use Rattle.twp_acres.proofs.AreaLaws.{one_land_area, disjoint_areas_add, rest_of_places}
+use Rattle.twp_acres.proofs.AreaLaws.{rest_within, is_place_of}
 use Rattle.twp_acres.proofs.WholeAreas.{section_none}
 
 pub rest_adds_up : RestAddsUp

@@ -3,7 +3,7 @@ use Rattle.std.specs.Prelude.{◌≡◌, ℕ, List, [], ◌∷◌, ◌++◌, Boo
 use Rattle.twp_measure.specs.Areas.{Fraction, IsRounded}
 use Rattle.twp_measure.specs.Acres.{acres_text}
 use Rattle.twp_grid.specs.Places.{PLACE_DIGITS}
-use Rattle.twp_notes.specs.NotesTexts.{line_feed}
+use Rattle.twp_grid.specs.Texts.{line_feed}
 use Rattle.twp_plat.specs.Plats.{TownshipPlat}
 use Rattle.twp_acres.specs.LandAreas.{IsLandArea}
 use Rattle.twp_acres.specs.Answers.{IsLandOnPlat, IsRefusal, refusal_line}
@@ -28,8 +28,8 @@ pub record HasAcres (notes description : List ℕ) (hundredths : ℕ) : Type 0 w
 abbrev pub acres_line : ℕ → List ℕ
 acres_line hundredths = acres_text hundredths ++ codes " acres" ++ line_feed ∷ []
 
--- The acres of the land described, where the notes make a plat and the description's parts lie on it
--- without overlap. Else the refusal of the first fault.
+-- The acres of the land described, where the notes make a plat and the description's parts lie on
+-- it without overlap. Else the refusal of the first fault.
 abbrev pub IsAcresAnswer : List ℕ → List ℕ → List ℕ → Verdict → Type 0
 IsAcresAnswer notes description answer Accepted =
     (hundredths : ℕ) × HasAcres notes description hundredths × (answer ≡ acres_line hundredths)

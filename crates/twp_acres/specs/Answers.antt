@@ -1,11 +1,11 @@
--- What the answer of a run stands on: the plat that field notes make, the land of a description on it,
--- and the first fault of all other bytes.
+-- What the answer of a run stands on: the plat that field notes make, the land of a description on
+-- it, and the first fault of all other bytes.
 use Rattle.std.specs.Prelude.{◌≡◌, ◌⊎◌, ℕ, List, [], ◌∷◌, ◌++◌, Bool, Some, codes, decimal}
 use Rattle.twp_grid.specs.Places.{PLACE_DIGITS}
 use Rattle.twp_grid.specs.Townships.{Designation}
 use Rattle.twp_grid.specs.declared.refusal.Refusal.{Refusal}
+use Rattle.twp_grid.specs.Texts.{line_feed}
 use Rattle.twp_notes.specs.FieldNotes.{FieldNotes, AreNotes}
-use Rattle.twp_notes.specs.NotesTexts.{line_feed}
 use Rattle.twp_notes.specs.NotesFaults as notes_faults
 use Rattle.twp_notes.specs.declared.fault.NotesFault.{NotesFault}
 use Rattle.twp_plat.specs.Plats.{TownshipPlat, IsPlatOf}
@@ -26,8 +26,8 @@ pub record ArePlatted (bytes : List ℕ) (plat : TownshipPlat) : Type 0 where
 abbrev pub MakePlat : List ℕ → Type 0
 MakePlat bytes = (plat : TownshipPlat) × ArePlatted bytes plat
 
--- The bytes are a description of this land: they are read as items that lie on the plat of the township
--- without overlap, and the land is the set of all places that they name.
+-- The bytes are a description of this land: they are read as items that lie on the plat of the
+-- township without overlap, and the land is the set of all places that they name.
 pub record Describe (township : Designation) (bytes : List ℕ) (places : ℕ → ℕ → ℕ → Bool)
     : Type 0 where
   pub items : List Item
@@ -55,14 +55,16 @@ pub record MakeNoPlat (bytes : List ℕ) (refusal : Refusal) : Type 0 where
   pub refusal_is : plat_faults.refusal_of fault ≡ Some refusal
 
 -- the bytes are read as items that don't lie on the plat without overlap, for their first fault
-pub record DescribeNoLand (township : Designation) (bytes : List ℕ) (refusal : Refusal) : Type 0 where
+pub record DescribeNoLand (township : Designation) (bytes : List ℕ) (refusal : Refusal)
+    : Type 0 where
   pub items : List Item
   pub read : IsReadAs bytes items
   pub fault : PlaceFault
   pub first : place_faults.IsFirstPlaceFault PLACE_DIGITS township items fault
   pub refusal_is : place_faults.refusal_of fault ≡ Some refusal
 
--- the bytes are no description of land on the plat: for the first fault of the text, or else of its items
+-- the bytes are no description of land on the plat: for the first fault of the text, or else of its
+-- items
 abbrev pub IsNoDescription : Designation → List ℕ → Refusal → Type 0
 IsNoDescription township bytes refusal =
     IsFirstTextFault bytes refusal ⊎ DescribeNoLand township bytes refusal

@@ -28,8 +28,8 @@ abbrev pub township_sum : ℕ → (ℕ → ℕ → ℕ → ℕ) → (ℕ → ℕ
 township_sum g pieces places =
     total SECTION_COUNT (λ before. section_sum g (pieces (before + 1)) (places (before + 1)))
 
--- The area of a set of places: the sum of their pieces, divided by the places of a position, over the
--- plat's denominator. Nothing is rounded, and the division leaves no rest.
+-- The area of a set of places: the sum of their pieces, divided by the places of a position, over
+-- the plat's denominator. Nothing is rounded, and the division leaves no rest.
 pub record IsLandArea (g : ℕ) (plat : TownshipPlat) (places : ℕ → ℕ → ℕ → Bool)
     (area : Fraction) : Type 0 where
   pub pieces : ℕ → ℕ → ℕ → ℕ

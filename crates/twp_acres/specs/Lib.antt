@@ -3,7 +3,7 @@ pub mod Bounds
 pub mod Answers
 pub mod AcresAnswers
 pub mod Runs
-pub mod Passing
+pub mod PassedFaults
 pub mod Stops
 pub mod PlatAnswers
 pub mod Names

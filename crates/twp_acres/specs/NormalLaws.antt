@@ -6,7 +6,8 @@ use Rattle.twp_acres.specs.Answers.{refusal_line}
 use Rattle.twp_acres.specs.NormalAnswers.{IsNormalAnswer}
 use Rattle.twp_acres.specs.declared.verdict.Verdict.TheVariants.{Accepted, Refused}
 
--- the canonical text of a description, no longer than a description may be, is its own canonical text
+-- the canonical text of a description, no longer than a description may be, is its own canonical
+-- text
 abbrev pub NormalTextIsItsOwn : Type 0
 NormalTextIsItsOwn = (notes description text : List ℕ)
     → IsNormalAnswer notes description text Accepted → length text ≤ TEXT_LIMIT

@@ -1,11 +1,11 @@
--- The answer of the plat run: the printed plat, or the refusal. Each figure is the exact area of what it
--- stands for, rounded once, in hundredths of an acre.
+-- The answer of the plat run: the printed plat, or the refusal. Each figure is the exact area of
+-- what it stands for, rounded once, in hundredths of an acre.
 use Rattle.std.specs.Prelude.{◌≡◌, ℕ, zero, suc, List, [], ◌∷◌, ◌++◌, Some, codes, decimal}
 use Rattle.twp_measure.specs.Areas.{Fraction, IsRounded}
 use Rattle.twp_measure.specs.Acres.{acres_text}
 use Rattle.twp_grid.specs.Winding.{SECTION_COUNT, IsSection}
 use Rattle.twp_grid.specs.Lots.{number_of_lots, position_of_lot}
-use Rattle.twp_notes.specs.NotesTexts.{line_feed}
+use Rattle.twp_grid.specs.Texts.{line_feed}
 use Rattle.twp_plat.specs.Plats.{TownshipPlat}
 use Rattle.twp_plat.specs.Pieces.{IsPieceArea, over_of}
 use Rattle.twp_plat.specs.PlatAreas.{IsSectionArea, IsTownshipArea}

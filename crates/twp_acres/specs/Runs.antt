@@ -1,7 +1,10 @@
 -- What a run reads, and what it does to its writer.
-use Rattle.std.specs.Prelude.{◌≡◌, ◌⊎◌, ℕ, ◌≤◌, Bool, true, List, length, take, Option, Result, Ok, Err, IfOk}
+use Rattle.std.specs.Prelude.{◌≡◌, ◌⊎◌, ◌↔◌, ℕ, ◌+◌, ◌≤◌, Bool, true, false, List, length, take}
+use Rattle.std.specs.Prelude.{Option, Some, Result, Ok, Err, IfOk, IsErrOf, IsOkUnless}
 use Rattle.std.specs.Io.KnownBytes.{Appends, Keeps}
-use Rattle.twp_grid.specs.Devices.{Tells}
+use Rattle.twp_grid.specs.Devices.{Tells, TakesAtMost}
+use Rattle.twp_notes.specs.FieldNotes.{NOTES_MOST}
+use Rattle.twp_acres.specs.Answers.{MakePlat}
 use Rattle.twp_acres.specs.declared.verdict.Verdict.{Verdict}
 use Rattle.twp_acres.specs.declared.verdict.RunFault.{RunFault}
 use Rattle.twp_acres.specs.declared.verdict.RunFault.TheVariants.{Read, Write, Memory}
@@ -30,8 +33,8 @@ pub record WritesFront (Answers : AnswerRelation) (old new : Option (List ℕ)) 
   pub answers : Answers answer verdict
   pub front : AppendsFront old new answer
 
--- What a run leaves in its writer: the whole answer at a verdict, which is the answer's; a front of an
--- answer where the writer failed; and nothing else where a reader or memory did.
+-- What a run leaves in its writer: the whole answer at a verdict, which is the answer's; a front of
+-- an answer where the writer failed; and nothing else where a reader or memory did.
 abbrev pub IsRun : AnswerRelation → Option (List ℕ) → Option (List ℕ)
     → Result Verdict RunFault → Type 0
 IsRun Answers old new (Ok verdict) = Writes Answers old new verdict
@@ -51,7 +54,8 @@ pub record Reads (told : Option (List ℕ)) (Holds : List ℕ → Type 0) : Type
   pub tells : Tells told bytes
   pub holds : Holds bytes
 
--- The same of two sources, of which the second was read only where the first one's bytes go on to it.
+-- The same of two sources, of which the second was read only where the first one's bytes go on to
+-- it.
 pub record ReadsTwo (first second : Option (List ℕ)) (GoesOn : List ℕ → Type 0) (unread : Type 0)
     (Holds : List ℕ → List ℕ → Type 0) : Type 0 where
   pub first_bytes : List ℕ
@@ -64,3 +68,36 @@ pub record ReadsTwo (first second : Option (List ℕ)) (GoesOn : List ℕ → Ty
 -- one of two devices has failed
 abbrev pub AnyFailed : Bool → Bool → Type 0
 AnyFailed first second = (first ≡ true) ⊎ (second ≡ true)
+
+-- What a call shows of a device: the bytes that it tells before the call and behind it, which are
+-- those that are left of a source and those that a sink has taken, and whether it has failed.
+pub record Use : Type 0 where
+  pub old : Option (List ℕ)
+  pub new : Option (List ℕ)
+  pub has_failed : Bool
+
+-- a device that is used so
+abbrev pub used : Option (List ℕ) → Option (List ℕ) → Bool → Use
+used old new has_failed = record { old = old; new = new; has_failed = has_failed }
+
+-- What each run promises that reads field notes, and a second text of at most so many bytes only
+-- where the notes make a plat.
+pub record RunsOnPlat (Answers : List ℕ → List ℕ → AnswerRelation) (most : ℕ)
+    (notes second out : Use) (is_unread : Type 0) (result : Result Verdict RunFault) : Type 0 where
+  -- The answer to told texts; a verdict where no device fails and no memory is refused.
+  pub told : (n s : List ℕ) → notes.old ≡ Some n → second.old ≡ Some s
+      → IsRun (Answers n s) out.old out.new result
+  pub answers : notes.has_failed ≡ false → second.has_failed ≡ false → out.has_failed ≡ false
+      → IsOkUnless result Memory
+  -- The same whatever the devices tell of their bytes. The second text is read only where the
+  -- notes make a plat.
+  pub ran : ReadsTwo notes.old second.old MakePlat is_unread
+      (λ n s. IsRun (Answers n s) out.old out.new result)
+  pub unread : (n : List ℕ) → notes.old ≡ Some n → (MakePlat n → ⊥) → is_unread
+  pub unread_after_fault : notes.has_failed ≡ true → is_unread
+  -- A fault of a device is answered exactly where that device failed in this call.
+  pub read : IsErrOf result Read ↔ AnyFailed notes.has_failed second.has_failed
+  pub write : IsErrOf result Write ↔ (out.has_failed ≡ true)
+  -- Reading ends one byte past the limit, if not before.
+  pub notes_most : TakesAtMost notes.old notes.new (NOTES_MOST + 1)
+  pub second_most : TakesAtMost second.old second.new (most + 1)

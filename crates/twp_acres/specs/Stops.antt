@@ -3,7 +3,8 @@ use Rattle.std.specs.Prelude.{ℕ, Bool, List, Result, Ok, Err, ⊤}
 use Rattle.twp_grid.specs.Townships.{Designation}
 use Rattle.twp_grid.specs.declared.refusal.Refusal.{Refusal}
 use Rattle.twp_plat.specs.Plats.{TownshipPlat}
-use Rattle.twp_acres.specs.Answers.{ArePlatted, IsNoPlat, Describe, IsNoDescription, IsLandOnPlat, IsRefusal}
+use Rattle.twp_acres.specs.Answers.{ArePlatted, IsNoPlat, Describe, IsNoDescription, IsLandOnPlat}
+use Rattle.twp_acres.specs.Answers.{IsRefusal}
 use Rattle.twp_acres.specs.declared.verdict.RunFault.{RunFault}
 use Rattle.twp_acres.specs.declared.stop.Stop.{Stop}
 use Rattle.twp_acres.specs.declared.stop.Stop.TheVariants as stop

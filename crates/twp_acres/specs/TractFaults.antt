@@ -1,7 +1,8 @@
 -- What may be wrong with a list of tracts, each fault as a statement about the whole list, and
 -- which fault is answered.
-use Rattle.std.specs.Prelude.{◌≡◌, ◌≢◌, ◌⊎◌, ℕ, ◌+◌, ◌≤◌, ◌<◌, List, length, Option, Some, None}
+use Rattle.std.specs.Prelude.{◌≡◌, ◌≢◌, ◌⊎◌, ℕ, ◌+◌, ◌≤◌, ◌<◌, List, length, Option, Some, None, option_map}
 use Rattle.twp_grid.specs.Townships.{Designation}
+use Rattle.twp_grid.specs.declared.refusal.Refusal.{Refusal}
 use Rattle.twp_notes.specs.Records.{Fields, record_at, record_numbered, records_of}
 use Rattle.twp_acres.specs.Answers.{IsNoDescription}
 use Rattle.twp_acres.specs.Tracts.{TRACTS_LIMIT, TRACTS_MOST, tracts_heading, tract_records}
@@ -11,15 +12,20 @@ use Rattle.twp_acres.specs.declared.verdict.Verdict.TheVariants.{Refused, TractR
 use Rattle.twp_acres.specs.declared.tract_fault.TractFault.{TractFault}
 use Rattle.twp_acres.specs.declared.tract_fault.TractFault.TheVariants as fault
 
--- the verdict on a list that has the fault; want of memory has none
+-- the number of the fault and its place; want of memory has none
+abbrev pub refusal_of : TractFault → Option Refusal
+refusal_of fault.TractsTooLarge = Some (record { number = 80; at = TRACTS_LIMIT })
+refusal_of (fault.TractRow number_) = Some (record { number = 81; at = number_ })
+refusal_of (fault.NameRepeated number_) = Some (record { number = 82; at = number_ })
+refusal_of (fault.TractRefused number_ inner) = Some (record { number = 83; at = number_ })
+refusal_of (fault.TractsOverlap number_) = Some (record { number = 84; at = number_ })
+refusal_of fault.TooManyTracts = Some (record { number = 85; at = TRACTS_MOST + 2 })
+refusal_of fault.Memory = None
+
+-- the verdict on a list that has the fault: its refusal, with that of a tract's description beside it
 abbrev pub verdict_of : TractFault → Option Verdict
-verdict_of fault.TractsTooLarge = Some (Refused (record { number = 80; at = TRACTS_LIMIT }))
-verdict_of (fault.TractRow number) = Some (Refused (record { number = 81; at = number }))
-verdict_of (fault.NameRepeated number) = Some (Refused (record { number = 82; at = number }))
 verdict_of (fault.TractRefused number inner) = Some (TractRefused number inner)
-verdict_of (fault.TractsOverlap number) = Some (Refused (record { number = 84; at = number }))
-verdict_of fault.TooManyTracts = Some (Refused (record { number = 85; at = TRACTS_MOST + 2 }))
-verdict_of fault.Memory = None
+verdict_of other = option_map Refused (refusal_of other)
 
 -- the tract has the name of an earlier one
 pub record IsNameRepeated (rows : List Fields) (index : ℕ) : Type 0 where

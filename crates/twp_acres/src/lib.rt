@@ -1,5 +1,5 @@
-//! The areas of lands on a plat, as exact fractions, and the runs: each reads field notes and what goes
-//! with them, and writes one answer.
+//! The areas of lands on a plat, as exact fractions, and the runs: each reads field notes and what
+//! goes with them, and writes one answer.
 #![tactic(auto)]
 
 mod account;

@@ -19,8 +19,8 @@ use twp_grid::Source;
 use twp_land::{Land, Lanes};
 use twp_text::spell;
 
-/// The answer of field notes and a description: the canonical text of the land. The description is read
-/// only where the notes make a plat.
+/// The answer of field notes and a description: the canonical text of the land. The description is
+/// read only where the notes make a plat.
 pub fn answer_of<N: Source, D: Source>(
     alloc: Global,
     notes: &mut N,

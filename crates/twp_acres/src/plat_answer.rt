@@ -1,11 +1,13 @@
 //! The answer of the plat run.
-ghost use Rattle.std.specs.Prelude.{◌≡◌, ◌≢◌, ◌≤◌, ◌+◌, ◌++◌, ◌↔◌, true, false, OnOk, IfOk, IfErr, IsErrOf};
+ghost use Rattle.std.specs.Prelude.{◌≡◌, ◌≢◌, ◌≤◌, ◌+◌, ◌++◌, ◌↔◌, true, false, OnOk, IfOk, IfErr};
+ghost use Rattle.std.specs.Prelude.{IsErrOf};
 ghost use Rattle.twp_grid.specs.Devices.{TakesAtMost};
 ghost use Rattle.twp_grid.specs.Winding.{IsSection};
 ghost use Rattle.twp_grid.specs.Lots.{number_of_lots};
 ghost use Rattle.twp_notes.specs.FieldNotes.{NOTES_MOST};
 ghost use Rattle.twp_acres.specs.PlatAnswers.{PlatFigures, AreFigures, IsPlatAnswer};
-ghost use Rattle.twp_acres.specs.PlatAnswers.{lot_text, total_text, section_name, section_line, plat_text};
+ghost use Rattle.twp_acres.specs.PlatAnswers.{lot_text, total_text, section_name, section_line};
+ghost use Rattle.twp_acres.specs.PlatAnswers.{plat_text};
 ghost use Rattle.twp_acres.specs.Runs.{Reads};
 
 use crate::answer::{Answer, refuse};

@@ -15,7 +15,7 @@ use crate::tract_fault::{TRACTS_LIMIT, TractFault};
 use crate::tracts::account_of;
 use crate::verdict::{RunFault, Verdict};
 use std::alloc::Global;
-use twp_grid::{Refusal, Source};
+use twp_grid::Source;
 use twp_notes::read_whole;
 use twp_plat::Plat;
 
@@ -69,32 +69,23 @@ fn report_on<T: Source>(alloc: Global, plat: &Plat, tracts: &mut T) -> Result<An
     }
 }
 
-/// The answer of a list that has a fault.
+/// The answer of a list that has a fault: its refusal, and on a second line that of a tract's description.
 fn refuse_list(alloc: Global, fault: TractFault) -> Result<Answer, RunFault>
     ensures answer { IfOk result (λ answer. (verdict_of fault ≡ Some answer.verdict)
         × (answer.verdict ≢ Verdict.Accepted)
         × (answer.text.items ≡ refusal_lines answer.verdict)) }
     ensures memory { IfErr result (λ failed. failed ≡ RunFault.Memory) }
 {
-    match fault.verdict() {
-        Some(Verdict::Refused(refusal)) => refuse(alloc, refusal),
-        Some(Verdict::TractRefused { at, inner }) => refuse_tract(alloc, at, inner),
-        _ => Err(RunFault::Memory),
-    }
-}
-
-/// The answer of a tract whose description is refused: its record's refusal, and the description's.
-fn refuse_tract(alloc: Global, at: u32, inner: Refusal) -> Result<Answer, RunFault>
-    ensures answer { IfOk result (λ answer.
-        (answer.verdict ≡ Verdict.TractRefused at inner)
-        × (answer.text.items ≡ refusal_lines answer.verdict)) }
-    ensures memory { IfErr result (λ failed. failed ≡ RunFault.Memory) }
-{
+    let Some(refusal) = fault.refusal() else {
+        return Err(RunFault::Memory);
+    };
     let mut text = Vec::new(alloc);
-    write_refusal(Refusal { number: 83, at }, &mut text)?;
-    write_refusal(inner, &mut text)?;
+    write_refusal(refusal, &mut text)?;
+    if let TractFault::TractRefused { inner, .. } = fault {
+        write_refusal(inner, &mut text)?;
+    }
     Ok(Answer {
         text,
-        verdict: Verdict::TractRefused { at, inner },
+        verdict: fault.verdict().unwrap(),
     })
 }

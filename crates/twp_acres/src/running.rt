@@ -5,13 +5,13 @@ ghost use Rattle.twp_grid.specs.Devices.{TakesAtMost};
 ghost use Rattle.twp_grid.specs.declared.refusal.Refusal.{Refusal};
 ghost use Rattle.twp_notes.specs.FieldNotes.{NOTES_MOST};
 ghost use Rattle.twp_text.specs.TextFaults.{TEXT_LIMIT};
-ghost use Rattle.twp_acres.specs.Answers.{MakePlat, IsRefusal, refusal_line};
+ghost use Rattle.twp_acres.specs.Answers.{IsRefusal, refusal_line};
 ghost use Rattle.twp_acres.specs.AcresAnswers.{HasAcres, IsAcresAnswer, acres_line};
 ghost use Rattle.twp_acres.specs.PlatAnswers.{IsPlatAnswer};
 ghost use Rattle.twp_acres.specs.NormalAnswers.{IsNormalAnswer};
 ghost use Rattle.twp_acres.specs.ReportAnswers.{IsReportAnswer};
 ghost use Rattle.twp_acres.specs.Tracts.{TRACTS_LIMIT};
-ghost use Rattle.twp_acres.specs.Runs.{AnyFailed, AppendsFront, IsAnswered, IsRun, Reads, ReadsTwo};
+ghost use Rattle.twp_acres.specs.Runs.{AppendsFront, IsAnswered, IsRun, Reads, RunsOnPlat, used};
 
 use crate::answer::Answer;
 use crate::verdict::{RunFault, Verdict};
@@ -50,33 +50,12 @@ pub fn run_acres<N: Source, D: Source, W: Sink>(
         → IsAnswered (W.contents out.old) (W.contents out.new)
         (refusal_line refusal) (Verdict.Refused refusal) result }
 
-    // The run gives one of the two: where no device fails, and no memory is refused, there is a
-    // verdict, and every verdict is that of one of these answers, which was written.
-    ensures answers { N.has_failed notes.new ≡ false → D.has_failed description.new ≡ false
-        → W.has_failed out.new ≡ false → IsOkUnless result RunFault.Memory }
-    ensures told { (n d : List ℕ)
-        → N.remaining notes.old ≡ Some n → D.remaining description.old ≡ Some d
-        → IsRun (IsAcresAnswer n d) (W.contents out.old) (W.contents out.new) result }
-
-    // The same whatever the devices tell of their bytes. The description is read only where the
-    // notes make a plat.
-    ensures ran { ReadsTwo (N.remaining notes.old) (D.remaining description.old)
-        MakePlat (description.new ≡ description.old)
-        (λ n d. IsRun (IsAcresAnswer n d) (W.contents out.old) (W.contents out.new) result) }
-    ensures unread { (n : List ℕ) → N.remaining notes.old ≡ Some n → (MakePlat n → ⊥)
-        → description.new ≡ description.old }
-    ensures unread_after_fault { N.has_failed notes.new ≡ true → description.new ≡ description.old }
-
-    // A fault of a device is answered exactly where that device failed in this call.
-    ensures read { IsErrOf result RunFault.Read
-        ↔ AnyFailed (N.has_failed notes.new) (D.has_failed description.new) }
-    ensures write { IsErrOf result RunFault.Write ↔ (W.has_failed out.new ≡ true) }
-
-    // Reading ends one byte past the limit, if not before.
-    ensures notes_most { TakesAtMost (N.remaining notes.old)
-        (N.remaining notes.new) (NOTES_MOST + 1) }
-    ensures description_most { TakesAtMost (D.remaining description.old)
-        (D.remaining description.new) (TEXT_LIMIT + 1) }
+    // The run gives one of the two; what it reads, its faults, and what it writes at each.
+    ensures run { RunsOnPlat IsAcresAnswer TEXT_LIMIT
+        (used (N.remaining notes.old) (N.remaining notes.new) (N.has_failed notes.new))
+        (used (D.remaining description.old) (D.remaining description.new) (D.has_failed description.new))
+        (used (W.contents out.old) (W.contents out.new) (W.has_failed out.new))
+        (description.new ≡ description.old) result }
 {
     let answer = acres_answer::answer_of(alloc, notes, description)?;
     write_answer(out, &answer)
@@ -135,33 +114,12 @@ pub fn run_report<N: Source, T: Source, W: Sink>(
     requires tracts { T.has_failed tracts.old ≡ false }
     requires out { W.has_failed out.old ≡ false }
 
-    // The account of told texts, or the refusal; a verdict where no device fails and no memory is
-    // refused.
-    ensures told { (n t : List ℕ)
-        → N.remaining notes.old ≡ Some n → T.remaining tracts.old ≡ Some t
-        → IsRun (IsReportAnswer n t) (W.contents out.old) (W.contents out.new) result }
-    ensures answers { N.has_failed notes.new ≡ false → T.has_failed tracts.new ≡ false
-        → W.has_failed out.new ≡ false → IsOkUnless result RunFault.Memory }
-
-    // The same whatever the devices tell of their bytes. The list is read only where the notes
-    // make a plat.
-    ensures ran { ReadsTwo (N.remaining notes.old) (T.remaining tracts.old)
-        MakePlat (tracts.new ≡ tracts.old)
-        (λ n t. IsRun (IsReportAnswer n t) (W.contents out.old) (W.contents out.new) result) }
-    ensures unread { (n : List ℕ) → N.remaining notes.old ≡ Some n → (MakePlat n → ⊥)
-        → tracts.new ≡ tracts.old }
-    ensures unread_after_fault { N.has_failed notes.new ≡ true → tracts.new ≡ tracts.old }
-
-    // A fault of a device is answered exactly where that device failed in this call.
-    ensures read { IsErrOf result RunFault.Read
-        ↔ AnyFailed (N.has_failed notes.new) (T.has_failed tracts.new) }
-    ensures write { IsErrOf result RunFault.Write ↔ (W.has_failed out.new ≡ true) }
-
-    // Reading ends one byte past the limit, if not before.
-    ensures notes_most { TakesAtMost (N.remaining notes.old)
-        (N.remaining notes.new) (NOTES_MOST + 1) }
-    ensures tracts_most { TakesAtMost (T.remaining tracts.old)
-        (T.remaining tracts.new) (TRACTS_LIMIT + 1) }
+    // The account or the refusal; what the run reads, its faults, and what it writes at each.
+    ensures run { RunsOnPlat IsReportAnswer TRACTS_LIMIT
+        (used (N.remaining notes.old) (N.remaining notes.new) (N.has_failed notes.new))
+        (used (T.remaining tracts.old) (T.remaining tracts.new) (T.has_failed tracts.new))
+        (used (W.contents out.old) (W.contents out.new) (W.has_failed out.new))
+        (tracts.new ≡ tracts.old) result }
 {
     let answer = report_answer::answer_of(alloc, notes, tracts)?;
     write_answer(out, &answer)
@@ -182,33 +140,12 @@ pub fn run_normal<N: Source, D: Source, W: Sink>(
     requires description { D.has_failed description.old ≡ false }
     requires out { W.has_failed out.old ≡ false }
 
-    // The canonical text of the land that told texts describe, or the refusal; a verdict where no
-    // device fails and no memory is refused.
-    ensures told { (n d : List ℕ)
-        → N.remaining notes.old ≡ Some n → D.remaining description.old ≡ Some d
-        → IsRun (IsNormalAnswer n d) (W.contents out.old) (W.contents out.new) result }
-    ensures answers { N.has_failed notes.new ≡ false → D.has_failed description.new ≡ false
-        → W.has_failed out.new ≡ false → IsOkUnless result RunFault.Memory }
-
-    // The same whatever the devices tell of their bytes. The description is read only where the
-    // notes make a plat.
-    ensures ran { ReadsTwo (N.remaining notes.old) (D.remaining description.old)
-        MakePlat (description.new ≡ description.old)
-        (λ n d. IsRun (IsNormalAnswer n d) (W.contents out.old) (W.contents out.new) result) }
-    ensures unread { (n : List ℕ) → N.remaining notes.old ≡ Some n → (MakePlat n → ⊥)
-        → description.new ≡ description.old }
-    ensures unread_after_fault { N.has_failed notes.new ≡ true → description.new ≡ description.old }
-
-    // A fault of a device is answered exactly where that device failed in this call.
-    ensures read { IsErrOf result RunFault.Read
-        ↔ AnyFailed (N.has_failed notes.new) (D.has_failed description.new) }
-    ensures write { IsErrOf result RunFault.Write ↔ (W.has_failed out.new ≡ true) }
-
-    // Reading ends one byte past the limit, if not before.
-    ensures notes_most { TakesAtMost (N.remaining notes.old)
-        (N.remaining notes.new) (NOTES_MOST + 1) }
-    ensures description_most { TakesAtMost (D.remaining description.old)
-        (D.remaining description.new) (TEXT_LIMIT + 1) }
+    // The canonical text or the refusal; what the run reads, its faults, and what it writes at each.
+    ensures run { RunsOnPlat IsNormalAnswer TEXT_LIMIT
+        (used (N.remaining notes.old) (N.remaining notes.new) (N.has_failed notes.new))
+        (used (D.remaining description.old) (D.remaining description.new) (D.has_failed description.new))
+        (used (W.contents out.old) (W.contents out.new) (W.has_failed out.new))
+        (description.new ≡ description.old) result }
 {
     let answer = normal_answer::answer_of(alloc, notes, description)?;
     write_answer(out, &answer)

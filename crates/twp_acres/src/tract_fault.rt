@@ -24,7 +24,12 @@ pub enum TractFault {
     NameRepeated(u32),
     /// 83, at the record: its description is refused itself.
     #[error("record {at} has a description that is refused: {} at {}", inner.number, inner.at)]
-    TractRefused { at: u32, inner: Refusal },
+    TractRefused {
+        /// The record.
+        at: u32,
+        /// The refusal of its description, with a place in the description.
+        inner: Refusal,
+    },
     /// 84, at the record: a place of the tract is in an earlier one.
     #[error("record {0} has a place that an earlier tract has")]
     TractsOverlap(u32),
@@ -38,24 +43,33 @@ pub enum TractFault {
 
 impl TractFault {
     ghost use Rattle.std.specs.Prelude.{◌≡◌};
-    ghost use Rattle.twp_acres.specs.TractFaults.{verdict_of};
+    ghost use Rattle.twp_acres.specs.TractFaults.{refusal_of, verdict_of};
 
-    /// The verdict on a list that has the fault. None for `Memory`.
-    pub fn verdict(&self) -> Option<Verdict>
-        ensures { result ≡ verdict_of self.now }
+    /// The number of the fault and its place. None for `Memory`.
+    pub fn refusal(&self) -> Option<Refusal>
+        ensures { result ≡ refusal_of self.now }
     {
         let (number, at) = match *self {
             TractFault::TractsTooLarge => (80, TRACTS_LIMIT),
             TractFault::TractRow(record) => (81, record),
             TractFault::NameRepeated(record) => (82, record),
-            TractFault::TractRefused { at, inner } => {
-                return Some(Verdict::TractRefused { at, inner });
-            }
+            TractFault::TractRefused { at, .. } => (83, at),
             TractFault::TractsOverlap(record) => (84, record),
             TractFault::TooManyTracts => (85, TRACTS_MOST + 2),
             TractFault::Memory => return None,
         };
-        Some(Verdict::Refused(Refusal { number, at }))
+        Some(Refusal { number, at })
+    }
+
+    /// The verdict on a list that has the fault: its refusal, with that of a tract's description beside
+    /// it. None for `Memory`.
+    pub fn verdict(&self) -> Option<Verdict>
+        ensures { result ≡ verdict_of self.now }
+    {
+        if let TractFault::TractRefused { at, inner } = *self {
+            return Some(Verdict::TractRefused { at, inner });
+        }
+        Some(Verdict::Refused(self.refusal()?))
     }
 }
 
@@ -86,50 +100,65 @@ mod tests {
     use super::*;
     use std::test::Fail;
 
-    /// The verdict of one refusal.
-    fn refused(number: u8, at: u32) -> Option<Verdict> {
-        Some(Verdict::Refused(Refusal { number, at }))
-    }
-
     #[test]
     fn tells_faults(rt: HostRuntime) -> Result<(), Fail> {
-        let inner = Refusal { number: 66, at: 8 };
-        for (fault, verdict, text) in [
+        for (fault, number, at, text) in [
             (
                 TractFault::TractsTooLarge,
-                refused(80, 1_048_576),
+                80,
+                1_048_576,
                 "the list of tracts has more than 1,048,576 bytes",
             ),
             (
                 TractFault::TractRow(3),
-                refused(81, 3),
+                81,
+                3,
                 "record 3 isn't a name of 1 to 64 printed ASCII characters and a description",
             ),
             (
                 TractFault::NameRepeated(4),
-                refused(82, 4),
+                82,
+                4,
                 "record 4 has the name of an earlier tract",
             ),
             (
-                TractFault::TractRefused { at: 5, inner },
-                Some(Verdict::TractRefused { at: 5, inner }),
-                "record 5 has a description that is refused: 66 at 8",
-            ),
-            (
                 TractFault::TractsOverlap(6),
-                refused(84, 6),
+                84,
+                6,
                 "record 6 has a place that an earlier tract has",
             ),
             (
                 TractFault::TooManyTracts,
-                refused(85, 1_002),
+                85,
+                1_002,
                 "there are more than 1,000 tracts",
             ),
-            (TractFault::Memory, None, "out of memory"),
         ] {
+            let refusal = Refusal { number, at };
             assert_eq!(rt; fault.to_string(rt.alloc())?.as_str(), text);
-            assert_eq!(rt; fault.verdict(), verdict);
+            assert_eq!(rt; fault.refusal(), Some(refusal));
+            assert_eq!(rt; fault.verdict(), Some(Verdict::Refused(refusal)));
         }
+        Ok(())
+    }
+
+    #[test]
+    fn tells_a_refused_description(rt: HostRuntime) -> Result<(), Fail> {
+        let inner = Refusal { number: 66, at: 8 };
+        let fault = TractFault::TractRefused { at: 5, inner };
+        let text = "record 5 has a description that is refused: 66 at 8";
+        assert_eq!(rt; fault.to_string(rt.alloc())?.as_str(), text);
+        assert_eq!(rt; fault.refusal(), Some(Refusal { number: 83, at: 5 }));
+        assert_eq!(rt; fault.verdict(), Some(Verdict::TractRefused { at: 5, inner }));
+        Ok(())
+    }
+
+    #[test]
+    fn tells_want_of_memory(rt: HostRuntime) -> Result<(), Fail> {
+        let fault = TractFault::Memory;
+        assert_eq!(rt; fault.to_string(rt.alloc())?.as_str(), "out of memory");
+        assert_eq!(rt; fault.refusal(), None);
+        assert_eq!(rt; fault.verdict(), None);
         Ok(())
     }
 }

@@ -10,8 +10,13 @@ pub enum Verdict {
     Accepted,
     /// The input was refused, for its first fault.
     Refused(Refusal),
-    /// An account was refused for a tract at a record, whose description was refused itself.
-    TractRefused { at: u32, inner: Refusal },
+    /// An account was refused for a tract whose description was refused itself.
+    TractRefused {
+        /// The tract's record, the heading's being 1.
+        at: u32,
+        /// The refusal of its description, with a place in the description.
+        inner: Refusal,
+    },
 }
 
 /// Why a run gave no verdict.
@@ -51,7 +56,7 @@ impl<T: Drop> From<AllocFailed<T>> for RunFault {
 }
 
 impl From<ReadFault> for RunFault {
-    ghost use Rattle.twp_acres.specs.Passing.{IsRunFaultOf};
+    ghost use Rattle.twp_acres.specs.PassedFaults.{IsRunFaultOf};
 
     ghost from_gives = { IsRunFaultOf };
 

@@ -1,5 +1,5 @@
-//! Measures lands: makes so many calls of one kind on mixed blocks of a land of one kind. `make bench`
-//! counts the instructions of each.
+//! Measures lands: makes so many calls of one kind on mixed blocks of a land of one kind. `make
+//! bench` counts the instructions of each.
 #![tactic(auto)]
 
 mod mixed;

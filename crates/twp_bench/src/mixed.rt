@@ -1,7 +1,7 @@
 use twp_grid::{Block, Section, Side};
 
-/// Sections and blocks that look random: each step multiplies by 1,664,525 and adds 1,013,904,223, modulo
-/// 2 to the 32nd.
+/// Sections and blocks that look random: each step multiplies by 1,664,525 and adds 1,013,904,223,
+/// modulo 2 to the 32nd.
 #[derive(Drop)]
 pub struct Mixed {
     state: u32,

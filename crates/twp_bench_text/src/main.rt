@@ -1,5 +1,5 @@
-//! Reads standard input as a description and tells how many items it names, or why it is none. `make bench`
-//! counts the instructions of this program.
+//! Reads standard input as a description and tells how many items it names, or why it is none.
+//! `make bench` counts the instructions of this program.
 #![tactic(auto)]
 
 use std::io::{self, Read};

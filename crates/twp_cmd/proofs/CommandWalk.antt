@@ -1,16 +1,31 @@
 -- What clap's walk over the words of a subcommand holds, where the subcommand's only flags are those of help: each row has a value.
-use Rattle.std.proofs.Common.{zero, suc, ◌≡◌, ◌⊎◌, ◌++◌, ◌<◌, ◌&&◌, ℕ, Bool, true, false, not, List, [], ◌∷◌, length, is_some, Option, Some, None, refl, inl, inr, arith, length-append}
+use Rattle.std.proofs.Common.{zero, suc, ◌≡◌, ◌⊎◌, ◌++◌, ◌<◌, ◌&&◌, ℕ, Bool, true, false, not, List}
+use Rattle.std.proofs.Common.{[], ◌∷◌, length, is_some, Option, Some, None, refl, inl, inr, arith}
+use Rattle.std.proofs.Common.{length-append}
 use Rattle.std.specs.Prelude.{⊤, find, fold, slice_get, if◌then◌else◌, codes}
 use Rattle.std.specs.Str.{bytes_eq, chars}
 use Rattle.clap.specs.Lexer.{long_of, short_of}
 use Rattle.clap.specs.Kinds.{Kinds, or_else, range_kinds}
-use Rattle.clap.specs.Walk.{Held, Names, Row, Rule, Step, Text, Waiting, Walk, action_of, arg_by_id, arg_by_index, arg_by_long, arg_by_short, at_row, takes_values, used, used_by_id, used_as, settled, settled_rows, pushed, started, with_default, default_rows, finished, nothing_held, walk, walk_from, walked, walked_from, word_met, after_step, to_positional, is_pending, takes_several, bundle, bundle_met, bundle_step, plain, idle, option, positional, next, trailing, subcommand, value, values_or_missing, reading_by, with_values, without, subcommand_met, subcommand_or_other, is_multiple, has_long, has_short, long_or_other, plain_word, first_of, has_row, most_values, more_values}
+use Rattle.clap.specs.Walk.{Held, Names, Row, Rule, Step, Text, Waiting, Walk, action_of, arg_by_id}
+use Rattle.clap.specs.Walk.{arg_by_index, arg_by_long, arg_by_short, at_row, takes_values, used}
+use Rattle.clap.specs.Walk.{used_by_id, used_as, settled, settled_rows, pushed, started}
+use Rattle.clap.specs.Walk.{with_default, default_rows, finished, nothing_held, walk, walk_from}
+use Rattle.clap.specs.Walk.{walked, walked_from, word_met, after_step, to_positional, is_pending}
+use Rattle.clap.specs.Walk.{takes_several, bundle, bundle_met, bundle_step, plain, idle, option}
+use Rattle.clap.specs.Walk.{positional, next, trailing, subcommand, value, values_or_missing}
+use Rattle.clap.specs.Walk.{reading_by, with_values, without, subcommand_met, subcommand_or_other}
+use Rattle.clap.specs.Walk.{is_multiple, has_long, has_short, long_or_other, plain_word, first_of}
+use Rattle.clap.specs.Walk.{has_row, most_values, more_values}
 use Rattle.clap.specs.Facts.{unwrap_or_range}
 use Rattle.clap.specs.Takes.{is_given}
 use Rattle.clap.specs.Simple.{Shape}
-use Rattle.clap.specs.Faults.{action_fault, settle_fault, react_fault, long_fault, short_fault, bundle_step_fault, flags_fault, flag_word_fault, other_fault, word_fault, turn_fault, walk_fault}
+use Rattle.clap.specs.Faults.{action_fault, settle_fault, react_fault, long_fault, short_fault}
+use Rattle.clap.specs.Faults.{bundle_step_fault, flags_fault, flag_word_fault, other_fault}
+use Rattle.clap.specs.Faults.{word_fault, turn_fault, walk_fault}
 use Rattle.clap.specs.declared.builder.action.ArgAction.{ArgAction}
-use Rattle.clap.specs.declared.builder.action.ArgAction.TheVariants.{Set, Append, SetTrue, SetFalse, Count, Help, HelpShort, HelpLong, Version}
+use Rattle.clap.specs.declared.builder.action.ArgAction.TheVariants.{Set, Append, SetTrue, SetFalse}
+use Rattle.clap.specs.declared.builder.action.ArgAction.TheVariants.{Count, Help, HelpShort}
+use Rattle.clap.specs.declared.builder.action.ArgAction.TheVariants.{HelpLong, Version}
 use Rattle.clap.specs.declared.builder.value_parser.Reading.{Reading}
 use Rattle.clap.specs.declared.parser.matches.ValueSource.{ValueSource}
 use Rattle.clap.specs.declared.parser.matches.ValueSource.TheVariants.{DefaultValue, CommandLine}

@@ -1,18 +1,21 @@
 -- From what a parse entered to its task.
-use Rattle.std.proofs.Common.{◌≡◌, ◌⊎◌, ◌∙◌, ap, true, [], ◌∷◌, Option, Some, None, refl, sym, inl, inr, subst}
+use Rattle.std.proofs.Common.{◌≡◌, ◌⊎◌, ◌∙◌, ap, true, [], ◌∷◌, Option, Some, None, refl, sym, inl}
+use Rattle.std.proofs.Common.{inr, subst}
 use Rattle.std.specs.Prelude.{option_map, codes, List, Box}
 use Rattle.std.specs.Box.{box_value}
 use Rattle.std.proofs.lemmas.List.Elements.{All-cons, All-nil}
 use Rattle.clap.specs.Simple.{subcommand_rows}
 use Rattle.clap.specs.declared.parser.matches.SubCommand.{SubCommand}
-use Rattle.clap.specs.Words.{App, IsAmong, Row, Text, fault_of, is_simple, is_simple_and_free, matches_of, subcommand_name_of, subcommand_of, subcommand_rows_of}
+use Rattle.clap.specs.Words.{App, IsAmong, Row, Text, fault_of, is_simple, is_simple_and_free}
+use Rattle.clap.specs.Words.{matches_of, subcommand_name_of, subcommand_of, subcommand_rows_of}
 use Rattle.clap.specs.declared.error.kind.ErrorKind.{ErrorKind}
 use Rattle.clap.specs.declared.error.kind.ErrorKind.TheVariants.{DisplayHelp, OutOfMemory}
 use Rattle.clap.specs.declared.parser.matches.ArgMatches.{ArgMatches}
 use Rattle.clap.specs.declared.parser.matches.ArgMatches.TheViews.{out-ArgMatches, out-SubCommand}
 use Rattle.twp_cmd.specs.Commands.{IsTownship, township}
 use Rattle.twp_cmd.specs.Parses.{HasValue, IsOfLand, IsTaskIn, IsWhole, ShowsAs}
-use Rattle.twp_cmd.specs.Tasks.{HasGiven, IsFaultOf, IsTaskOf, given_description, given_notes, given_tracts}
+use Rattle.twp_cmd.specs.Tasks.{HasGiven, IsFaultOf, IsTaskOf, given_description, given_notes}
+use Rattle.twp_cmd.specs.Tasks.{given_tracts}
 use Rattle.twp_cmd.specs.declared.task.Task.{Task}
 use Rattle.twp_cmd.specs.declared.task.Task.TheVariants.{Plat, Acres, Normal, Report}
 use Rattle.twp_cmd.specs.declared.task.TaskFault.{TaskFault}

@@ -1,5 +1,6 @@
 -- Where clap's rule takes the words of the command line, the subcommand that they name has all its values.
-use Rattle.std.proofs.Common.{◌≡◌, ◌&&◌, ◌||◌, Bool, true, false, not, List, [], ◌∷◌, Option, Some, None, is_some, refl, inl, inr}
+use Rattle.std.proofs.Common.{◌≡◌, ◌&&◌, ◌||◌, Bool, true, false, not, List, [], ◌∷◌, Option, Some}
+use Rattle.std.proofs.Common.{None, is_some, refl, inl, inr}
 use Rattle.std.specs.Prelude.{⊤, option_map, codes, find, if◌then◌else◌}
 use Rattle.std.specs.List.{list_any}
 use Rattle.std.specs.Option.{option_map_or}
@@ -7,14 +8,19 @@ use Rattle.std.specs.Str.{bytes_eq}
 use Rattle.std.proofs.lemmas.Slice.Eq.{bytes_eq-Decides}
 use Rattle.clap.specs.Words.{Row, Rule, Shape, Text, built, fault_of, subcommand_of}
 use Rattle.clap.specs.Kinds.{Kinds, check_kinds, or_else}
-use Rattle.clap.specs.Walk.{Names, answers_to, finished, nothing_held, rows_after, settled, walk, walk_from}
+use Rattle.clap.specs.Walk.{Names, answers_to, finished, nothing_held, rows_after, settled, walk}
+use Rattle.clap.specs.Walk.{walk_from}
 use Rattle.clap.specs.Facts.{explicit_source}
-use Rattle.clap.specs.Simple.{argument_words, built_leaf, entered, help_shape, inherited, label_of, marked_built, names_of, rows_at, with_leaf_noted}
+use Rattle.clap.specs.Simple.{argument_words, built_leaf, entered, help_shape, inherited, label_of}
+use Rattle.clap.specs.Simple.{marked_built, names_of, rows_at, with_leaf_noted}
 use Rattle.clap.specs.Takes.{is_given}
-use Rattle.clap.specs.Faults.{check_fault, defaults_fault, entered_fault, level_fault, settle_fault, walk_fault}
+use Rattle.clap.specs.Faults.{check_fault, defaults_fault, entered_fault, level_fault, settle_fault}
+use Rattle.clap.specs.Faults.{walk_fault}
 use Rattle.twp_cmd.specs.Commands.{described, plat, report, township}
 use Rattle.twp_cmd.specs.Parses.{HasValue, IsOfLand, IsWhole}
-use Rattle.twp_cmd.proofs.CommandWalk.{HasValues, IsNoHelp, OnlyHelpFlags, StoppedWell, finished_values, first_empty, given_value, is_walked, second_empty}
+use Rattle.twp_cmd.proofs.CommandWalk.{HasValues, IsNoHelp, OnlyHelpFlags, StoppedWell}
+use Rattle.twp_cmd.proofs.CommandWalk.{finished_values, first_empty, given_value, is_walked}
+use Rattle.twp_cmd.proofs.CommandWalk.{second_empty}
 
 nothing_wanted : (help subcommand argument : Bool) → check_kinds help subcommand argument ≡ [] → (subcommand ≡ false) × (argument ≡ false)
 nothing_wanted true s a e = cc

@@ -43,8 +43,8 @@ abbrev pub FailsOn : Task → Failure → Type 0
 FailsOn task (Open name) = IsFileOf task name
 FailsOn task (Run fault) = ⊤
 
--- An answer comes only where the words ask for a task, and its verdict is the task's; help only where
--- they ask for help, and usage only where they misuse the command.
+-- An answer comes only where the words ask for a task, and its verdict is the task's; help only
+-- where they ask for help, and usage only where they misuse the command.
 abbrev pub EndsAs : List Text → Ending → Type 0
 EndsAs words (Answered verdict) = (task : Task) × IsTaskOf words task × IsVerdictOf task verdict
 EndsAs words Helped = HasKindAt words DisplayHelp

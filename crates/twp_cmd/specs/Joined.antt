@@ -1,8 +1,8 @@
 -- A description and field notes in one text: the description stands before the first line feed.
 use Rattle.std.specs.Prelude.{ℕ, ◌+◌, ◌==◌, List, take}
 use Rattle.std.specs.List.{before_first, after_first}
+use Rattle.twp_grid.specs.Texts.{line_feed}
 use Rattle.twp_notes.specs.FieldNotes.{NOTES_MOST}
-use Rattle.twp_notes.specs.NotesTexts.{line_feed}
 use Rattle.twp_text.specs.TextFaults.{TEXT_LIMIT}
 
 -- the most bytes that are read: a description, a line feed, and one byte more than notes may have

@@ -51,8 +51,9 @@ impl Ending {
         }
     }
 
-    /// The status that the program ends with: 0 where the input was accepted or help was asked for, 1
-    /// where the input was refused, 2 where the command line was misused, and 3 where there is no answer.
+    /// The status that the program ends with: 0 where the input was accepted or help was asked for,
+    /// 1 where the input was refused, 2 where the command line was misused, and 3 where there is no
+    /// answer.
     pub(crate) fn status(&self) -> u8
         ensures { result ≡ status_of self.now }
     {

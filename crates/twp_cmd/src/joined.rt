@@ -1,4 +1,5 @@
-ghost use Rattle.std.specs.Prelude.{◌≡◌, ◌==◌, ◌≤◌, ◌↔◌, ℕ, List, length, Some, true, false, IsErrOf, IsOkUnless};
+ghost use Rattle.std.specs.Prelude.{◌≡◌, ◌==◌, ◌≤◌, ◌↔◌, ℕ, List, length, Some, true, false};
+ghost use Rattle.std.specs.Prelude.{IsErrOf, IsOkUnless};
 ghost use Rattle.std.specs.List.{before_first, after_first, position_or_len};
 ghost use Rattle.twp_grid.specs.Devices.{TakesAtMost};
 ghost use Rattle.twp_acres.specs.AcresAnswers.{IsAcresAnswer};
@@ -11,15 +12,16 @@ use twp_acres::{RunFault, Verdict, run_acres};
 use twp_grid::{Bytes, Sink, Source};
 use twp_notes::read_up_to;
 
-/// The most bytes of joined input: a description, a line feed, and one byte more than notes may have.
+/// The most bytes of joined input: a description, a line feed, and one byte more than notes may
+/// have.
 const MOST_BYTES: usize = 131_074;
 
 /// What ends the description of joined input.
 const LINE_FEED: u8 = b'\n';
 
-/// Reads a description and field notes from one source, and answers as `run_acres` does on both: the
-/// description is what stands before the first line feed, and the notes are what stands behind it. Not
-/// more than the first 131,074 bytes are read.
+/// Reads a description and field notes from one source, and answers as `run_acres` does on both:
+/// the description is what stands before the first line feed, and the notes are what stands behind
+/// it. Not more than the first 131,074 bytes are read.
 pub fn run_joined<R: Source, W: Sink>(
     alloc: Global,
     input: &mut R,

@@ -25,8 +25,8 @@ pub fn run<R: Env + Files + Input + Print + Eprint + AllocGlobal>(rt: &R) -> u8 
     conclude(rt, &ending)
 }
 
-/// The words of the command line, the first of which is the program's name. What isn't text can't be
-/// read.
+/// The words of the command line, the first of which is the program's name. What isn't text can't
+/// be read.
 fn words_of<R: Env + AllocGlobal>(rt: &R) -> Result<Vec<String>, RunFault> {
     match env::args(rt) {
         Ok(words) => Ok(words.collect(rt.alloc())?),

@@ -1,13 +1,17 @@
 -- What cuts reach, by the digits that they ask for.
-use Rattle.std.proofs.Common.{◌≡◌, ℕ, zero, suc, ◌+◌, ◌-◌, ◌*◌, ◌/◌, ◌%◌, ◌^◌, ◌<◌, ◌≤◌, ◌&&◌, true, false, List, [], ◌∷◌, ◌++◌, length, ap, refl, sym, ◌∙◌, inl, inr, arith, length-append}
+use Rattle.std.proofs.Common.{◌≡◌, ℕ, zero, suc, ◌+◌, ◌-◌, ◌*◌, ◌/◌, ◌%◌, ◌^◌, ◌<◌, ◌≤◌, ◌&&◌, true}
+use Rattle.std.proofs.Common.{false, List, [], ◌∷◌, ◌++◌, length, ap, refl, sym, ◌∙◌, inl, inr}
+use Rattle.std.proofs.Common.{arith, length-append}
 use Rattle.std.proofs.Math.Nat.{pow-succ'}
 use Rattle.std.proofs.lemmas.Nat.{div-add-mod', div-mul-add, pow_pos}
 use Rattle.std.proofs.lemmas.List.{append-nil}
 use Rattle.std.proofs.lemmas.Bool.{cases_lt}
 use Rattle.std.proofs.lemmas.Bool.Decides.{nat_tests}
 use Rattle.twp_grid.specs.Places.{IsPlace, binary, begins}
-use Rattle.twp_grid.specs.Spans.{Span, in_span, lower_half, upper_half, whole_span, Rectangle, in_rectangle}
-use Rattle.twp_grid.specs.Cuts.{Cut, row_asked, column_asked, rows_asked, columns_asked, AreWithin, part_of, reached}
+use Rattle.twp_grid.specs.Spans.{Span, in_span, lower_half, upper_half, whole_span, Rectangle}
+use Rattle.twp_grid.specs.Spans.{in_rectangle}
+use Rattle.twp_grid.specs.Cuts.{Cut, row_asked, column_asked, rows_asked, columns_asked, AreWithin}
+use Rattle.twp_grid.specs.Cuts.{part_of, reached}
 use Rattle.twp_grid.specs.Cuts.Cut.{half, quarter}
 use Rattle.twp_grid.specs.declared.block.Side.TheVariants as side
 use Rattle.twp_grid.specs.declared.block.Corner.TheVariants as corner

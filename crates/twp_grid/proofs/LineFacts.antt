@@ -1,5 +1,6 @@
 -- Lines by the rows and columns of the sections beside them.
-use Rattle.std.proofs.Common.{◌≡◌, ◌≢◌, ℕ, ◌+◌, ◌-◌, ◌/◌, ◌%◌, ◌≤◌, ◌<◌, ◌⊎◌, inl, inr, Option, Some, None, arith}
+use Rattle.std.proofs.Common.{◌≡◌, ◌≢◌, ℕ, ◌+◌, ◌-◌, ◌/◌, ◌%◌, ◌≤◌, ◌<◌, ◌⊎◌, inl, inr, Option}
+use Rattle.std.proofs.Common.{Some, None, arith}
 use Rattle.std.proofs.lemmas.Bool.{cases_lt}
 use Rattle.twp_grid.specs.Winding.{StandsAt}
 use Rattle.twp_grid.specs.Lines.{north_run, west_run, IsSide, LiesBeside, IsLineOf, IsClosing}
@@ -32,6 +33,8 @@ share_west a b row column row' column' index at-a at-b different is-a is-b west 
     let side-b : HasSide row' column' index = side_at b row' column' index at-b is-b in
     let apart : (row ≡ row') → (column ≡ column') → ⊥ = λ r c. different (same_number a b row column at-a (rw (r, c) at-b)) in
     (grind arith, grind arith)
+
+pub ruleset shared_ends = (share_north, share_west)
 
 -- a section whose side is no other section's has no neighbour with that side
 only_standing : (k row column row' column' index : ℕ) → StandsAt k row column → ((other : ℕ) → IsSide other index → other ≡ k)

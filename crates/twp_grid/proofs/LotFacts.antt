@@ -1,10 +1,13 @@
 -- What the code computes of lots is what the table has. The finitely many cases are computed.
-use Rattle.std.proofs.Common.{◌≡◌, ◌==◌, ℕ, zero, suc, ◌+◌, ◌-◌, ◌<◌, ◌&&◌, ◌||◌, ◌⊎◌, ◌↔◌, Bool, true, false, List, [], ◌∷◌, Option, Some, None, refl, ap, inl, inr, arith, if◌then◌else◌, find, nat_le, nat_lt}
+use Rattle.std.proofs.Common.{◌≡◌, ◌==◌, ℕ, zero, suc, ◌+◌, ◌-◌, ◌<◌, ◌&&◌, ◌||◌, ◌⊎◌, ◌↔◌, Bool}
+use Rattle.std.proofs.Common.{true, false, List, [], ◌∷◌, Option, Some, None, refl, ap, inl, inr}
+use Rattle.std.proofs.Common.{arith, if◌then◌else◌, find, nat_le, nat_lt}
 use Rattle.std.specs.List.{list_all}
 use Rattle.std.proofs.lemmas.Bool.{cases_lt, eqb-true, ne_eqb, and_parts}
 use Rattle.std.proofs.lemmas.Bool.Decides.{nat_tests}
 use Rattle.twp_grid.specs.Winding.{IsSection}
-use Rattle.twp_grid.specs.Lots.{Lot, lots, lot_at_position, position_of_lot, number_of_lots, is_western_number}
+use Rattle.twp_grid.specs.Lots.{Lot, lots, lot_at_position, position_of_lot, number_of_lots}
+use Rattle.twp_grid.specs.Lots.{is_western_number}
 
 -- the test holds of every number below n
 unfoldable pub each : ℕ → (ℕ → Bool) → Bool
@@ -143,6 +146,8 @@ position_of_lot_is s n range = elim (cases_lt n 8) [
       let none : position_by_code s n ≡ None = grind (arith, nat_tests) in
       rw (none_over s n lots lots_within (omega arith), none) refl
 ]
+
+pub ruleset numbered_lots = (position_of_lot_is, lot_count_is)
 
 -- a lot's position leads back to the lot, and a position's lot to the position
 abbrev leads_to_lot : ℕ → ℕ → Option (ℕ × ℕ) → Bool

@@ -1,5 +1,6 @@
 -- Halves of dyadic spans.
-use Rattle.std.proofs.Common.{◌≡◌, ℕ, zero, suc, ◌+◌, ◌*◌, ◌/◌, ◌%◌, ◌^◌, ◌<◌, ◌≤◌, ap, inl, inr, arith}
+use Rattle.std.proofs.Common.{◌≡◌, ℕ, zero, suc, ◌+◌, ◌*◌, ◌/◌, ◌%◌, ◌^◌, ◌<◌, ◌≤◌, ap, inl, inr}
+use Rattle.std.proofs.Common.{arith}
 use Rattle.std.proofs.Math.Nat.{pow-succ'}
 use Rattle.std.proofs.lemmas.Nat.{div-add-mod', mod-mul-add, mul-le}
 use Rattle.std.proofs.lemmas.Bool.{cases_lt}

@@ -12,6 +12,8 @@ stands_even k range even = record { row_range = omega arith; column_range = omeg
 pub stands_odd : (k : ℕ) → IsSection k → (k - 1) / 6 % 2 ≢ 0 → StandsAt k ((k - 1) / 6) (5 - (k - 1) % 6)
 stands_odd k range odd = record { row_range = omega arith; column_range = omega arith; winds = inr (omega arith, omega arith) }
 
+pub ruleset where_it_stands = (stands_even, stands_odd)
+
 pub same_standing : (k row column row' column' : ℕ) → StandsAt k row column → StandsAt k row' column' → (row ≡ row') × (column ≡ column')
 same_standing k row column row' column' is is' = grind arith
 

@@ -1,5 +1,5 @@
--- What cuts of a section reach. A cut takes a half or a quarter of what was reached before; it asks for
--- the next binary digit of the rows, of the columns, or of both.
+-- What cuts of a section reach. A cut takes a half or a quarter of what was reached before; it asks
+-- for the next binary digit of the rows, of the columns, or of both.
 use Rattle.std.specs.Prelude.{ℕ, ◌≤◌, List, [], ◌∷◌, ◌++◌, length}
 use Rattle.twp_grid.specs.Spans.{Rectangle, whole_block}
 use Rattle.twp_grid.specs.Blocks.{half_of, quarter_of}
@@ -35,8 +35,8 @@ column_asked (quarter corner.NW) = 1 ∷ []
 column_asked (quarter corner.SW) = 1 ∷ []
 column_asked (quarter corner.SE) = 0 ∷ []
 
--- the digits that cuts ask for of a row, the highest first; cuts are listed as a description writes them,
--- the last one taken standing first
+-- the digits that cuts ask for of a row, the highest first; cuts are listed as a description writes
+-- them, the last one taken standing first
 abbrev pub rows_asked : List Cut → List ℕ
 rows_asked [] = []
 rows_asked (cut ∷ before) = rows_asked before ++ row_asked cut

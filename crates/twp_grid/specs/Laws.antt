@@ -1,5 +1,6 @@
 -- Laws over the definitions.
-use Rattle.std.specs.Prelude.{List, Option, Some, false, length, true, ℕ, ◌&&◌, ◌+◌, ◌-◌, ◌^◌, ◌↔◌, ◌≡◌, ◌≤◌, ◌⊎◌}
+use Rattle.std.specs.Prelude.{List, Option, Some, false, length, true, ℕ, ◌&&◌, ◌+◌, ◌-◌, ◌^◌, ◌↔◌}
+use Rattle.std.specs.Prelude.{◌≡◌, ◌≤◌, ◌⊎◌}
 use Rattle.twp_grid.specs.Winding.{IsSection, StandsAt}
 use Rattle.twp_grid.specs.Lines.{IsLineOf}
 use Rattle.twp_grid.specs.Lots.{POSITIONS_ACROSS, IsPosition, lot_at_position, position_of_lot}
@@ -37,7 +38,8 @@ HalvesAsAsked = (g : ℕ) (cuts : List Cut) → AreWithin g cuts
     → ((reached g cuts).columns.len ≡ 2 ^ (g - length (columns_asked cuts)))
     × ((reached g cuts).rows.len ≡ 2 ^ (g - length (rows_asked cuts)))
 
--- each place lies in one position of its section, where a side has as many places as positions or more
+-- each place lies in one position of its section, where a side has as many places as positions or
+-- more
 abbrev pub OnePosition : Type 0
 OnePosition = (g : ℕ) → POSITIONS_ACROSS ≤ places_across g → (column row : ℕ) → IsPlace g column row
     → IsPosition (position_along g column) (position_along g row)

@@ -9,5 +9,6 @@ pub mod Cuts
 pub mod Totals
 pub mod Tiling
 pub mod Townships
+pub mod Texts
 pub mod Devices
 pub mod Laws

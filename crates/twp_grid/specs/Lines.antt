@@ -1,6 +1,7 @@
--- The section lines of a township. Half of them are run north, half are run west, and each has an index
--- (this project's).
-use Rattle.std.specs.Prelude.{◌≡◌, ◌≢◌, ℕ, ◌+◌, ◌*◌, ◌≤◌, ◌<◌, ◌⊎◌, List, [], ◌∷◌, Option, Some, None}
+-- The section lines of a township. Half of them are run north, half are run west, and each has an
+-- index (this project's).
+use Rattle.std.specs.Prelude.{◌≡◌, ◌≢◌, ℕ, ◌+◌, ◌*◌, ◌≤◌, ◌<◌, ◌⊎◌, List, [], ◌∷◌, Option, Some}
+use Rattle.std.specs.Prelude.{None}
 use Rattle.twp_grid.specs.Winding.{SECTIONS_ACROSS, WESTERN_COLUMN, StandsAt}
 use Rattle.twp_grid.specs.declared.line.Run.{Run}
 use Rattle.twp_grid.specs.declared.line.Run.TheVariants.{North, West}
@@ -61,7 +62,8 @@ LiesBeside section None index =
 abbrev pub IsLineOf : Run → ℕ → Option ℕ → ℕ → Type 0
 IsLineOf run section other index = RunsAs run index × LiesBeside section other index
 
--- The closing lines: the north-run ones of the northern row, and the west-run ones of the western column.
+-- The closing lines: the north-run ones of the northern row, and the west-run ones of the western
+-- column.
 abbrev pub IsClosing : ℕ → Type 0
 IsClosing index = ((meridian : ℕ) × (meridian < LINES_ACROSS) × (index ≡ north_run 0 meridian))
     ⊎ ((tier : ℕ) × (tier < LINES_ACROSS) × (index ≡ west_run tier WESTERN_COLUMN))

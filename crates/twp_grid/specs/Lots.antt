@@ -1,7 +1,8 @@
 -- The lots of a township's closing sections, and the positions that they fill (Manual of Surveying
--- Instructions 2009, chapter 3). A position is a quarter-quarter of a section: its column is counted
--- from the east and its row from the south, 0 to 3.
-use Rattle.std.specs.Prelude.{ℕ, ◌<◌, ◌==◌, ◌&&◌, ◌||◌, Bool, List, [], ◌∷◌, Option, option_map, find, count_by}
+-- Instructions 2009, chapter 3). A position is a quarter-quarter of a section: its column is
+-- counted from the east and its row from the south, 0 to 3.
+use Rattle.std.specs.Prelude.{ℕ, ◌<◌, ◌==◌, ◌&&◌, ◌||◌, Bool, List, [], ◌∷◌, Option, option_map}
+use Rattle.std.specs.Prelude.{find, count_by}
 
 -- the positions along a side of a section
 abbrev pub POSITIONS_ACROSS : ℕ
@@ -23,7 +24,8 @@ abbrev pub lot : ℕ → ℕ → ℕ → ℕ → Lot
 lot section number column row =
     record { section = section; number = number; column = column; row = row }
 
--- the 47 lots: along the north of sections 1 to 5, down the west of the western column, and both in section 6
+-- the 47 lots: along the north of sections 1 to 5, down the west of the western column, and both in
+-- section 6
 unfoldable pub lots : List Lot
 lots =
     lot 1 1 0 3 ∷ lot 1 2 1 3 ∷ lot 1 3 2 3 ∷ lot 1 4 3 3

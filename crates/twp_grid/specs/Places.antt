@@ -1,7 +1,8 @@
--- The places of a section, the smallest parts of it that a description names: each side of the section is
--- halved g times (16 places to a side today). A place's column is counted from the east and its row from
--- the south.
-use Rattle.std.specs.Prelude.{ℕ, zero, suc, ◌/◌, ◌%◌, ◌^◌, ◌<◌, ◌==◌, ◌&&◌, nat_lt, Bool, true, false, List, [], ◌∷◌}
+-- The places of a section, the smallest parts of it that a description names: each side of the
+-- section is halved g times (16 places to a side today). A place's column is counted from the east
+-- and its row from the south.
+use Rattle.std.specs.Prelude.{ℕ, zero, suc, ◌/◌, ◌%◌, ◌^◌, ◌<◌, ◌==◌, ◌&&◌, nat_lt, Bool, true}
+use Rattle.std.specs.Prelude.{false, List, [], ◌∷◌}
 use Rattle.twp_grid.specs.Lots.{POSITIONS_ACROSS}
 
 -- how many binary digits a place's column and row have today (this project's limit)

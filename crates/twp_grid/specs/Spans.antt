@@ -31,8 +31,8 @@ whole_span g = span_from 0 (places_across g)
 abbrev pub position_span : ℕ → ℕ → Span
 position_span g position = span_from (position * places_to_position g) (places_to_position g)
 
--- The span is one of those that halving gives: it lies in the section, its length divides the section's
--- side, and its start is a multiple of its length.
+-- The span is one of those that halving gives: it lies in the section, its length divides the
+-- section's side, and its start is a multiple of its length.
 pub record IsDyadic (g : ℕ) (span : Span) : Type 0 where
   pub some : 0 < span.len
   pub within : span.start + span.len ≤ places_across g

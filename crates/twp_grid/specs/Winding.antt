@@ -17,8 +17,8 @@ WESTERN_COLUMN = SECTIONS_ACROSS - 1
 abbrev pub IsSection : ℕ → Type 0
 IsSection number = (1 ≤ number) × (number ≤ SECTION_COUNT)
 
--- The number's section stands at this row from the north and this column from the east: an even row is
--- numbered from the east, an odd one from the west.
+-- The number's section stands at this row from the north and this column from the east: an even row
+-- is numbered from the east, an odd one from the west.
 pub record StandsAt (number row column : ℕ) : Type 0 where
   pub row_range : row < SECTIONS_ACROSS
   pub column_range : column < SECTIONS_ACROSS

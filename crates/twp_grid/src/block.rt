@@ -35,9 +35,9 @@ pub enum Corner {
     SE,
 }
 
-/// A rectangle of a section's places: the whole section, a position, and each half and quarter of a block,
-/// which are the aliquot parts (Specifications for Descriptions of Land). A place's column is counted from
-/// the east and its row from the south, 0 to 15 (this project's limit).
+/// A rectangle of a section's places: the whole section, a position, and each half and quarter of a
+/// block, which are the aliquot parts (Specifications for Descriptions of Land). A place's column
+/// is counted from the east and its row from the south, 0 to 15 (this project's limit).
 #[derive(Clone, Copy, Debug, PartialEq, Eq, Hash)]
 pub struct Block {
     columns: Span,

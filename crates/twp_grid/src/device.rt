@@ -1,4 +1,5 @@
-ghost use Rattle.std.specs.Prelude.{◌≡◌, ℕ, ◌≤◌, ◌<◌, List, Option, Some, None, Bool, true, false, length, IfOk, is_err};
+ghost use Rattle.std.specs.Prelude.{◌≡◌, ℕ, ◌≤◌, ◌<◌, List, Option, Some, None, Bool, true, false};
+ghost use Rattle.std.specs.Prelude.{length, IfOk, is_err};
 ghost use Rattle.std.specs.Io.KnownBytes.{ReadConsumes, WriteAppends, Keeps};
 
 use std::io::{Read, Write};
@@ -15,8 +16,8 @@ pub trait Source {
     /// Whether a call has answered a fault.
     ghost has_failed: { Self → Bool };
 
-    /// Fills the front of a buffer, and answers how many bytes it filled. 0 for a buffer that has room
-    /// is the end of the input.
+    /// Fills the front of a buffer, and answers how many bytes it filled. 0 for a buffer that has
+    /// room is the end of the input.
     fn fill(&mut self, buffer: &mut [u8]) -> Result<usize, DeviceFault>
         requires { has_failed self.old ≡ false }
         ensures within { IfOk result (λ n. n ≤ length buffer.new) }
@@ -36,8 +37,8 @@ pub trait Sink {
     /// Whether a call has answered a fault.
     ghost has_failed: { Self → Bool };
 
-    /// Takes bytes at the front of a slice, at least one of a slice that isn't empty, and answers how
-    /// many. After a fault it took none.
+    /// Takes bytes at the front of a slice, at least one of a slice that isn't empty, and answers
+    /// how many. After a fault it took none.
     fn put(&mut self, bytes: &[u8]) -> Result<usize, DeviceFault>
         requires { has_failed self.old ≡ false }
         ensures within { IfOk result (λ n. n ≤ length bytes.now) }
@@ -56,8 +57,8 @@ pub trait Sink {
         ensures { result ≡ has_failed self.now };
 }
 
-/// A reader or a writer as a device: an error of any kind is a fault, and so is a write that takes no
-/// byte of a slice that isn't empty.
+/// A reader or a writer as a device: an error of any kind is a fault, and so is a write that takes
+/// no byte of a slice that isn't empty.
 #[derive(Debug, Drop)]
 pub struct Device<T> {
     inner: T,

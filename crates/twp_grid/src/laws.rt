@@ -1,4 +1,5 @@
-//! What holds of the grid as it is defined: each law is a contract, and its function has nothing to do.
+//! What holds of the grid as it is defined: each law is a contract, and its function has nothing to
+//! do.
 ghost use Rattle.twp_grid.specs.Laws.{OneStanding, OneSection, OneLine};
 ghost use Rattle.twp_grid.specs.Laws.{HoldsWhatIsAsked, HalvesAsAsked};
 ghost use Rattle.twp_grid.specs.Laws.{OnePosition, OneLotOrRegular, LotsMatchPositions, HeldOnce};
@@ -22,9 +23,9 @@ pub fn one_line()
     ensures { OneLine }
 {}
 
-/// A block that was reached from a whole section by halves and quarters holds exactly the places whose
-/// first binary digits are as these ask: a half or a quarter in the north asks for a row's next digit to
-/// be 1, in the south 0, in the west for a column's to be 1, in the east 0.
+/// A block that was reached from a whole section by halves and quarters holds exactly the places
+/// whose first binary digits are as these ask: a half or a quarter in the north asks for a row's
+/// next digit to be 1, in the south 0, in the west for a column's to be 1, in the east 0.
 #[tactic(auto, using(crate::proofs::CutFacts::held_as_asked))]
 pub fn holds_what_is_asked()
     ensures { HoldsWhatIsAsked }

@@ -18,8 +18,9 @@ pub enum Run {
 /// How many section lines a township has.
 pub const LINES: usize = 84;
 
-/// One of a township's 84 section lines, each a mile, by its index: first the north-run lines, seven to
-/// a row from the east, then the west-run lines, six to a tier from the east (this project's rule).
+/// One of a township's 84 section lines, each a mile, by its index: first the north-run lines,
+/// seven to a row from the east, then the west-run lines, six to a tier from the east (this
+/// project's rule).
 #[derive(Clone, Copy, Debug, PartialEq, Eq, PartialOrd, Ord, Hash)]
 pub struct Line {
     index: u8,
@@ -40,7 +41,8 @@ impl Model for Line {
 }
 
 impl Line {
-    ghost use Rattle.twp_grid.specs.Lines.{LINES_ACROSS, IsLine, IsClosing, IsLineOf, north_run, west_run};
+    ghost use Rattle.twp_grid.specs.Lines.{LINES_ACROSS, IsLine, IsClosing, IsLineOf, north_run};
+    ghost use Rattle.twp_grid.specs.Lines.{west_run};
 
     /// The line between two different sections, in either order, or with None the line between a
     /// section and the township's outside. None where there is no such line.
@@ -54,7 +56,7 @@ impl Line {
     }
 
     /// The line between two sections that stand side by side.
-    #[tactic(auto, using(crate::proofs::LineFacts::share_north, crate::proofs::LineFacts::share_west))]
+    #[tactic(auto, using(crate::proofs::LineFacts::shared_ends))]
     fn between(run: Run, section: Section, other: Section) -> Option<Line>
         ensures { Finds result (IsLineOf run section (Some other)) }
     {
@@ -138,9 +140,9 @@ impl Line {
         self.index
     }
 
-    /// Whether errors of measurement are thrown into the line's last half mile: the north-run lines of
-    /// the northern row and the west-run lines of the western column (Manual of Surveying Instructions
-    /// 2009, chapter 3).
+    /// Whether errors of measurement are thrown into the line's last half mile: the north-run lines
+    /// of the northern row and the west-run lines of the western column (Manual of Surveying
+    /// Instructions 2009, chapter 3).
     #[tactic(auto, using(crate::proofs::LineFacts::closing_lines))]
     pub fn is_closing(self) -> bool
         ensures { IsTrue result ↔ IsClosing self }

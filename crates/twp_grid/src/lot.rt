@@ -1,12 +1,13 @@
 ghost use Rattle.std.specs.Prelude.{◌≡◌, ◌≤◌, ◌↔◌, nat_le, IsSome, IfSome};
 ghost use Rattle.twp_grid.specs.Winding.{IsSection};
-ghost use Rattle.twp_grid.specs.Lots.{IsPosition, lot_at_position, position_of_lot, number_of_lots, is_western_number};
+ghost use Rattle.twp_grid.specs.Lots.{IsPosition, lot_at_position, position_of_lot, number_of_lots};
+ghost use Rattle.twp_grid.specs.Lots.{is_western_number};
 
 use crate::section::Section;
 
-/// The lot that fills a position of a section, if one does. The column is counted from the east and the
-/// row from the south, 0 to 3; outside there is none. Lots stand along the half miles that errors of
-/// measurement are thrown into (Manual of Surveying Instructions 2009, chapter 3).
+/// The lot that fills a position of a section, if one does. The column is counted from the east and
+/// the row from the south, 0 to 3; outside there is none. Lots stand along the half miles that
+/// errors of measurement are thrown into (Manual of Surveying Instructions 2009, chapter 3).
 #[tactic(auto, using(crate::proofs::LotFacts::lot_at_position_is))]
 pub fn lot_at(section: Section, column: u8, row: u8) -> Option<u8>
     ensures lot { result ≡ lot_at_position section column row }
@@ -26,7 +27,7 @@ pub fn lot_at(section: Section, column: u8, row: u8) -> Option<u8>
 
 /// The position that a lot of a section fills: its column from the east and its row from the south.
 /// None where the section has no such lot.
-#[tactic(auto, using(crate::proofs::LotFacts::position_of_lot_is, crate::proofs::LotFacts::lot_count_is))]
+#[tactic(auto, using(crate::proofs::LotFacts::numbered_lots))]
 pub fn lot_place(section: Section, lot: u8) -> Option<(u8, u8)>
     ensures position { result ≡ position_of_lot section lot }
     ensures within { IfSome result (λ (column, row). IsPosition column row) }

@@ -34,7 +34,8 @@ impl Model for Span {
 }
 
 impl Span {
-    ghost use Rattle.twp_grid.specs.Spans.{IsDyadic, whole_span, position_span, lower_half, upper_half};
+    ghost use Rattle.twp_grid.specs.Spans.{IsDyadic, whole_span, position_span, lower_half};
+    ghost use Rattle.twp_grid.specs.Spans.{upper_half};
 
     /// All columns or rows of a section.
     pub(crate) fn whole() -> Span

@@ -21,8 +21,8 @@ pub enum EastWest {
     W,
 }
 
-/// A township's designation, as T. 2 N., R. 3 W., without its principal meridian. Both numbers are 1 to
-/// 99 (this project's limit).
+/// A township's designation, as T. 2 N., R. 3 W., without its principal meridian. Both numbers are
+/// 1 to 99 (this project's limit).
 #[derive(Clone, Copy, Debug, PartialEq, Eq, Hash)]
 pub struct Township {
     tier_number: u8,

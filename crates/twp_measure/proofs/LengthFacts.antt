@@ -1,5 +1,6 @@
 -- A length's text, by what stands before its first point and behind it.
-use Rattle.std.proofs.Common.{◌≡◌, ◌==◌, ℕ, ◌+◌, ◌*◌, ◌<◌, ◌≤◌, ◌⊎◌, false, List, ◌∷◌, ◌++◌, length, drop, get_or, refl, ap, sym, ◌∙◌, inl, inr, arith, length-append}
+use Rattle.std.proofs.Common.{◌≡◌, ◌==◌, ℕ, ◌+◌, ◌*◌, ◌<◌, ◌≤◌, ◌⊎◌, false, List, ◌∷◌, ◌++◌, length}
+use Rattle.std.proofs.Common.{drop, get_or, refl, ap, sym, ◌∙◌, inl, inr, arith, length-append}
 use Rattle.std.specs.Int.{IsInRange}
 use Rattle.std.specs.Str.Parse.{AllDigits, IsNumeral, digits_value}
 use Rattle.std.proofs.lemmas.Bool.{ne_eqb, eqb-true}
@@ -7,7 +8,8 @@ use Rattle.std.proofs.lemmas.List.{take_all, take_at, get_or_append_left}
 use Rattle.std.proofs.lemmas.List.Sums.{position_or_len_is, split_at_first, passes_at_first}
 use Rattle.std.proofs.lemmas.Str.Parse.{digit_at}
 use Rattle.std.proofs.Math.Seq.{get_or-append_seam, drop-append-add}
-use Rattle.twp_measure.specs.LengthTexts.{point, place_of_point, before_point, behind_point, fraction_of, IsLengthText}
+use Rattle.twp_measure.specs.LengthTexts.{point, place_of_point, before_point, behind_point}
+use Rattle.twp_measure.specs.LengthTexts.{fraction_of, IsLengthText}
 
 -- a digit is no point
 not_point : (digits : List ℕ) (k : ℕ) → AllDigits 10 digits → k < length digits → (get_or digits k 0 == point) ≡ false

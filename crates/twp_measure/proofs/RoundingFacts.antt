@@ -1,5 +1,6 @@
 -- Half up: a quotient lies within half a hundredth, and is the greatest number that an area reaches.
-use Rattle.std.proofs.Common.{◌≡◌, ◌↔◌, ℕ, zero, suc, ◌+◌, ◌-◌, ◌*◌, ◌/◌, ◌%◌, ◌≤◌, ◌<◌, inl, inr, arith}
+use Rattle.std.proofs.Common.{◌≡◌, ◌↔◌, ℕ, zero, suc, ◌+◌, ◌-◌, ◌*◌, ◌/◌, ◌%◌, ◌≤◌, ◌<◌, inl, inr}
+use Rattle.std.proofs.Common.{arith}
 use Rattle.std.proofs.Math.Nat.{div-add-mod, mod-lt, mul-le-mul_right}
 use Rattle.std.proofs.lemmas.Bool.{cases_lt}
 use Rattle.twp_measure.specs.Areas.{Fraction, IsRounded}

@@ -1,10 +1,12 @@
 -- The text that is written of a length is a text of that length.
-use Rattle.std.proofs.Common.{◌≡◌, ◌==◌, ℕ, ◌+◌, ◌*◌, ◌/◌, ◌%◌, ◌<◌, Bool, true, false, [], ◌∷◌, ◌++◌, decimal, refl, sym, inr, arith, if◌then◌else◌}
+use Rattle.std.proofs.Common.{◌≡◌, ◌==◌, ℕ, ◌+◌, ◌*◌, ◌/◌, ◌%◌, ◌<◌, Bool, true, false, [], ◌∷◌}
+use Rattle.std.proofs.Common.{◌++◌, decimal, refl, sym, inr, arith, if◌then◌else◌}
 use Rattle.std.specs.Char.{digit_value}
 use Rattle.std.proofs.lemmas.Bool.{eqb-true}
 use Rattle.std.proofs.lemmas.Fmt.{decimal_is_IsNumeral, length-decimal-le}
 use Rattle.std.proofs.lemmas.Str.{digit_value_digit}
-use Rattle.twp_measure.specs.LengthTexts.{IsLength, point, digit_byte, length_text, IsShortNumber, IsDecimals, IsLengthText}
+use Rattle.twp_measure.specs.LengthTexts.{IsLength, point, digit_byte, length_text, IsShortNumber}
+use Rattle.twp_measure.specs.LengthTexts.{IsDecimals, IsLengthText}
 
 digit_value-byte : (digit : ℕ) → digit < 10 → digit_value (digit_byte digit) ≡ digit
 digit_value-byte digit small =

@@ -3,7 +3,8 @@ use Rattle.std.specs.Prelude.{◌≡◌, ℕ, ◌≤◌, ◌<◌, List, [], leng
 use Rattle.std.specs.Str.Parse.{IsNumeral}
 use Rattle.twp_measure.specs.LengthTexts.{place_of_point, before_point, behind_point}
 use Rattle.twp_measure.specs.declared.length.LengthFault.{LengthFault}
-use Rattle.twp_measure.specs.declared.length.LengthFault.TheVariants.{Empty, BadDigit, TooManyPlaces, TooLong}
+use Rattle.twp_measure.specs.declared.length.LengthFault.TheVariants.{Empty, BadDigit}
+use Rattle.twp_measure.specs.declared.length.LengthFault.TheVariants.{TooManyPlaces, TooLong}
 
 -- digits before the first point, digits behind it where there is one, and no other byte
 pub record IsDecimalNumber (text : List ℕ) : Type 0 where

@@ -3,12 +3,13 @@ ghost use Rattle.twp_measure.specs.Areas.{Fraction, IsArea, MOST_UNITS, IsRounde
 
 use std::marker::Model;
 
-/// The most units of an area: 10 to the 24th. A township has some 2.3 times 10 to the 11th units over
-/// 1, and over the greatest denominator of a plat some 10 to the 22nd.
+/// The most units of an area: 10 to the 24th. A township has some 2.3 times 10 to the 11th units
+/// over 1, and over the greatest denominator of a plat some 10 to the 22nd.
 pub const AREA_MAX: u128 = 1_000_000_000_000_000_000_000_000;
 
-/// An area of land as an exact fraction: `units` square thousandths of a chain over `over`, which is at
-/// least 1 (this project's rule). 10,000,000 units over 1 are an acre, which is 10 square chains.
+/// An area of land as an exact fraction: `units` square thousandths of a chain over `over`, which
+/// is at least 1 (this project's rule). 10,000,000 units over 1 are an acre, which is 10 square
+/// chains.
 #[derive(Clone, Copy, Debug)]
 pub struct Area {
     units: u128,

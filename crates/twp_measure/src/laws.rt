@@ -1,5 +1,5 @@
-//! What holds of lengths and areas as they are defined: each law is a contract, and its function has
-//! nothing to do.
+//! What holds of lengths and areas as they are defined: each law is a contract, and its function
+//! has nothing to do.
 ghost use Rattle.twp_measure.specs.Laws.{WrittenIsRead, OneLength, OneRounding, RoundingIsGreatest};
 
 /// The text that is written of a length is a text of that length, so `Length::read` gives it back.

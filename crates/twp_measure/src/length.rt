@@ -1,4 +1,5 @@
-ghost use Rattle.std.specs.Prelude.{◌≡◌, ℕ, ◌+◌, ◌*◌, ◌%◌, ◌^◌, ◌<◌, ◌≤◌, ◌++◌, ◌↔◌, length, IsTrue, IfOk, IfErr, OnOk, OnErr};
+ghost use Rattle.std.specs.Prelude.{◌≡◌, ℕ, ◌+◌, ◌*◌, ◌%◌, ◌^◌, ◌<◌, ◌≤◌, ◌++◌, ◌↔◌, length};
+ghost use Rattle.std.specs.Prelude.{IsTrue, IfOk, IfErr, OnOk, OnErr};
 ghost use Rattle.std.specs.Char.{is_ascii_digit};
 ghost use Rattle.std.specs.List.{list_all};
 ghost use Rattle.std.specs.Str.Parse.{IsNumeral, digits_value};
@@ -9,8 +10,8 @@ use std::alloc::AllocError;
 use std::marker::Model;
 use thiserror::Error;
 
-/// The length of a survey line in thousandths of a chain, 0 to 99,999 (this project's rule). A chain
-/// is 66 feet or 100 links, and 80 chains are a mile. The default is no length at all, 0.
+/// The length of a survey line in thousandths of a chain, 0 to 99,999 (this project's rule). A
+/// chain is 66 feet or 100 links, and 80 chains are a mile. The default is no length at all, 0.
 #[derive(Clone, Copy, Debug, Default, PartialEq, Eq, PartialOrd, Ord, Hash)]
 pub struct Length {
     thousandths: u32,
@@ -53,8 +54,8 @@ impl Length {
     ghost use Rattle.twp_measure.specs.LengthTexts.{IsLength, IsLengthText, length_text};
     ghost use Rattle.twp_measure.specs.LengthFaults.{IsFirstLengthFault};
 
-    /// Reads chains as a decimal number, such as `80` or `19.575`: one or two digits, and optionally a
-    /// point with one to three digits (this project's rule for field notes).
+    /// Reads chains as a decimal number, such as `80` or `19.575`: one or two digits, and
+    /// optionally a point with one to three digits (this project's rule for field notes).
     pub fn read(text: &[u8]) -> Result<Length, LengthFault>
         ensures taken { (v : ℕ) → IsLengthText text.now v → result ≡ Ok v }
         ensures value { IfOk result (IsLengthText text.now) }
@@ -89,7 +90,8 @@ impl Length {
         requires { IsNumeral 10 digits.now }
         ensures ok { IfOk result (λ line. (length digits.now ≤ 2)
             × (line ≡ 1000 * digits_value 10 digits.now)) }
-        ensures err { IfErr result (λ fault. (2 < length digits.now) × (fault ≡ LengthFault.TooLong)) }
+        ensures err { IfErr result (λ fault.
+            (2 < length digits.now) × (fault ≡ LengthFault.TooLong)) }
     {
         if digits.len() > 2 {
             return Err(LengthFault::TooLong);

@@ -1,5 +1,5 @@
-//! What a survey measures: the lengths of its lines, areas of land as exact fractions, and the acres
-//! that are printed of them.
+//! What a survey measures: the lengths of its lines, areas of land as exact fractions, and the
+//! acres that are printed of them.
 #![tactic(auto)]
 
 mod acres;

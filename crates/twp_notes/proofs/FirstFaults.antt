@@ -1,18 +1,24 @@
 -- The first fault of notes whose records were looked at one after another.
-use Rattle.std.proofs.Common.{◌≡◌, ◌≢◌, ◌⊎◌, ℕ, ◌+◌, ◌-◌, ◌≤◌, ◌<◌, List, ◌∷◌, length, inl, inr, suc, Option, Some, None, IsSome, IfSome, Err, refl, ap, subst, sym, ◌∙◌, arith}
+use Rattle.std.proofs.Common.{◌≡◌, ◌≢◌, ◌⊎◌, ℕ, ◌+◌, ◌-◌, ◌≤◌, ◌<◌, List, ◌∷◌, length, inl, inr}
+use Rattle.std.proofs.Common.{suc, Option, Some, None, IsSome, IfSome, Err, refl, ap, subst, sym}
+use Rattle.std.proofs.Common.{◌∙◌, arith}
 use Rattle.std.proofs.lemmas.Bool.{cases_lt, cases_eq}
 use Rattle.std.specs.Prelude.{slice_index_or}
 use Rattle.std.proofs.lemmas.List.{get_or_past}
 use Rattle.twp_grid.specs.Lines.{LINE_COUNT, IsLine}
 use Rattle.twp_grid.specs.Townships.{Designation}
 use Rattle.twp_notes.specs.Records.{Fields, records_of, record_at, record_numbered}
-use Rattle.twp_notes.specs.FieldNotes.{NOTES_MOST, FIELDS, heading, IsTownshipRecord, IsLineNumber, IsNamed, NamesLine, AreNotes, nothing_returned}
-use Rattle.twp_notes.specs.NotesFaults.{HasNoRun, HasNoSection, NamesNoLine, HasNoLength, HasOnLine, IsRepeated, HasFault, IsFrom, IsFirstFault, AnswersNotes, refusal_of}
-use Rattle.twp_notes.specs.Tables.{entry_of, AreEntries, IsTaken, IsNamedBy, AreTaken, IsLeastMissing}
+use Rattle.twp_notes.specs.FieldNotes.{NOTES_MOST, FIELDS, heading, IsTownshipRecord, IsLineNumber}
+use Rattle.twp_notes.specs.FieldNotes.{IsNamed, NamesLine, AreNotes, nothing_returned}
+use Rattle.twp_notes.specs.NotesFaults.{HasNoRun, HasNoSection, NamesNoLine, HasNoLength, HasOnLine}
+use Rattle.twp_notes.specs.NotesFaults.{IsRepeated, HasFault, IsFrom, IsFirstFault, AnswersNotes}
+use Rattle.twp_notes.specs.NotesFaults.{refusal_of}
+use Rattle.twp_notes.specs.Tables.{entry_of, AreEntries, IsTaken, IsNamedBy, AreTaken}
+use Rattle.twp_notes.specs.Tables.{IsLeastMissing}
 use Rattle.twp_notes.specs.LineFaults.{IsRefusedNext, IsRefusedAfter}
 use Rattle.twp_notes.specs.declared.fault.NotesFault.{NotesFault}
 use Rattle.twp_notes.specs.declared.fault.NotesFault.TheVariants as fault
-use Rattle.twp_notes.specs.Passing.{notes_fault_of}
+use Rattle.twp_notes.specs.PassedFaults.{notes_fault_of}
 use Rattle.twp_notes.specs.declared.reading.ReadFault.{ReadFault}
 use Rattle.twp_notes.specs.declared.reading.ReadFault.TheVariants as reading
 use Rattle.twp_notes.specs.declared.returned.Returned.{Returned}

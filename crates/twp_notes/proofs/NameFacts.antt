@@ -1,5 +1,6 @@
 -- A record names one line, and what names a line has none of the faults of a name.
-use Rattle.std.proofs.Common.{◌≡◌, ℕ, List, [], get_or, Option, Some, None, inl, inr, refl, ap, sym, ◌∙◌, arith}
+use Rattle.std.proofs.Common.{◌≡◌, ℕ, List, [], get_or, Option, Some, None, inl, inr, refl, ap, sym}
+use Rattle.std.proofs.Common.{◌∙◌, arith}
 use Rattle.twp_grid.specs.declared.line.Run.{Run}
 use Rattle.twp_grid.specs.declared.line.Run.TheVariants as run
 use Rattle.twp_grid.proofs.LineFacts.{one_line}

@@ -1,6 +1,8 @@
 -- Bytes have one answer: notes are of one township and return one thing of each line, notes have no fault,
 -- and one fault is the first.
-use Rattle.std.proofs.Common.{◌≡◌, ◌≢◌, ◌==◌, ◌⊎◌, ℕ, ◌<◌, ◌≤◌, List, length, get_or, Option, Some, None, IsSome, IfSome, Ok, Err, inl, inr, refl, ap, subst, sym, ◌∙◌, arith, if◌then◌else◌}
+use Rattle.std.proofs.Common.{◌≡◌, ◌≢◌, ◌==◌, ◌⊎◌, ℕ, ◌<◌, ◌≤◌, List, length, get_or, Option, Some}
+use Rattle.std.proofs.Common.{None, IsSome, IfSome, Ok, Err, inl, inr, refl, ap, subst, sym, ◌∙◌}
+use Rattle.std.proofs.Common.{arith, if◌then◌else◌}
 use Rattle.std.proofs.lemmas.Bool.{cases_eq}
 use Rattle.std.proofs.lemmas.List.{ext_get_or}
 use Rattle.twp_measure.proofs.LengthFacts.{one_length}
@@ -10,8 +12,12 @@ use Rattle.twp_grid.specs.declared.township.NorthSouth.TheVariants as ns
 use Rattle.twp_grid.specs.declared.township.EastWest.{EastWest}
 use Rattle.twp_grid.specs.declared.township.EastWest.TheVariants as ew
 use Rattle.twp_notes.specs.Records.{Fields, record_numbered, records_of}
-use Rattle.twp_notes.specs.FieldNotes.{FieldNotes, FIELDS, nothing_returned, returned_of, north_south_text, east_west_text, IsTownshipRecord, IsLineNumber, IsLineRecord, AreNotes}
-use Rattle.twp_notes.specs.NotesFaults.{HasFault, IsFirstFault, AnswersNotes, number_of, place_of, refusal_of}
+use Rattle.twp_notes.specs.FieldNotes.{FieldNotes, FIELDS, nothing_returned, returned_of}
+use Rattle.twp_grid.specs.Texts.{north_south_letter, east_west_letter}
+use Rattle.twp_notes.specs.FieldNotes.{IsTownshipRecord}
+use Rattle.twp_notes.specs.FieldNotes.{IsLineNumber, IsLineRecord, AreNotes}
+use Rattle.twp_notes.specs.NotesFaults.{HasFault, IsFirstFault, AnswersNotes, number_of, place_of}
+use Rattle.twp_notes.specs.NotesFaults.{refusal_of}
 use Rattle.twp_notes.specs.Laws.{IsAnswered, OneAnswer}
 use Rattle.twp_notes.specs.declared.fault.NotesFault.{NotesFault}
 use Rattle.twp_notes.specs.declared.fault.NotesFault.TheVariants as fault
@@ -23,13 +29,13 @@ use Rattle.twp_notes.proofs.NameFacts.{names_one, has_run, has_section}
 other_letter : (a b x y : ℕ) → a ≡ x → b ≡ y → x < y → a ≡ b → ⊥
 other_letter a b x y is-a is-b below e = omega arith
 
-one_side : (a b : NorthSouth) → north_south_text a ≡ north_south_text b → a ≡ b
+one_side : (a b : NorthSouth) → north_south_letter a ≡ north_south_letter b → a ≡ b
 one_side ns.N ns.N e = refl
 one_side ns.S ns.S e = refl
 one_side ns.N ns.S e = absurd (other_letter _ _ 78 83 refl refl (omega arith) (ap (λ text. get_or text 0 0) e))
 one_side ns.S ns.N e = absurd (other_letter _ _ 78 83 refl refl (omega arith) (sym (ap (λ text. get_or text 0 0) e)))
 
-one_hand : (a b : EastWest) → east_west_text a ≡ east_west_text b → a ≡ b
+one_hand : (a b : EastWest) → east_west_letter a ≡ east_west_letter b → a ≡ b
 one_hand ew.E ew.E e = refl
 one_hand ew.W ew.W e = refl
 one_hand ew.E ew.W e = absurd (other_letter _ _ 69 87 refl refl (omega arith) (ap (λ text. get_or text 0 0) e))

@@ -1,10 +1,14 @@
 -- Reading one record leaves a reader between records, before the records that follow.
-use Rattle.std.proofs.Common.{◌≡◌, ℕ, zero, suc, ◌+◌, ◌≤◌, ◌<◌, ◌⊎◌, Bool, true, false, List, [], ◌∷◌, ◌++◌, length, get_or, Option, Some, None, refl, ap, sym, ◌∙◌, inl, inr, arith, if◌then◌else◌, add-one, Bor}
+use Rattle.std.proofs.Common.{◌≡◌, ℕ, zero, suc, ◌+◌, ◌≤◌, ◌<◌, ◌⊎◌, Bool, true, false, List, []}
+use Rattle.std.proofs.Common.{◌∷◌, ◌++◌, length, get_or, Option, Some, None, refl, ap, sym, ◌∙◌}
+use Rattle.std.proofs.Common.{inl, inr, arith, if◌then◌else◌, add-one, Bor}
 use Rattle.std.specs.Bool.{MatchBool}
 use Rattle.std.specs.Prelude.{unwrap_or}
 use Rattle.std.proofs.lemmas.Bool.{false≢true}
-use Rattle.csv.specs.Machine.{Read, next_record, step, is_end, ends_at_end, fields_after, field_after}
-use Rattle.csv.specs.Reading.{records_from, strip_bom, is_bom, default_config, source_of, ReadsNext, ReadRecord, reader_state, is_flexible, took_first}
+use Rattle.csv.specs.Machine.{Read, next_record, step, is_end, ends_at_end, fields_after}
+use Rattle.csv.specs.Machine.{field_after}
+use Rattle.csv.specs.Reading.{records_from, strip_bom, is_bom, default_config, source_of, ReadsNext}
+use Rattle.csv.specs.Reading.{ReadRecord, reader_state, is_flexible, took_first}
 use Rattle.csv.specs.Records.{field_at}
 use Rattle.csv.specs.declared.parser.State.{State}
 use Rattle.csv.specs.declared.parser.State.TheVariants as st

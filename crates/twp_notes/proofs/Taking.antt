@@ -1,5 +1,7 @@
 -- Records that are taken down one after another.
-use Rattle.std.proofs.Common.{◌≡◌, ◌≢◌, ℕ, suc, ◌+◌, ◌-◌, ◌≤◌, ◌<◌, List, [], ◌∷◌, length, drop, inl, inr, get_or, Option, Some, None, ap, sym, ◌∙◌, arith, add-one, drop-cons, length-drop}
+use Rattle.std.proofs.Common.{◌≡◌, ◌≢◌, ℕ, suc, ◌+◌, ◌-◌, ◌≤◌, ◌<◌, List, [], ◌∷◌, length, drop}
+use Rattle.std.proofs.Common.{inl, inr, get_or, Option, Some, None, ap, sym, ◌∙◌, arith, add-one}
+use Rattle.std.proofs.Common.{drop-cons, length-drop}
 use Rattle.std.proofs.lemmas.Bool.{cases_lt, cases_eq}
 use Rattle.std.proofs.lemmas.List.{get_or-set_same, get_or-set_other, length-set}
 use Rattle.twp_notes.specs.Records.{Fields, record_at}

@@ -1,11 +1,14 @@
 -- Texts that are appended to.
-use Rattle.std.proofs.Common.{◌≡◌, ℕ, ◌+◌, ◌≤◌, List, [], ◌∷◌, ◌++◌, length, take, get_or, map, inl, inr, refl, ap, subst, sym, ◌∙◌, arith, append_assoc, length-append}
+use Rattle.std.proofs.Common.{◌≡◌, ℕ, ◌+◌, ◌≤◌, List, [], ◌∷◌, ◌++◌, length, take, get_or, map, inl}
+use Rattle.std.proofs.Common.{inr, refl, ap, subst, sym, ◌∙◌, arith, append_assoc, length-append}
 use Rattle.std.specs.Prelude.{Result, Ok, Err, OnOk, OnErr}
 use Rattle.std.proofs.lemmas.Bool.{cases_lt}
-use Rattle.std.proofs.lemmas.List.{append-nil, take_at, take-take, take_all, length_push, get_or_push, get_or_append_left, flat_map_more}
+use Rattle.std.proofs.lemmas.List.{append-nil, take_at, take-take, take_all, length_push}
+use Rattle.std.proofs.lemmas.List.{get_or_push, get_or_append_left, flat_map_more}
 use Rattle.twp_notes.specs.Records.{Fields}
 use Rattle.twp_notes.specs.FieldNotes.{FieldNotes, heading, returned_of}
-use Rattle.twp_notes.specs.NotesTexts.{BeginsWith, record_text, township_fields, AreLineFields, AreLineRecords, text_before}
+use Rattle.twp_notes.specs.NotesTexts.{BeginsWith, record_text, township_fields, AreLineFields}
+use Rattle.twp_notes.specs.NotesTexts.{AreLineRecords, text_before}
 
 -- bytes begin with themselves
 pub begins_same : (old new : List ℕ) → new ≡ old → BeginsWith old new

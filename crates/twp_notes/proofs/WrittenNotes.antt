@@ -1,5 +1,7 @@
 -- The text that is written of notes is read as those notes.
-use Rattle.std.proofs.Common.{◌≡◌, ℕ, suc, ◌+◌, ◌-◌, ◌*◌, ◌≤◌, ◌<◌, List, [], ◌∷◌, ◌++◌, length, inl, inr, Option, Some, None, codes, decimal, refl, ap, subst, sym, ◌∙◌, arith, length-append}
+use Rattle.std.proofs.Common.{◌≡◌, ℕ, suc, ◌+◌, ◌-◌, ◌*◌, ◌≤◌, ◌<◌, List, [], ◌∷◌, ◌++◌, length}
+use Rattle.std.proofs.Common.{inl, inr, Option, Some, None, codes, decimal, refl, ap, subst, sym}
+use Rattle.std.proofs.Common.{◌∙◌, arith, length-append}
 use Rattle.std.specs.List.{AllByRecursion, flat_map}
 use Rattle.std.proofs.lemmas.Fmt.{decimal_is_IsNumeral, length-decimal-le}
 use Rattle.csv.specs.Reading.{strip_bom}
@@ -15,12 +17,18 @@ use Rattle.twp_grid.specs.declared.township.NorthSouth.TheVariants as ns
 use Rattle.twp_grid.specs.declared.township.EastWest.{EastWest}
 use Rattle.twp_grid.specs.declared.township.EastWest.TheVariants as ew
 use Rattle.twp_notes.specs.Records.{Fields, records_of, record_at, record_numbered}
-use Rattle.twp_notes.specs.FieldNotes.{FieldNotes, NOTES_MOST, heading, north_south_text, east_west_text, run_text, returned_of, IsTownshipRecord, IsSectionText, IsNeighbourText, NamesLine, IsLineRecord, IsLineNumber, AreNoteRecords, AreNotes}
-use Rattle.twp_notes.specs.NotesTexts.{record_text, township_fields, neighbour_text, AreLineFields, AreLineRecords, text_before, AreWithinLimits}
+use Rattle.twp_grid.specs.Texts.{north_south_letter, east_west_letter}
+use Rattle.twp_notes.specs.FieldNotes.{FieldNotes, NOTES_MOST, heading}
+use Rattle.twp_notes.specs.FieldNotes.{run_text, returned_of, IsTownshipRecord}
+use Rattle.twp_notes.specs.FieldNotes.{IsSectionText, IsNeighbourText, NamesLine, IsLineRecord}
+use Rattle.twp_notes.specs.FieldNotes.{IsLineNumber, AreNoteRecords, AreNotes}
+use Rattle.twp_notes.specs.NotesTexts.{record_text, township_fields, neighbour_text, AreLineFields}
+use Rattle.twp_notes.specs.NotesTexts.{AreLineRecords, text_before, AreWithinLimits}
 use Rattle.twp_notes.specs.Laws.{WrittenIsRead}
 use Rattle.twp_notes.specs.declared.returned.Returned.{Returned}
 use Rattle.twp_notes.proofs.NameFacts.{names_one}
-use Rattle.twp_notes.proofs.WrittenRecords.{IsPlain, IsPlainRecord, fields_of, records_back, plain_decimal, plain_length, length_short, texts_short}
+use Rattle.twp_notes.proofs.WrittenRecords.{IsPlain, IsPlainRecord, fields_of, records_back}
+use Rattle.twp_notes.proofs.WrittenRecords.{plain_decimal, plain_length, length_short, texts_short}
 
 -- the digits of a number under 100
 short_number : (n : ℕ) → n < 100 → IsShortNumber (decimal n) n
@@ -73,11 +81,11 @@ run_plain : (run : Run) → IsShortPlain (run_text run) 1
 run_plain run.North = record { plain = (omega arith, tt); short = omega arith }
 run_plain run.West = record { plain = (omega arith, tt); short = omega arith }
 
-north_south_plain : (side : NorthSouth) → IsShortPlain (north_south_text side) 1
+north_south_plain : (side : NorthSouth) → IsShortPlain (north_south_letter side) 1
 north_south_plain ns.N = record { plain = (omega arith, tt); short = omega arith }
 north_south_plain ns.S = record { plain = (omega arith, tt); short = omega arith }
 
-east_west_plain : (side : EastWest) → IsShortPlain (east_west_text side) 1
+east_west_plain : (side : EastWest) → IsShortPlain (east_west_letter side) 1
 east_west_plain ew.E = record { plain = (omega arith, tt); short = omega arith }
 east_west_plain ew.W = record { plain = (omega arith, tt); short = omega arith }
 
@@ -145,7 +153,7 @@ written_township township number range =
         east_west = refl;
       };
       plain = five_plain _ _ _ _ _ (omega arith, tt) plain-number.plain north_south.plain plain-range.plain east_west.plain;
-      short = rw (five_long (codes "T") (decimal township.number) (north_south_text township.north_south) (decimal township.range) (east_west_text township.east_west))
+      short = rw (five_long (codes "T") (decimal township.number) (north_south_letter township.north_south) (decimal township.range) (east_west_letter township.east_west))
           (omega (arith, plain-number.short, plain-range.short, north_south.short, east_west.short));
     }
 

@@ -1,16 +1,14 @@
--- The field notes of a township: a heading, the township's designation, and a record for each of its
--- section lines. The layout is this project's.
-use Rattle.std.specs.Prelude.{◌≡◌, ℕ, ◌≤◌, List, [], ◌∷◌, length, Option, Some, None, codes, slice_index_or}
+-- The field notes of a township: a heading, the township's designation, and a record for each of
+-- its section lines. The layout is this project's.
+use Rattle.std.specs.Prelude.{◌≡◌, ℕ, ◌≤◌, List, [], ◌∷◌, length, codes, slice_index_or}
+use Rattle.std.specs.Prelude.{Option, Some, None}
 use Rattle.twp_measure.specs.LengthTexts.{IsShortNumber, IsLengthText}
 use Rattle.twp_grid.specs.Winding.{IsSection}
 use Rattle.twp_grid.specs.Lines.{LINE_COUNT, IsLine, IsLineOf}
 use Rattle.twp_grid.specs.Townships.{Designation, IsTownshipNumber}
+use Rattle.twp_grid.specs.Texts.{north_south_letter, east_west_letter}
 use Rattle.twp_grid.specs.declared.line.Run.{Run}
 use Rattle.twp_grid.specs.declared.line.Run.TheVariants as run
-use Rattle.twp_grid.specs.declared.township.NorthSouth.{NorthSouth}
-use Rattle.twp_grid.specs.declared.township.NorthSouth.TheVariants as ns
-use Rattle.twp_grid.specs.declared.township.EastWest.{EastWest}
-use Rattle.twp_grid.specs.declared.township.EastWest.TheVariants as ew
 use Rattle.twp_notes.specs.Records.{Fields, field, records_of, record_numbered}
 use Rattle.twp_notes.specs.declared.returned.Returned.{Returned}
 
@@ -39,24 +37,14 @@ returned_of notes line = slice_index_or notes.lines line nothing_returned
 abbrev pub heading : Fields
 heading = codes "line" ∷ codes "between" ∷ codes "and" ∷ codes "quarter" ∷ codes "corner" ∷ []
 
--- the letter of a side of the base line
-abbrev pub north_south_text : NorthSouth → List ℕ
-north_south_text ns.N = codes "N"
-north_south_text ns.S = codes "S"
-
--- the letter of a side of the principal meridian
-abbrev pub east_west_text : EastWest → List ℕ
-east_west_text ew.E = codes "E"
-east_west_text ew.W = codes "W"
-
 -- T, the township's number and side, the range's number and side
 pub record IsTownshipRecord (fields : Fields) (township : Designation) : Type 0 where
   pub columns : length fields ≡ FIELDS
   pub mark : field fields 0 ≡ codes "T"
   pub number : IsShortNumber (field fields 1) township.number × IsTownshipNumber township.number
-  pub north_south : field fields 2 ≡ north_south_text township.north_south
+  pub north_south : field fields 2 ≡ north_south_letter township.north_south
   pub range : IsShortNumber (field fields 3) township.range × IsTownshipNumber township.range
-  pub east_west : field fields 4 ≡ east_west_text township.east_west
+  pub east_west : field fields 4 ≡ east_west_letter township.east_west
 
 -- the letter of a run
 abbrev pub run_text : Run → List ℕ

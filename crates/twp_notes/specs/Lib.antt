@@ -4,6 +4,6 @@ pub mod FieldNotes
 pub mod NotesFaults
 pub mod Tables
 pub mod LineFaults
-pub mod Passing
+pub mod PassedFaults
 pub mod NotesTexts
 pub mod Laws

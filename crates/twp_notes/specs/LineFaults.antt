@@ -1,5 +1,5 @@
--- What the record of a line is refused for, in the order in which its fields are read. No public promise
--- speaks of it; proofs/FirstFaults shows that it is the notes' first fault.
+-- What the record of a line is refused for, in the order in which its fields are read. No public
+-- promise speaks of it; proofs/FirstFaults shows that it is the notes' first fault.
 use Rattle.std.specs.Prelude.{◌≡◌, ◌≢◌, ℕ, ◌+◌, ◌<◌, List, length, Option, IsSome, ⊤}
 use Rattle.twp_notes.specs.Records.{Fields, record_at}
 use Rattle.twp_notes.specs.FieldNotes.{FIELDS, NamesLine}

@@ -1,13 +1,16 @@
--- What may be wrong with field notes, each fault as a statement about all their records, and which fault
--- is answered.
-use Rattle.std.specs.Prelude.{◌≡◌, ◌≢◌, ◌⊎◌, ℕ, ◌≤◌, ◌<◌, List, [], length, Option, Some, None, IfSome, Result, Ok, Err}
+-- What may be wrong with field notes, each fault as a statement about all their records, and which
+-- fault is answered.
+use Rattle.std.specs.Prelude.{◌≡◌, ◌≢◌, ◌⊎◌, ℕ, ◌≤◌, ◌<◌, List, [], length, Option, Some, None}
+use Rattle.std.specs.Prelude.{IfSome, Result, Ok, Err}
 use Rattle.std.specs.Option.{option_map_or}
 use Rattle.twp_measure.specs.LengthTexts.{IsLengthText}
 use Rattle.twp_grid.specs.Lines.{IsLine}
 use Rattle.twp_grid.specs.declared.line.Run.{Run}
 use Rattle.twp_grid.specs.declared.refusal.Refusal.{Refusal}
 use Rattle.twp_notes.specs.Records.{Fields, field, records_of, record_numbered}
-use Rattle.twp_notes.specs.FieldNotes.{FieldNotes, NOTES_MOST, FIELDS, heading, run_text, IsTownshipRecord, IsSectionText, IsNeighbourText, NamesLine, IsLineNumber, IsNamed, AreNotes}
+use Rattle.twp_notes.specs.FieldNotes.{FieldNotes, NOTES_MOST, FIELDS, heading, run_text}
+use Rattle.twp_notes.specs.FieldNotes.{IsTownshipRecord, IsSectionText, IsNeighbourText, NamesLine}
+use Rattle.twp_notes.specs.FieldNotes.{IsLineNumber, IsNamed, AreNotes}
 use Rattle.twp_notes.specs.declared.fault.NotesFault.{NotesFault}
 use Rattle.twp_notes.specs.declared.fault.NotesFault.TheVariants as fault
 
@@ -82,8 +85,8 @@ HasFault bytes (fault.Missing line) = IsLine line × ¬ IsNamed (records_of byte
 HasFault bytes fault.Read = ⊥
 HasFault bytes fault.Memory = ⊥
 
--- The size of the notes is looked at first, then their records one after another, and at last whether a
--- line is missing.
+-- The size of the notes is looked at first, then their records one after another, and at last
+-- whether a line is missing.
 abbrev pub stage_of : NotesFault → ℕ
 stage_of fault.TooLarge = 0
 stage_of (fault.Missing line) = 2

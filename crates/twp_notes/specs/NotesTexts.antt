@@ -1,14 +1,17 @@
--- The text that is written of field notes: the heading, the township, and the lines by rising index.
-use Rattle.std.specs.Prelude.{◌≡◌, ℕ, ◌+◌, ◌<◌, List, [], ◌∷◌, ◌++◌, length, take, Option, Some, None, codes, decimal, ⊤}
+-- The text that is written of field notes: the heading, the township, and the lines by rising
+-- index.
+use Rattle.std.specs.Prelude.{◌≡◌, ℕ, ◌+◌, ◌<◌, List, [], ◌∷◌, ◌++◌, length, take, Option, Some}
+use Rattle.std.specs.Prelude.{None, codes, decimal, ⊤}
 use Rattle.std.specs.List.{flat_map}
 use Rattle.twp_measure.specs.LengthTexts.{IsLength, length_text}
 use Rattle.twp_grid.specs.Winding.{StandsAt}
 use Rattle.twp_grid.specs.Lines.{LINE_COUNT, IsLine, IsLineOf, north_run, west_run}
 use Rattle.twp_grid.specs.Townships.{Designation, IsTownshipNumber}
+use Rattle.twp_grid.specs.Texts.{north_south_letter, east_west_letter, line_feed}
 use Rattle.twp_grid.specs.declared.line.Run.{Run}
 use Rattle.twp_grid.specs.declared.line.Run.TheVariants as run
 use Rattle.twp_notes.specs.Records.{Fields, record_at}
-use Rattle.twp_notes.specs.FieldNotes.{FieldNotes, heading, north_south_text, east_west_text, run_text, returned_of}
+use Rattle.twp_notes.specs.FieldNotes.{FieldNotes, heading, run_text, returned_of}
 use Rattle.twp_notes.specs.declared.returned.Returned.{Returned}
 use Rattle.twp_notes.specs.declared.writing.Field.{Field}
 use Rattle.twp_notes.specs.declared.writing.Field.TheVariants as field
@@ -16,10 +19,6 @@ use Rattle.twp_notes.specs.declared.writing.Field.TheVariants as field
 -- the byte between two fields
 abbrev pub comma : ℕ
 comma = 44
-
--- the byte behind a record
-abbrev pub line_feed : ℕ
-line_feed = 10
 
 -- the fields behind the first, each behind a comma, and a line feed
 abbrev pub rest_text : Fields → List ℕ
@@ -41,11 +40,11 @@ field_text field.Nothing = []
 -- the record of a township
 abbrev pub township_fields : Designation → Fields
 township_fields township =
-    codes "T" ∷ decimal township.number ∷ north_south_text township.north_south
-    ∷ decimal township.range ∷ east_west_text township.east_west ∷ []
+    codes "T" ∷ decimal township.number ∷ north_south_letter township.north_south
+    ∷ decimal township.range ∷ east_west_letter township.east_west ∷ []
 
--- the side of the section at this row and column that is its west side, of lines that are run north, or
--- its south side, of lines that are run west
+-- the side of the section at this row and column that is its west side, of lines that are run
+-- north, or its south side, of lines that are run west
 abbrev pub far_side : Run → ℕ → ℕ → ℕ
 far_side run.North row column = north_run row (column + 1)
 far_side run.West row column = west_run (row + 1) column

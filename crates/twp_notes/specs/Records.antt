@@ -1,9 +1,11 @@
--- The records of a text of comma-separated fields, as `csv` reads them: no header row is set apart, a
--- record may have any number of fields, and nothing is trimmed.
-use Rattle.std.specs.Prelude.{◌≡◌, ℕ, ◌+◌, ◌-◌, true, false, List, [], length, Some, slice_index_or, unwrap_or}
+-- The records of a text of comma-separated fields, as `csv` reads them: no header row is set apart,
+-- a record may have any number of fields, and nothing is trimmed.
+use Rattle.std.specs.Prelude.{◌≡◌, ℕ, ◌+◌, ◌-◌, true, false, List, [], length, Some, slice_index_or}
+use Rattle.std.specs.Prelude.{unwrap_or}
 use Rattle.std.specs.Borrow.{Bor}
 use Rattle.csv.specs.Machine.{ends_at_end}
-use Rattle.csv.specs.Reading.{records, records_from, strip_bom, default_config, source_of, Ready, reader_config, reader_state, reader_trim, is_flexible}
+use Rattle.csv.specs.Reading.{records, records_from, strip_bom, default_config, source_of, Ready}
+use Rattle.csv.specs.Reading.{reader_config, reader_state, reader_trim, is_flexible}
 use Rattle.csv.specs.declared.reader.Trim.TheVariants as trim
 use Rattle.twp_notes.specs.declared.records.Records.{Records}
 

@@ -1,6 +1,7 @@
--- What was returned of lines so far, by their indexes. No public promise speaks of it; proofs/Taking and
--- proofs/FirstFaults show that it leads to the notes and to their first fault.
-use Rattle.std.specs.Prelude.{slice_set, ◌≡◌, ℕ, ◌<◌, List, length, Option, Some, None, IsSome, slice_index_or}
+-- What was returned of lines so far, by their indexes. No public promise speaks of it;
+-- proofs/Taking and proofs/FirstFaults show that it leads to the notes and to their first fault.
+use Rattle.std.specs.Prelude.{slice_set, ◌≡◌, ℕ, ◌<◌, List, length, Option, Some, None, IsSome}
+use Rattle.std.specs.Prelude.{slice_index_or}
 use Rattle.twp_grid.specs.Lines.{LINE_COUNT, IsLine}
 use Rattle.twp_notes.specs.Records.{Fields, record_at}
 use Rattle.twp_notes.specs.FieldNotes.{nothing_returned, NamesLine, IsLineRecord}
@@ -45,7 +46,8 @@ pub record IsNamedBy (records : List Fields) (count line : ℕ) : Type 0 where
   pub names : NamesLine (record_at records place) line
 
 -- the table has just what the first so many of these records return, each of another line
-pub record AreTaken (records : List Fields) (count : ℕ) (table : List (Option Returned)) : Type 0 where
+pub record AreTaken (records : List Fields) (count : ℕ) (table : List (Option Returned))
+    : Type 0 where
   pub each : (place : ℕ) → place < count → IsTaken (record_at records place) table
   pub once : (place other line : ℕ) → place < count → other < count
       → NamesLine (record_at records place) line → NamesLine (record_at records other) line

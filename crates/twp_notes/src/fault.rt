@@ -6,8 +6,8 @@ use twp_grid::{Line, Refusal};
 /// The most bytes of field notes, which is also the place of the refusal of more.
 pub const MOST_BYTES: u32 = 65_536;
 
-/// Why bytes are no field notes. Records are numbered from 1, as `csv` gives them; the layout of the
-/// notes is this project's rule.
+/// Why bytes are no field notes. Records are numbered from 1, as `csv` gives them; the layout of
+/// the notes is this project's rule.
 #[derive(Clone, Copy, Debug, PartialEq, Eq, Hash, Error)]
 pub enum NotesFault {
     /// 1, at the limit: there are more bytes than field notes may have.
@@ -28,7 +28,8 @@ pub enum NotesFault {
     /// 6, at the record: its first field is no run.
     #[error("record {0} has no run: its first field is `N` or `W`")]
     Run(u32),
-    /// 7, at the record: its second field is no section, or its third is neither a section nor empty.
+    /// 7, at the record: its second field is no section, or its third is neither a section nor
+    /// empty.
     #[error("record {0} has no sections: 1 to 36 in one or two digits; only field 3 may be empty")]
     Section(u32),
     /// 8, at the record: no line of that run lies between these sections, or on the township's
@@ -41,8 +42,8 @@ pub enum NotesFault {
     /// 10, at the record: an earlier one was of the same line.
     #[error("record {0} returns a line that an earlier record returned")]
     Repeated(u32),
-    /// 11, at the line's index: no record is of this line. Of several lines it is the one of the least
-    /// index.
+    /// 11, at the line's index: no record is of this line. Of several lines it is the one of the
+    /// least index.
     #[error("no record returns the line of index {0}")]
     Missing(u8),
     /// The reader failed.
@@ -80,7 +81,7 @@ impl NotesFault {
 }
 
 impl From<ReadFault> for NotesFault {
-    ghost use Rattle.twp_notes.specs.Passing.{IsNotesFaultOf};
+    ghost use Rattle.twp_notes.specs.PassedFaults.{IsNotesFaultOf};
 
     ghost from_gives = { IsNotesFaultOf };
 

@@ -1,4 +1,5 @@
-ghost use Rattle.std.specs.Prelude.{◌≡◌, ℕ, ◌<◌, ◌↔◌, length, IsTrue, IfOk, IfErr, SomeIff, MatchOption};
+ghost use Rattle.std.specs.Prelude.{◌≡◌, ℕ, ◌<◌, ◌↔◌, length, IsTrue, IfOk, IfErr, SomeIff};
+ghost use Rattle.std.specs.Prelude.{MatchOption};
 ghost use Rattle.std.specs.Char.{digit_value};
 ghost use Rattle.csv.specs.Records.{fields_of};
 ghost use Rattle.twp_measure.specs.LengthTexts.{IsShortNumber, IsLengthText};
@@ -6,7 +7,10 @@ ghost use Rattle.twp_grid.specs.declared.line.Run.{Run};
 ghost use Rattle.twp_grid.specs.declared.township.NorthSouth.{NorthSouth};
 ghost use Rattle.twp_grid.specs.declared.township.EastWest.{EastWest};
 ghost use Rattle.twp_grid.specs.Finding.{Finds};
-ghost use Rattle.twp_notes.specs.FieldNotes.{FIELDS, heading, IsTownshipRecord, north_south_text, east_west_text, run_text, IsSectionText, IsNeighbourText, NamesLine, Returns};
+ghost use Rattle.twp_grid.specs.Texts.{north_south_letter, east_west_letter};
+ghost use Rattle.twp_notes.specs.FieldNotes.{FIELDS, heading, IsTownshipRecord};
+ghost use Rattle.twp_notes.specs.FieldNotes.{run_text, IsSectionText};
+ghost use Rattle.twp_notes.specs.FieldNotes.{IsNeighbourText, NamesLine, Returns};
 ghost use Rattle.twp_notes.specs.NotesFaults.{HasNoLength};
 ghost use Rattle.twp_notes.specs.LineFaults.{IsUnnamed};
 
@@ -74,7 +78,7 @@ pub fn line_of(row: &ByteRecord, number: u32) -> Result<Line, NotesFault>
 }
 
 /// The distances that a record returns.
-pub fn returned_of(row: &ByteRecord) -> Option<Returned>
+pub fn returned_in(row: &ByteRecord) -> Option<Returned>
     requires { length (fields_of row.now) ≡ FIELDS }
     ensures { MatchOption result (HasNoLength (fields_of row.now)) (Returns (fields_of row.now)) }
 {
@@ -100,7 +104,7 @@ fn run_of(text: &[u8]) -> Option<Run>
 
 /// The side of the base line that a letter stands for.
 fn north_south_of(text: &[u8]) -> Option<NorthSouth>
-    ensures { Finds result (λ (side : NorthSouth). text.now ≡ north_south_text side) }
+    ensures { Finds result (λ (side : NorthSouth). text.now ≡ north_south_letter side) }
 {
     match text {
         b"N" => Some(NorthSouth::N),
@@ -111,7 +115,7 @@ fn north_south_of(text: &[u8]) -> Option<NorthSouth>
 
 /// The side of the principal meridian that a letter stands for.
 fn east_west_of(text: &[u8]) -> Option<EastWest>
-    ensures { Finds result (λ (side : EastWest). text.now ≡ east_west_text side) }
+    ensures { Finds result (λ (side : EastWest). text.now ≡ east_west_letter side) }
 {
     match text {
         b"E" => Some(EastWest::E),

@@ -1,5 +1,5 @@
-//! What holds of field notes as they are defined: each law is a contract, and its function has nothing
-//! to do.
+//! What holds of field notes as they are defined: each law is a contract, and its function has
+//! nothing to do.
 ghost use Rattle.twp_notes.specs.Laws.{OneAnswer, WrittenIsRead};
 
 /// Bytes are one list of notes, or have one first fault.

@@ -1,5 +1,6 @@
-//! The field notes of a township: their records, read from bytes into what was returned of each line, or
-//! refused for their first fault; and the reading of bytes to a limit, for the crates above too.
+//! The field notes of a township: their records, read from bytes into what was returned of each
+//! line, or refused for their first fault; and the reading of bytes to a limit, for the crates
+//! above too.
 #![tactic(auto)]
 
 mod fault;

@@ -1,4 +1,5 @@
-ghost use Rattle.std.specs.Prelude.{◌≡◌, ◌+◌, ◌↔◌, ℕ, List, Some, true, false, OnOk, OnErr, IsErrOf};
+ghost use Rattle.std.specs.Prelude.{◌≡◌, ◌+◌, ◌↔◌, ℕ, List, Some, true, false, OnOk, OnErr};
+ghost use Rattle.std.specs.Prelude.{IsErrOf};
 ghost use Rattle.twp_grid.specs.Devices.{Tells, TakesAtMost};
 ghost use Rattle.twp_notes.specs.FieldNotes.{FieldNotes, NOTES_MOST, returned_of};
 ghost use Rattle.twp_notes.specs.NotesFaults.{AnswersNotes};
@@ -35,10 +36,10 @@ impl Model for Notes {
 }
 
 impl Notes {
-    /// Reads the notes that a source gives, to its end or to one byte past what notes may have, before
-    /// any refusal is answered. The first fault is answered: too many bytes before all; then that of the
-    /// first record that has one, the least number of that record; and last the least line that is
-    /// missing. `Read` is answered exactly where the source failed in this call.
+    /// Reads the notes that a source gives, to its end or to one byte past what notes may have,
+    /// before any refusal is answered. The first fault is answered: too many bytes before all; then
+    /// that of the first record that has one, the least number of that record; and last the least
+    /// line that is missing. `Read` is answered exactly where the source failed in this call.
     pub fn read<R: Source>(alloc: Global, source: &mut R) -> Result<Notes, NotesFault>
         requires { R.has_failed source.old ≡ false }
         ensures failed { IsErrOf result NotesFault.Read ↔ (R.has_failed source.new ≡ true) }
@@ -62,9 +63,9 @@ impl Notes {
         Notes { township, lines }
     }
 
-    /// Appends the text of the notes: the heading, the township, and the lines by rising index, each with
-    /// the section on its east or on its north first (this project's order). Where memory runs out the
-    /// vector is as it was.
+    /// Appends the text of the notes: the heading, the township, and the lines by rising index,
+    /// each with the section on its east or on its north first (this project's order). Where memory
+    /// runs out the vector is as it was.
     pub fn write(&self, out: &mut Vec<u8>) -> Result<(), AllocError>
         ensures ok { OnOk result (AppendsNotes self.now out.old.items out.new.items) }
         ensures err { OnErr result (out.new.items ≡ out.old.items) }

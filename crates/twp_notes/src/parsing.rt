@@ -7,7 +7,7 @@ ghost use Rattle.twp_notes.specs.LineFaults.{IsNotTaken, IsRefusedAfter};
 ghost use Rattle.twp_notes.specs.Tables.{TakesDown, AreTaken};
 
 use crate::fault::NotesFault;
-use crate::fields::{FIELDS, is_heading, line_of, returned_of, township_of};
+use crate::fields::{FIELDS, is_heading, line_of, returned_in, township_of};
 use crate::notes::Notes;
 use crate::records::Records;
 use crate::table::LineTable;
@@ -73,7 +73,7 @@ fn take_line(table: &mut LineTable, row: &ByteRecord, number: u32) -> Result<(),
         return Err(NotesFault::Columns(number));
     }
     let line = line_of(row, number)?;
-    let Some(returned) = returned_of(row) else {
+    let Some(returned) = returned_in(row) else {
         return Err(NotesFault::Length(number));
     };
     if table.take_down(line, returned) {

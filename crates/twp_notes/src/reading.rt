@@ -1,4 +1,5 @@
-ghost use Rattle.std.specs.Prelude.{◌≡◌, ℕ, ◌+◌, ◌^◌, ◌≤◌, ◌<◌, ◌↔◌, Bool, true, false, List, length, take, IfOk, IsErrOf, MatchOption};
+ghost use Rattle.std.specs.Prelude.{◌≡◌, ℕ, ◌+◌, ◌^◌, ◌≤◌, ◌<◌, ◌↔◌, Bool, true, false, List};
+ghost use Rattle.std.specs.Prelude.{length, take, IfOk, IsErrOf, MatchOption};
 ghost use Rattle.std.specs.Io.KnownBytes.{Consumes, IsAtEnd};
 ghost use Rattle.twp_grid.specs.Devices.{Tells, TakesAtMost};
 ghost use Rattle.twp_notes.specs.ReadBytes.{TakesJust, TakesAll};
@@ -67,8 +68,8 @@ pub fn read_whole<S: Source>(
     })
 }
 
-/// Reads the bytes that a source gives, to the end of the input or until there are `most` of them. No
-/// byte past these is asked for.
+/// Reads the bytes that a source gives, to the end of the input or until there are `most` of them.
+/// No byte past these is asked for.
 pub fn read_up_to<S: Source>(
     alloc: Global,
     source: &mut S,

@@ -29,7 +29,8 @@ impl<'a> Records<'a> {
     pub fn read(&mut self, row: &mut ByteRecord) -> Result<bool, AllocError>
         requires { IsReading self.old }
         ensures { IfOk result (λ found. MatchBool found
-            ((records_left self.old ≡ fields_of row.new ∷ records_left self.new) × IsReading self.new)
+            ((records_left self.old ≡ fields_of row.new ∷ records_left self.new)
+            × IsReading self.new)
             (records_left self.old ≡ [])) }
     {
         match self.reader.read_byte_record(row) {

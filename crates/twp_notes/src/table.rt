@@ -1,4 +1,5 @@
-ghost use Rattle.std.specs.Prelude.{◌≡◌, ℕ, ◌<◌, None, Some, IsSome, IfOk, IfErr, slice_set, length};
+ghost use Rattle.std.specs.Prelude.{◌≡◌, ℕ, ◌<◌, None, Some, IsSome, IfOk, IfErr, slice_set};
+ghost use Rattle.std.specs.Prelude.{length};
 ghost use Rattle.std.specs.Bool.{OnTrue, OnFalse};
 ghost use Rattle.twp_notes.specs.Tables.{entry_of, AreEntries, IsLeastMissing};
 

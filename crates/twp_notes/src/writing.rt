@@ -2,8 +2,11 @@ ghost use Rattle.std.specs.Prelude.{◌≡◌, ◌<◌, ◌∷◌, [], ◌++◌,
 ghost use Rattle.twp_grid.specs.Winding.{SECTIONS_ACROSS};
 ghost use Rattle.twp_grid.specs.Lines.{LINES_ACROSS, north_run, west_run};
 ghost use Rattle.twp_notes.specs.Records.{Fields};
-ghost use Rattle.twp_notes.specs.FieldNotes.{run_text, north_south_text, east_west_text};
-ghost use Rattle.twp_notes.specs.NotesTexts.{field_text, record_text, township_fields, AreNames, AreLineFields, AppendsNotes, BeginsWith, neighbour_text};
+ghost use Rattle.twp_grid.specs.Texts.{north_south_letter, east_west_letter};
+ghost use Rattle.twp_notes.specs.FieldNotes.{run_text};
+ghost use Rattle.twp_notes.specs.NotesTexts.{field_text, record_text, township_fields, AreNames};
+ghost use Rattle.twp_notes.specs.NotesTexts.{AreLineFields, AppendsNotes, BeginsWith};
+ghost use Rattle.twp_notes.specs.NotesTexts.{neighbour_text};
 
 use crate::fields::FIELDS;
 use crate::notes::Notes;
@@ -37,8 +40,8 @@ impl Field {
     }
 }
 
-/// How a line is named in writing: by its run and the sections beside it, first the one on its east or
-/// on its north.
+/// How a line is named in writing: by its run and the sections beside it, first the one on its east
+/// or on its north.
 #[derive(Clone, Copy)]
 pub struct Names {
     pub run: Run,
@@ -64,15 +67,16 @@ pub fn write_notes(notes: &Notes, out: &mut Vec<u8>) -> Result<(), AllocError>
 
 /// Appends the record of a township.
 fn write_township(township: Township, out: &mut Vec<u8>) -> Result<(), AllocError>
-    ensures ok { OnOk result (out.new.items ≡ out.old.items ++ record_text (township_fields township)) }
+    ensures ok { OnOk result
+        (out.new.items ≡ out.old.items ++ record_text (township_fields township)) }
     ensures err { OnErr result (BeginsWith out.old.items out.new.items) }
 {
     let fields = [
         Field::Letter(b'T'),
         Field::Number(township.number()),
-        Field::Letter(north_south_letter(township.north_south())),
+        Field::Letter(north_or_south(township.north_south())),
         Field::Number(township.range()),
-        Field::Letter(east_west_letter(township.east_west())),
+        Field::Letter(east_or_west(township.east_west())),
     ];
     write_record(fields, out)
 }
@@ -96,7 +100,8 @@ fn write_line(line: Line, returned: Returned, out: &mut Vec<u8>) -> Result<(), A
 
 /// Appends a record: its fields with commas between, and a line feed.
 fn write_record(fields: [Field; FIELDS], out: &mut Vec<u8>) -> Result<(), AllocError>
-    ensures ok { OnOk result (out.new.items ≡ out.old.items ++ record_text (map field_text fields)) }
+    ensures ok { OnOk result
+        (out.new.items ≡ out.old.items ++ record_text (map field_text fields)) }
     ensures err { OnErr result (BeginsWith out.old.items out.new.items) }
 {
     write_field(fields[0], b',', out)?;
@@ -198,8 +203,8 @@ fn run_letter(run: Run) -> u8
 }
 
 /// The letter of a side of the base line.
-fn north_south_letter(side: NorthSouth) -> u8
-    ensures { north_south_text side ≡ result ∷ [] }
+fn north_or_south(side: NorthSouth) -> u8
+    ensures { north_south_letter side ≡ result ∷ [] }
 {
     match side {
         NorthSouth::N => b'N',
@@ -208,8 +213,8 @@ fn north_south_letter(side: NorthSouth) -> u8
 }
 
 /// The letter of a side of the principal meridian.
-fn east_west_letter(side: EastWest) -> u8
-    ensures { east_west_text side ≡ result ∷ [] }
+fn east_or_west(side: EastWest) -> u8
+    ensures { east_west_letter side ≡ result ∷ [] }
 {
     match side {
         EastWest::E => b'E',

@@ -1,5 +1,6 @@
 -- The first fault, and the lines before it.
-use Rattle.std.proofs.Common.{◌≡◌, ℕ, ◌+◌, ◌<◌, List, length, get_or, Ok, pos, ◌≤ℤ◌, ◌<ℤ◌, inl, inr, arith, below_more, set}
+use Rattle.std.proofs.Common.{◌≡◌, ℕ, ◌+◌, ◌<◌, List, length, get_or, Ok, pos, ◌≤ℤ◌, ◌<ℤ◌, inl, inr}
+use Rattle.std.proofs.Common.{arith, below_more, set}
 use Rattle.std.proofs.lemmas.Bool.{cases_lt}
 use Rattle.std.proofs.lemmas.Int.{ints}
 use Rattle.std.proofs.lemmas.List.{get_or-set_same, get_or-set_other}

@@ -1,9 +1,11 @@
 -- Interpolation between a section's lines is the formula.
-use Rattle.std.proofs.Common.{◌≡◌, ◌==◌, ℕ, zero, suc, ◌+◌, ◌-◌, ◌*◌, ◌≤◌, ◌<◌, pos, ◌+ℤ◌, ◌-ℤ◌, ◌*ℤ◌, refl, ap, sym, arith, if◌then◌else◌}
+use Rattle.std.proofs.Common.{◌≡◌, ◌==◌, ℕ, zero, suc, ◌+◌, ◌-◌, ◌*◌, ◌≤◌, ◌<◌, pos, ◌+ℤ◌, ◌-ℤ◌}
+use Rattle.std.proofs.Common.{◌*ℤ◌, refl, ap, sym, arith, if◌then◌else◌}
 use Rattle.twp_plat.specs.Plats.{ClosingQuarters}
 use Rattle.twp_plat.specs.Ratios.{Ratio, ratio, times, IsSame}
 use Rattle.twp_plat.specs.Pieces.{quarter_mile, reach, line_length, mean_width, mean_height, piece}
-use Rattle.twp_plat.specs.Formula.{west_length, north_length, both_ends, both_widths, both_heights, formula}
+use Rattle.twp_plat.specs.Formula.{west_length, north_length, both_ends, both_widths, both_heights}
+use Rattle.twp_plat.specs.Formula.{formula}
 use Rattle.twp_plat.proofs.StraightFacts.{weighted, IsMeanOf, mean_straight}
 
 -- a number under 4 is 0, 1, 2 or 3

@@ -1,14 +1,18 @@
 -- Notes have one answer, and a position one area.
-use Rattle.std.proofs.Common.{◌≡◌, ℕ, ◌*◌, ◌<◌, List, Result, Ok, Err, ℤ, pos, ◌*ℤ◌, ◌<ℤ◌, ◌≤ℤ◌, ap, sym, ◌∙◌, inl, inr, arith}
+use Rattle.std.proofs.Common.{◌≡◌, ℕ, ◌*◌, ◌<◌, List, Result, Ok, Err, ℤ, pos, ◌*ℤ◌, ◌<ℤ◌, ◌≤ℤ◌, ap}
+use Rattle.std.proofs.Common.{sym, ◌∙◌, inl, inr, arith}
 use Rattle.std.proofs.lemmas.Grind.{same_number_lists}
 use Rattle.std.proofs.lemmas.Int.{ints}
 use Rattle.twp_measure.specs.Areas.{Fraction}
 use Rattle.twp_grid.specs.Townships.{Designation}
 use Rattle.twp_notes.specs.FieldNotes.{FieldNotes, returned_of}
 use Rattle.twp_notes.specs.declared.returned.Returned.{Returned}
-use Rattle.twp_plat.specs.Closing.{CLOSING_LEAST, CLOSING_MOST, last_quarter, IsInLimits, IsClosingQuarter}
-use Rattle.twp_plat.specs.Plats.{TownshipPlat, closing_quarter_of, IsPlat, IsPlatOf, IsQuarterOnPlat}
-use Rattle.twp_plat.specs.PlatFaults.{place_of, half_of, HasLineFault, IsFrom, IsFirstFault, AnswersPlat}
+use Rattle.twp_plat.specs.Closing.{CLOSING_LEAST, CLOSING_MOST, last_quarter, IsInLimits}
+use Rattle.twp_plat.specs.Closing.{IsClosingQuarter}
+use Rattle.twp_plat.specs.Plats.{TownshipPlat, closing_quarter_of, IsPlat, IsPlatOf}
+use Rattle.twp_plat.specs.Plats.{IsQuarterOnPlat}
+use Rattle.twp_plat.specs.PlatFaults.{place_of, half_of, HasLineFault, IsFrom, IsFirstFault}
+use Rattle.twp_plat.specs.PlatFaults.{AnswersPlat}
 use Rattle.twp_plat.specs.Pieces.{piece, IsPieceArea}
 use Rattle.twp_plat.specs.declared.fault.HalfMile.TheVariants as half
 use Rattle.twp_plat.specs.declared.fault.PlatFault.{PlatFault}

@@ -1,5 +1,6 @@
 -- Pieces as they are computed: in parts of a unit, or in whole units.
-use Rattle.std.proofs.Common.{◌≡◌, ℕ, ◌+◌, ◌-◌, ◌*◌, ◌/◌, ◌≤◌, ◌<◌, pos, ◌+ℤ◌, ◌-ℤ◌, ◌*ℤ◌, sym, arith}
+use Rattle.std.proofs.Common.{◌≡◌, ℕ, ◌+◌, ◌-◌, ◌*◌, ◌/◌, ◌≤◌, ◌<◌, pos, ◌+ℤ◌, ◌-ℤ◌, ◌*ℤ◌, sym}
+use Rattle.std.proofs.Common.{arith}
 use Rattle.std.proofs.Math.Nat.{mul-le-mul, mul-div_cancel}
 use Rattle.twp_plat.specs.Plats.{ClosingQuarters, HaveRegularLines}
 use Rattle.twp_plat.specs.Ratios.{ratio, whole, IsSame}

@@ -1,12 +1,14 @@
 -- The lines of a section, and which of them close.
-use Rattle.std.proofs.Common.{◌≡◌, ◌≢◌, ℕ, ◌+◌, ◌*◌, ◌<◌, List, [], ◌∷◌, get_or, Option, Some, refl, ap, sym, ◌∙◌, inl, inr, arith}
+use Rattle.std.proofs.Common.{◌≡◌, ◌≢◌, ℕ, ◌+◌, ◌*◌, ◌<◌, List, [], ◌∷◌, get_or, Option, Some, refl}
+use Rattle.std.proofs.Common.{ap, sym, ◌∙◌, inl, inr, arith}
 use Rattle.std.proofs.lemmas.Bool.{cases_lt}
 use Rattle.std.specs.Option.{SomeIff}
 use Rattle.twp_grid.specs.Winding.{StandsAt}
 use Rattle.twp_grid.proofs.WindingFacts.{same_standing}
 use Rattle.twp_grid.specs.Lines.{IsLine, IsClosing, AreSides, north_run, west_run}
 use Rattle.twp_plat.specs.Closing.{QUARTER_MILE}
-use Rattle.twp_plat.specs.Plats.{TownshipPlat, IsPlat, closing_quarter_of, ClosingQuarters, AreClosingQuarters, HaveRegularLines, AreInLimits}
+use Rattle.twp_plat.specs.Plats.{TownshipPlat, IsPlat, closing_quarter_of, ClosingQuarters}
+use Rattle.twp_plat.specs.Plats.{AreClosingQuarters, HaveRegularLines, AreInLimits}
 use Rattle.twp_plat.specs.Pieces.{line_length, over_of}
 
 -- where a section stands, and its lines by their indexes

@@ -1,6 +1,6 @@
--- Which returned distances make a plat, and the quarter miles that excess and deficiency are thrown into
--- (Manual of Surveying Instructions 2009, chapter 3). The limits are this project's. Lengths are
--- thousandths of a chain, and a difference of two may be negative.
+-- Which returned distances make a plat, and the quarter miles that excess and deficiency are thrown
+-- into (Manual of Surveying Instructions 2009, chapter 3). The limits are this project's. Lengths
+-- are thousandths of a chain, and a difference of two may be negative.
 use Rattle.std.specs.Prelude.{◌≡◌, ℕ, ◌+◌, ◌-◌, ◌*◌, ◌⊎◌, ℤ, pos, ◌-ℤ◌, ◌≤ℤ◌}
 use Rattle.twp_grid.specs.Lines.{IsLine, IsClosing}
 use Rattle.twp_notes.specs.FieldNotes.{FieldNotes, returned_of}

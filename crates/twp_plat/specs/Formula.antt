@@ -15,7 +15,8 @@ north_length q = line_length q.north
 
 -- the sum of the distances of a quarter mile's two ends from the start of a line of this length
 abbrev pub both_ends : ℕ → ℕ → ℕ
-both_ends length number = if number == 3 then 3 * QUARTER_MILE + length else QUARTER_MILE * (2 * number + 1)
+both_ends length number =
+    if number == 3 then 3 * QUARTER_MILE + length else QUARTER_MILE * (2 * number + 1)
 
 -- the sum of a position's two widths, times the length of the west line
 abbrev pub both_widths : ClosingQuarters → ℕ → ℕ → ℤ
@@ -36,4 +37,5 @@ both_heights q column row =
 -- both sums, over four times both lengths
 abbrev pub formula : ClosingQuarters → ℕ → ℕ → Ratio
 formula q column row =
-    ratio (both_widths q column row *ℤ both_heights q column row) (4 * west_length q * north_length q)
+    ratio (both_widths q column row *ℤ both_heights q column row)
+    (4 * west_length q * north_length q)

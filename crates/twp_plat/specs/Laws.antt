@@ -2,7 +2,8 @@
 use Rattle.std.specs.Prelude.{◌≡◌, ◌≢◌, ℕ, ◌<◌, pos, Result}
 use Rattle.twp_measure.specs.Areas.{Fraction}
 use Rattle.twp_notes.specs.FieldNotes.{FieldNotes}
-use Rattle.twp_plat.specs.Plats.{TownshipPlat, IsPlat, IsPlatOf, ClosingQuarters, AreClosingQuarters}
+use Rattle.twp_plat.specs.Plats.{TownshipPlat, IsPlat, IsPlatOf, ClosingQuarters}
+use Rattle.twp_plat.specs.Plats.{AreClosingQuarters}
 use Rattle.twp_plat.specs.PlatFaults.{AnswersPlat}
 use Rattle.twp_plat.specs.Ratios.{ratio, whole, IsSame}
 use Rattle.twp_plat.specs.Pieces.{piece, divisor_of, IsPieceArea, over_of}

@@ -1,13 +1,14 @@
--- The area of a position of a section, its piece: interpolated between the section's lines. This rule is
--- the project's own, that of section 6 included. A position's column is counted from the east and its
--- row from the south, 0 to 3. Lengths are thousandths of a chain.
+-- The area of a position of a section, its piece: interpolated between the section's lines. This
+-- rule is the project's own, that of section 6 included. A position's column is counted from the
+-- east and its row from the south, 0 to 3. Lengths are thousandths of a chain.
 use Rattle.std.specs.Prelude.{ℕ, ◌+◌, ◌*◌, List, [], ◌∷◌, take, slice_index_or, pos, ◌-ℤ◌, ◌*ℤ◌}
 use Rattle.std.specs.List.{sum}
 use Rattle.twp_measure.specs.Areas.{Fraction}
 use Rattle.twp_grid.specs.Winding.{SECTIONS_ACROSS, WESTERN_COLUMN}
 use Rattle.twp_grid.specs.Lines.{north_run, west_run}
 use Rattle.twp_plat.specs.Closing.{QUARTER_MILE, CLOSING_MOST}
-use Rattle.twp_plat.specs.Plats.{TownshipPlat, closing_quarter_of, ClosingQuarters, AreClosingQuarters}
+use Rattle.twp_plat.specs.Plats.{TownshipPlat, closing_quarter_of, ClosingQuarters}
+use Rattle.twp_plat.specs.Plats.{AreClosingQuarters}
 use Rattle.twp_plat.specs.Ratios.{Ratio, ratio, whole, plus, times, mean, IsSame}
 
 -- a line's four quarter miles from its start: three of 20 chains, and its closing quarter
@@ -26,23 +27,25 @@ reach closing count = sum (take count (quarter_miles closing))
 abbrev pub line_length : ℕ → ℕ
 line_length closing = sum (quarter_miles closing)
 
--- A length that runs straight along a line, from one value at its start to another at its end: what it is
--- at a distance from the start.
+-- A length that runs straight along a line, from one value at its start to another at its end: what
+-- it is at a distance from the start.
 abbrev pub straight : (start end along distance : ℕ) → Ratio
 straight start end along distance =
     plus (whole start) (ratio ((pos end -ℤ pos start) *ℤ pos distance) along)
 
--- A column's width at a distance north of the section's south line: it runs straight along the west line,
--- from the column's quarter mile of the south line to that of the north line.
+-- A column's width at a distance north of the section's south line: it runs straight along the west
+-- line, from the column's quarter mile of the south line to that of the north line.
 abbrev pub width_at : ClosingQuarters → ℕ → ℕ → Ratio
 width_at q column distance =
-    straight (quarter_mile q.south column) (quarter_mile q.north column) (line_length q.west) distance
+    straight (quarter_mile q.south column) (quarter_mile q.north column)
+    (line_length q.west) distance
 
--- A row's height at a distance west of the section's east line: it runs straight along the north line,
--- from the row's quarter mile of the east line to that of the west line.
+-- A row's height at a distance west of the section's east line: it runs straight along the north
+-- line, from the row's quarter mile of the east line to that of the west line.
 abbrev pub height_at : ClosingQuarters → ℕ → ℕ → Ratio
 height_at q row distance =
-    straight (quarter_mile q.east row) (quarter_mile q.west row) (line_length q.north) distance
+    straight (quarter_mile q.east row) (quarter_mile q.west row)
+    (line_length q.north) distance
 
 -- a position's mean width: of its south edge and its north edge, which lie on the west line
 abbrev pub mean_width : ClosingQuarters → ℕ → ℕ → Ratio
@@ -59,7 +62,8 @@ unfoldable pub piece : ClosingQuarters → ℕ → ℕ → Ratio
 piece q column row = times (mean_width q column row) (mean_height q column row)
 
 -- the area of a section's position on a plat, whatever the area's denominator
-pub record IsPieceArea (plat : TownshipPlat) (section column row : ℕ) (area : Fraction) : Type 0 where
+pub record IsPieceArea (plat : TownshipPlat) (section column row : ℕ) (area : Fraction)
+    : Type 0 where
   pub quarters : ClosingQuarters
   pub are : AreClosingQuarters plat section quarters
   pub area_is : IsSame (ratio (pos area.units) area.over) (piece quarters column row)
@@ -68,8 +72,8 @@ pub record IsPieceArea (plat : TownshipPlat) (section column row : ℕ) (area : 
 abbrev pub divisor_of : ClosingQuarters → ℕ
 divisor_of q = 4 * line_length q.north * line_length q.west
 
--- The denominator of all areas on a plat is that of section 6, whose north line is the westernmost of the
--- first tier, and whose west line is the westernmost of the first row.
+-- The denominator of all areas on a plat is that of section 6, whose north line is the westernmost
+-- of the first tier, and whose west line is the westernmost of the first row.
 unfoldable pub over_of : TownshipPlat → ℕ
 over_of plat =
     4 * line_length (closing_quarter_of plat (west_run 0 WESTERN_COLUMN))

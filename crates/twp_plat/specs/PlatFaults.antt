@@ -4,7 +4,8 @@ use Rattle.twp_grid.specs.Lines.{IsLine, IsClosing}
 use Rattle.twp_grid.specs.declared.refusal.Refusal.{Refusal}
 use Rattle.twp_notes.specs.FieldNotes.{FieldNotes, returned_of}
 use Rattle.twp_notes.specs.declared.returned.Returned.{Returned}
-use Rattle.twp_plat.specs.Closing.{CLOSING_LEAST, CLOSING_MOST, first_half, second_half, last_quarter, IsRegular}
+use Rattle.twp_plat.specs.Closing.{CLOSING_LEAST, CLOSING_MOST, first_half, second_half}
+use Rattle.twp_plat.specs.Closing.{last_quarter, IsRegular}
 use Rattle.twp_plat.specs.Plats.{TownshipPlat, IsPlatOf}
 use Rattle.twp_plat.specs.declared.fault.HalfMile.TheVariants as half
 use Rattle.twp_plat.specs.declared.fault.PlatFault.{PlatFault}
@@ -35,7 +36,8 @@ HasLineFault line returned (fault.ClosingLong at) =
 -- the fault is there, at its line
 abbrev pub HasFault : FieldNotes → PlatFault → Type 0
 HasFault notes fault =
-    IsLine (place_of fault) × HasLineFault (place_of fault) (returned_of notes (place_of fault)) fault
+    IsLine (place_of fault)
+    × HasLineFault (place_of fault) (returned_of notes (place_of fault)) fault
 
 -- Lines are looked at by rising index, and of each the first half before the second.
 abbrev pub half_of : PlatFault → ℕ

@@ -3,7 +3,8 @@ use Rattle.std.specs.Prelude.{◌≡◌, ℕ, ◌≤◌, ◌⊎◌, List, [], �
 use Rattle.twp_grid.specs.Lines.{LINE_COUNT, IsLine, IsClosing, AreSides}
 use Rattle.twp_grid.specs.Townships.{Designation}
 use Rattle.twp_notes.specs.FieldNotes.{FieldNotes, returned_of}
-use Rattle.twp_plat.specs.Closing.{QUARTER_MILE, CLOSING_LEAST, CLOSING_MOST, MakesPlat, IsClosingQuarter}
+use Rattle.twp_plat.specs.Closing.{QUARTER_MILE, CLOSING_LEAST, CLOSING_MOST, MakesPlat}
+use Rattle.twp_plat.specs.Closing.{IsClosingQuarter}
 
 -- a township, and its lines' closing quarters by the lines' indexes
 pub record TownshipPlat : Type 0 where
@@ -41,7 +42,8 @@ pub record ClosingQuarters : Type 0 where
   pub south : ℕ
 
 -- these are the closing quarters of the section's lines
-pub record AreClosingQuarters (plat : TownshipPlat) (section : ℕ) (q : ClosingQuarters) : Type 0 where
+pub record AreClosingQuarters (plat : TownshipPlat) (section : ℕ) (q : ClosingQuarters)
+    : Type 0 where
   pub east_line : ℕ
   pub west_line : ℕ
   pub north_line : ℕ

@@ -19,8 +19,8 @@ const CLOSING_LEAST: u32 = 5_000;
 
 const CLOSING_MOST: u32 = 25_000;
 
-/// The closing quarter of a line in thousandths of a chain, or what is out of its limits: the first half
-/// mile is looked at before the second.
+/// The closing quarter of a line in thousandths of a chain, or what is out of its limits: the first
+/// half mile is looked at before the second.
 pub fn closing_quarter(line: Line, returned: Returned) -> Result<u32, PlatFault>
     ensures { AnswersLine line returned result }
 {

@@ -20,8 +20,8 @@ impl fmt::Display for HalfMile {
     }
 }
 
-/// Why field notes make no plat: a half mile of a line is out of its limits, which are this project's.
-/// Lines go by their indexes, and of a line the first half mile comes before the second.
+/// Why field notes make no plat: a half mile of a line is out of its limits, which are this
+/// project's. Lines go by their indexes, and of a line the first half mile comes before the second.
 #[derive(Clone, Copy, Debug, PartialEq, Eq, Hash, Error)]
 pub enum PlatFault {
     /// 21, at the line: a half mile that isn't a closing one is too short or too long.

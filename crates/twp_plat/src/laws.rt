@@ -1,6 +1,8 @@
-//! What holds of plats as they are defined: each law is a contract, and its function has nothing to do.
+//! What holds of plats as they are defined: each law is a contract, and its function has nothing to
+//! do.
 ghost use Rattle.twp_plat.specs.Laws.{OneAnswer, NotesGivePlats, OneQuarters, OneArea};
-ghost use Rattle.twp_plat.specs.Laws.{PieceIsFormula, PieceIsWhole, PieceIsOver, OverIsOfSectionSix};
+ghost use Rattle.twp_plat.specs.Laws.{PieceIsFormula, PieceIsWhole, PieceIsOver};
+ghost use Rattle.twp_plat.specs.Laws.{OverIsOfSectionSix};
 
 /// Notes make one plat, or have one first fault, and not both.
 #[tactic(auto, using(crate::proofs::OneAnswer::one_answer))]
@@ -8,8 +10,8 @@ pub fn one_answer()
     ensures { OneAnswer }
 {}
 
-/// What notes make is a plat: its closing quarters are within the limits, and those of lines that don't
-/// close are a quarter mile.
+/// What notes make is a plat: its closing quarters are within the limits, and those of lines that
+/// don't close are a quarter mile.
 #[tactic(auto, using(crate::proofs::OneAnswer::plat_of_notes))]
 pub fn notes_give_plats()
     ensures { NotesGivePlats }
@@ -26,7 +28,8 @@ pub fn one_area()
     ensures { OneArea }
 {}
 
-/// Widths and heights that are interpolated between a section's lines give the one whole-number formula.
+/// Widths and heights that are interpolated between a section's lines give the one whole-number
+/// formula.
 #[tactic(auto, using(crate::proofs::FormulaFacts::piece_is_formula))]
 pub fn piece_is_formula()
     ensures { PieceIsFormula }
@@ -37,8 +40,8 @@ pub fn piece_is_whole()
     ensures { PieceIsWhole }
 {}
 
-/// Each piece is a whole number of parts of the plat's denominator: brought to it, the division leaves no
-/// rest.
+/// Each piece is a whole number of parts of the plat's denominator: brought to it, the division
+/// leaves no rest.
 pub fn piece_is_over()
     ensures { PieceIsOver }
 {}

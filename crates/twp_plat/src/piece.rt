@@ -3,7 +3,8 @@ ghost use Rattle.twp_plat.specs.Closing.{CLOSING_MOST};
 ghost use Rattle.twp_plat.specs.Ratios.{ratio, whole, IsSame};
 ghost use Rattle.twp_plat.specs.Plats.{HaveRegularLines};
 ghost use Rattle.twp_plat.specs.Pieces.{piece, line_length, divisor_of};
-ghost use Rattle.twp_plat.specs.Formula.{west_length, north_length, both_ends, both_widths, both_heights};
+ghost use Rattle.twp_plat.specs.Formula.{west_length, north_length, both_ends, both_widths};
+ghost use Rattle.twp_plat.specs.Formula.{both_heights};
 
 use crate::closing::QUARTER_MILE;
 use std::marker::Model;
@@ -27,7 +28,8 @@ impl Model for SideQuarters {
     ghost invariant = { λ q. AreInLimits
         (record { east = q.east; west = q.west; north = q.north; south = q.south }) };
 
-    ghost inverse = { λ q. record { east = q.east; west = q.west; north = q.north; south = q.south } };
+    ghost inverse = { λ q.
+        record { east = q.east; west = q.west; north = q.north; south = q.south } };
 }
 
 /// A quarter mile, and three of them, where a line's closing quarter begins.
@@ -47,8 +49,8 @@ impl SideQuarters {
         self.parts(column, row) / self.divisor()
     }
 
-    /// The area of a position in parts of a unit: four times its mean width times its mean height, times
-    /// the lengths of the lines along which these run.
+    /// The area of a position in parts of a unit: four times its mean width times its mean height,
+    /// times the lengths of the lines along which these run.
     pub fn parts(self, column: u8, row: u8) -> u64
         requires column { column < 4 }
         requires row { row < 4 }
@@ -123,8 +125,9 @@ fn doubled_middle(length: u64, number: u8) -> u64
     }
 }
 
-/// Twice the mean of a width or a height between two points of a line along which it runs straight, from
-/// `start` to `end`, times the line's length. The middle is the points' distance from the line's start.
+/// Twice the mean of a width or a height between two points of a line along which it runs straight,
+/// from `start` to `end`, times the line's length. The middle is the points' distance from the
+/// line's start.
 fn doubled_mean(start: u32, end: u32, length: u64, doubled_middle: u64) -> u64
     requires start { start ≤ CLOSING_MOST }
     requires end { end ≤ CLOSING_MOST }

@@ -1,6 +1,7 @@
 ghost use Rattle.std.specs.Prelude.{◌≡◌, ◌*◌, ◌≤◌, ◌<◌, pos};
 ghost use Rattle.twp_plat.specs.Closing.{CLOSING_MOST};
-ghost use Rattle.twp_plat.specs.Plats.{IsPlat, AreClosingQuarters, closing_quarter_of, IsQuarterOnPlat};
+ghost use Rattle.twp_plat.specs.Plats.{IsPlat, AreClosingQuarters, closing_quarter_of};
+ghost use Rattle.twp_plat.specs.Plats.{IsQuarterOnPlat};
 ghost use Rattle.twp_plat.specs.PlatFaults.{AnswersPlat};
 ghost use Rattle.twp_plat.specs.Pieces.{IsPieceArea, over_of, OVER_MOST};
 
@@ -12,10 +13,12 @@ use twp_grid::{LINES, Line, Section, Township, sides};
 use twp_measure::Area;
 use twp_notes::Notes;
 
-/// The section in the township's north-western corner, the one whose north and west lines both close.
+/// The section in the township's north-western corner, the one whose north and west lines both
+/// close.
 const CORNER_SECTION: u8 = 6;
 
-/// The plat of a township, as its field notes make it: what its sections' positions are computed from.
+/// The plat of a township, as its field notes make it: what its sections' positions are computed
+/// from.
 #[derive(Clone, Debug, Drop, PartialEq, Eq)]
 pub struct Plat {
     township: Township,
@@ -27,18 +30,21 @@ impl Model for Plat {
 
     ghost Value = { TownshipPlat };
 
-    ghost view = { λ plat. record { township = plat.township; closing_quarters = plat.closing_quarters } };
+    ghost view = { λ plat.
+        record { township = plat.township; closing_quarters = plat.closing_quarters } };
 
     ghost invariant = { λ plat. IsPlat
         (record { township = plat.township; closing_quarters = plat.closing_quarters }) };
 
-    ghost inverse = { λ plat. record { township = plat.township; closing_quarters = plat.closing_quarters } };
+    ghost inverse = { λ plat.
+        record { township = plat.township; closing_quarters = plat.closing_quarters } };
 }
 
 impl Plat {
-    /// The plat of the notes, or the first of their lines' faults. Each half mile is 40 chains within a
-    /// quarter of a chain, but a closing line's second half leaves 5 to 25 chains to its last quarter mile
-    /// (this project's rule; for the closing lines Manual of Surveying Instructions 2009, chapter 3).
+    /// The plat of the notes, or the first of their lines' faults. Each half mile is 40 chains
+    /// within a quarter of a chain, but a closing line's second half leaves 5 to 25 chains to its
+    /// last quarter mile (this project's rule; for the closing lines Manual of Surveying
+    /// Instructions 2009, chapter 3).
     pub fn protract(notes: &Notes) -> Result<Plat, PlatFault>
         ensures { AnswersPlat notes.now result }
     {
@@ -53,8 +59,9 @@ impl Plat {
         })
     }
 
-    /// The area of a section's position, by its column from the east and its row from the south: its mean
-    /// width times its mean height, interpolated between the section's lines (this project's rule).
+    /// The area of a section's position, by its column from the east and its row from the south:
+    /// its mean width times its mean height, interpolated between the section's lines (this
+    /// project's rule).
     pub fn piece_area(&self, section: Section, column: u8, row: u8) -> Area
         requires column { column < 4 }
         requires row { row < 4 }
@@ -65,8 +72,8 @@ impl Plat {
         Area::new(self.units(section, column, row), self.over()).unwrap()
     }
 
-    /// The denominator of each area on the plat: four times the lengths of section 6's north line and west
-    /// line, one times the other.
+    /// The denominator of each area on the plat: four times the lengths of section 6's north line
+    /// and west line, one times the other.
     pub fn over(&self) -> u64
         ensures value { result ≡ over_of self.now }
         ensures range { (0 < result) × (result ≤ OVER_MOST) }

@@ -1,11 +1,11 @@
 -- Blocks that share a place, and the blocks of lots.
-use Rattle.std.proofs.Common.{◌≡◌, ◌==◌, ℕ, ◌+◌, ◌<◌, ◌≤◌, ◌↔◌, Bool, true, Option, Some, None, refl, ap, ◌∙◌, inl, inr, arith, nat_le, nat_lt, IsSome}
+use Rattle.std.proofs.Common.{◌≡◌, ◌==◌, ℕ, ◌+◌, ◌/◌, ◌%◌, ◌<◌, ◌≤◌, ◌↔◌, ◌⊎◌, Bool, true, Option, Some, None, refl, sym, ap, ◌∙◌, inl, inr, arith, nat_le, nat_lt, is_some, IsSome, IsTrue}
 use Rattle.std.proofs.lemmas.Bool.{cases_lt, and_parts, eqb-true}
 use Rattle.std.proofs.lemmas.Bool.Decides.{nat_tests}
 use Rattle.twp_grid.specs.Winding.{IsSection}
-use Rattle.twp_grid.specs.Lots.{position_of_lot, number_of_lots}
+use Rattle.twp_grid.specs.Lots.{lot_at_position, position_of_lot, number_of_lots}
 use Rattle.twp_grid.specs.Places.{PLACE_DIGITS, position_along}
-use Rattle.twp_grid.specs.Spans.{Span, in_span, Rectangle, in_rectangle, position_block}
+use Rattle.twp_grid.specs.Spans.{Span, in_span, IsDyadic, Rectangle, in_rectangle, position_block}
 use Rattle.twp_land.specs.Lands.{Meets, block_places, SharePlace}
 use Rattle.twp_land.specs.WholeLots.{lot_of_place}
 use Rattle.twp_land.proofs.LotFacts.{fills, block_of, in_lot, lot_inside}
@@ -92,3 +92,49 @@ lot_is_below s end block range all none held = go (lot_of_place PLACE_DIGITS s h
         let there = fills s (position_along PLACE_DIGITS held.column) (position_along PLACE_DIGITS held.row) n range is in
         let most : n ≤ number_of_lots s = there.most in
         none n held.column held.row there.least (omega arith) held.inside is
+
+-- a block no larger than a position lies in one
+size_of : (n : ℕ) → 0 < n → n ≤ 4 → (n ≡ 1) ⊎ ((n ≡ 2) ⊎ ((n ≡ 3) ⊎ (n ≡ 4)))
+size_of n some most = elim (cases_lt n 2) [
+  | inl less ↦ inl (omega arith)
+  | inr two ↦ elim (cases_lt n 3) [
+    | inl less ↦ inr (inl (omega arith))
+    | inr three ↦ elim (cases_lt n 4) [
+      | inl less ↦ inr (inr (inl (omega arith)))
+      | inr four ↦ inr (inr (inr (omega arith)))
+    ]
+  ]
+]
+
+in_position : (n start place : ℕ) → 0 < n → n ≤ 4 → 16 % n ≡ 0 → start % n ≡ 0 → start ≤ place → place < start + n → place / 4 ≡ start / 4
+in_position n start place some most divides aligned least less = elim (size_of n some most) [
+  | inl one ↦ omega arith
+  | inr (inl two) ↦ let even : start % 2 ≡ 0 = rw two at aligned in omega arith
+  | inr (inr (inl three)) ↦ let third : 16 % 3 ≡ 0 = rw three at divides in absurd (cc third)
+  | inr (inr (inr four)) ↦ let fourth : start % 4 ≡ 0 = rw four at aligned in omega arith
+]
+
+along_position : (span : Span) (place : ℕ) → IsDyadic PLACE_DIGITS span → span.len ≤ 4 → in_span span place ≡ true → position_along PLACE_DIGITS place ≡ position_along PLACE_DIGITS span.start
+along_position span place dyadic most inside =
+    let both = and_parts (nat_le span.start place) (nat_lt place (span.start + span.len)) inside in
+    in_position span.len span.start place dyadic.some most dyadic.divides dyadic.aligned (grind (arith, nat_tests)) (grind (arith, nat_tests))
+
+first_in : (span : Span) → 0 < span.len → in_span span span.start ≡ true
+first_in span some = grind (arith, nat_tests)
+
+pub small_holds : (section : ℕ) (block : Rectangle) → IsDyadic PLACE_DIGITS block.columns → IsDyadic PLACE_DIGITS block.rows → block.columns.len ≤ 4 → block.rows.len ≤ 4
+    → IsTrue (is_some (lot_at_position section (block.columns.start / 4) (block.rows.start / 4))) ↔ HoldsLotPlace PLACE_DIGITS section block
+small_holds section block columns rows wide high = (
+  λ is. record {
+    column = block.columns.start;
+    row = block.rows.start;
+    inside = rw (first_in block.columns columns.some, first_in block.rows rows.some) refl;
+    of_lot = is;
+  },
+  λ held.
+      let both = and_parts (in_span block.columns held.column) (in_span block.rows held.row) held.inside in
+      let there : lot_of_place PLACE_DIGITS section held.column held.row ≡ lot_at_position section (block.columns.start / 4) (block.rows.start / 4) =
+      ap (λ n. lot_at_position section n (position_along PLACE_DIGITS held.row)) (along_position block.columns held.column columns wide both.0)
+      ∙ ap (λ n. lot_at_position section (block.columns.start / 4) n) (along_position block.rows held.row rows high both.1) in
+      ap is_some (sym there) ∙ held.of_lot,
+)

@@ -1,5 +1,5 @@
 -- Aliquot parts: the block that their steps leave, and the places of it.
-use Rattle.std.proofs.Common.{Some, slice_get, ◌≡◌, ◌==◌, ℕ, zero, suc, ◌+◌, ◌-◌, ◌^◌, ◌<◌, ◌≤◌, ◌&&◌, Bool, true, false, List, [], ◌∷◌, ◌++◌, length, drop, refl, ap, ◌∙◌, inl, inr, arith, length-append, nat_lt}
+use Rattle.std.proofs.Common.{Some, slice_get, ◌≡◌, ◌==◌, ℕ, zero, suc, ◌+◌, ◌-◌, ◌^◌, ◌<◌, ◌≤◌, ◌&&◌, Bool, true, false, List, [], ◌∷◌, ◌++◌, length, drop, refl, ap, ◌∙◌, inl, inr, arith, length-append, IfSome, Option, None, nat_lt}
 use Rattle.std.proofs.Math.Nat.{pow-succ'}
 use Rattle.std.proofs.lemmas.Nat.{pow_pos}
 use Rattle.std.proofs.lemmas.Bool.{and_parts}
@@ -127,6 +127,12 @@ cut_next g steps n step block next some at so_far can is =
       within = rw left (within_more g (cut_of step) (cuts_of (drop n steps)) so_far.within can');
       block_is = rw left (is ∙ ap (λ b. part_of b (cut_of step)) so_far.block_is);
     }
+
+-- one step more, if it is taken
+pub cut_next_of : (g : ℕ) (steps : List Step) (n : ℕ) (step : Step) (block : Rectangle) (next : Option Rectangle) → 0 < n → slice_get steps (n - 1) ≡ Some step → IsCutTo g steps n block
+    → IfSome next (λ part. CanCut block (cut_of step) × (part ≡ part_of block (cut_of step))) → IfSome next (IsCutTo g steps (n - 1))
+cut_next_of g steps n step block None some at so_far taken = taken
+cut_next_of g steps n step block (Some next) some at so_far taken = cut_next g steps n step block next some at so_far taken.0 taken.1
 
 -- a step that can't be taken
 pub cut_stuck : (g : ℕ) (steps : List Step) (n : ℕ) (step : Step) (block : Rectangle) → 0 < n → slice_get steps (n - 1) ≡ Some step → IsCutTo g steps n block

@@ -1,5 +1,5 @@
 -- A half of a square is full where both its quarters are, and a square where all four are.
-use Rattle.std.proofs.Common.{◌≡◌, ◌↔◌, ◌&&◌, ℕ, suc, ◌<◌, ◌⊎◌, Bool, true, false, List, ◌∷◌, length, Option, IsTrue, refl, sym, ap, subst, ◌∙◌, inl, inr, arith}
+use Rattle.std.proofs.Common.{◌≡◌, ◌↔◌, ◌&&◌, ℕ, suc, ◌<◌, ◌⊎◌, Bool, true, false, List, ◌∷◌, length, Option, Some, None, is_some, IsTrue, refl, sym, ap, subst, ◌∙◌, inl, inr, arith}
 use Rattle.std.proofs.lemmas.Bool.{false≢true}
 use Rattle.twp_grid.specs.declared.block.Side.{Side}
 use Rattle.twp_grid.specs.declared.block.Side.TheVariants.{N, S, E, W}
@@ -9,7 +9,7 @@ use Rattle.twp_grid.specs.Places.{IsPlace}
 use Rattle.twp_text.specs.declared.full_quarters.FullQuarters.{FullQuarters}
 use Rattle.twp_text.specs.WrittenParts.{IsFull, IsChosenHalf, IsOnSide}
 use Rattle.twp_text.specs.WrittenParts.Part.{square, half_of_square}
-use Rattle.twp_text.specs.Spelling.{all_of, full_at, quarter_on, AreFull, chosen_of, IsChoice}
+use Rattle.twp_text.specs.Spelling.{all_of, full_at, quarter_on, AreFull, chosen_of, IsChoice, IsOffChosen}
 use Rattle.twp_text.proofs.SquareFacts.{square_within, half_within}
 use Rattle.twp_text.proofs.SquarePlaces.{up, corner_at, up_next, in_square, square_in}
 use Rattle.twp_text.proofs.HalfPlaces.{in_half, half_in}
@@ -152,3 +152,16 @@ all_full g held quarters full fits are = ((λ all. square_full (by_tests full.ne
 
     all_true : (ne nw sw se : Bool) → ne ≡ true → nw ≡ true → sw ≡ true → se ≡ true → (ne && (nw && (sw && se))) ≡ true
     all_true ne nw sw se a b c d = rw (a, b, c, d) refl
+
+-- where no half is full, no quarter lies in a chosen one
+pub no_choice : (full : FullQuarters) → is_some (chosen_of full) ≡ false → chosen_of full ≡ None
+no_choice full is = none (chosen_of full) is
+  where
+    none : (chosen : Option Side) → is_some chosen ≡ false → chosen ≡ None
+    none None is = refl
+    none (Some side) is = cc is
+
+pub off_all : (g : ℕ) (held : ℕ → ℕ → Bool) (quarters : List Corner) (full : FullQuarters) (corner : Corner) → length quarters < g → chosen_of full ≡ None → AreFull g held quarters full
+    → ¬ IsFull g held (square quarters) → IsOffChosen g held quarters corner
+off_all g held quarters full corner fits none are short = λ side chosen.
+    absurd (subst (λ c. IsChoice g held quarters c) none (choice_is_right g held quarters full fits are short) side chosen.full)

@@ -29,6 +29,7 @@ pub mod SquarePlaces
 pub mod HalfPlaces
 pub mod HalfQuarters
 pub mod PathFacts
+pub mod PieceFacts
 pub mod FullParts
 pub mod WrittenFacts
 pub mod PartOrder

@@ -1,5 +1,5 @@
 -- What the reader takes as a whole leads it on as if it were cut token by token.
-use Rattle.std.proofs.Common.{◌≡◌, ◌==◌, ℕ, ◌+◌, ◌≤◌, Bool, true, List, [], ◌∷◌, ◌++◌, Option, Some, None, IfSome, length, take, drop, slice_index, refl, sym, ap, subst, ◌∙◌, append_assoc, arith, codes, length-drop, ◌-◌, bit_or, slice_index_or, inl, inr, ◌<◌, length-append, Result, Ok, Err, IfOk}
+use Rattle.std.proofs.Common.{◌≡◌, ◌==◌, ℕ, ◌+◌, ◌≤◌, Bool, true, false, List, [], ◌∷◌, ◌++◌, Option, Some, None, IfSome, length, take, drop, slice_index, refl, sym, ap, subst, ◌∙◌, append_assoc, arith, codes, length-drop, ◌-◌, bit_or, slice_index_or, inl, inr, ◌<◌, length-append}
 use Rattle.std.specs.Char.{is_ascii_lowercase, is_ascii_alphabetic, to_ascii_lowercase}
 use Rattle.std.specs.List.{AllPass, prefix_len, starts_with, list_all}
 use Rattle.std.specs.Option.{is_some}
@@ -15,16 +15,15 @@ use Rattle.twp_text.specs.declared.item.Item.TheVariants.{Chain}
 use Rattle.twp_text.specs.declared.item.Step.{Step}
 use Rattle.twp_text.specs.declared.item.Step.TheVariants as step
 use Rattle.twp_text.specs.declared.kind.Kind.{Kind}
-use Rattle.twp_text.specs.declared.kind.Kind.TheVariants.{Half, Quarter, Of, The}
-use Rattle.twp_text.specs.declared.passing.Reached.{Reached}
+use Rattle.twp_text.specs.declared.kind.Kind.TheVariants.{Half, Quarter, Of, The, Comma}
 use Rattle.twp_text.specs.declared.passing.UsualStep.{UsualStep}
 use Rattle.twp_text.specs.declared.state.State.{State}
 use Rattle.twp_text.specs.declared.state.State.TheVariants as past
 use Rattle.twp_text.specs.declared.state.State.TheVariants.{Start}
 use Rattle.twp_text.specs.Cutting.{small_letter}
-use Rattle.twp_text.specs.Tokens.{Token, StartsWith, HasTokens, IsToken, is_white, kind_among, words}
+use Rattle.twp_text.specs.Tokens.{Token, StartsWith, HasTokens, IsToken, IsGoodToken, begins_with, is_white, kind_among, words}
 use Rattle.twp_text.specs.Tokens.IsToken.{good}
-use Rattle.twp_text.specs.Tokens.IsGoodToken.{a_word, a_half, a_quarter}
+use Rattle.twp_text.specs.Tokens.IsGoodToken.{a_word, a_half, a_half_sign, a_quarter, a_quarter_sign, a_comma}
 use Rattle.twp_text.specs.Grammar.{class_of, lot}
 use Rattle.twp_text.specs.Machine.{next, take_token, run, with_newest, is_in_chain, before_parts}
 use Rattle.twp_text.specs.Passing.{Leads, StandsAt, IsStepAt, end_of, letters_of, fraction_of, BeginWithStep}
@@ -108,16 +107,14 @@ quarter_starts : (text : List ℕ) (at : ℕ) → drop at text ≡ codes "1/4" +
 quarter_starts text at spelt =
     record { space = []; white = AllPass-from_list_all is_white [] refl; spelt = spelt; place = omega arith; is = good (a_quarter refl refl) }
 
--- a fraction behind the letters of its step, and what follows the step
-pub half_leads : (text : List ℕ) (at to : ℕ) (behind : State) (its : List Item) → drop at text ≡ codes "1/2" ++ drop (at + 3) text → at + 3 ≤ length text → Leads text (at + 3) past.Step its to behind its → Leads text at past.Side its to behind its
-half_leads text at to behind its spelt within more =
-    leads_then text at past.Side its (at + 3) past.Step its to behind its
-    (leads_token text at past.Side its (made Half (codes "1/2") at) (at + 3) past.Step (half_starts text at spelt) refl within refl) more
+-- a fraction behind the letters of its step
+pub half_leads : (text : List ℕ) (at : ℕ) (its : List Item) → drop at text ≡ codes "1/2" ++ drop (at + 3) text → at + 3 ≤ length text → Leads text at past.Side its (at + 3) past.Step its
+half_leads text at its spelt within =
+    leads_token text at past.Side its (made Half (codes "1/2") at) (at + 3) past.Step (half_starts text at spelt) refl within refl
 
-pub quarter_leads : (text : List ℕ) (at to : ℕ) (behind : State) (its : List Item) → drop at text ≡ codes "1/4" ++ drop (at + 3) text → at + 3 ≤ length text → Leads text (at + 3) past.Step its to behind its → Leads text at past.Corner its to behind its
-quarter_leads text at to behind its spelt within more =
-    leads_then text at past.Corner its (at + 3) past.Step its to behind its
-    (leads_token text at past.Corner its (made Quarter (codes "1/4") at) (at + 3) past.Step (quarter_starts text at spelt) refl within refl) more
+pub quarter_leads : (text : List ℕ) (at : ℕ) (its : List Item) → drop at text ≡ codes "1/4" ++ drop (at + 3) text → at + 3 ≤ length text → Leads text at past.Corner its (at + 3) past.Step its
+quarter_leads text at its spelt within =
+    leads_token text at past.Corner its (made Quarter (codes "1/4") at) (at + 3) past.Step (quarter_starts text at spelt) refl within refl
 
 -- what is left of a text behind some bytes that it goes on with
 left_behind : (text : List ℕ) (at n : ℕ) (bytes : List ℕ) → drop at text ≡ bytes → drop (at + n) text ≡ drop n bytes
@@ -151,15 +148,43 @@ of_the_leads text at its spelt within =
     (leads_token text (at + 3) past.Of its (made The (codes "the") (at + 4)) (at + 7) past.OfThe the_starts (omega arith) (omega arith) refl))
     (subst (λ (n : ℕ). Leads text (at + 7) past.OfThe its n past.OfThe its) the_end (leads_space text (at + 7) past.OfThe its space (omega arith)))
 
+-- a comma behind a part, and the space behind it
+pub comma_leads : (text : List ℕ) (at : ℕ) (its : List Item) → drop at text ≡ codes ", " ++ drop (at + 2) text → at + 2 ≤ length text → Leads text at past.Step its (at + 2) past.PartComma its
+comma_leads text at its spelt within =
+    let behind : drop (at + 1) text ≡ codes " " ++ drop (at + 2) text = left_behind text at 1 (codes ", " ++ drop (at + 2) text) spelt in
+    let end : (at + 1) + 1 ≡ at + 2 = omega arith in
+    let starts : StartsWith at (drop at text) (made Comma (codes ",") at) (drop (at + 1) text) =
+    record { space = []; white = AllPass-from_list_all is_white [] refl; spelt = rw behind spelt; place = omega arith; is = good (a_comma refl refl) } in
+    leads_then text at past.Step its (at + 1) past.PartComma its (at + 2) past.PartComma its
+    (leads_token text at past.Step its (made Comma (codes ",") at) (at + 1) past.PartComma starts refl (omega arith) refl)
+    (subst (λ (n : ℕ). Leads text (at + 1) past.PartComma its n past.PartComma its) end (leads_space text (at + 1) past.PartComma its (rw end behind) (omega arith)))
+
 -- the letters that bytes begin with are those of a step, where its fraction follows
 record AreLetters (bytes : List ℕ) (size : ℕ) (kind : Kind) : Type 0 where
   fits : length (take size bytes) ≡ size
   spelt : bytes ≡ take size bytes ++ drop size bytes
   is : IsToken (take size bytes) (drop size bytes) kind
 
-one_letter : (bytes rest : List ℕ) (first : ℕ) (kind : Kind) → Some first ≡ small_letter (slice_index bytes 0) → drop 1 bytes ≡ codes "1/2" ++ rest → kind_among (first ∷ []) words ≡ kind → AreLetters bytes 1 kind
-one_letter [] rest first kind h0 behind is = cc h0
-one_letter (x ∷ bytes) rest first kind h0 behind is =
+-- how a half or a quarter is written, which no word goes on with
+record IsFraction (bytes : List ℕ) (kind : Kind) : Type 0 where
+  is : (rest : List ℕ) → IsGoodToken bytes rest kind
+  ends : (rest : List ℕ) → begins_with is_ascii_alphabetic (bytes ++ rest) ≡ false
+
+half_bytes : IsFraction (codes "1/2") Half
+half_bytes = record { is = λ rest. a_half refl refl; ends = λ rest. refl }
+
+half_sign : IsFraction (0xC2 ∷ 0xBD ∷ []) Half
+half_sign = record { is = λ rest. a_half_sign refl refl; ends = λ rest. refl }
+
+quarter_bytes : IsFraction (codes "1/4") Quarter
+quarter_bytes = record { is = λ rest. a_quarter refl refl; ends = λ rest. refl }
+
+quarter_sign : IsFraction (0xC2 ∷ 0xBC ∷ []) Quarter
+quarter_sign = record { is = λ rest. a_quarter_sign refl refl; ends = λ rest. refl }
+
+one_letter : (bytes fraction rest : List ℕ) (first : ℕ) (kind : Kind) → Some first ≡ small_letter (slice_index bytes 0) → drop 1 bytes ≡ fraction ++ rest → begins_with is_ascii_alphabetic (fraction ++ rest) ≡ false → kind_among (first ∷ []) words ≡ kind → AreLetters bytes 1 kind
+one_letter [] fraction rest first kind h0 behind ends is = cc h0
+one_letter (x ∷ bytes) fraction rest first kind h0 behind ends is =
     let letter : IsLetter x first = is_letter x first (sym h0) in
     record {
       fits = refl;
@@ -167,14 +192,14 @@ one_letter (x ∷ bytes) rest first kind h0 behind is =
       is = good (a_word (record {
         some = omega arith;
         all = AllPass-from_list_all is_ascii_alphabetic (x ∷ []) (rw letter.letter refl);
-        ends = rw behind refl;
+        ends = ap (λ b. begins_with is_ascii_alphabetic b) behind ∙ ends;
       }) (sym is ∙ ap (λ u. kind_among (u ∷ []) words) (sym letter.value)));
     }
 
-two_letters : (bytes rest : List ℕ) (first second : ℕ) (kind : Kind) → Some first ≡ small_letter (slice_index bytes 0) → Some second ≡ small_letter (slice_index bytes 1) → drop 2 bytes ≡ codes "1/4" ++ rest → kind_among (first ∷ second ∷ []) words ≡ kind → AreLetters bytes 2 kind
-two_letters [] rest first second kind h0 h1 behind is = cc h0
-two_letters (x ∷ []) rest first second kind h0 h1 behind is = cc h1
-two_letters (x ∷ y ∷ bytes) rest first second kind h0 h1 behind is =
+two_letters : (bytes fraction rest : List ℕ) (first second : ℕ) (kind : Kind) → Some first ≡ small_letter (slice_index bytes 0) → Some second ≡ small_letter (slice_index bytes 1) → drop 2 bytes ≡ fraction ++ rest → begins_with is_ascii_alphabetic (fraction ++ rest) ≡ false → kind_among (first ∷ second ∷ []) words ≡ kind → AreLetters bytes 2 kind
+two_letters [] fraction rest first second kind h0 h1 behind ends is = cc h0
+two_letters (x ∷ []) fraction rest first second kind h0 h1 behind ends is = cc h1
+two_letters (x ∷ y ∷ bytes) fraction rest first second kind h0 h1 behind ends is =
     let letter : IsLetter x first = is_letter x first (sym h0) in
     let more : IsLetter y second = is_letter y second (sym h1) in
     record {
@@ -183,7 +208,7 @@ two_letters (x ∷ y ∷ bytes) rest first second kind h0 h1 behind is =
       is = good (a_word (record {
         some = omega arith;
         all = AllPass-from_list_all is_ascii_alphabetic (x ∷ y ∷ []) (rw (letter.letter, more.letter) refl);
-        ends = rw behind refl;
+        ends = ap (λ b. begins_with is_ascii_alphabetic b) behind ∙ ends;
       }) (sym is ∙ ap (λ u. kind_among (u ∷ second ∷ []) words) (sym letter.value) ∙ ap (λ u. kind_among (to_ascii_lowercase x ∷ u ∷ []) words) (sym more.value)));
     }
 
@@ -205,23 +230,34 @@ letters_stand text at size kind are within =
       within = within;
     }
 
+-- a fraction right at a place
+fraction_stands : (text : List ℕ) (at : ℕ) (bytes : List ℕ) (kind : Kind) → IsFraction bytes kind → drop at text ≡ bytes ++ drop (at + length bytes) text → at + length bytes ≤ length text → StandsAt text at kind (length bytes)
+fraction_stands text at bytes kind fraction spelt within = record {
+  token = made kind bytes at;
+  starts = record { space = []; white = AllPass-from_list_all is_white [] refl; spelt = spelt; place = omega arith; is = good (fraction.is (drop (at + length bytes) text)) };
+  kind_is = refl;
+  here = refl;
+  ends = refl;
+  within = within;
+}
+
 -- a half and a quarter that stand behind their letters are steps
-half_stands : (text : List ℕ) (at first : ℕ) (it : Step) (size : ℕ) → Some first ≡ small_letter (slice_index (drop at text) 0) → drop (at + 1) text ≡ codes "1/2" ++ drop ((at + 1) + 3) text → (at + 1) + 3 ≤ length text → kind_among (first ∷ []) words ≡ letters_of it → fraction_of it ≡ Half → size ≡ 4 → IsStepAt text at it size
-half_stands text at first it size letter spelt within is fraction size_is = record {
+half_stands : (text : List ℕ) (at first : ℕ) (it : Step) (bytes : List ℕ) (size : ℕ) → IsFraction bytes Half → Some first ≡ small_letter (slice_index (drop at text) 0) → drop (at + 1) text ≡ bytes ++ drop ((at + 1) + length bytes) text → (at + 1) + length bytes ≤ length text → kind_among (first ∷ []) words ≡ letters_of it → fraction_of it ≡ Half → size ≡ 1 + length bytes → IsStepAt text at it size
+half_stands text at first it bytes size written letter spelt within is fraction size_is = record {
   letters_size = 1;
-  letters = letters_stand text at 1 (letters_of it) (one_letter (drop at text) (drop ((at + 1) + 3) text) first (letters_of it) letter (drop-drop 1 at text ∙ spelt) is) (omega arith);
-  fraction_size = 3;
-  fraction = record { token = made Half (codes "1/2") (at + 1); starts = half_starts text (at + 1) spelt; kind_is = sym fraction; here = refl; ends = refl; within = within };
+  letters = letters_stand text at 1 (letters_of it) (one_letter (drop at text) bytes (drop ((at + 1) + length bytes) text) first (letters_of it) letter (drop-drop 1 at text ∙ spelt) (written.ends _) is) (omega arith);
+  fraction_size = length bytes;
+  fraction = subst (λ (kind : Kind). StandsAt text (at + 1) kind (length bytes)) (sym fraction) (fraction_stands text (at + 1) bytes Half written spelt within);
   size_is = size_is;
   some = omega arith;
 }
 
-quarter_stands : (text : List ℕ) (at first second : ℕ) (it : Step) (size : ℕ) → Some first ≡ small_letter (slice_index (drop at text) 0) → Some second ≡ small_letter (slice_index (drop at text) 1) → drop (at + 2) text ≡ codes "1/4" ++ drop ((at + 2) + 3) text → (at + 2) + 3 ≤ length text → kind_among (first ∷ second ∷ []) words ≡ letters_of it → fraction_of it ≡ Quarter → size ≡ 5 → IsStepAt text at it size
-quarter_stands text at first second it size letter more spelt within is fraction size_is = record {
+quarter_stands : (text : List ℕ) (at first second : ℕ) (it : Step) (bytes : List ℕ) (size : ℕ) → IsFraction bytes Quarter → Some first ≡ small_letter (slice_index (drop at text) 0) → Some second ≡ small_letter (slice_index (drop at text) 1) → drop (at + 2) text ≡ bytes ++ drop ((at + 2) + length bytes) text → (at + 2) + length bytes ≤ length text → kind_among (first ∷ second ∷ []) words ≡ letters_of it → fraction_of it ≡ Quarter → size ≡ 2 + length bytes → IsStepAt text at it size
+quarter_stands text at first second it bytes size written letter more spelt within is fraction size_is = record {
   letters_size = 2;
-  letters = letters_stand text at 2 (letters_of it) (two_letters (drop at text) (drop ((at + 2) + 3) text) first second (letters_of it) letter more (drop-drop 2 at text ∙ spelt) is) (omega arith);
-  fraction_size = 3;
-  fraction = record { token = made Quarter (codes "1/4") (at + 2); starts = quarter_starts text (at + 2) spelt; kind_is = sym fraction; here = refl; ends = refl; within = within };
+  letters = letters_stand text at 2 (letters_of it) (two_letters (drop at text) bytes (drop ((at + 2) + length bytes) text) first second (letters_of it) letter more (drop-drop 2 at text ∙ spelt) (written.ends _) is) (omega arith);
+  fraction_size = length bytes;
+  fraction = subst (λ (kind : Kind). StandsAt text (at + 2) kind (length bytes)) (sym fraction) (fraction_stands text (at + 2) bytes Quarter written spelt within);
   size_is = size_is;
   some = omega arith;
 }
@@ -250,17 +286,40 @@ three_at text at k a b c fits ha hb hc =
     three_in_front (drop (at + k) text) a b c (rw (length-drop (at + k) text) (omega arith)) (ahead text at k 0 ∙ ha) (ahead text at k 1 ∙ hb) (ahead text at k 2 ∙ hc)
     ∙ ap (λ r. a ∷ b ∷ c ∷ r) (drop-drop 3 (at + k) text)
 
+two_in_front : (bytes : List ℕ) (a b : ℕ) → 2 ≤ length bytes → slice_index bytes 0 ≡ a → slice_index bytes 1 ≡ b → bytes ≡ a ∷ b ∷ drop 2 bytes
+two_in_front [] a b fits ha hb = absurd (omega arith)
+two_in_front (x ∷ []) a b fits ha hb = absurd (omega arith)
+two_in_front (x ∷ y ∷ bytes) a b fits ha hb = rw (sym ha, sym hb) refl
+
+two_at : (text : List ℕ) (at k a b : ℕ) → (at + k) + 2 ≤ length text → slice_index (drop at text) (k + 0) ≡ a → slice_index (drop at text) (k + 1) ≡ b → drop (at + k) text ≡ (a ∷ b ∷ []) ++ drop ((at + k) + 2) text
+two_at text at k a b fits ha hb =
+    two_in_front (drop (at + k) text) a b (rw (length-drop (at + k) text) (omega arith)) (ahead text at k 0 ∙ ha) (ahead text at k 1 ∙ hb)
+    ∙ ap (λ r. a ∷ b ∷ r) (drop-drop 2 (at + k) text)
+
 -- five bytes that begin with a step
+begin_stands : (text : List ℕ) (at : ℕ) (it : Step) (size : ℕ) → 5 ≤ length (drop at text)
+    → BeginWithStep (slice_index (drop at text) 0) (slice_index (drop at text) 1) (slice_index (drop at text) 2) (slice_index (drop at text) 3) (slice_index (drop at text) 4) it size
+    → IsStepAt text at it size
+begin_stands text at it size fits (inl (half, size_is, a, b, c)) =
+    let within : 5 ≤ length text - at = rw (sym (length-drop at text)) fits in
+    half_stands text at half.small it (codes "1/2") size half_bytes half.letter (three_at text at 1 49 47 50 (omega arith) a b c) (omega arith) half.letters half.fraction size_is
+begin_stands text at it size fits (inr (inl (quarter, size_is, a, b, c))) =
+    let within : 5 ≤ length text - at = rw (sym (length-drop at text)) fits in
+    quarter_stands text at quarter.small quarter.behind it (codes "1/4") size quarter_bytes quarter.letter quarter.letter_behind (three_at text at 2 49 47 52 (omega arith) a b c) (omega arith) quarter.letters quarter.fraction size_is
+begin_stands text at it size fits (inr (inr (inl (half, size_is, a, b)))) =
+    let within : 5 ≤ length text - at = rw (sym (length-drop at text)) fits in
+    half_stands text at half.small it (0xC2 ∷ 0xBD ∷ []) size half_sign half.letter (two_at text at 1 0xC2 0xBD (omega arith) a b) (omega arith) half.letters half.fraction size_is
+begin_stands text at it size fits (inr (inr (inr (quarter, size_is, a, b)))) =
+    let within : 5 ≤ length text - at = rw (sym (length-drop at text)) fits in
+    quarter_stands text at quarter.small quarter.behind it (0xC2 ∷ 0xBC ∷ []) size quarter_sign quarter.letter quarter.letter_behind (two_at text at 2 0xC2 0xBC (omega arith) a b) (omega arith) quarter.letters quarter.fraction size_is
+
 pub step_stands : (text bytes : List ℕ) (at : ℕ) (found : Option UsualStep) → bytes ≡ drop at text → 5 ≤ length bytes
     → IfSome found (λ usual. BeginWithStep (slice_index bytes 0) (slice_index bytes 1) (slice_index bytes 2) (slice_index bytes 3) (slice_index bytes 4) usual.step usual.size)
     → IfSome found (λ usual. IsStepAt text at usual.step usual.size)
 step_stands text bytes at None here fits h = tt
-step_stands text bytes at (Some usual) here fits (inl (half, a, b, c)) =
-    let within : 5 ≤ length text - at = rw (sym (length-drop at text), sym here) fits in
-    half_stands text at half.small usual.step usual.size (rw (sym here) half.letter) (three_at text at 1 49 47 50 (omega arith) (rw (sym here) a) (rw (sym here) b) (rw (sym here) c)) (omega arith) half.letters half.fraction half.size_is
-step_stands text bytes at (Some usual) here fits (inr (quarter, a, b, c)) =
-    let within : 5 ≤ length text - at = rw (sym (length-drop at text), sym here) fits in
-    quarter_stands text at quarter.small quarter.behind usual.step usual.size (rw (sym here) quarter.letter) (rw (sym here) quarter.letter_behind) (three_at text at 2 49 47 52 (omega arith) (rw (sym here) a) (rw (sym here) b) (rw (sym here) c)) (omega arith) quarter.letters quarter.fraction quarter.size_is
+step_stands text bytes at (Some usual) here fits h =
+    let P : List ℕ → Type 0 = λ b. 5 ≤ length b → BeginWithStep (slice_index b 0) (slice_index b 1) (slice_index b 2) (slice_index b 3) (slice_index b 4) usual.step usual.size → IsStepAt text at usual.step usual.size in
+    subst P (sym here) (λ fits h. begin_stands text at usual.step usual.size fits h) fits h
 
 -- a chain goes on with the letters of a step and with its fraction
 record GrowsBy (state : State) (it : Step) : Type 0 where
@@ -295,9 +354,9 @@ stands_leads text at state its kind size behind grown s is grows =
     subst (λ (js : List Item). Leads text at state its (at + size) behind js) grown_is
     (leads_token text at state its s.token (at + size) behind s.starts s.ends s.within step_is)
 
--- a chain goes on with a step, and with what follows it
-pub step_leads : (text : List ℕ) (from : ℕ) (begun : State) (its : List Item) (at : ℕ) (state : State) (some : List Item) (it : Step) (size to : ℕ) (behind : State) → is_in_chain state ≡ true → Leads text from begun its at state some → IsStepAt text at it size → Leads text (at + size) past.Step (with_newest (Grown it) some) to behind (with_newest (Grown it) some) → Leads text from begun its to behind (with_newest (Grown it) some)
-step_leads text from begun its at state some it size to behind in_chain so_far s more =
+-- a chain goes on with a step
+pub step_leads : (text : List ℕ) (from : ℕ) (begun : State) (its : List Item) (at : ℕ) (state : State) (some : List Item) (it : Step) (size : ℕ) → is_in_chain state ≡ true → Leads text from begun its at state some → IsStepAt text at it size → Leads text from begun its (at + size) past.Step (with_newest (Grown it) some)
+step_leads text from begun its at state some it size in_chain so_far s =
     let by : GrowsBy state it = grows_by state it in_chain in
     let grown : List Item = with_newest (Grown it) some in
     let end : (at + s.letters_size) + s.fraction_size ≡ at + size = rw (s.size_is) (omega arith) in
@@ -305,11 +364,9 @@ step_leads text from begun its at state some it size to behind in_chain so_far s
     stands_leads text at state some (letters_of it) s.letters_size by.between grown s.letters by.letters (λ place. by.grown place some) in
     let fraction : Leads text (at + s.letters_size) by.between grown ((at + s.letters_size) + s.fraction_size) past.Step grown =
     stands_leads text (at + s.letters_size) by.between grown (fraction_of it) s.fraction_size past.Step grown s.fraction by.fraction (λ place. by.kept place grown) in
-    let both : Leads text at state some (at + size) past.Step grown =
-    subst (λ (n : ℕ). Leads text at state some n past.Step grown) end
-    (leads_then text at state some (at + s.letters_size) by.between grown ((at + s.letters_size) + s.fraction_size) past.Step grown letters fraction) in
-    leads_then text from begun its at state some to behind grown so_far
-    (leads_then text at state some (at + size) past.Step grown to behind grown both more)
+    leads_then text from begun its at state some (at + size) past.Step grown so_far
+    (subst (λ (n : ℕ). Leads text at state some n past.Step grown) end
+    (leads_then text at state some (at + s.letters_size) by.between grown ((at + s.letters_size) + s.fraction_size) past.Step grown letters fraction))
 
 -- a part begins with the letters of a step and with its fraction
 record BeginsWith (state : State) (it : Step) : Type 0 where
@@ -319,43 +376,43 @@ record BeginsWith (state : State) (it : Step) : Type 0 where
   begun : (at : ℕ) (its : List Item) → take_token state (letters_of it) at its ≡ Chain (it ∷ []) at ∷ before_parts state its
   kept : (at : ℕ) (its : List Item) → take_token between (fraction_of it) at its ≡ its
 
-begins_with : (state : State) (it : Step) → is_some (next state lot) ≡ true → BeginsWith state it
-begins_with past.SectionNumber (step.Half side.N) h = record { between = past.Side; letters = refl; fraction = refl; begun = λ at its. refl; kept = λ at its. refl }
-begins_with past.SectionNumber (step.Half side.S) h = record { between = past.Side; letters = refl; fraction = refl; begun = λ at its. refl; kept = λ at its. refl }
-begins_with past.SectionNumber (step.Half side.E) h = record { between = past.Side; letters = refl; fraction = refl; begun = λ at its. refl; kept = λ at its. refl }
-begins_with past.SectionNumber (step.Half side.W) h = record { between = past.Side; letters = refl; fraction = refl; begun = λ at its. refl; kept = λ at its. refl }
-begins_with past.SectionNumber (step.Quarter which) h = record { between = past.Corner; letters = refl; fraction = refl; begun = λ at its. refl; kept = λ at its. refl }
-begins_with past.SectionComma (step.Half side.N) h = record { between = past.Side; letters = refl; fraction = refl; begun = λ at its. refl; kept = λ at its. refl }
-begins_with past.SectionComma (step.Half side.S) h = record { between = past.Side; letters = refl; fraction = refl; begun = λ at its. refl; kept = λ at its. refl }
-begins_with past.SectionComma (step.Half side.E) h = record { between = past.Side; letters = refl; fraction = refl; begun = λ at its. refl; kept = λ at its. refl }
-begins_with past.SectionComma (step.Half side.W) h = record { between = past.Side; letters = refl; fraction = refl; begun = λ at its. refl; kept = λ at its. refl }
-begins_with past.SectionComma (step.Quarter which) h = record { between = past.Corner; letters = refl; fraction = refl; begun = λ at its. refl; kept = λ at its. refl }
-begins_with past.LotComma (step.Half side.N) h = record { between = past.Side; letters = refl; fraction = refl; begun = λ at its. refl; kept = λ at its. refl }
-begins_with past.LotComma (step.Half side.S) h = record { between = past.Side; letters = refl; fraction = refl; begun = λ at its. refl; kept = λ at its. refl }
-begins_with past.LotComma (step.Half side.E) h = record { between = past.Side; letters = refl; fraction = refl; begun = λ at its. refl; kept = λ at its. refl }
-begins_with past.LotComma (step.Half side.W) h = record { between = past.Side; letters = refl; fraction = refl; begun = λ at its. refl; kept = λ at its. refl }
-begins_with past.LotComma (step.Quarter which) h = record { between = past.Corner; letters = refl; fraction = refl; begun = λ at its. refl; kept = λ at its. refl }
-begins_with past.LotLastComma (step.Half side.N) h = record { between = past.Side; letters = refl; fraction = refl; begun = λ at its. refl; kept = λ at its. refl }
-begins_with past.LotLastComma (step.Half side.S) h = record { between = past.Side; letters = refl; fraction = refl; begun = λ at its. refl; kept = λ at its. refl }
-begins_with past.LotLastComma (step.Half side.E) h = record { between = past.Side; letters = refl; fraction = refl; begun = λ at its. refl; kept = λ at its. refl }
-begins_with past.LotLastComma (step.Half side.W) h = record { between = past.Side; letters = refl; fraction = refl; begun = λ at its. refl; kept = λ at its. refl }
-begins_with past.LotLastComma (step.Quarter which) h = record { between = past.Corner; letters = refl; fraction = refl; begun = λ at its. refl; kept = λ at its. refl }
-begins_with past.LotAnd (step.Half side.N) h = record { between = past.Side; letters = refl; fraction = refl; begun = λ at its. refl; kept = λ at its. refl }
-begins_with past.LotAnd (step.Half side.S) h = record { between = past.Side; letters = refl; fraction = refl; begun = λ at its. refl; kept = λ at its. refl }
-begins_with past.LotAnd (step.Half side.E) h = record { between = past.Side; letters = refl; fraction = refl; begun = λ at its. refl; kept = λ at its. refl }
-begins_with past.LotAnd (step.Half side.W) h = record { between = past.Side; letters = refl; fraction = refl; begun = λ at its. refl; kept = λ at its. refl }
-begins_with past.LotAnd (step.Quarter which) h = record { between = past.Corner; letters = refl; fraction = refl; begun = λ at its. refl; kept = λ at its. refl }
-begins_with past.BeforePart (step.Half side.N) h = record { between = past.Side; letters = refl; fraction = refl; begun = λ at its. refl; kept = λ at its. refl }
-begins_with past.BeforePart (step.Half side.S) h = record { between = past.Side; letters = refl; fraction = refl; begun = λ at its. refl; kept = λ at its. refl }
-begins_with past.BeforePart (step.Half side.E) h = record { between = past.Side; letters = refl; fraction = refl; begun = λ at its. refl; kept = λ at its. refl }
-begins_with past.BeforePart (step.Half side.W) h = record { between = past.Side; letters = refl; fraction = refl; begun = λ at its. refl; kept = λ at its. refl }
-begins_with past.BeforePart (step.Quarter which) h = record { between = past.Corner; letters = refl; fraction = refl; begun = λ at its. refl; kept = λ at its. refl }
-begins_with past.PartComma (step.Half side.N) h = record { between = past.Side; letters = refl; fraction = refl; begun = λ at its. refl; kept = λ at its. refl }
-begins_with past.PartComma (step.Half side.S) h = record { between = past.Side; letters = refl; fraction = refl; begun = λ at its. refl; kept = λ at its. refl }
-begins_with past.PartComma (step.Half side.E) h = record { between = past.Side; letters = refl; fraction = refl; begun = λ at its. refl; kept = λ at its. refl }
-begins_with past.PartComma (step.Half side.W) h = record { between = past.Side; letters = refl; fraction = refl; begun = λ at its. refl; kept = λ at its. refl }
-begins_with past.PartComma (step.Quarter which) h = record { between = past.Corner; letters = refl; fraction = refl; begun = λ at its. refl; kept = λ at its. refl }
-begins_with _ it h = cc h
+part_begins_with : (state : State) (it : Step) → is_some (next state lot) ≡ true → BeginsWith state it
+part_begins_with past.SectionNumber (step.Half side.N) h = record { between = past.Side; letters = refl; fraction = refl; begun = λ at its. refl; kept = λ at its. refl }
+part_begins_with past.SectionNumber (step.Half side.S) h = record { between = past.Side; letters = refl; fraction = refl; begun = λ at its. refl; kept = λ at its. refl }
+part_begins_with past.SectionNumber (step.Half side.E) h = record { between = past.Side; letters = refl; fraction = refl; begun = λ at its. refl; kept = λ at its. refl }
+part_begins_with past.SectionNumber (step.Half side.W) h = record { between = past.Side; letters = refl; fraction = refl; begun = λ at its. refl; kept = λ at its. refl }
+part_begins_with past.SectionNumber (step.Quarter which) h = record { between = past.Corner; letters = refl; fraction = refl; begun = λ at its. refl; kept = λ at its. refl }
+part_begins_with past.SectionComma (step.Half side.N) h = record { between = past.Side; letters = refl; fraction = refl; begun = λ at its. refl; kept = λ at its. refl }
+part_begins_with past.SectionComma (step.Half side.S) h = record { between = past.Side; letters = refl; fraction = refl; begun = λ at its. refl; kept = λ at its. refl }
+part_begins_with past.SectionComma (step.Half side.E) h = record { between = past.Side; letters = refl; fraction = refl; begun = λ at its. refl; kept = λ at its. refl }
+part_begins_with past.SectionComma (step.Half side.W) h = record { between = past.Side; letters = refl; fraction = refl; begun = λ at its. refl; kept = λ at its. refl }
+part_begins_with past.SectionComma (step.Quarter which) h = record { between = past.Corner; letters = refl; fraction = refl; begun = λ at its. refl; kept = λ at its. refl }
+part_begins_with past.LotComma (step.Half side.N) h = record { between = past.Side; letters = refl; fraction = refl; begun = λ at its. refl; kept = λ at its. refl }
+part_begins_with past.LotComma (step.Half side.S) h = record { between = past.Side; letters = refl; fraction = refl; begun = λ at its. refl; kept = λ at its. refl }
+part_begins_with past.LotComma (step.Half side.E) h = record { between = past.Side; letters = refl; fraction = refl; begun = λ at its. refl; kept = λ at its. refl }
+part_begins_with past.LotComma (step.Half side.W) h = record { between = past.Side; letters = refl; fraction = refl; begun = λ at its. refl; kept = λ at its. refl }
+part_begins_with past.LotComma (step.Quarter which) h = record { between = past.Corner; letters = refl; fraction = refl; begun = λ at its. refl; kept = λ at its. refl }
+part_begins_with past.LotLastComma (step.Half side.N) h = record { between = past.Side; letters = refl; fraction = refl; begun = λ at its. refl; kept = λ at its. refl }
+part_begins_with past.LotLastComma (step.Half side.S) h = record { between = past.Side; letters = refl; fraction = refl; begun = λ at its. refl; kept = λ at its. refl }
+part_begins_with past.LotLastComma (step.Half side.E) h = record { between = past.Side; letters = refl; fraction = refl; begun = λ at its. refl; kept = λ at its. refl }
+part_begins_with past.LotLastComma (step.Half side.W) h = record { between = past.Side; letters = refl; fraction = refl; begun = λ at its. refl; kept = λ at its. refl }
+part_begins_with past.LotLastComma (step.Quarter which) h = record { between = past.Corner; letters = refl; fraction = refl; begun = λ at its. refl; kept = λ at its. refl }
+part_begins_with past.LotAnd (step.Half side.N) h = record { between = past.Side; letters = refl; fraction = refl; begun = λ at its. refl; kept = λ at its. refl }
+part_begins_with past.LotAnd (step.Half side.S) h = record { between = past.Side; letters = refl; fraction = refl; begun = λ at its. refl; kept = λ at its. refl }
+part_begins_with past.LotAnd (step.Half side.E) h = record { between = past.Side; letters = refl; fraction = refl; begun = λ at its. refl; kept = λ at its. refl }
+part_begins_with past.LotAnd (step.Half side.W) h = record { between = past.Side; letters = refl; fraction = refl; begun = λ at its. refl; kept = λ at its. refl }
+part_begins_with past.LotAnd (step.Quarter which) h = record { between = past.Corner; letters = refl; fraction = refl; begun = λ at its. refl; kept = λ at its. refl }
+part_begins_with past.BeforePart (step.Half side.N) h = record { between = past.Side; letters = refl; fraction = refl; begun = λ at its. refl; kept = λ at its. refl }
+part_begins_with past.BeforePart (step.Half side.S) h = record { between = past.Side; letters = refl; fraction = refl; begun = λ at its. refl; kept = λ at its. refl }
+part_begins_with past.BeforePart (step.Half side.E) h = record { between = past.Side; letters = refl; fraction = refl; begun = λ at its. refl; kept = λ at its. refl }
+part_begins_with past.BeforePart (step.Half side.W) h = record { between = past.Side; letters = refl; fraction = refl; begun = λ at its. refl; kept = λ at its. refl }
+part_begins_with past.BeforePart (step.Quarter which) h = record { between = past.Corner; letters = refl; fraction = refl; begun = λ at its. refl; kept = λ at its. refl }
+part_begins_with past.PartComma (step.Half side.N) h = record { between = past.Side; letters = refl; fraction = refl; begun = λ at its. refl; kept = λ at its. refl }
+part_begins_with past.PartComma (step.Half side.S) h = record { between = past.Side; letters = refl; fraction = refl; begun = λ at its. refl; kept = λ at its. refl }
+part_begins_with past.PartComma (step.Half side.E) h = record { between = past.Side; letters = refl; fraction = refl; begun = λ at its. refl; kept = λ at its. refl }
+part_begins_with past.PartComma (step.Half side.W) h = record { between = past.Side; letters = refl; fraction = refl; begun = λ at its. refl; kept = λ at its. refl }
+part_begins_with past.PartComma (step.Quarter which) h = record { between = past.Corner; letters = refl; fraction = refl; begun = λ at its. refl; kept = λ at its. refl }
+part_begins_with _ it h = cc h
 
 white_append : (xs ys : List ℕ) → list_all is_white xs ≡ true → list_all is_white ys ≡ true → list_all is_white (xs ++ ys) ≡ true
 white_append [] ys h k = k
@@ -388,9 +445,9 @@ token_leads text from at state its kind size behind grown s starts is grows =
     (leads_token text from state its s.token (at + size) behind starts s.ends s.within step_is)
 
 -- white space and the first step of a part lead on, and then what follows the step
-pub first_leads : (text : List ℕ) (from : ℕ) (state : State) (its : List Item) (at : ℕ) (it : Step) (size to : ℕ) (behind : State) → true ≡ is_some (next state lot) → at ≡ from + prefix_len is_white (drop from text) → IsStepAt text at it size → Leads text (at + size) past.Step (Chain (it ∷ []) at ∷ before_parts state its) to behind (Chain (it ∷ []) at ∷ before_parts state its) → Leads text from state its to behind (Chain (it ∷ []) at ∷ before_parts state its)
-first_leads text from state its at it size to behind begins white s more =
-    let by : BeginsWith state it = begins_with state it (sym begins) in
+pub first_leads : (text : List ℕ) (from : ℕ) (state : State) (its : List Item) (at : ℕ) (it : Step) (size to : ℕ) (behind : State) (grown : List Item) → true ≡ is_some (next state lot) → at ≡ from + prefix_len is_white (drop from text) → IsStepAt text at it size → Leads text (at + size) past.Step (Chain (it ∷ []) at ∷ before_parts state its) to behind grown → Leads text from state its to behind grown
+first_leads text from state its at it size to behind grown begins white s more =
+    let by : BeginsWith state it = part_begins_with state it (sym begins) in
     let begun : List Item = Chain (it ∷ []) at ∷ before_parts state its in
     let end : (at + s.letters_size) + s.fraction_size ≡ at + size = rw (s.size_is) (omega arith) in
     let letters : Leads text from state its (at + s.letters_size) by.between begun =
@@ -400,7 +457,7 @@ first_leads text from state its at it size to behind begins white s more =
     let both : Leads text from state its (at + size) past.Step begun =
     subst (λ (n : ℕ). Leads text from state its n past.Step begun) end
     (leads_then text from state its (at + s.letters_size) by.between begun ((at + s.letters_size) + s.fraction_size) past.Step begun letters fraction) in
-    leads_then text from state its (at + size) past.Step begun to behind begun both more
+    leads_then text from state its (at + size) past.Step begun to behind grown both more
 
 -- where a step that stands at a place ends
 pub step_within : (text : List ℕ) (at : ℕ) (it : Step) (size : ℕ) → IsStepAt text at it size → at + size ≤ length text
@@ -420,8 +477,3 @@ pub begins_there : (text : List ℕ) (at : ℕ) (bytes left : List ℕ) (found :
 begins_there text at bytes left found left_is value is_true =
     let spelt : left ≡ bytes ++ drop (length bytes) left = (starts_is Decides-eqb left bytes found value).0 is_true in
     sym left_is ∙ spelt ∙ ap (λ b. bytes ++ drop (length bytes) b) left_is ∙ ap (λ b. bytes ++ b) (drop-drop (length bytes) at text)
-
--- the steps behind the first one lead on
-pub more_lead : {E : Type 0} (text : List ℕ) (at : ℕ) (state : State) (its : List Item) (mid : ℕ) (between : State) (some grown : List Item) (o : Result Reached E) → Leads text at state its mid between some → IfOk o (λ to. Leads text mid between some to.at to.state grown) → IfOk o (λ to. Leads text at state its to.at to.state grown)
-more_lead text at state its mid between some grown (Ok to) first more = leads_then text at state its mid between some to.at to.state grown first more
-more_lead text at state its mid between some grown (Err e) first more = tt

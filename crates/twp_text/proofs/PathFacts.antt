@@ -8,12 +8,12 @@ use Rattle.twp_text.specs.declared.item.Step.TheVariants.{Quarter}
 use Rattle.twp_text.specs.CanonicalText.{step_text}
 use Rattle.twp_text.specs.Spelling.{PATH_MOST, quarters_text}
 
-take_front : (n k : ℕ) (xs ys : List ℕ) → n ≡ length xs + k → take n (xs ++ ys) ≡ xs ++ take k ys
+pub take_front : (n k : ℕ) (xs ys : List ℕ) → n ≡ length xs + k → take n (xs ++ ys) ≡ xs ++ take k ys
 take_front n k [] ys is = let same : n ≡ k = omega arith in ap (λ m. take m ys) same
 take_front zero k (x ∷ xs) ys is = absurd (omega arith)
 take_front (suc n) k (x ∷ xs) ys is = ap (λ l. x ∷ l) (take_front n k xs ys (omega arith))
 
-take_less : (n m : ℕ) (xs : List ℕ) → n ≤ m → take n (take m xs) ≡ take n xs
+pub take_less : (n m : ℕ) (xs : List ℕ) → n ≤ m → take n (take m xs) ≡ take n xs
 take_less zero m xs less = refl
 take_less (suc n) zero xs less = absurd (omega arith)
 take_less (suc n) (suc m) [] less = refl
@@ -32,29 +32,29 @@ long_quarter NW = refl
 long_quarter SW = refl
 long_quarter SE = refl
 
--- the bytes of a step, and behind them the first 15 of a path's 20
-pub longer : (step more rest : List ℕ) (len end : ℕ) → length step ≡ 5 → length more ≡ 20 → (len ≤ 15 → end ≡ len + 5) → (15 < len → end ≡ 20)
-    → take end (step ++ (take 15 more ++ rest)) ≡ take 20 (step ++ take len more)
-longer step more rest len end five twenty short long = elim (cases_lt 15 len) [
+-- the bytes of a step, and behind them the first 11 of a path's 16
+pub longer : (step more rest : List ℕ) (len end : ℕ) → length step ≡ 5 → length more ≡ 16 → (len ≤ 11 → end ≡ len + 5) → (11 < len → end ≡ 16)
+    → take end (step ++ (take 11 more ++ rest)) ≡ take 16 (step ++ take len more)
+longer step more rest len end five sixteen short long = elim (cases_lt 11 len) [
   | inl past ↦
       let ends = long past in
-      take_front end 15 step (take 15 more ++ rest) (omega arith)
-      ∙ ap (λ l. step ++ l) (take-append-le 15 (take 15 more) rest (fifteen past) ∙ take_less 15 15 more (omega arith) ∙ sym (take_less 15 len more (omega arith)))
-      ∙ sym (take_front 20 15 step (take len more) (omega arith))
+      take_front end 11 step (take 11 more ++ rest) (omega arith)
+      ∙ ap (λ l. step ++ l) (take-append-le 11 (take 11 more) rest (eleven past) ∙ take_less 11 11 more (omega arith) ∙ sym (take_less 11 len more (omega arith)))
+      ∙ sym (take_front 16 11 step (take len more) (omega arith))
   | inr within ↦
       let ends = short (omega arith) in
-      take_front end len step (take 15 more ++ rest) (omega arith)
-      ∙ ap (λ l. step ++ l) (take-append-le len (take 15 more) rest (enough (omega arith)) ∙ take_less len 15 more (omega arith) ∙ sym (take_more 15 len more (omega arith)))
-      ∙ sym (take_front 20 15 step (take len more) (omega arith))
+      take_front end len step (take 11 more ++ rest) (omega arith)
+      ∙ ap (λ l. step ++ l) (take-append-le len (take 11 more) rest (enough (omega arith)) ∙ take_less len 11 more (omega arith) ∙ sym (take_more 11 len more (omega arith)))
+      ∙ sym (take_front 16 11 step (take len more) (omega arith))
 ]
   where
-    long_take : length (take 15 more) ≡ 15
-    long_take = rw (length-take 15 more, twenty) refl
+    long_take : length (take 11 more) ≡ 11
+    long_take = rw (length-take 11 more, sixteen) refl
 
-    fifteen : 15 < len → 15 ≤ length (take 15 more)
-    fifteen past = let same = long_take in omega arith
+    eleven : 11 < len → 11 ≤ length (take 11 more)
+    eleven past = let same = long_take in omega arith
 
-    enough : len ≤ 15 → len ≤ length (take 15 more)
+    enough : len ≤ 11 → len ≤ length (take 11 more)
     enough less = let same = long_take in omega arith
 
 -- a path of so few quarters is whole
@@ -71,18 +71,18 @@ take_all zero (x ∷ xs) fits = absurd (omega arith)
 take_all (suc n) [] fits = refl
 take_all (suc n) (x ∷ xs) fits = ap (λ l. x ∷ l) (take_all n xs (omega arith))
 
-pub longer_path : (corner : Corner) (front zeros mid rest text path : List ℕ) (len end : ℕ) → front ≡ step_text (Quarter corner) → mid ≡ take 15 text → length text ≡ 20
-    → take len text ≡ path → len ≤ 20 → end ≡ min 20 (len + 5) → take end (take 5 (front ++ zeros) ++ (mid ++ rest)) ≡ take PATH_MOST (step_text (Quarter corner) ++ path)
-longer_path corner front zeros mid rest text path len end front_is mid_is twenty path_is within end_is =
+pub longer_path : (corner : Corner) (front zeros mid rest text path : List ℕ) (len end : ℕ) → front ≡ step_text (Quarter corner) → mid ≡ take 11 text → length text ≡ 16
+    → take len text ≡ path → len ≤ 16 → end ≡ min 16 (len + 5) → take end (take 5 (front ++ zeros) ++ (mid ++ rest)) ≡ take PATH_MOST (step_text (Quarter corner) ++ path)
+longer_path corner front zeros mid rest text path len end front_is mid_is sixteen path_is within end_is =
     let five = long_quarter corner in
     let long : length front ≡ 5 = ap length front_is ∙ five in
     ap (λ l. take end (l ++ (mid ++ rest))) (take-append-le 5 front zeros (omega arith) ∙ take_all 5 front (omega arith) ∙ front_is)
     ∙ ap (λ m. take end (step_text (Quarter corner) ++ (m ++ rest))) mid_is
-    ∙ longer (step_text (Quarter corner)) text rest len end five twenty (λ less. omega arith) (λ more. omega arith)
-    ∙ ap (λ p. take 20 (step_text (Quarter corner) ++ p)) path_is
+    ∙ longer (step_text (Quarter corner)) text rest len end five sixteen (λ less. omega arith) (λ more. omega arith)
+    ∙ ap (λ p. take 16 (step_text (Quarter corner) ++ p)) path_is
 
-pub path_of_quarter : (corner : Corner) (quarters : List Corner) (path inner : List ℕ) → length quarters < 4 → path ≡ quarters_text quarters
+pub path_of_quarter : (corner : Corner) (quarters : List Corner) (path inner : List ℕ) → length quarters < 3 → path ≡ quarters_text quarters
     → inner ≡ take PATH_MOST (step_text (Quarter corner) ++ path) → inner ≡ quarters_text (corner ∷ quarters)
 path_of_quarter corner quarters path inner less path_is inner_is =
-    inner_is ∙ ap (λ p. take 20 (step_text (Quarter corner) ++ p)) path_is
-    ∙ take_all 20 (quarters_text (corner ∷ quarters)) (let long = long_path (corner ∷ quarters) in omega arith)
+    inner_is ∙ ap (λ p. take 16 (step_text (Quarter corner) ++ p)) path_is
+    ∙ take_all 16 (quarters_text (corner ∷ quarters)) (let long = long_path (corner ∷ quarters) in omega arith)

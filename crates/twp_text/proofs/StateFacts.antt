@@ -14,6 +14,8 @@ pub leads_nowhere : (o : Option State) (behind : State) → is_some o ≡ false 
 leads_nowhere None behind h = refl
 leads_nowhere (Some s) behind h = cc h
 
+pub ruleset leads = (leads_on, leads_nowhere)
+
 -- a step goes on with a chain, or begins a part
 pub chain_goes_on : (s : State) → is_in_chain s ≡ true → true ≡ is_some (next s corner)
 chain_goes_on past.Step h = refl
@@ -26,6 +28,8 @@ part_begins past.Step h = cc h
 part_begins past.Of h = cc h
 part_begins past.OfThe h = cc h
 part_begins _ h = refl
+
+pub ruleset part_goes_on = (chain_goes_on, part_begins)
 
 -- a side that a step may begin with
 pub north_south_of_step : (s : State) → is_some (next s corner) ≡ true → Some past.Side ≡ next s north_south

@@ -112,6 +112,34 @@ quarters_written result g held quarters old ne nw sw se fits short first second 
     one_more : (front : List ℕ) (parts : List Part) → front ≡ old ++ parts_text parts → (more : List Part) → front ++ parts_text more ≡ old ++ parts_text (parts ++ more)
     one_more front parts is more = ap (λ t. t ++ parts_text more) is ∙ both old parts more
 
+-- the same of a list that can't lack memory
+pub half_added : (g : ℕ) (held : ℕ → ℕ → Bool) (quarters : List Corner) (side : Side) (corner : Corner) (path old new : List ℕ)
+    → IsChosenHalf g held quarters side → IsOnSide side corner → path ≡ quarters_text quarters
+    → (quarter_on side ≡ corner → new ≡ old ++ (codes ", " ++ (step_text (Half side) ++ path)))
+    → (¬ (quarter_on side ≡ corner) → new ≡ old)
+    → AreWritten (AreOfQuarter g held quarters corner) old new
+half_added g held quarters side corner path old new chosen on path_is first second = half_written {T = ℕ} {E = ℕ} (Ok 0) g held quarters side corner path old new chosen on path_is first second
+
+pub full_added : (g : ℕ) (held : ℕ → ℕ → Bool) (quarters : List Corner) (corner : Corner) (path old new : List ℕ)
+    → path ≡ quarters_text quarters → ¬ IsFull g held (square quarters) → IsOffChosen g held quarters corner → IsFull g held (square (corner ∷ quarters))
+    → new ≡ old ++ ((codes ", " ++ step_text (Quarter corner)) ++ path) → AreWritten (AreOfQuarter g held quarters corner) old new
+full_added g held quarters corner path old new path_is short off full is = full_written {T = ℕ} {E = ℕ} (Ok 0) g held quarters corner (codes ", " ++ step_text (Quarter corner)) path old new path_is refl short off full is
+
+pub inner_added : (g : ℕ) (held : ℕ → ℕ → Bool) (quarters : List Corner) (corner : Corner) (old new : List ℕ) → IsOffChosen g held quarters corner
+    → AreWritten (AreOfSquare g held (corner ∷ quarters)) old new → AreWritten (AreOfQuarter g held quarters corner) old new
+inner_added g held quarters corner old new off is = inner_written {T = ℕ} {E = ℕ} (Ok 0) g held quarters corner old new off is
+
+pub quarters_added : (g : ℕ) (held : ℕ → ℕ → Bool) (quarters : List Corner) (old ne nw sw se : List ℕ) → length quarters < g → ¬ IsFull g held (square quarters)
+    → AreWritten (AreOfQuarter g held quarters NE) old ne → AreWritten (AreOfQuarter g held quarters NW) ne nw → AreWritten (AreOfQuarter g held quarters SW) nw sw
+    → AreWritten (AreOfQuarter g held quarters SE) sw se → AreWritten (AreOfSquare g held quarters) old se
+quarters_added g held quarters old ne nw sw se fits short first second third last = quarters_written {T = ℕ} {E = ℕ} (Ok 0) g held quarters old ne nw sw se fits short first second third last
+
+-- parts that were put together are appended
+pub pieces_appended : {T E : Type 0} (result : Result T E) (these : List Part → Type 0) (old none pieces new : List ℕ) → none ≡ [] → AreWritten these none pieces
+    → OnOk result (new ≡ old ++ pieces) → OnOk result (AreWritten these old new)
+pieces_appended result these old none pieces new empty written ok = on_ok result (new ≡ old ++ pieces) (AreWritten these old new) ok (λ is.
+    record { parts = written.parts; are = written.are; text_is = is ∙ ap (λ l. old ++ l) (written.text_is ∙ ap (λ l. l ++ parts_text written.parts) empty) })
+
 -- the section
 pub section_written : {T E : Type 0} (result : Result T E) (g section : ℕ) (held : ℕ → ℕ → Bool) (old new : List ℕ)
     → OnOk result (AreWritten (AreOfSquare g (off_lots g section held) []) old new) → OnOk result (AreWritten (AreWrittenParts g (off_lots g section held)) old new)

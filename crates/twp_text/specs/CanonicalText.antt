@@ -1,13 +1,12 @@
 -- The canonical text of a land: one text for each set of places, however it was described.
-use Rattle.std.specs.Prelude.{◌≡◌, ℕ, ◌<◌, ◌&&◌, Bool, true, List, [], ◌∷◌, ◌++◌, Some, is_none, map, codes, decimal}
+use Rattle.std.specs.Prelude.{◌≡◌, ℕ, ◌<◌, ◌&&◌, Bool, true, List, [], ◌∷◌, ◌++◌, Some, is_none}
+use Rattle.std.specs.Prelude.{map, codes, decimal}
 use Rattle.std.specs.List.{flat_map, join_by, AllZip}
 use Rattle.twp_grid.specs.Winding.{IsSection}
 use Rattle.twp_grid.specs.Places.{IsPlace}
 use Rattle.twp_grid.specs.Townships.{Designation}
-use Rattle.twp_grid.specs.declared.township.NorthSouth.{NorthSouth}
-use Rattle.twp_grid.specs.declared.township.NorthSouth.TheVariants as ns
-use Rattle.twp_grid.specs.declared.township.EastWest.{EastWest}
-use Rattle.twp_grid.specs.declared.township.EastWest.TheVariants as ew
+use Rattle.twp_grid.specs.Texts.{line_feed}
+pub use Rattle.twp_grid.specs.Texts.{north_south_letter, east_west_letter}
 use Rattle.twp_grid.specs.declared.block.Side.{Side}
 use Rattle.twp_grid.specs.declared.block.Side.TheVariants.{N, S, E, W}
 use Rattle.twp_grid.specs.declared.block.Corner.{Corner}
@@ -91,19 +90,9 @@ pub record IsSectionText (g : ℕ) (places : ℕ → ℕ → ℕ → Bool) (sect
   pub list_is : IsSectionList g section (places section) list
   pub text_is : text ≡ codes "sec. " ++ decimal section ++ codes ", " ++ list
 
--- the letter of a township's direction from its base line
-abbrev pub north_south_letter : NorthSouth → List ℕ
-north_south_letter ns.N = codes "N"
-north_south_letter ns.S = codes "S"
-
--- the letter of a range's direction from its meridian
-abbrev pub east_west_letter : EastWest → List ℕ
-east_west_letter ew.E = codes "E"
-east_west_letter ew.W = codes "W"
-
--- the byte that ends a line
+-- what ends a line
 abbrev pub line_end : List ℕ
-line_end = 10 ∷ []
+line_end = line_feed ∷ []
 
 -- the heading's line: T. 2 N., R. 3 W.,
 abbrev pub heading_line : Designation → List ℕ

@@ -1,12 +1,14 @@
 -- How the reader cuts the first token off bytes that begin with no white space. No public promise
--- speaks of it; proofs/Cuts shows that it is the one token that the bytes begin with. Past the end a
--- byte is read as 0.
-use Rattle.std.specs.Prelude.{◌==◌, ◌&&◌, ℕ, Bool, ◌+◌, ◌<◌, ◌≤◌, nat_le, List, length, take, drop, Option, Some, None, slice_index, if◌then◌else◌}
+-- speaks of it; proofs/Cuts shows that it is the one token that the bytes begin with. Past the end
+-- a byte is read as 0.
+use Rattle.std.specs.Prelude.{◌==◌, ◌&&◌, ℕ, Bool, ◌+◌, ◌<◌, ◌≤◌, nat_le, List, length, take, drop}
+use Rattle.std.specs.Prelude.{Option, Some, None, slice_index, if◌then◌else◌}
 use Rattle.std.specs.Char.{is_ascii_alphabetic, is_ascii_digit, to_ascii_lowercase}
 use Rattle.std.specs.List.{prefix_len, AllPass}
 use Rattle.std.specs.Str.Parse.{digits_value}
 use Rattle.twp_text.specs.declared.kind.Kind.{Kind}
-use Rattle.twp_text.specs.declared.kind.Kind.TheVariants.{Half, Quarter, Number, Comma, Semicolon, Colon, Stop, BadNumber, BadByte}
+use Rattle.twp_text.specs.declared.kind.Kind.TheVariants.{Half, Quarter, Number, Comma, Semicolon}
+use Rattle.twp_text.specs.declared.kind.Kind.TheVariants.{Colon, Stop, BadNumber, BadByte}
 use Rattle.twp_text.specs.declared.lexeme.Lexeme.{Lexeme}
 use Rattle.twp_text.specs.declared.token.Token.{Token as Piece}
 use Rattle.twp_text.specs.Tokens.{Token, is_white, kind_of_word, seen, StartsWith}
@@ -25,7 +27,8 @@ letters_in_front bytes = prefix_len is_ascii_alphabetic bytes
 
 -- the word of all the letters in front
 unfoldable pub cut_word : List ℕ → Lexeme
-cut_word bytes = lexeme (kind_of_word (take (letters_in_front bytes) bytes)) (letters_in_front bytes)
+cut_word bytes =
+    lexeme (kind_of_word (take (letters_in_front bytes) bytes)) (letters_in_front bytes)
 
 -- what so many digits are
 abbrev pub numeral_of : ℕ → List ℕ → Lexeme

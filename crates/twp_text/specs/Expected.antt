@@ -4,7 +4,9 @@ use Rattle.twp_text.specs.declared.expected.Expected.{Expected}
 use Rattle.twp_text.specs.declared.expected.Expected.TheVariants as expected
 use Rattle.twp_text.specs.declared.state.State.{State}
 use Rattle.twp_text.specs.declared.state.State.TheVariants as past
-use Rattle.twp_text.specs.Grammar.{Class, sec, lot, all, and, to, inclusive, of, the, t, r, north_south, east_west, corner, half, quarter, number, comma, semicolon, colon, stop}
+use Rattle.twp_text.specs.Grammar.{Class, sec, lot, all, and, to, inclusive, of, the, t, r}
+use Rattle.twp_text.specs.Grammar.{north_south, east_west, corner, half, quarter, number, comma}
+use Rattle.twp_text.specs.Grammar.{semicolon, colon, stop}
 
 -- marks that may stand before what is named
 abbrev pub marks : List Class

@@ -1,12 +1,15 @@
--- The grammar of descriptions (the form of the Specifications for Descriptions of Land; the grammar is
--- this project's). It speaks of the classes of tokens alone: which number or which side it is doesn't
--- matter.
+-- The grammar of descriptions (the form of the Specifications for Descriptions of Land; the grammar
+-- is this project's). It speaks of the classes of tokens alone: which number or which side it is
+-- doesn't matter.
 use Rattle.std.specs.Prelude.{ℕ}
 use Rattle.twp_grid.specs.declared.township.NorthSouth.{NorthSouth as NorthOrSouth}
 use Rattle.twp_grid.specs.declared.township.EastWest.{EastWest as EastOrWest}
 use Rattle.twp_grid.specs.declared.block.Corner.{Corner as OneCorner}
 use Rattle.twp_text.specs.declared.kind.Kind.{Kind}
-use Rattle.twp_text.specs.declared.kind.Kind.TheVariants.{Sec, Lot, All, And, To, Inclusive, Of, The, T, R, NorthSouth, EastWest, Corner, Half, Quarter, Number, Comma, Semicolon, Colon, Stop, Other, BadNumber, BadByte}
+use Rattle.twp_text.specs.declared.kind.Kind.TheVariants.{Sec, Lot, All, And, To, Inclusive, Of}
+use Rattle.twp_text.specs.declared.kind.Kind.TheVariants.{The, T, R, NorthSouth, EastWest, Corner}
+use Rattle.twp_text.specs.declared.kind.Kind.TheVariants.{Half, Quarter, Number, Comma, Semicolon}
+use Rattle.twp_text.specs.declared.kind.Kind.TheVariants.{Colon, Stop, Other, BadNumber, BadByte}
 
 -- a kind of token without its value
 pub data Class : Type 0 where
@@ -96,8 +99,8 @@ kind_of bad_byte _ = BadByte
 
 infixr 6 ◌⨾◌
 infixr 5 ◌∣◌
--- grammars: nothing at all, no tokens, a token of a class, one after the other, the one or the other,
--- any number
+-- grammars: nothing at all, no tokens, a token of a class, one after the other, the one or the
+-- other, any number
 pub data Ebnf : Type 0 where
   never : Ebnf
   nothing : Ebnf

@@ -1,7 +1,8 @@
--- The machine that the reader runs: what may follow a beginning of a sentence, and what each token does
--- to the items. No public promise speaks of it; proofs/Table and proofs/Walk show that it is the
--- grammar's.
-use Rattle.std.specs.Prelude.{ℕ, if◌then◌else◌, Bool, true, false, List, [], ◌∷◌, ◌++◌, Option, Some, None}
+-- The machine that the reader runs: what may follow a beginning of a sentence, and what each token
+-- does to the items. No public promise speaks of it; proofs/Table and proofs/Walk show that it is
+-- the grammar's.
+use Rattle.std.specs.Prelude.{ℕ, if◌then◌else◌, Bool, true, false, List, [], ◌∷◌, ◌++◌, Option}
+use Rattle.std.specs.Prelude.{Some, None}
 use Rattle.twp_grid.specs.declared.township.NorthSouth.{NorthSouth as NorthOrSouth}
 use Rattle.twp_grid.specs.declared.township.NorthSouth.TheVariants as ns
 use Rattle.twp_grid.specs.declared.township.EastWest.{EastWest as EastOrWest}
@@ -19,7 +20,9 @@ use Rattle.twp_text.specs.Items.{north_or_south, east_or_west}
 use Rattle.twp_text.specs.declared.state.State.{State}
 use Rattle.twp_text.specs.declared.state.State.TheVariants as past
 use Rattle.twp_text.specs.Tokens.{Token}
-use Rattle.twp_text.specs.Grammar.{Class, class_of, sec, lot, all, and, to, inclusive, of, the, t, r, north_south, east_west, corner, half, quarter, number, comma, semicolon, colon, stop}
+use Rattle.twp_text.specs.Grammar.{Class, class_of, sec, lot, all, and, to, inclusive, of, the, t}
+use Rattle.twp_text.specs.Grammar.{r, north_south, east_west, corner, half, quarter, number, comma}
+use Rattle.twp_text.specs.Grammar.{semicolon, colon, stop}
 
 -- a group ends
 abbrev pub group_end : Class → Option State
@@ -255,8 +258,8 @@ take_token state kind.Colon at items = before_parts state items
 take_token state kind.All at items = take_all state at items
 take_token state _ at items = items
 
--- where the machine stands behind the tokens, and the items with the newest first; None where it can't
--- take one
+-- where the machine stands behind the tokens, and the items with the newest first; None where it
+-- can't take one
 abbrev pub run : Option State → List Item → List Token → Option (State × List Item)
 run None items tokens = None
 run (Some state) items [] = Some (state, items)

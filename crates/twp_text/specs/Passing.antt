@@ -57,26 +57,27 @@ pub record IsStepAt (text : List ℕ) (at : ℕ) (step : Step) (size : ℕ) : Ty
   pub size_is : size ≡ letters_size + fraction_size
   pub some : 0 < size
 
--- a letter is that of a half, which has four bytes with `1/2` behind it
-pub record AreHalf (first : ℕ) (it : Step) (size : ℕ) : Type 0 where
+-- a letter is that of a half
+pub record AreHalf (first : ℕ) (it : Step) : Type 0 where
   pub small : ℕ
   pub letter : Some small ≡ small_letter first
   pub letters : kind_among (small ∷ []) words ≡ letters_of it
   pub fraction : fraction_of it ≡ Half
-  pub size_is : size ≡ 4
 
--- two letters are those of a quarter, which has five bytes with `1/4` behind them
-pub record AreQuarter (first second : ℕ) (it : Step) (size : ℕ) : Type 0 where
+-- two letters are those of a quarter
+pub record AreQuarter (first second : ℕ) (it : Step) : Type 0 where
   pub small : ℕ
   pub letter : Some small ≡ small_letter first
   pub behind : ℕ
   pub letter_behind : Some behind ≡ small_letter second
   pub letters : kind_among (small ∷ behind ∷ []) words ≡ letters_of it
   pub fraction : fraction_of it ≡ Quarter
-  pub size_is : size ≡ 5
 
--- five bytes begin with a step: with the letter of a half and 1/2, or with those of a quarter and 1/4
+-- five bytes begin with a step: with the letter of a half and 1/2 or its sign, or with those of a
+-- quarter and 1/4 or its sign
 abbrev pub BeginWithStep : ℕ → ℕ → ℕ → ℕ → ℕ → Step → ℕ → Type 0
 BeginWithStep first second third fourth fifth it size =
-    (AreHalf first it size × (second ≡ 49) × (third ≡ 47) × (fourth ≡ 50))
-    ⊎ (AreQuarter first second it size × (third ≡ 49) × (fourth ≡ 47) × (fifth ≡ 52))
+    (AreHalf first it × (size ≡ 4) × (second ≡ 49) × (third ≡ 47) × (fourth ≡ 50))
+    ⊎ (AreQuarter first second it × (size ≡ 5) × (third ≡ 49) × (fourth ≡ 47) × (fifth ≡ 52))
+    ⊎ (AreHalf first it × (size ≡ 3) × (second ≡ 0xC2) × (third ≡ 0xBD))
+    ⊎ (AreQuarter first second it × (size ≡ 4) × (third ≡ 0xC2) × (fourth ≡ 0xBC))

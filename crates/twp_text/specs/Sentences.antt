@@ -25,8 +25,8 @@ abbrev pub IsFront : List Token → Type 0
 IsFront tokens =
     (more : List Token) × (length more ≤ LONGEST_COMPLETION) × IsSentence (tokens ++ more)
 
--- the tokens before the i-th begin a sentence, and with it they begin none; or all of them begin one,
--- and are none
+-- the tokens before the i-th begin a sentence, and with it they begin none; or all of them begin
+-- one, and are none
 pub record IsFault (tokens : List Token) (i : ℕ) : Type 0 where
   pub within : i ≤ length tokens
   pub before : IsFront (take i tokens)

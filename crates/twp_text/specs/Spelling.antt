@@ -90,9 +90,17 @@ abbrev pub IsOffChosen : ℕ → (ℕ → ℕ → Bool) → List Corner → Corn
 IsOffChosen g held quarters corner =
     (side : Side) → IsChosenHalf g held quarters side → ¬ IsOnSide side corner
 
--- the bytes of the longest path, of as many quarters as places have digits
+-- the bytes that are kept of a path: three quarters, which is the longest behind a part, have 15
 abbrev pub PATH_MOST : ℕ
-PATH_MOST = 20
+PATH_MOST = 16
+
+-- the bytes that are kept of a part: a quarter behind a comma, and a path
+abbrev pub PART_MOST : ℕ
+PART_MOST = 23
+
+-- the bytes of as many parts as a position has places
+abbrev pub PIECES_MOST : ℕ
+PIECES_MOST = 368
 
 -- quarters as they are written behind a smaller part
 abbrev pub quarters_text : List Corner → List ℕ

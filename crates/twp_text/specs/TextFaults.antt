@@ -1,5 +1,6 @@
 -- Which bytes are read as items, and which refusal is answered for all others.
-use Rattle.std.specs.Prelude.{◌≡◌, ℕ, ◌≤◌, ◌<◌, zero, suc, List, [], ◌∷◌, ◌++◌, Option, Some, None, length, take, ⊤}
+use Rattle.std.specs.Prelude.{◌≡◌, ℕ, ◌≤◌, ◌<◌, zero, suc, List, [], ◌∷◌, ◌++◌, Option, Some, None}
+use Rattle.std.specs.Prelude.{length, take, ⊤}
 use Rattle.twp_grid.specs.declared.refusal.Refusal.{Refusal}
 use Rattle.twp_text.specs.declared.kind.Kind.{Kind}
 use Rattle.twp_text.specs.declared.kind.Kind.TheVariants.{BadByte, BadNumber}
@@ -90,8 +91,8 @@ refusal_of (fault.BadNumber at) = Some (refusal 43 at)
 refusal_of (fault.Syntax at expected) = Some (refusal 44 at)
 refusal_of fault.Memory = None
 
--- The text goes wrong at this place, whether or not it has bad tokens, and whatever token a sentence
--- could have there is named.
+-- The text goes wrong at this place, whether or not it has bad tokens, and whatever token a
+-- sentence could have there is named.
 pub record GoesWrong (text : List ℕ) (at : ℕ) (expected : Expected) : Type 0 where
   pub tokens : List Token
   pub cut : HasTokens 0 text tokens

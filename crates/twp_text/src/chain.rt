@@ -1,4 +1,4 @@
-ghost use Rattle.std.specs.Prelude.{◌≡◌, ◌+◌, ◌≤◌, ◌↔◌, length, IfOk, IfErr, IsTrue, MatchOption};
+ghost use Rattle.std.specs.Prelude.{◌≡◌, ◌+◌, ◌≤◌, ◌↔◌, List, length, IfSome, IfOk, IfErr, IsTrue, MatchOption};
 ghost use Rattle.std.specs.Option.{SomeIff};
 ghost use Rattle.twp_grid.specs.Places.{PLACE_DIGITS, places_across};
 ghost use Rattle.twp_grid.specs.Cuts.{AreWithin, part_of, reached};
@@ -8,12 +8,16 @@ ghost use Rattle.twp_land.specs.Lands.{Meets};
 ghost use Rattle.twp_text.specs.ItemPlaces.{cut_of, cuts_of};
 ghost use Rattle.twp_text.specs.Taking.{CanCut, IsCutTo, IsTaken, IsFirstFlaw, HoldsLotPlace, Cross};
 ghost use Rattle.twp_text.specs.declared.item.Item.TheVariants.{Chain};
+ghost use Rattle.twp_text.specs.declared.item.Step.{Step as TakenStep};
 
 use crate::item::{Step, Steps};
 use crate::place_fault::PlaceFault;
 use crate::taking::add_block;
-use twp_grid::{Block, Section, lot_count};
+use twp_grid::{Block, Section, lot_at, lot_count};
 use twp_land::Land;
+
+/// The places along a side of a position.
+const PLACES_TO_POSITION: u8 = 4;
 
 /// Takes an aliquot part of a section.
 pub(crate) fn take_chain<L: Land>(
@@ -28,9 +32,31 @@ pub(crate) fn take_chain<L: Land>(
     ensures refused { IfErr result (λ fault. (township : Designation)
         → IsFirstFlaw PLACE_DIGITS township section (Chain steps.now at) (L.places land.old) fault) }
 {
+    if let Some(place) = place_of(steps) {
+        return take_block(land, section, place, at);
+    }
     let Some(block) = block_of(steps) else {
         return Err(PlaceFault::TooFine { at });
     };
+    take_block(land, section, block, at)
+}
+
+/// Takes the block that an aliquot part's steps leave of a section.
+#[inline(always)]
+fn take_block<L: Land>(
+    land: &mut L,
+    section: Section,
+    block: Block,
+    at: u32,
+) -> Result<(), PlaceFault>
+    ensures taken { (steps : List TakenStep) → IsCutTo PLACE_DIGITS steps 0 block
+        → IfOk result (λ _. (township : Designation)
+        → IsTaken PLACE_DIGITS township section (Chain steps at)
+        (L.places land.old) (L.places land.new)) }
+    ensures refused { (steps : List TakenStep) → IsCutTo PLACE_DIGITS steps 0 block
+        → IfErr result (λ fault. (township : Designation)
+        → IsFirstFlaw PLACE_DIGITS township section (Chain steps at) (L.places land.old) fault) }
+{
     if holds_of_lot(section, block) {
         return Err(PlaceFault::OnLot { at });
     }
@@ -49,6 +75,33 @@ fn block_of(steps: &Steps) -> Option<Block>
         block = cut(block, first[index])?;
     }
     Some(block)
+}
+
+/// The place that four quarters leave of a section. None of other steps. Each quarter's size is known
+/// here, so that none is tested for being too fine.
+#[inline(always)]
+fn place_of(steps: &Steps) -> Option<Block>
+    ensures { IfSome result (IsCutTo PLACE_DIGITS steps.now 0) }
+{
+    let first = steps.first();
+    if steps.len() != 4 || first.len() != 4 {
+        return None;
+    }
+    let half_mile = quarter_of(Block::whole(), first[3])?;
+    let position = quarter_of(half_mile, first[2])?;
+    let square = quarter_of(position, first[1])?;
+    quarter_of(square, first[0])
+}
+
+/// The quarter of a block that a step takes. None of a half.
+#[inline(always)]
+fn quarter_of(block: Block, step: Step) -> Option<Block>
+    ensures { IfSome result (λ part. CanCut block (cut_of step) × (part ≡ part_of block (cut_of step))) }
+{
+    match step {
+        Step::Half(_) => None,
+        Step::Quarter(corner) => block.quarter(corner),
+    }
 }
 
 /// The block that the steps from an index on leave of a section.
@@ -74,9 +127,25 @@ fn cut(block: Block, step: Step) -> Option<Block>
     }
 }
 
-/// Whether a block of a section holds a place of a lot.
+/// Whether a block of a section holds a place of a lot. Most sections have none, and a block no larger
+/// than a position lies in one, of which one look tells.
 #[inline(always)]
 pub(crate) fn holds_of_lot(section: Section, block: Block) -> bool
+    ensures { IsTrue result ↔ HoldsLotPlace PLACE_DIGITS section block }
+{
+    if lot_count(section) == 0 {
+        return false;
+    }
+    if block.width() > PLACES_TO_POSITION || block.height() > PLACES_TO_POSITION {
+        return shares_lot(section, block);
+    }
+    let column = block.column() / PLACES_TO_POSITION;
+    let row = block.row() / PLACES_TO_POSITION;
+    lot_at(section, column, row).is_some()
+}
+
+/// Whether a block of a section shares a place with one of the section's lots.
+fn shares_lot(section: Section, block: Block) -> bool
     ensures { IsTrue result ↔ HoldsLotPlace PLACE_DIGITS section block }
 {
     for lot in 1..lot_count(section) + 1 {

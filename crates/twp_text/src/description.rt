@@ -71,7 +71,7 @@ impl Description {
             };
             items.take(alloc, state, token.kind, token.at as u32)?;
             let reached = behind_fraction(text, token.at + token.text.len(), behind);
-            let reached = items.take_steps(alloc, text, reached)?;
+            let reached = items.take_parts(alloc, text, reached)?;
             state = reached.state;
             at = reached.at;
         }

@@ -9,9 +9,9 @@ use twp_grid::Refusal;
 /// The most bytes of a description (this project's limit).
 pub const TEXT_LIMIT: usize = 65536;
 
-/// Why a text is read as no description. Places are offsets in the text. A text that is too large is
-/// refused before all; then the leftmost bad token is answered, and only where there is none, a fault of
-/// syntax.
+/// Why a text is read as no description. Places are offsets in the text. A text that is too large
+/// is refused before all; then the leftmost bad token is answered, and only where there is none, a
+/// fault of syntax.
 #[derive(Clone, Copy, Debug, PartialEq, Eq, Error)]
 pub enum TextFault {
     /// The text has more than `TEXT_LIMIT` bytes.

@@ -1,4 +1,4 @@
-ghost use Rattle.std.specs.Prelude.{◌≡◌};
+ghost use Rattle.std.specs.Prelude.{◌≡◌, is_some};
 ghost use Rattle.twp_text.specs.Spelling.{full_at, all_of, chosen_of};
 
 use twp_grid::{Corner, Side};
@@ -32,6 +32,15 @@ impl FullQuarters {
         ensures { result ≡ all_of self }
     {
         self.ne && self.nw && self.sw && self.se
+    }
+
+    /// Whether both quarters of some half are full: each half has one of two opposite quarters, and
+    /// one of the other two.
+    #[inline(always)]
+    pub fn has_half(self) -> bool
+        ensures { result ≡ is_some (chosen_of self) }
+    {
+        (self.ne || self.sw) && (self.nw || self.se)
     }
 
     /// Of a square that isn't full, the half that is written as one part: the first in the north,

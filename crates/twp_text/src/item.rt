@@ -50,15 +50,13 @@ impl Model for Steps {
 }
 
 impl Steps {
-    /// One step.
+    /// No step yet.
     #[inline(always)]
-    pub(crate) fn one(alloc: Global, step: Step) -> Steps
-        ensures { result ≡ step ∷ [] }
+    pub(crate) fn none(alloc: Global) -> Steps
+        ensures { result ≡ [] }
     {
-        let mut first = ArrayVec::new();
-        first.push(step);
         Steps {
-            first,
+            first: ArrayVec::new(),
             more: Vec::new(alloc),
         }
     }
@@ -174,7 +172,8 @@ mod tests {
 
     #[test]
     fn keeps_more_than_eight_steps(rt: HostRuntime) -> Result<(), Fail> {
-        let mut steps = Steps::one(rt.alloc(), Step::Half(Side::S));
+        let mut steps = Steps::none(rt.alloc());
+        steps.push(Step::Half(Side::S))?;
         for _ in 0..8 {
             steps.push(Step::Quarter(Corner::NE))?;
         }

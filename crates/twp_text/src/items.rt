@@ -1,12 +1,13 @@
-ghost use Rattle.std.specs.Prelude.{◌≡◌, ◌≤◌, ◌∷◌, [], length, IfOk, OnOk};
+ghost use Rattle.std.specs.Prelude.{◌≡◌, ◌≤◌, ◌∷◌, ◌+◌, [], length, IfOk, OnOk};
 ghost use Rattle.twp_text.specs.Items.{north_or_south, east_or_west};
-ghost use Rattle.twp_text.specs.Passing.{Leads};
+ghost use Rattle.twp_text.specs.Passing.{Leads, IsStepAt};
+ghost use Rattle.twp_text.specs.declared.item.Item.{Item};
 ghost use Rattle.twp_text.specs.TextFaults.{TEXT_LIMIT};
 
 use crate::change::Change;
 use crate::item::{Item, Numeral, Step, Steps};
 use crate::kind::Kind;
-use crate::passing::{Reached, behind_step, step_at};
+use crate::passing::{Reached, UsualStep, behind_step, step_at};
 use crate::state::State;
 use crate::token::behind_white;
 use std::alloc::{AllocError, Global};
@@ -166,10 +167,10 @@ impl Items {
         }
     }
 
-    /// Takes the steps that stand next, as long as each is spelled as is usual: as they stand, and not token
-    /// by token. Gives the place that is reached so, and the state there.
+    /// Takes what stands next of a chain, and the parts behind it, as long as each step is spelled as is usual:
+    /// as they stand, and not token by token. Gives the place that is reached so, and the state there.
     #[inline(always)]
-    pub fn take_steps(
+    pub fn take_parts(
         &mut self,
         alloc: Global,
         text: &[u8],
@@ -180,51 +181,50 @@ impl Items {
         ensures { IfOk result
             (λ to. Leads text.now from.at from.state self.old to.at to.state self.new) }
     {
-        let first = self.take_first(alloc, text, from)?;
-        self.take_more(text, first)
-    }
-
-    /// Takes a step that a part begins with.
-    #[inline(always)]
-    fn take_first(
-        &mut self,
-        alloc: Global,
-        text: &[u8],
-        from: Reached,
-    ) -> Result<Reached, AllocError>
-        requires place { from.at ≤ length text.now }
-        requires limit { length text.now ≤ TEXT_LIMIT }
-        ensures { IfOk result
-            (λ to. Leads text.now from.at from.state self.old to.at to.state self.new) }
-    {
-        if !from.state.begins_part() {
-            return Ok(from);
+        let mut reached = self.take_more(text, from)?;
+        while reached.state.begins_part() {
+            let at = behind_white(text, reached.at);
+            let Some(first) = step_at(text, at) else {
+                break;
+            };
+            self.before_parts(reached.state)?;
+            reached = self.take_chain(alloc, text, at, first)?;
         }
-        let at = behind_white(text, from.at);
-        let Some(usual) = step_at(text, at) else {
-            return Ok(from);
-        };
-        self.before_parts(from.state)?;
-        self.push_chain(alloc, usual.step, at as u32)?;
-        Ok(behind_step(text, at + usual.size))
+        Ok(reached)
     }
 
-    /// Takes the steps by which a chain goes on.
+    /// Takes what the newest item goes on by, where it is a chain that may go on.
     #[inline(always)]
     fn take_more(&mut self, text: &[u8], from: Reached) -> Result<Reached, AllocError>
         requires { from.at ≤ length text.now }
         ensures { IfOk result
             (λ to. Leads text.now from.at from.state self.old to.at to.state self.new) }
     {
-        let mut reached = from;
-        while reached.state.is_in_chain() {
-            let Some(usual) = step_at(text, reached.at) else {
-                break;
-            };
-            self.change(Change::Grown(usual.step))?;
-            reached = behind_step(text, reached.at + usual.size);
+        if !from.state.is_in_chain() {
+            return Ok(from);
         }
-        Ok(reached)
+        let Some(item) = self.items.last_mut() else {
+            return Ok(from);
+        };
+        item.take_more(text, from)
+    }
+
+    /// Takes a chain whose first step is known, and the comma behind it.
+    #[inline(always)]
+    fn take_chain(
+        &mut self,
+        alloc: Global,
+        text: &[u8],
+        at: usize,
+        first: UsualStep,
+    ) -> Result<Reached, AllocError>
+        requires first { IsStepAt text.now at first.step first.size }
+        requires limit { length text.now ≤ TEXT_LIMIT }
+        ensures { IfOk result (λ to. Leads text.now (at + first.size) State.Step
+            (Item.Chain (first.step ∷ []) at ∷ self.old) to.at to.state self.new) }
+    {
+        self.push_chain(alloc, first.step, at as u32)?;
+        self.take_more(text, behind_step(at + first.size))
     }
 
     /// A chain of one step.
@@ -232,8 +232,9 @@ impl Items {
     fn push_chain(&mut self, alloc: Global, step: Step, at: u32) -> Result<(), AllocError>
         ensures { OnOk result (self.new ≡ Item.Chain (step ∷ []) at ∷ self.old) }
     {
-        let steps = Steps::one(alloc, step);
-        self.push(Item::Chain { steps, at })
+        let steps = Steps::none(alloc);
+        self.push(Item::Chain { steps, at })?;
+        self.change(Change::Grown(step))
     }
 
     /// A number of the heading, the first or the last number of a range of sections or lots.

@@ -1,6 +1,7 @@
-//! What holds of descriptions as they are defined: each law is a contract, and its function has nothing
-//! to do.
-ghost use Rattle.twp_text.specs.Laws.{HasTokenList, OneTokenList, OneItemList, ShortCompletion, SeveralAreEntries, OneReading, ReadHasNoFault, OneTextFault};
+//! What holds of descriptions as they are defined: each law is a contract, and its function has
+//! nothing to do.
+ghost use Rattle.twp_text.specs.Laws.{HasTokenList, OneTokenList, OneItemList, ShortCompletion};
+ghost use Rattle.twp_text.specs.Laws.{SeveralAreEntries, OneReading, ReadHasNoFault, OneTextFault};
 ghost use Rattle.twp_text.specs.Laws.{OnPlatHasNoFault, OnePlaceAnswer};
 ghost use Rattle.twp_text.specs.SpellingLaws.{OneListOfParts, WrittenPartsAreApart};
 ghost use Rattle.twp_text.specs.SpellingLaws.{WrittenPartsHoldAll, FinerPlacesSameParts};
@@ -90,14 +91,14 @@ pub fn empty_land_has_empty_text()
     ensures { EmptyLandHasEmptyText }
 {}
 
-/// The canonical text of a land that isn't empty is a sentence that lies on the plat without overlap and
-/// names that land.
+/// The canonical text of a land that isn't empty is a sentence that lies on the plat without
+/// overlap and names that land.
 pub fn canonical_text_names_its_land()
     ensures { CanonicalTextNamesItsLand }
 {}
 
-/// The canonical text of a land that isn't empty, where it is no longer than a description may be, is read
-/// as items whose land is that land.
+/// The canonical text of a land that isn't empty, where it is no longer than a description may be,
+/// is read as items whose land is that land.
 pub fn canonical_text_is_read_back()
     ensures { CanonicalTextIsReadBack }
 {}
@@ -112,8 +113,8 @@ pub fn canonical_text_stays_the_same()
     ensures { CanonicalTextStaysTheSame }
 {}
 
-/// A description's land, where its items lie on the plat without overlap, is a land of the township:
-/// it holds places of its sections, and each lot whole or not at all.
+/// A description's land, where its items lie on the plat without overlap, is a land of the
+/// township: it holds places of its sections, and each lot whole or not at all.
 pub fn described_land_is_of_township()
     ensures { DescribedLandIsOfTownship }
 {}

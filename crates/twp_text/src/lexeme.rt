@@ -1,10 +1,12 @@
-ghost use Rattle.std.specs.Prelude.{◌≡◌, ◌+◌, ◌<◌, ◌≤◌, Some, IfSome, length, take, drop, slice_index};
+ghost use Rattle.std.specs.Prelude.{◌≡◌, ◌+◌, ◌<◌, ◌≤◌, Some, IfSome, length, take, drop};
+ghost use Rattle.std.specs.Prelude.{slice_index};
 ghost use Rattle.std.specs.Char.{is_ascii_alphabetic, is_ascii_digit};
 ghost use Rattle.std.specs.List.{prefix_len};
 ghost use Rattle.std.specs.Str.Parse.{AllDigits, digits_value};
 ghost use Rattle.std.specs.Str.{str_to_ascii_lowercase};
 ghost use Rattle.twp_text.specs.Tokens.{kind_among, long_words};
-ghost use Rattle.twp_text.specs.Cutting.{small_letter, cut_word, cut_number, cut_digits, cut_mark, cut};
+ghost use Rattle.twp_text.specs.Cutting.{small_letter, cut_word, cut_number, cut_digits, cut_mark};
+ghost use Rattle.twp_text.specs.Cutting.{cut};
 
 use crate::kind::Kind;
 use crate::word::{self, one_letter, three_letters, two_letters};

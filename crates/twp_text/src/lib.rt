@@ -1,6 +1,6 @@
-//! Descriptions of land: the tokens that their bytes are cut into, the grammar, the items that a sentence
-//! of it names, and why a text is no sentence; the land that items name, or why it isn't on the plat; and
-//! the canonical text that is written of a land.
+//! Descriptions of land: the tokens that their bytes are cut into, the grammar, the items that a
+//! sentence of it names, and why a text is no sentence; the land that items name, or why it isn't
+//! on the plat; and the canonical text that is written of a land.
 #![tactic(auto)]
 
 mod chain;
@@ -9,6 +9,7 @@ mod description;
 mod expected;
 mod fault;
 mod full_quarters;
+mod growing;
 mod item;
 mod items;
 mod kind;
@@ -17,6 +18,7 @@ mod lexeme;
 mod part_text;
 mod passing;
 mod path;
+mod pieces;
 mod place_fault;
 mod ranges;
 mod resolving;

@@ -1,11 +1,12 @@
-//! The text of a written part: its step behind a comma, and its path.
-ghost use Rattle.std.specs.Prelude.{◌≡◌, ◌↔◌, ◌++◌, Some, IsTrue, OnOk, MatchOption, codes};
+//! A square's written half, and its written quarter.
+ghost use Rattle.std.specs.Prelude.{◌≡◌, ◌↔◌, ◌+◌, ◌++◌, ◌≤◌, Some, length, IsTrue, OnOk, MatchOption, codes};
 ghost use Rattle.twp_text.specs.declared.item.Step.TheVariants.{Half, Quarter};
 ghost use Rattle.twp_text.specs.WrittenParts.{IsOnSide};
 ghost use Rattle.twp_text.specs.CanonicalText.{step_text};
-ghost use Rattle.twp_text.specs.Spelling.{quarter_on};
+ghost use Rattle.twp_text.specs.Spelling.{PART_MOST, PIECES_MOST, quarter_on};
 
 use crate::path::Path;
+use crate::pieces::Pieces;
 use std::alloc::AllocError;
 use twp_grid::{Corner, Side};
 
@@ -25,8 +26,22 @@ pub(crate) fn half_at(chosen: Option<Side>, corner: Corner) -> Option<Side>
     None
 }
 
-/// Appends a half behind a comma, where this is the first of its quarters.
+/// Adds a half, where this is the first of its quarters.
 #[inline(always)]
+pub(crate) fn push_half(side: Side, corner: Corner, path: &Path, pieces: &mut Pieces)
+    requires { length pieces.old + PART_MOST ≤ PIECES_MOST }
+    ensures first { (quarter_on side ≡ corner)
+        → (pieces.new ≡ pieces.old ++ (codes ", " ++ (step_text (Half side) ++ path.now))) }
+    ensures second { ¬ (quarter_on side ≡ corner) → (pieces.new ≡ pieces.old) }
+    ensures most { length pieces.new ≤ length pieces.old + PART_MOST }
+{
+    if first_quarter(side) == corner {
+        pieces.push_half(side, path);
+    }
+}
+
+/// Appends a half, where this is the first of its quarters.
+#[inline(never)]
 pub(crate) fn write_half(
     side: Side,
     corner: Corner,
@@ -37,19 +52,24 @@ pub(crate) fn write_half(
         (text.new.items ≡ text.old.items ++ (codes ", " ++ (step_text (Half side) ++ path.now))) }
     ensures second { ¬ (quarter_on side ≡ corner) → OnOk result (text.new.items ≡ text.old.items) }
 {
-    if first_quarter(side) == corner {
-        return write_part(half_step(side), path, text);
-    }
-    Ok(())
+    let mut pieces = Pieces::new();
+    push_half(side, corner, path, &mut pieces);
+    pieces.append_to(text)
 }
 
-/// Appends a step behind a comma, and its path.
-#[inline(always)]
-pub(crate) fn write_part(step: &[u8], path: &Path, text: &mut Vec<u8>) -> Result<(), AllocError>
-    ensures { OnOk result (text.new.items ≡ text.old.items ++ (step.now ++ path.now)) }
+/// Appends a quarter.
+#[inline(never)]
+pub(crate) fn write_quarter(
+    corner: Corner,
+    path: &Path,
+    text: &mut Vec<u8>,
+) -> Result<(), AllocError>
+    ensures { OnOk result (text.new.items
+        ≡ text.old.items ++ ((codes ", " ++ step_text (Quarter corner)) ++ path.now)) }
 {
-    text.extend_from_slice(step)?;
-    path.write(text)
+    let mut pieces = Pieces::new();
+    pieces.push_quarter(corner, path);
+    pieces.append_to(text)
 }
 
 /// Whether a square's quarter lies in its half.
@@ -75,31 +95,5 @@ fn first_quarter(side: Side) -> Corner
         Side::S => Corner::SW,
         Side::E => Corner::NE,
         Side::W => Corner::NW,
-    }
-}
-
-/// The half towards a side, as it is written behind a comma.
-#[inline(always)]
-fn half_step(side: Side) -> &'static [u8]
-    ensures { result.now ≡ codes ", " ++ step_text (Half side) }
-{
-    match side {
-        Side::N => b", N1/2",
-        Side::S => b", S1/2",
-        Side::E => b", E1/2",
-        Side::W => b", W1/2",
-    }
-}
-
-/// The quarter at a corner, as it is written behind a comma.
-#[inline(always)]
-pub(crate) fn quarter_step(corner: Corner) -> &'static [u8]
-    ensures { result.now ≡ codes ", " ++ step_text (Quarter corner) }
-{
-    match corner {
-        Corner::NE => b", NE1/4",
-        Corner::NW => b", NW1/4",
-        Corner::SW => b", SW1/4",
-        Corner::SE => b", SE1/4",
     }
 }

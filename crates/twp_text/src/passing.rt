@@ -1,8 +1,9 @@
 //! What the reader takes as a whole, though it is several tokens: steps in their usual spelling.
-ghost use Rattle.std.specs.Prelude.{◌≡◌, ◌≤◌, ◌∷◌, ◌++◌, ◌+◌, [], true, List, length, drop, IsTrue, IfSome};
+ghost use Rattle.std.specs.Prelude.{◌≡◌, ◌≤◌, ◌<◌, ◌∷◌, ◌++◌, ◌+◌, [], true, List, length, drop, IsTrue, IfSome};
 ghost use Rattle.std.specs.Char.{is_ascii_lowercase};
 ghost use Rattle.twp_text.specs.Tokens.{kind_among, words};
 ghost use Rattle.twp_text.specs.declared.item.Item.{Item};
+ghost use Rattle.twp_text.specs.Machine.{is_in_chain};
 ghost use Rattle.twp_text.specs.Passing.{Leads, IsStepAt, BeginWithStep, AreHalf, AreQuarter};
 ghost use Rattle.twp_text.specs.Passing.{letters_of};
 
@@ -13,6 +14,9 @@ use twp_grid::{Corner, Side};
 /// How many bytes a half or a quarter has.
 const FRACTION: usize = 3;
 
+/// How many bytes the sign of a half or a quarter has.
+const SIGN: usize = 2;
+
 /// How many bytes the longest step in its usual spelling has.
 const LONGEST: usize = 5;
 
@@ -21,6 +25,9 @@ const SMALL: u8 = 0x20;
 
 /// How many bytes `of the` has, with a space on either side.
 const OF_THE: usize = 8;
+
+/// How many bytes a comma has, with a space behind it.
+const COMMA: usize = 2;
 
 /// A place in a text, and what the tokens before it are the beginning of.
 #[derive(Clone, Copy)]
@@ -36,8 +43,8 @@ pub struct UsualStep {
     pub size: usize,
 }
 
-/// Passes over what mostly stands behind the letters of a step: the half or the quarter, and then `of
-/// the`. Nothing of it says more of the items; what is spelled otherwise is left as it is.
+/// Passes over the half or the quarter that mostly stands behind the letters of a step. It says nothing more
+/// of the items; what is spelled otherwise is left as it is.
 #[inline(always)]
 pub fn behind_fraction(text: &[u8], at: usize, state: State) -> Reached
     requires { at ≤ length text.now }
@@ -45,32 +52,59 @@ pub fn behind_fraction(text: &[u8], at: usize, state: State) -> Reached
         → Leads text.now at state items result.at result.state items }
 {
     match state {
-        State::Side if goes_on(text, at, b"1/2") => behind_step(text, at + FRACTION),
-        State::Corner if goes_on(text, at, b"1/4") => behind_step(text, at + FRACTION),
+        State::Side if goes_on(text, at, b"1/2") => behind_step(at + FRACTION),
+        State::Corner if goes_on(text, at, b"1/4") => behind_step(at + FRACTION),
         _ => Reached { at, state },
     }
 }
 
-/// Passes over `of the` behind a step, if it stands there in these very bytes.
+/// The place behind a step.
 #[inline(always)]
-pub fn behind_step(text: &[u8], at: usize) -> Reached
-    requires { at ≤ length text.now }
-    ensures { (items : List Item)
-        → Leads text.now at State.Step items result.at result.state items }
+pub fn behind_step(at: usize) -> Reached
+    ensures { result ≡ record { at = at; state = State.Step } }
 {
-    if goes_on(text, at, b" of the ") {
-        return Reached {
-            at: at + OF_THE,
-            state: State::OfThe,
-        };
-    }
     Reached {
         at,
         state: State::Step,
     }
 }
 
-/// The step that stands at a place, if its fraction stands right behind its letters, as `1/2` or `1/4`.
+/// The place behind `of the`, if it stands behind a step in these very bytes.
+#[inline(always)]
+pub fn behind_of_the(text: &[u8], end: Reached) -> Option<Reached>
+    requires { end.at ≤ length text.now }
+    ensures leads { IfSome result (λ behind. (items : List Item)
+        → Leads text.now end.at end.state items behind.at behind.state items) }
+    ensures chain { IfSome result (λ behind. is_in_chain behind.state ≡ true) }
+    ensures forward { IfSome result (λ behind. end.at < behind.at) }
+{
+    match end.state {
+        State::Step if goes_on(text, end.at, b" of the ") => Some(Reached {
+            at: end.at + OF_THE,
+            state: State::OfThe,
+        }),
+        _ => None,
+    }
+}
+
+/// Passes over the comma behind a part, and the space behind the comma.
+#[inline(always)]
+pub fn behind_comma(text: &[u8], end: Reached) -> Reached
+    requires { end.at ≤ length text.now }
+    ensures { (items : List Item)
+        → Leads text.now end.at end.state items result.at result.state items }
+{
+    match end.state {
+        State::Step if goes_on(text, end.at, b", ") => Reached {
+            at: end.at + COMMA,
+            state: State::PartComma,
+        },
+        _ => end,
+    }
+}
+
+/// The step that stands at a place, if its fraction stands right behind its letters, as `1/2`, `1/4` or one
+/// sign.
 #[inline(always)]
 pub fn step_at(text: &[u8], at: usize) -> Option<UsualStep>
     requires { at ≤ length text.now }
@@ -83,46 +117,55 @@ pub fn step_at(text: &[u8], at: usize) -> Option<UsualStep>
     step_of(bytes[0], bytes[1], bytes[2], bytes[3], bytes[4])
 }
 
-/// The step that five bytes begin with, if they do.
+/// The step that five bytes begin with, if they do. U+00BC is the bytes C2 BC, and U+00BD is C2 BD.
 #[inline(always)]
 fn step_of(first: u8, second: u8, third: u8, fourth: u8, fifth: u8) -> Option<UsualStep>
     ensures { IfSome result
         (λ usual. BeginWithStep first second third fourth fifth usual.step usual.size) }
 {
     if third == b'1' && fourth == b'/' && fifth == b'4' {
-        return quarter(first, second);
+        return quarter(first, second, FRACTION);
     }
     if second == b'1' && third == b'/' && fourth == b'2' {
-        return half(first);
+        return half(first, FRACTION);
+    }
+    if third == 0xC2 && fourth == 0xBC {
+        return quarter(first, second, SIGN);
+    }
+    if second == 0xC2 && third == 0xBD {
+        return half(first, SIGN);
     }
     None
 }
 
-/// The half of a letter, capital or small.
+/// The half of a letter, capital or small, with so many bytes behind it.
 #[inline(always)]
-fn half(first: u8) -> Option<UsualStep>
-    ensures { IfSome result (λ usual. AreHalf first usual.step usual.size) }
+fn half(first: u8, fraction: usize) -> Option<UsualStep>
+    requires { fraction ≤ 3 }
+    ensures { IfSome result (λ usual. AreHalf first usual.step × (usual.size ≡ 1 + fraction)) }
 {
     let Some(side) = side_of(first | SMALL) else {
         return None;
     };
     Some(UsualStep {
         step: Step::Half(side),
-        size: 1 + FRACTION,
+        size: 1 + fraction,
     })
 }
 
-/// The quarter of two letters, capital or small.
+/// The quarter of two letters, capital or small, with so many bytes behind them.
 #[inline(always)]
-fn quarter(first: u8, second: u8) -> Option<UsualStep>
-    ensures { IfSome result (λ usual. AreQuarter first second usual.step usual.size) }
+fn quarter(first: u8, second: u8, fraction: usize) -> Option<UsualStep>
+    requires { fraction ≤ 3 }
+    ensures { IfSome result
+        (λ usual. AreQuarter first second usual.step × (usual.size ≡ 2 + fraction)) }
 {
     let Some(corner) = corner_of(first | SMALL, second | SMALL) else {
         return None;
     };
     Some(UsualStep {
         step: Step::Quarter(corner),
-        size: 2 + FRACTION,
+        size: 2 + fraction,
     })
 }
 

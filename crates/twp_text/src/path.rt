@@ -1,15 +1,15 @@
 //! The path of a square, as it is written behind a smaller part.
-ghost use Rattle.std.specs.Prelude.{◌≡◌, ◌++◌, [], take, OnOk};
+ghost use Rattle.std.specs.Prelude.{◌≡◌, ◌≤◌, ◌++◌, [], length, take};
 ghost use Rattle.twp_text.specs.CanonicalText.{step_text};
 ghost use Rattle.twp_text.specs.Spelling.{PATH_MOST};
 ghost use Rattle.twp_text.specs.declared.item.Step.TheVariants.{Quarter};
 
-use std::alloc::AllocError;
 use std::marker::Model;
 use twp_grid::Corner;
 
-/// The bytes of the longest path, of four quarters.
-const PATH_BYTES: usize = 20;
+/// The bytes that are kept of a path. The longest one that stands behind a part has three quarters, or
+/// 15 bytes; 16 are copied at once.
+pub(crate) const PATH_BYTES: usize = 16;
 
 /// The bytes of one quarter.
 const QUARTER_BYTES: usize = 5;
@@ -28,7 +28,7 @@ impl Model for Path {
 
     ghost view = { λ path. take path.len path.text };
 
-    ghost invariant = { λ path. path.len ≤ 20 };
+    ghost invariant = { λ path. path.len ≤ 16 };
 }
 
 impl Path {
@@ -54,16 +54,21 @@ impl Path {
         Path { text, len }
     }
 
-    /// Appends the path. The whole array is copied, since a copy of a known length is quick, and
-    /// what stands behind the path's end is cut off again.
+    /// How many bytes the path has.
     #[inline(always)]
-    pub(crate) fn write(&self, text: &mut Vec<u8>) -> Result<(), AllocError>
-        ensures { OnOk result (text.new.items ≡ text.old.items ++ self.now) }
+    pub(crate) fn len(&self) -> usize
+        ensures value { result ≡ length self.now }
+        ensures most { result ≤ PATH_MOST }
     {
-        let end = text.len() + self.len;
-        text.extend_from_slice(&self.text)?;
-        text.truncate(end);
-        Ok(())
+        self.len
+    }
+
+    /// The path's bytes, and behind them others.
+    #[inline(always)]
+    pub(crate) fn bytes(&self) -> &[u8; PATH_BYTES]
+        ensures { take (length self.now) result.now ≡ self.now }
+    {
+        &self.text
     }
 }
 

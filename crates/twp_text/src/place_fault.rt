@@ -4,10 +4,10 @@ ghost use Rattle.twp_text.specs.PlaceFaults.{refusal_of};
 use thiserror::Error;
 use twp_grid::Refusal;
 
-/// Why a description names no land on the plat (this project's rules; lots and aliquot parts as in the
-/// Specifications for Descriptions of Land). Places are offsets in the text. The first item with a fault
-/// is answered; of one item's faults, that of the least number, and of the two numbers of a range, the
-/// first before the second.
+/// Why a description names no land on the plat (this project's rules; lots and aliquot parts as in
+/// the Specifications for Descriptions of Land). Places are offsets in the text. The first item
+/// with a fault is answered; of one item's faults, that of the least number, and of the two numbers
+/// of a range, the first before the second.
 #[derive(Clone, Copy, Debug, PartialEq, Eq, Hash, Error)]
 pub enum PlaceFault {
     /// 61, at the heading: it is of another township than the plat.
@@ -28,8 +28,8 @@ pub enum PlaceFault {
     /// 66, at the aliquot part: it holds a place of a lot.
     #[error("the aliquot part at {at} holds land of a lot")]
     OnLot { at: u32 },
-    /// 67, at the item's first number, its first token or its word: it names a place that an earlier item
-    /// named.
+    /// 67, at the item's first number, its first token or its word: it names a place that an
+    /// earlier item named.
     #[error("at {at} land is named that was named before")]
     Overlap { at: u32 },
 }

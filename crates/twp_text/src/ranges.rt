@@ -14,8 +14,8 @@ use crate::taking::add_block;
 use twp_grid::{Block, Section, lot_count};
 use twp_land::Land;
 
-/// Takes the sections from the first to the last, and gives the first. They are added where they are
-/// whole; else parts of the one section follow.
+/// Takes the sections from the first to the last, and gives the first. They are added where they
+/// are whole; else parts of the one section follow.
 pub(crate) fn take_sections<L: Land>(
     land: &mut L,
     first: Numeral,

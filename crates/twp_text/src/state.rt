@@ -6,8 +6,8 @@ ghost use Rattle.twp_text.specs.Expected.{expected_of};
 
 use crate::expected::Expected;
 
-/// What the tokens so far are the beginning of, named after the last of them. These are the states of the
-/// least machine that takes the sentences of the grammar.
+/// What the tokens so far are the beginning of, named after the last of them. These are the states
+/// of the least machine that takes the sentences of the grammar.
 #[derive(Clone, Copy, Debug, PartialEq, Eq)]
 pub enum State {
     /// Before the first token.
@@ -33,7 +33,8 @@ pub enum State {
     SectionStop,
     SectionNumber,
     SectionComma,
-    /// In a list of sections, behind its first `to` or `and` or the number of its second entry, and on.
+    /// In a list of sections, behind its first `to` or `and` or the number of its second entry, and
+    /// on.
     ListNumber,
     ListTo,
     ListLast,
@@ -153,7 +154,7 @@ impl State {
 
     /// Whether a step may begin here, which may be the first of a part.
     #[inline(always)]
-    #[tactic(auto, using(crate::proofs::StateFacts::chain_goes_on, crate::proofs::StateFacts::part_begins))]
+    #[tactic(auto, using(crate::proofs::StateFacts::part_goes_on))]
     pub fn begins_step(self) -> bool
         ensures { result ≡ is_some (next self corner) }
     {

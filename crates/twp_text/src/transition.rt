@@ -1,9 +1,11 @@
-//! What each kind of token leads to, by the state that it is read in: a method for each kind that several
-//! states take.
+//! What each kind of token leads to, by the state that it is read in: a method for each kind that
+//! several states take.
 
 ghost use Rattle.std.specs.Prelude.{◌≡◌};
 ghost use Rattle.std.specs.Option.{option_map};
-ghost use Rattle.twp_text.specs.Grammar.{class_of, sec, lot, all, and, to, inclusive, north_south, east_west, corner, number, comma, semicolon, colon, stop, r};
+ghost use Rattle.twp_text.specs.Grammar.{class_of, sec, lot, all, and, to, inclusive, north_south};
+ghost use Rattle.twp_text.specs.Grammar.{east_west, corner, number, comma, semicolon, colon, stop};
+ghost use Rattle.twp_text.specs.Grammar.{r};
 ghost use Rattle.twp_text.specs.Machine.{next};
 
 use crate::kind::Kind;
@@ -84,7 +86,7 @@ impl State {
 
     /// The first token of a part of one section, which leads to the state that is given.
     #[inline(always)]
-    #[tactic(auto, using(crate::proofs::StateFacts::leads_on, crate::proofs::StateFacts::leads_nowhere))]
+    #[tactic(auto, using(crate::proofs::StateFacts::leads))]
     fn with_part(self, behind: State) -> Option<State>
         ensures { result ≡ option_map (λ _. behind) (next self lot) }
     {
@@ -97,7 +99,7 @@ impl State {
 
     /// The first token of a step, which leads to the state that is given.
     #[inline(always)]
-    #[tactic(auto, using(crate::proofs::StateFacts::leads_on, crate::proofs::StateFacts::leads_nowhere))]
+    #[tactic(auto, using(crate::proofs::StateFacts::leads))]
     fn with_step(self, behind: State) -> Option<State>
         ensures { result ≡ option_map (λ _. behind) (next self corner) }
     {

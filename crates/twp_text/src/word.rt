@@ -21,7 +21,8 @@ pub fn one_letter(first: u8) -> Kind
     }
 }
 
-/// What a word of two small letters is. Quarters are the commonest, and `e` and `w` are tested first.
+/// What a word of two small letters is. Quarters are the commonest, and `e` and `w` are tested
+/// first.
 #[inline(always)]
 pub fn two_letters(first: u8, second: u8) -> Kind
     ensures { result ≡ kind_among (first ∷ second ∷ []) words }

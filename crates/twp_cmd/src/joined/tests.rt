@@ -6,8 +6,8 @@ use twp_grid::{Device, DeviceFault, EastWest, LINES, NorthSouth, Refusal, Townsh
 use twp_measure::Length;
 use twp_notes::{Notes, Returned};
 
-/// A description and the field notes of T. 2 N., R. 3 W. behind it. All lines are of 40 and 80 chains,
-/// but section 5 ends at 80.20 chains in the east and at 80.40 in the west.
+/// A description and the field notes of T. 2 N., R. 3 W. behind it. All lines are of 40 and 80
+/// chains, but section 5 ends at 80.20 chains in the east and at 80.40 in the west.
 fn joined_text(alloc: Global, description: &str) -> Result<Vec<u8>, Fail> {
     let township = Township::new(2, NorthSouth::N, 3, EastWest::W).ok_or("numbers to 99")?;
     let mut lines = [returned("80")?; LINES];

@@ -49,7 +49,8 @@ fn writes_each_record(rt: HostRuntime) -> Result<(), Fail> {
         (0, "# notes\n"),
         (1, "line,between,and,quarter,corner\n"),
         (2, "T,2,N,3,W\n"),
-        // The record of a line of index k is that of number k + 3: first the row of sections 1 to 6.
+        // The record of a line of index k is that of number k + 3: first the row of sections 1 to
+        // 6.
         (3, "N,1,,40.00,80.00\n"),
         (4, "N,1,2,40.00,80.00\n"),
         (7, "N,4,5,40.00,80.20\n"),
@@ -105,7 +106,8 @@ fn reads_other_forms_of_a_text(rt: HostRuntime) -> Result<(), Fail> {
         let other = with_ends(alloc, text, end)?;
         assert_eq!(rt; read(alloc, other.as_slice())?, notes, "{end:?}");
     }
-    // Quotes, a byte order mark, an empty line before the heading, and a last record without an end.
+    // Quotes, a byte order mark, an empty line before the heading, and a last record without an
+    // end.
     let in_quotes = quoted(alloc, text)?;
     let marked = joined(alloc, &[b"\xEF\xBB\xBF", text])?;
     let lower = joined(alloc, &[b"\n", text])?;

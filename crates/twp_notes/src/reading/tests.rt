@@ -129,9 +129,9 @@ fn reads_to_a_limit(rt: HostRuntime) -> Result<(), Fail> {
 fn tells_that_a_reader_failed(rt: HostRuntime) -> Result<(), Fail> {
     let alloc = rt.alloc();
     let text = text_of(alloc, &uneven_notes()?)?;
-    // 32 bytes of the heading, 10 of the township, 16 of each of the 84 lines, and of each of the 36
-    // sections its digits at each of its 4 sides: 32 + 10 + 84 * 16 + 4 * (9 + 27 * 2) is 1,638. They are
-    // given by 4 calls, and the 5th finds the end.
+    // 32 bytes of the heading, 10 of the township, 16 of each of the 84 lines, and of each of the
+    // 36 sections its digits at each of its 4 sides: 32 + 10 + 84 * 16 + 4 * (9 + 27 * 2) is 1,638.
+    // They are given by 4 calls, and the 5th finds the end.
     assert_eq!(rt; text.len(), 1_638);
     for kind in [ErrorKind::Interrupted, ErrorKind::BrokenPipe] {
         for calls_left in 0..6u32 {

@@ -12,8 +12,8 @@ fn adds_sections_up(rt: HostRuntime) -> Result<(), Fail> {
         (4, 64_080),
         // 80 chains by the mean of 20.20 and 20.40, which is 20.30: 480 and 162.40 acres.
         (5, 64_240),
-        // Regular positions of 360 acres; lots of 40.90, 41.10, 41.31, 39.95, 38.70, 38.90 and 39.10, in
-        // full 279.96775 acres.
+        // Regular positions of 360 acres; lots of 40.90, 41.10, 41.31, 39.95, 38.70, 38.90 and
+        // 39.10, in full 279.96775 acres.
         (6, 63_997),
         // 80 chains by the mean of 19.60 and 19.50, which is 19.55: 480 and 156.40 acres.
         (7, 63_640),
@@ -33,7 +33,8 @@ fn adds_sections_up(rt: HostRuntime) -> Result<(), Fail> {
 fn adds_the_township_up(rt: HostRuntime) -> Result<(), Fail> {
     let even = Plat::protract(&notes(&[])?)?;
     assert_eq!(rt; even.township_area().hundredths(), 36 * 64_000);
-    // 31 sections of 640 acres, and 640.80, 642.40, 639.96775, 636.40 and 638.00: 23,037.56775 acres.
+    // 31 sections of 640 acres, and 640.80, 642.40, 639.96775, 636.40 and 638.00: 23,037.56775
+    // acres.
     let uneven = Plat::protract(&notes(&UNEVEN)?)?;
     assert_eq!(rt; uneven.township_area().hundredths(), 2_303_757);
     Ok(())

@@ -15,7 +15,8 @@ fn keeps_lines_to_their_limits(rt: HostRuntime) -> Result<(), Fail> {
         half: HalfMile::Second,
     });
     for (index, quarter, corner, fault) in [
-        // The first half of a closing line, and of another: 40 chains, a quarter of a chain more or less.
+        // The first half of a closing line, and of another: 40 chains, a quarter of a chain more or
+        // less.
         (4, "39.75", "80.00", None),
         (4, "39.749", "80.00", first(4)),
         (4, "40.25", "80.00", None),
@@ -29,9 +30,9 @@ fn keeps_lines_to_their_limits(rt: HostRuntime) -> Result<(), Fail> {
         (58, "40.00", "79.749", second(58)),
         (58, "40.00", "80.25", None),
         (58, "40.00", "80.251", second(58)),
-        // The last quarter mile of a closing line: 65 - 40 - 20 = 5, and 85 - 40 - 20 = 25. Lines 47, 53
-        // and 83 are the northernmost, the second and the southernmost that are run west, line 0 the
-        // easternmost that is run north.
+        // The last quarter mile of a closing line: 65 - 40 - 20 = 5, and 85 - 40 - 20 = 25. Lines
+        // 47, 53 and 83 are the northernmost, the second and the southernmost that are run west,
+        // line 0 the easternmost that is run north.
         (4, "40.00", "65.00", None),
         (4, "40.00", "64.999", Some(PlatFault::ClosingShort(4))),
         (4, "40.00", "85.00", None),
@@ -137,26 +138,27 @@ fn measures_regular_positions(rt: HostRuntime) -> Result<(), Fail> {
 fn measures_lots(rt: HostRuntime) -> Result<(), Fail> {
     let plat = Plat::protract(&notes(&UNEVEN)?)?;
     for (number, column, row, acres) in [
-        // Section 5's northern row is 20.20, 20.25, 20.30, 20.35 and 20.40 chains high at its five ends:
-        // 20 times the means 20.225, 20.275, 20.325, 20.375, over 10.
+        // Section 5's northern row is 20.20, 20.25, 20.30, 20.35 and 20.40 chains high at its five
+        // ends: 20 times the means 20.225, 20.275, 20.325, 20.375, over 10.
         (5, 0, 3, 4_045),
         (5, 1, 3, 4_055),
         (5, 2, 3, 4_065),
         (5, 3, 3, 4_075),
-        // Section 6's is 20.40 chains high in the east and 20.80 in the west, 79.20 chains apart. At 20
-        // chains 20.501.., at 40 20.602.., at 60 20.703..: twice the means 20.4505.., 20.5515.., 20.6525..
+        // Section 6's is 20.40 chains high in the east and 20.80 in the west, 79.20 chains apart.
+        // At 20 chains 20.501.., at 40 20.602.., at 60 20.703..: twice the means 20.4505..,
+        // 20.5515.., 20.6525..
         (6, 0, 3, 4_090),
         (6, 1, 3, 4_110),
         (6, 2, 3, 4_131),
         // Its north-western position, 10,226,112,921,600,000,000 over 25,597,440,000 units.
         (6, 3, 3, 3_995),
-        // Its western column is 19.60 chains wide in the south and 19.20 in the north, 80.80 apart: at 20,
-        // 40 and 60 chains 19.501.., 19.402.. and 19.303...
+        // Its western column is 19.60 chains wide in the south and 19.20 in the north, 80.80 apart:
+        // at 20, 40 and 60 chains 19.501.., 19.402.. and 19.303...
         (6, 3, 2, 3_870),
         (6, 3, 1, 3_890),
         (6, 3, 0, 3_910),
-        // Section 7's western column is 19.50 chains wide in the south and 19.60 in the north: means
-        // 19.5875, 19.5625, 19.5375, 19.5125, whose doubles are rounded half up.
+        // Section 7's western column is 19.50 chains wide in the south and 19.60 in the north:
+        // means 19.5875, 19.5625, 19.5375, 19.5125, whose doubles are rounded half up.
         (7, 3, 3, 3_918),
         (7, 3, 2, 3_913),
         (7, 3, 1, 3_908),
@@ -173,8 +175,8 @@ fn measures_lots(rt: HostRuntime) -> Result<(), Fail> {
 
 #[test]
 fn takes_the_first_half_as_it_was_returned(rt: HostRuntime) -> Result<(), Fail> {
-    // 80.20 - 40.10 - 20 = 20.10 chains in the east of section 5: (20.10 + 20.075) / 2 = 20.0875, and
-    // 20 times that over 10 is 40.175 acres.
+    // 80.20 - 40.10 - 20 = 20.10 chains in the east of section 5: (20.10 + 20.075) / 2 = 20.0875,
+    // and 20 times that over 10 is 40.175 acres.
     let plat = Plat::protract(&notes(&[(4, "40.10", "80.20")])?)?;
     assert_eq!(rt; hundredths(&plat, 5, 0, 3)?, 4_018);
     Ok(())
@@ -185,8 +187,8 @@ fn brings_areas_to_one_denominator(rt: HostRuntime) -> Result<(), Fail> {
     let plat = Plat::protract(&notes(&UNEVEN)?)?;
     // 4 * 79,200 * 80,800, section 6's north line times its west line.
     assert_eq!(rt; plat.over(), 25_597_440_000);
-    // Section 6, the north-western position: widths 19.303.. and 19.20, heights 20.703.. and 20.80, whose
-    // sums times the lines' lengths are 3,111,040,000 and 3,287,040,000.
+    // Section 6, the north-western position: widths 19.303.. and 19.20, heights 20.703.. and 20.80,
+    // whose sums times the lines' lengths are 3,111,040,000 and 3,287,040,000.
     let corner = plat.piece_area(section(6)?, 3, 3);
     assert_eq!(rt; corner.units(), 10_226_112_921_600_000_000);
     assert_eq!(rt; corner.over(), 25_597_440_000);
@@ -210,7 +212,8 @@ fn closing(line: u8) -> i128 {
     }
 }
 
-// A length that runs straight along a line, times the line's length: start + (end - start) * distance / along.
+// A length that runs straight along a line, times the line's length: start + (end - start) *
+// distance / along.
 fn straight(start: i128, end: i128, along: i128, distance: i128) -> Option<i128> {
     let change = end.checked_sub(start)?.checked_mul(distance)?;
     start.checked_mul(along)?.checked_add(change)
@@ -226,7 +229,8 @@ fn ends(number: u8, length: i128) -> (i128, i128) {
     }
 }
 
-// The area of a position by interpolation between its section's lines: a numerator and a denominator.
+// The area of a position by interpolation between its section's lines: a numerator and a
+// denominator.
 fn interpolated(lines: [u8; 4], column: u8, row: u8) -> Option<(i128, i128)> {
     let [east, west, north, south] = lines;
     let upward = closing(west).checked_add(60_000)?;

@@ -44,22 +44,24 @@ fn measures_the_uneven_township(rt: HostRuntime) -> Result<(), Fail> {
     let alloc = rt.alloc();
     let notes = uneven(alloc)?;
     for (description, said) in [
-        // Section 5's last quarters are 20.20 chains on the east and 20.40 on the west, so its heights at
-        // 0, 20, 40, 60 and 80 chains are 20.20, 20.25, 20.30, 20.35 and 20.40: lot 1 is 20 chains by the
-        // mean of 20.20 and 20.25, which is 404.5 square chains or 40.45 acres.
+        // Section 5's last quarters are 20.20 chains on the east and 20.40 on the west, so its
+        // heights at 0, 20, 40, 60 and 80 chains are 20.20, 20.25, 20.30, 20.35 and 20.40: lot 1 is
+        // 20 chains by the mean of 20.20 and 20.25, which is 404.5 square chains or 40.45 acres.
         ("sec. 5, lot 1.", Acres("40.45")),
         ("sec. 5, lot 2.", Acres("40.55")),
         ("sec. 5, lot 3.", Acres("40.65")),
         ("sec. 5, lot 4.", Acres("40.75")),
-        // Section 6's heights run from 20.40 to 20.80 over 79.20 chains: at 20 chains 20.40 + 0.40 / 3.96.
+        // Section 6's heights run from 20.40 to 20.80 over 79.20 chains: at 20 chains
+        // 20.40 + 0.40 / 3.96.
         ("sec. 6, lot 1.", Acres("40.90")),
         ("sec. 6, lot 3.", Acres("41.31")),
         ("sec. 6, lot 4.", Acres("39.95")),
-        // Each alone is 38.70, 38.90 and 39.10, which would be 116.70; their exact areas are rounded once.
+        // Each alone is 38.70, 38.90 and 39.10, which would be 116.70; their exact areas are
+        // rounded once.
         ("sec. 6, lots 5, 6 and 7.", Acres("116.71")),
         ("Section 6: ALL", Acres("639.97")),
-        // Section 7's widths run from 19.50 chains in the south to 19.60 in the north: lot 4 is the mean of
-        // 19.50 and 19.525 by 20 chains, 390.25 square chains: 39.025 acres, a tie.
+        // Section 7's widths run from 19.50 chains in the south to 19.60 in the north: lot 4 is the
+        // mean of 19.50 and 19.525 by 20 chains, 390.25 square chains: 39.025 acres, a tie.
         ("sec. 7, lot 4.", Acres("39.03")),
         // 39.175, 39.125, 39.075 and 39.025: 156.40, where rounded lots would be 156.42.
         ("sec. 7, lots 1 to 4, inclusive.", Acres("156.40")),
@@ -69,8 +71,8 @@ fn measures_the_uneven_township(rt: HostRuntime) -> Result<(), Fail> {
         let answer = answer_to(alloc, notes.as_slice(), description.as_bytes())?;
         assert_eq!(rt; answer, expected(alloc, said)?, "{description}");
     }
-    // A closing quarter of 80.20 - 40.10 - 20 = 20.10 chains beside one of 20: the mean height of lot 1 is
-    // 20.0875 chains, so its area is 40.175 acres, a tie.
+    // A closing quarter of 80.20 - 40.10 - 20 = 20.10 chains beside one of 20: the mean height of
+    // lot 1 is 20.0875 chains, so its area is 40.175 acres, a tie.
     let late = notes_of(alloc, &[(4, "40.10", "80.20")])?;
     let answer = answer_to(alloc, late.as_slice(), b"sec. 5, lot 1.")?;
     assert_eq!(rt; answer, expected(alloc, Acres("40.18"))?);

@@ -7,11 +7,12 @@ use std::alloc::Global;
 use std::test::Fail;
 use twp_grid::{Bytes, Device};
 
-/// The uneven township. Section 4's heights at 0, 20, 40, 60 and 80 chains are 20.00, 20.05, 20.10, 20.15
-/// and 20.20, so its lots are 20 chains by 20.025, 20.075, 20.125 and 20.175: 40.05, 40.15, 40.25 and
-/// 40.35 acres, and with 480 acres in the south 640.80. Section 18's widths from the north are 19.50,
-/// 19.625, 19.75, 19.875 and 20.00, so its lots are 39.125, 39.375, 39.625 and 39.875 acres, each a tie,
-/// and 158 in full. The others are worked out where their acres are tested.
+/// The uneven township. Section 4's heights at 0, 20, 40, 60 and 80 chains are 20.00, 20.05, 20.10,
+/// 20.15 and 20.20, so its lots are 20 chains by 20.025, 20.075, 20.125 and 20.175: 40.05, 40.15,
+/// 40.25 and 40.35 acres, and with 480 acres in the south 640.80. Section 18's widths from the
+/// north are 19.50, 19.625, 19.75, 19.875 and 20.00, so its lots are 39.125, 39.375, 39.625 and
+/// 39.875 acres, each a tie, and 158 in full. The others are worked out where their acres are
+/// tested.
 const UNEVEN_PLAT: &str = "\
 sec. 1: lot 1 40.00, lot 2 40.00, lot 3 40.00, lot 4 40.00, total 640.00\n\
 sec. 2: lot 1 40.00, lot 2 40.00, lot 3 40.00, lot 4 40.00, total 640.00\n\

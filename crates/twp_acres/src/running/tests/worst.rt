@@ -14,8 +14,8 @@ const REGULAR: [&str; 11] = [
     "8", "9", "10", "11", "12", "13", "14", "15", "16", "17", "20",
 ];
 
-/// A description that names each place of eleven sections, one after another, and behind it white space up
-/// to the limit; and where its last place is named.
+/// A description that names each place of eleven sections, one after another, and behind it white
+/// space up to the limit; and where its last place is named.
 fn each_place(alloc: Global) -> Result<(Vec<u8>, usize), Fail> {
     let mut text = Vec::new(alloc);
     let mut last = 0;

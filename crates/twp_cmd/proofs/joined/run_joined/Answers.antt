@@ -23,7 +23,7 @@ returns-clause-ran g c =
     record {
       bytes = read.0;
       tells = read.1;
-      holds = c.run_acres.ensures.told (joined_notes read.0) (joined_description read.0)
+      holds = c.run_acres.ensures.run.told (joined_notes read.0) (joined_description read.0)
           (ap (λ (b : List ℕ). Some b) notes) (ap (λ (b : List ℕ). Some b) description);
     }
 

@@ -3,10 +3,12 @@ use Rattle.twp_text.proofs.PassingFacts.{small_by_bit}
 use Rattle.twp_text.proofs.passing.half.Goals as goal
 
 pub returns : goal.returns
-returns c = record {
-  small = bit_or c.args.first 32;
-  letter = small_by_bit c.args.first (bit_or c.args.first 32) c.ranges.first.fits refl c.in-Some.ensures.letter;
-  letters = c.in-Some.ensures.kind;
-  fraction = refl;
-  size_is = refl;
-}
+returns c = (
+  record {
+    small = bit_or c.args.first 32;
+    letter = small_by_bit c.args.first (bit_or c.args.first 32) c.ranges.first.fits refl c.in-Some.ensures.letter;
+    letters = c.in-Some.ensures.kind;
+    fraction = refl;
+  },
+  refl,
+)

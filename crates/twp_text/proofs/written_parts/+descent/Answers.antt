@@ -1,5 +1,7 @@
 -- What begins in each quarter of a square is written, one quarter behind the other.
-use Rattle.std.proofs.Common.{inl, inr, sym, ◌∙◌, ◌∷◌}
+use Rattle.std.proofs.Common.{◌<◌, length, inl, inr, codes, refl, sym, ◌∙◌, ◌∷◌, ◌++◌, arith}
+use Rattle.twp_text.specs.CanonicalText.{step_text}
+use Rattle.twp_text.specs.declared.item.Step.TheVariants.{Quarter}
 use Rattle.std.proofs.lemmas.Bool.{false≢true}
 use Rattle.twp_grid.specs.Places.{PLACE_DIGITS}
 use Rattle.twp_text.specs.WrittenParts.Part.{square}
@@ -22,8 +24,8 @@ write_quarter-returns-in-Some g t c = λ quarters of_square path_is short are.
 pub write_quarter-returns-then-at : goal.write_quarter-returns-then-at
 write_quarter-returns-then-at g t c = λ quarters of_square path_is short are.
     let choice = choice_made PLACE_DIGITS (off_lots PLACE_DIGITS c.args.section (g.L.Land.places c.args.land.now c.args.section)) quarters c.args.full c.chosen_half.result (deeper PLACE_DIGITS quarters c.args.block of_square c.requires.0) c.chosen_half.ensures are short in
-    full_written c.write_part.result PLACE_DIGITS (off_lots PLACE_DIGITS c.args.section (g.L.Land.places c.args.land.now c.args.section)) quarters c.args.corner c.quarter_step.result.now c.args.path.now c.args.text.now.items c.write_part.new.text.items
-    path_is c.quarter_step.ensures short (off_choice PLACE_DIGITS (off_lots PLACE_DIGITS c.args.section (g.L.Land.places c.args.land.now c.args.section)) quarters c.chosen_half.result c.args.corner choice c.in_default.ensures) ((are c.args.corner).0 (sym c.at.ensures ∙ c.if-at.true)) c.write_part.ensures
+    full_written c.write_quarter.result PLACE_DIGITS (off_lots PLACE_DIGITS c.args.section (g.L.Land.places c.args.land.now c.args.section)) quarters c.args.corner (codes ", " ++ step_text (Quarter c.args.corner)) c.args.path.now c.args.text.now.items c.write_quarter.new.text.items
+    path_is refl short (off_choice PLACE_DIGITS (off_lots PLACE_DIGITS c.args.section (g.L.Land.places c.args.land.now c.args.section)) quarters c.chosen_half.result c.args.corner choice c.in_default.ensures) ((are c.args.corner).0 (sym c.at.ensures ∙ c.if-at.true)) c.write_quarter.ensures
 
 pub write_quarter-returns-then-width-eq1 : goal.write_quarter-returns-then-width-eq1
 write_quarter-returns-then-width-eq1 g t c = λ quarters of_square path_is short are.
@@ -53,10 +55,12 @@ write_quarter-returns g t c = λ quarters of_square path_is short are.
     let choice = choice_made PLACE_DIGITS (off_lots PLACE_DIGITS c.args.section (g.L.Land.places c.args.land.now c.args.section)) quarters c.args.full c.chosen_half.result fits c.chosen_half.ensures are short in
     let of_quarter = block_of_quarter PLACE_DIGITS c.args.corner quarters c.args.block c.unwrap-quarter.result
     (quarter_judged c.args.corner c.args.block c.unwrap-quarter.result c.quarter.result c.quarter.ensures c.unwrap-quarter.ensures) c.requires of_square in
+    let wide : 1 < c.unwrap-quarter.result.columns.len = omega (arith, c.width.ensures.value, c.width.ensures.dyadic.some, c.if-width-eq1.false) in
+    let inner : length (c.args.corner ∷ quarters) < 4 = deeper PLACE_DIGITS (c.args.corner ∷ quarters) c.unwrap-quarter.result of_quarter wide in
     inner_written c.write_square.result PLACE_DIGITS (off_lots PLACE_DIGITS c.args.section (g.L.Land.places c.args.land.now c.args.section)) quarters c.args.corner c.args.text.now.items c.write_square.new.text.items
     (off_choice PLACE_DIGITS (off_lots PLACE_DIGITS c.args.section (g.L.Land.places c.args.land.now c.args.section)) quarters c.chosen_half.result c.args.corner choice c.in_default.ensures)
     (c.write_square.ensures (c.args.corner ∷ quarters) of_quarter
-    (path_of_quarter c.args.corner quarters c.args.path.now c.quarter-2.result fits path_is c.quarter-2.ensures)
+    (path_of_quarter c.args.corner quarters c.args.path.now c.quarter-2.result (omega (arith, inner)) path_is c.quarter-2.ensures)
     (λ full. false≢true (sym c.if-at.false ∙ c.at.ensures ∙ (are c.args.corner).1 full)))
 
 pub write_square-returns-then-not-meets : goal.write_square-returns-then-not-meets

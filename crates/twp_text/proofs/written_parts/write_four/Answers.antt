@@ -4,26 +4,26 @@ use Rattle.std.proofs.lemmas.Bool.{false≢true}
 use Rattle.twp_grid.specs.Places.{PLACE_DIGITS}
 use Rattle.twp_text.proofs.HalfQuarters.{choice_made}
 use Rattle.twp_text.proofs.PathFacts.{path_of_quarter}
-use Rattle.twp_text.proofs.WritingFacts.{half_written, off_choice, choice_is, full_written, inner_written}
+use Rattle.twp_text.proofs.WritingFacts.{half_added, off_choice, choice_is, full_added, inner_added}
 use Rattle.twp_text.proofs.written_parts.write_four.Goals as goal
 
-pub returns-in-Some : goal.returns-in-Some
-returns-in-Some c = λ held quarters level path_is short are are_places.
+pub returns-in-Some-clause-parts : goal.returns-in-Some-clause-parts
+returns-in-Some-clause-parts c = λ held quarters level path_is short are are_places.
     let choice = choice_made PLACE_DIGITS held quarters c.args.full c.chosen_half.result (omega (arith, level)) c.chosen_half.ensures are short in
-    half_written c.write_half.result PLACE_DIGITS held quarters c.in-Some.side c.args.corner c.args.path.now c.args.text.now.items c.write_half.new.text.items
-    (choice_is PLACE_DIGITS held quarters c.chosen_half.result c.in-Some.side choice c.in-Some.ensures.0) c.in-Some.ensures.1 path_is c.write_half.ensures.first c.write_half.ensures.second
+    half_added PLACE_DIGITS held quarters c.in-Some.side c.args.corner c.args.path.now c.args.pieces.now c.push_half.new.pieces
+    (choice_is PLACE_DIGITS held quarters c.chosen_half.result c.in-Some.side choice c.in-Some.ensures.0) c.in-Some.ensures.1 path_is c.push_half.ensures.first c.push_half.ensures.second
 
-pub returns-then-at : goal.returns-then-at
-returns-then-at c = λ held quarters level path_is short are are_places.
+pub returns-then-at-clause-parts : goal.returns-then-at-clause-parts
+returns-then-at-clause-parts c = λ held quarters level path_is short are are_places.
     let choice = choice_made PLACE_DIGITS held quarters c.args.full c.chosen_half.result (omega (arith, level)) c.chosen_half.ensures are short in
-    full_written c.write_part.result PLACE_DIGITS held quarters c.args.corner c.quarter_step.result.now c.args.path.now c.args.text.now.items c.write_part.new.text.items
-    path_is c.quarter_step.ensures short (off_choice PLACE_DIGITS held quarters c.chosen_half.result c.args.corner choice c.in_default.ensures) ((are c.args.corner).0 (sym c.at.ensures ∙ c.if-at.true)) c.write_part.ensures
+    full_added PLACE_DIGITS held quarters c.args.corner c.args.path.now c.args.pieces.now c.push_quarter.new.self
+    path_is short (off_choice PLACE_DIGITS held quarters c.chosen_half.result c.args.corner choice c.in_default.ensures) ((are c.args.corner).0 (sym c.at.ensures ∙ c.if-at.true)) c.push_quarter.ensures.text
 
-pub returns : goal.returns
-returns c = λ held quarters level path_is short are are_places.
+pub returns-clause-parts : goal.returns-clause-parts
+returns-clause-parts c = λ held quarters level path_is short are are_places.
     let choice = choice_made PLACE_DIGITS held quarters c.args.full c.chosen_half.result (omega (arith, level)) c.chosen_half.ensures are short in
-    inner_written c.write_places.result PLACE_DIGITS held quarters c.args.corner c.args.text.now.items c.write_places.new.text.items
+    inner_added PLACE_DIGITS held quarters c.args.corner c.args.pieces.now c.write_places.new.pieces
     (off_choice PLACE_DIGITS held quarters c.chosen_half.result c.args.corner choice c.in_default.ensures)
-    (c.write_places.ensures held (c.args.corner ∷ quarters) (omega (arith, level))
+    (c.write_places.ensures.parts held (c.args.corner ∷ quarters) (omega (arith, level))
     (path_of_quarter c.args.corner quarters c.args.path.now c.quarter.result (omega (arith, level)) path_is c.quarter.ensures)
     (λ whole. false≢true (sym c.if-at.false ∙ c.at.ensures ∙ (are c.args.corner).1 whole)) are_places)

@@ -5,25 +5,25 @@ use Rattle.twp_grid.specs.Places.{PLACE_DIGITS}
 use Rattle.twp_text.proofs.DescentLists.{of_empty}
 use Rattle.twp_text.proofs.HalfQuarters.{choice_made}
 use Rattle.twp_text.proofs.SquareBlocks.{finest_empty}
-use Rattle.twp_text.proofs.WritingFacts.{half_written, off_choice, choice_is, full_written, none_written}
+use Rattle.twp_text.proofs.WritingFacts.{half_added, off_choice, choice_is, full_added, none_written}
 use Rattle.twp_text.proofs.written_parts.write_place.Goals as goal
 
-pub returns-in-Some : goal.returns-in-Some
-returns-in-Some c = λ held quarters level path_is short are.
+pub returns-in-Some-clause-parts : goal.returns-in-Some-clause-parts
+returns-in-Some-clause-parts c = λ held quarters level path_is short are.
     let choice = choice_made PLACE_DIGITS held quarters c.args.full c.chosen_half.result (omega (arith, level)) c.chosen_half.ensures are short in
-    half_written c.write_half.result PLACE_DIGITS held quarters c.in-Some.side c.args.corner c.args.path.now c.args.text.now.items c.write_half.new.text.items
-    (choice_is PLACE_DIGITS held quarters c.chosen_half.result c.in-Some.side choice c.in-Some.ensures.0) c.in-Some.ensures.1 path_is c.write_half.ensures.first c.write_half.ensures.second
+    half_added PLACE_DIGITS held quarters c.in-Some.side c.args.corner c.args.path.now c.args.pieces.now c.push_half.new.pieces
+    (choice_is PLACE_DIGITS held quarters c.chosen_half.result c.in-Some.side choice c.in-Some.ensures.0) c.in-Some.ensures.1 path_is c.push_half.ensures.first c.push_half.ensures.second
 
-pub returns-then-at : goal.returns-then-at
-returns-then-at c = λ held quarters level path_is short are.
+pub returns-then-at-clause-parts : goal.returns-then-at-clause-parts
+returns-then-at-clause-parts c = λ held quarters level path_is short are.
     let choice = choice_made PLACE_DIGITS held quarters c.args.full c.chosen_half.result (omega (arith, level)) c.chosen_half.ensures are short in
-    full_written c.write_part.result PLACE_DIGITS held quarters c.args.corner c.quarter_step.result.now c.args.path.now c.args.text.now.items c.write_part.new.text.items
-    path_is c.quarter_step.ensures short (off_choice PLACE_DIGITS held quarters c.chosen_half.result c.args.corner choice c.in_default.ensures) ((are c.args.corner).0 (sym c.at.ensures ∙ c.if-at.true)) c.write_part.ensures
+    full_added PLACE_DIGITS held quarters c.args.corner c.args.path.now c.args.pieces.now c.push_quarter.new.self
+    path_is short (off_choice PLACE_DIGITS held quarters c.chosen_half.result c.args.corner choice c.in_default.ensures) ((are c.args.corner).0 (sym c.at.ensures ∙ c.if-at.true)) c.push_quarter.ensures.text
 
-pub returns : goal.returns
-returns c = λ held quarters level path_is short are.
+pub returns-clause-parts : goal.returns-clause-parts
+returns-clause-parts c = λ held quarters level path_is short are.
     let choice = choice_made PLACE_DIGITS held quarters c.args.full c.chosen_half.result (omega (arith, level)) c.chosen_half.ensures are short in
-    none_written PLACE_DIGITS held quarters c.args.corner c.args.text.now.items
+    none_written PLACE_DIGITS held quarters c.args.corner c.args.pieces.now
     (off_choice PLACE_DIGITS held quarters c.chosen_half.result c.args.corner choice c.in_default.ensures)
     (of_empty PLACE_DIGITS held (c.args.corner ∷ quarters) (omega (arith, level))
     (finest_empty PLACE_DIGITS held (c.args.corner ∷ quarters) (omega (arith, level)) (λ full. false≢true (sym c.if-at.false ∙ c.at.ensures ∙ (are c.args.corner).1 full))))

@@ -6,7 +6,7 @@ use Rattle.twp_text.specs.Spelling.{AreOfSquare}
 use Rattle.twp_text.proofs.DescentLists.{of_empty}
 use Rattle.twp_text.proofs.SquareFacts.{square_fits}
 use Rattle.twp_text.proofs.PlaceSquares.{position_places, position_full, position_level, position_free, position_lot, not_some}
-use Rattle.twp_text.proofs.WritingFacts.{written_none, quarters_written}
+use Rattle.twp_text.proofs.WritingFacts.{written_none, pieces_appended}
 use Rattle.twp_text.proofs.written_parts.write_position.Goals as goal
 
 pub returns-then-is_some : goal.returns-then-is_some
@@ -44,9 +44,7 @@ returns g c = λ quarters of_square path_is short.
     (c.held_places-se.ensures.se ∙ free c.column-column.result c.row-row.result (omega arith) (omega arith) (omega arith) (omega arith)) in
     let full = position_full PLACE_DIGITS (off_lots PLACE_DIGITS c.args.section (g.L.Land.places c.args.land.now c.args.section)) quarters (record { ne = c.all.result; nw = c.all-2.result; sw = c.all-3.result; se = c.all-4.result })
     c.held_places-ne.result c.held_places-nw.result c.held_places-sw.result c.held_places-se.result level places c.all.ensures c.all-2.ensures c.all-3.ensures c.all-4.ensures in
-    quarters_written c.write_four-4.result PLACE_DIGITS (off_lots PLACE_DIGITS c.args.section (g.L.Land.places c.args.land.now c.args.section)) quarters c.args.text.now.items c.write_four.new.text.items c.write_four-2.new.text.items c.write_four-3.new.text.items c.write_four-4.new.text.items
-    (omega (arith, level)) short
-    (c.in_ok-write_four.ensures (off_lots PLACE_DIGITS c.args.section (g.L.Land.places c.args.land.now c.args.section)) quarters level path_is short full places.0)
-    (c.in_ok-write_four-2.ensures (off_lots PLACE_DIGITS c.args.section (g.L.Land.places c.args.land.now c.args.section)) quarters level path_is short full places.1.0)
-    (c.in_ok-write_four-3.ensures (off_lots PLACE_DIGITS c.args.section (g.L.Land.places c.args.land.now c.args.section)) quarters level path_is short full places.1.1.0)
-    (c.write_four-4.ensures (off_lots PLACE_DIGITS c.args.section (g.L.Land.places c.args.land.now c.args.section)) quarters level path_is short full places.1.1.1)
+    pieces_appended c.append_to.result (AreOfSquare PLACE_DIGITS (off_lots PLACE_DIGITS c.args.section (g.L.Land.places c.args.land.now c.args.section)) quarters) c.args.text.now.items c.new-pieces.result c.write_fours.new.pieces c.append_to.new.text.items
+    c.new-pieces.ensures
+    (c.write_fours.ensures (off_lots PLACE_DIGITS c.args.section (g.L.Land.places c.args.land.now c.args.section)) quarters level path_is short full places.0 places.1.0 places.1.1.0 places.1.1.1)
+    c.append_to.ensures

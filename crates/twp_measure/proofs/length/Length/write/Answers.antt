@@ -1,4 +1,5 @@
-use Rattle.std.proofs.Common.{◌≡◌, ◌≢◌, ◌-◌, ◌+◌, ◌%◌, ◌/◌, ◌⊎◌, length, take, drop, decimal, inl, inr, arith, rules}
+use Rattle.std.proofs.Common.{◌≡◌, ◌≢◌, ◌-◌, ◌+◌, ◌%◌, ◌/◌, ◌⊎◌, length, take, drop, decimal, inl}
+use Rattle.std.proofs.Common.{inr, arith, rules}
 use Rattle.std.proofs.lemmas.Fmt.{length-decimal-le}
 use Rattle.std.proofs.lemmas.Grind.{common_steps}
 use Rattle.twp_measure.specs.LengthTexts.{length_text}

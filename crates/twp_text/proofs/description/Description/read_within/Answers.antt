@@ -29,11 +29,11 @@ loop-token-preserved c =
     front_next text at (drop at text) c.loop-token.state behind c.loop-token.items (seen c.in-Some.token) end (drop end text) c.loop-token.invariant c.in-Some.ensures.starts refl (sym c.in-Some-next.ensures) in
     let behind_it : Front text passed.at (drop passed.at text) passed.state its =
     goes_further text end behind its passed.at passed.state its behind_token (c.behind_fraction-reached.ensures its) in
-    goes_further text passed.at passed.state c.take.new.self c.in_ok-reached.reached.at c.in_ok-reached.reached.state c.take_steps.new.self
+    goes_further text passed.at passed.state c.take.new.self c.in_ok-reached.reached.at c.in_ok-reached.reached.state c.take_parts.new.self
     (subst (λ is. Front text passed.at (drop passed.at text) passed.state is) (sym c.in_ok-take.ensures) behind_it) c.in_ok-reached.ensures
 
-pub take_steps-requires : goal.take_steps-requires
-take_steps-requires c = record { place = (c.behind_fraction-reached.ensures []).within; limit = c.requires }
+pub take_parts-requires : goal.take_parts-requires
+take_parts-requires c = record { place = (c.behind_fraction-reached.ensures []).within; limit = c.requires }
 
 pub loop-token-smaller : goal.loop-token-smaller
 loop-token-smaller c =

@@ -1,30 +1,18 @@
-use Rattle.std.proofs.Common.{◌<◌, ◌≤◌, ◌+◌, ℕ, List, [], length, sym, subst, arith}
-use Rattle.twp_text.specs.declared.change.Change.TheVariants.{Grown}
+-- The vector's last item is the newest of the items.
+use Rattle.std.proofs.Common.{◌∷◌, ◌-◌, List, reverse, subst, rules}
+use Rattle.std.proofs.Math.ListN.{set}
 use Rattle.twp_text.specs.declared.item.Item.{Item}
-use Rattle.twp_text.specs.declared.passing.Reached.{Reached}
-use Rattle.twp_text.specs.declared.passing.UsualStep.{UsualStep}
-use Rattle.twp_text.specs.Machine.{with_newest}
 use Rattle.twp_text.specs.Passing.{Leads}
-use Rattle.twp_text.proofs.PassingFacts.{step_leads, step_within}
+use Rattle.twp_text.proofs.NewestItem.{leads_by_newest, if_ok}
 use Rattle.twp_text.proofs.items.Items.take_more.Goals as goal
 
-pub loop-usual-smaller : goal.loop-usual-smaller
-loop-usual-smaller c =
-    let text : List ℕ = c.args.text.now in
-    let usual : UsualStep = c.in-Some.usual in
-    let some : 0 < usual.size = c.in-Some.ensures.some in
-    let within : c.loop-usual.reached.at + usual.size ≤ length text = step_within text c.loop-usual.reached.at usual.step usual.size c.in-Some.ensures in
-    let further : c.loop-usual.reached.at + usual.size ≤ c.behind_step-reached.result.at = (c.behind_step-reached.ensures []).forward in
-    omega arith
-
-pub loop-usual-preserved : goal.loop-usual-preserved
-loop-usual-preserved c =
-    let text : List ℕ = c.args.text.now in
-    let from : Reached = c.args.from in
-    let reached : Reached = c.loop-usual.reached in
-    let usual : UsualStep = c.in-Some.usual in
-    let to : Reached = c.behind_step-reached.result in
-    let grown : List Item = with_newest (Grown usual.step) c.loop-usual.self in
-    subst (λ is. Leads text from.at from.state c.args.self.now to.at to.state is) (sym c.in_ok-change.ensures)
-    (step_leads text from.at from.state c.args.self.now reached.at reached.state c.loop-usual.self usual.step usual.size to.at to.state
-    (sym c.loop-usual-test.ensures) c.loop-usual.invariant c.in-Some.ensures (c.behind_step-reached.ensures grown))
+pub returns : goal.returns
+returns c =
+    let v = c.self.inside.items in
+    let text = c.args.text.now in
+    let from = c.args.from in
+    if_ok c.take_more.result
+    (λ to. (items : List Item) → Leads text from.at from.state (c.in-Some.item.now ∷ items) to.at to.state (c.take_more.new.self ∷ items)) _
+    (λ to leads. subst (λ its. Leads text from.at from.state its to.at to.state (reverse (set v.items (v.len - 1) c.take_more.new.self))) c.self.view_is
+    (leads_by_newest text from.at from.state to.at to.state v.items v.len c.in-Some.item.now c.take_more.new.self v.ok.0 (c.in-Some.ensures.variant.0 (search rules)) c.in-Some.ensures.value leads))
+    c.take_more.ensures

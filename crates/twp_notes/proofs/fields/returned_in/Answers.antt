@@ -1,6 +1,6 @@
 -- Where a distance is no length, that is the record's fault.
 use Rattle.std.proofs.Common.{inl, inr}
-use Rattle.twp_notes.proofs.fields.returned_of.Goals as goal
+use Rattle.twp_notes.proofs.fields.returned_in.Goals as goal
 
 pub returns-in_default : goal.returns-in_default
 returns-in_default c = inl (rw c.field.ensures at c.in_default.ensures)
