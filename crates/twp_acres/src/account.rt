@@ -20,8 +20,8 @@ use std::alloc::{AllocError, Global};
 use twp_land::Land;
 use twp_plat::Plat;
 
-/// What is known of the tracts so far. One land is kept for the tract at hand, so that none has to be made
-/// for each.
+/// What is known of the tracts so far. One land is kept for the tract at hand, so that none has to
+/// be made for each.
 #[derive(Drop)]
 pub(crate) struct Account<L> {
     pub(crate) names: Names,

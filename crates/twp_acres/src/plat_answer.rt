@@ -16,12 +16,9 @@ use crate::stop::Stop;
 use crate::verdict::{RunFault, Verdict};
 use itoa::Buffer;
 use std::alloc::{AllocError, Global};
-use twp_grid::{Section, Source, lot_count, lot_place};
+use twp_grid::{SECTIONS, Section, Source, lot_count, lot_place};
 use twp_measure::write_acres;
 use twp_plat::Plat;
-
-/// How many sections a township has.
-const SECTIONS: u8 = 36;
 
 /// The answer of field notes: the printed plat, or the refusal.
 pub fn answer_of<N: Source>(alloc: Global, notes: &mut N) -> Result<Answer, RunFault>

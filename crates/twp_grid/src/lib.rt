@@ -20,6 +20,6 @@ pub use device::{Device, DeviceFault, Sink, Source};
 pub use line::{LINES, Line, Run, sides};
 pub use lot::{lot_at, lot_count, lot_place};
 pub use refusal::Refusal;
-pub use section::Section;
+pub use section::{SECTIONS, Section};
 pub use span::PLACES_ACROSS;
 pub use township::{EastWest, NorthSouth, Township};

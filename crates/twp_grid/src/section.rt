@@ -4,6 +4,9 @@ ghost use Rattle.twp_grid.specs.Winding.{SECTIONS_ACROSS, IsSection, StandsAt};
 
 use std::marker::Model;
 
+/// How many sections a township has.
+pub const SECTIONS: u8 = 36;
+
 /// One of a township's 36 sections, by its number. The numbers wind: row 0 has 1 to 6 from the
 /// east, row 1 has 7 to 12 from the west, and so on to 36 in the south-east corner (Manual of
 /// Surveying Instructions 2009, chapter 3).
@@ -34,7 +37,7 @@ impl Section {
     pub fn new(number: u8) -> Option<Section>
         ensures { SomeIff result (IsSection number) number }
     {
-        if 1 <= number && number <= 36 {
+        if 1 <= number && number <= SECTIONS {
             Some(Section { number })
         } else {
             None

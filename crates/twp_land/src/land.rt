@@ -1,7 +1,8 @@
 ghost use Rattle.std.specs.Prelude.{◌≡◌, ◌<◌, ◌≤◌, ◌↔◌, ℕ, Bool, true, IsTrue, MatchOption};
 ghost use Rattle.twp_grid.specs.Winding.{IsSection};
 ghost use Rattle.twp_grid.specs.Places.{PLACE_DIGITS, places_across, IsPlace};
-ghost use Rattle.twp_land.specs.Lands.{no_places, union, difference, block_places, Meets, HoldsAll, count_held, SharePlace, SamePlaces, LieWithin};
+ghost use Rattle.twp_land.specs.Lands.{no_places, union, difference, block_places, count_held};
+ghost use Rattle.twp_land.specs.Lands.{Meets, HoldsAll, SharePlace, SamePlaces, LieWithin};
 
 use twp_grid::{Block, Section};
 
@@ -45,7 +46,8 @@ pub trait Land: Drop {
     fn clear(&mut self)
         ensures { places self.new ≡ no_places };
 
-    /// A first and a last section, outside of which no place is held. None only where none is held at all.
+    /// A first and a last section, outside of which no place is held. None only where none is held
+    /// at all.
     fn sections(&self) -> Option<(Section, Section)>
         ensures { MatchOption result (places self.now ≡ no_places) (λ (first, last).
             (first ≤ last) × LieWithin (places self.now) first last) };

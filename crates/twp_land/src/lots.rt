@@ -3,10 +3,7 @@ ghost use Rattle.twp_grid.specs.Places.{PLACE_DIGITS};
 ghost use Rattle.twp_land.specs.WholeLots.{IsWholeOrNot, HasWholeLots};
 
 use crate::land::Land;
-use twp_grid::{Block, Section, lot_count};
-
-/// How many sections a township has.
-const SECTIONS: u8 = 36;
+use twp_grid::{Block, SECTIONS, Section, lot_count};
 
 /// Whether each lot is held whole or not at all (a lot is taken whole: Specifications for Descriptions
 /// of Land).

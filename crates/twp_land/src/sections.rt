@@ -6,22 +6,22 @@ ghost use Rattle.twp_land.specs.Storage.{held_by_section};
 use crate::land::Land;
 use crate::plot::Plot;
 use crate::reach::Reach;
-use twp_grid::{Block, Section};
+use twp_grid::{Block, SECTIONS, Section};
 
-/// The sections of a township.
-const SECTIONS: usize = 36;
+/// A set for each section.
+const SETS: usize = SECTIONS as usize;
 
 /// No set at all.
 const NOWHERE: Reach = Reach {
-    first: SECTIONS,
+    first: SETS,
     end: 0,
 };
 
-/// A land that keeps a set of places for each section, by number. No set that it doesn't reach holds any
-/// place: what is asked of a whole land looks at the others alone.
+/// A land that keeps a set of places for each section, by number. No set that it doesn't reach holds
+/// any place: what is asked of a whole land looks at the others alone.
 #[derive(Debug, Drop)]
 pub struct Sections<P: Plot> {
-    plots: [P; SECTIONS],
+    plots: [P; SETS],
     reach: Reach,
     ghost few: { reach.end ≤ SECTION_COUNT },
     ghost within: { LieWithin (held_by_section P.held plots) (reach.first + 1) reach.end },
@@ -46,7 +46,7 @@ impl<P: Plot> Land for Sections<P> {
 
     fn empty() -> Self {
         Sections {
-            plots: [P::empty(); SECTIONS],
+            plots: [P::empty(); SETS],
             reach: NOWHERE,
         }
     }

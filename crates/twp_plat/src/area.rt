@@ -5,11 +5,8 @@ ghost use Rattle.twp_plat.specs.Pieces.{over_of, OVER_MOST};
 ghost use Rattle.twp_plat.specs.PlatAreas.{ArePieces, IsSectionArea, IsTownshipArea};
 
 use crate::plat::Plat;
-use twp_grid::Section;
+use twp_grid::{SECTIONS, Section};
 use twp_measure::Area;
-
-/// How many sections a township has.
-const SECTIONS: u8 = 36;
 
 /// How many positions stand beside each other in a section, and how many one above the other.
 const POSITIONS_ACROSS: u8 = 4;

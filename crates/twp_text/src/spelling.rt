@@ -10,11 +10,8 @@ ghost use Rattle.twp_text.specs.SpellingSteps.{entries_text, HasLots, HasSection
 use crate::written_parts::write_parts;
 use itoa::Buffer;
 use std::alloc::{AllocError, Global};
-use twp_grid::{Block, EastWest, NorthSouth, Section, Township, lot_count};
+use twp_grid::{Block, EastWest, NorthSouth, SECTIONS, Section, Township, lot_count};
 use twp_land::Land;
-
-/// How many sections a township has.
-const SECTIONS: u8 = 36;
 
 /// The canonical text of a land of a township, as of `T. 2 N., R. 3 W.,` and, on the next line,
 /// `sec. 14, N1/2, SE1/4.`: its sections by rising number, each with `all` or with the lots and the
