@@ -1,5 +1,5 @@
 -- Parts behind each other in one array.
-use Rattle.std.proofs.Common.{◌≡◌, ℕ, ◌+◌, ◌-◌, ◌≤◌, List, ◌++◌, length, length-append, length-take-le, take, refl, sym, ap, ◌∙◌, arith, codes, append_assoc}
+use Rattle.std.proofs.Common.{◌≡◌, ℕ, ◌+◌, ◌≤◌, List, ◌++◌, length, length-take-le, take, refl, sym, ap, ◌∙◌, arith, codes}
 use Rattle.std.proofs.lemmas.Slice.{take-put_mid}
 use Rattle.twp_grid.specs.declared.block.Corner.{Corner}
 use Rattle.twp_grid.specs.declared.block.Corner.TheVariants.{NE, NW, SW, SE}
@@ -10,22 +10,27 @@ use Rattle.twp_text.specs.CanonicalText.{step_text}
 use Rattle.twp_text.proofs.PathFacts.{take_front, take_less}
 use borrow.Rule.Slice.PartMut.{put_mid}
 
--- a step and a path are written behind what stands there, and some of the path's bytes count
-pub piece_behind : (bytes front step text path old : List ℕ) (len n count wide end : ℕ) → old ≡ take len bytes → len ≤ length bytes → front ≡ step → length step ≡ n → take count text ≡ path
-    → len + n ≤ length (put_mid len (len + n - len) bytes front) → count ≤ length text → end ≡ len + n + count
-    → take end (put_mid (len + n) wide (put_mid len (len + n - len) bytes front) text) ≡ old ++ (step ++ path)
-piece_behind bytes front step text path old len n count wide end old_is within front_is long path_is room few end_is =
-    let inner = put_mid len (len + n - len) bytes front in
+-- a step is written behind what stands there
+pub put_behind : (bytes front step old : List ℕ) (len n wide : ℕ) → take len bytes ≡ old → len ≤ length bytes → front ≡ step → length step ≡ n
+    → take (len + n) (put_mid len wide bytes front) ≡ old ++ step
+put_behind bytes front step old len n wide old_is within front_is long =
     let same : length front ≡ n = ap length front_is ∙ long in
-    let first : take (len + n) inner ≡ take len bytes ++ front = take-put_mid len (len + n - len) bytes front (len + n) (omega (arith, same)) within in
-    let whole : take (len + n + length text) (put_mid (len + n) wide inner text) ≡ take (len + n) inner ++ text = take-put_mid (len + n) wide inner text (len + n + length text) refl room in
-    sym (take_less end (len + n + length text) (put_mid (len + n) wide inner text) (omega (arith, few, end_is)))
-    ∙ ap (λ l. take end l) (whole ∙ ap (λ l. l ++ text) first)
-    ∙ take_front end count (take len bytes ++ front) text (let both = length-append (take len bytes) front in let most = length-take-le len bytes within in omega (arith, same, end_is))
-    ∙ ap (λ l. (take len bytes ++ front) ++ l) path_is
-    ∙ append_assoc (take len bytes) front path
-    ∙ ap (λ l. l ++ (front ++ path)) (sym old_is)
-    ∙ ap (λ l. old ++ (l ++ path)) front_is
+    take-put_mid len wide bytes front (len + n) (omega (arith, same)) within
+    ∙ ap (λ l. l ++ front) old_is ∙ ap (λ l. old ++ l) front_is
+
+-- so is a path, of which some bytes count
+pub path_behind : (bytes text path old : List ℕ) (len count wide end : ℕ) → take len bytes ≡ old → len ≤ length bytes → take count text ≡ path → count ≤ length text → end ≡ len + count
+    → take end (put_mid len wide bytes text) ≡ old ++ path
+path_behind bytes text path old len count wide end old_is within path_is few end_is =
+    sym (take_less end (len + length text) (put_mid len wide bytes text) (omega (arith, few, end_is)))
+    ∙ ap (λ l. take end l) (take-put_mid len wide bytes text (len + length text) refl within)
+    ∙ take_front end count (take len bytes) text (let most = length-take-le len bytes within in omega (arith, end_is))
+    ∙ ap (λ l. take len bytes ++ l) path_is
+    ∙ ap (λ l. l ++ path) old_is
+
+-- a list of what is known is as long as what is kept of it
+pub known_length : (bytes known : List ℕ) (len : ℕ) → take len bytes ≡ known → len ≤ length bytes → length known ≡ len
+known_length bytes known len is within = ap length (sym is) ∙ length-take-le len bytes within
 
 -- a quarter behind a comma has seven bytes, and a half six
 pub long_quarter_step : (corner : Corner) → length (codes ", " ++ step_text (Quarter corner)) ≡ 7

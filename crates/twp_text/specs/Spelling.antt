@@ -94,13 +94,13 @@ IsOffChosen g held quarters corner =
 abbrev pub PATH_MOST : ℕ
 PATH_MOST = 16
 
--- the bytes that are kept of a part: a quarter behind a comma, and a path
+-- the bytes that are kept of a part: a quarter behind a comma, the quarter that it is of, and a path
 abbrev pub PART_MOST : ℕ
-PART_MOST = 23
+PART_MOST = 28
 
 -- the bytes of as many parts as a position has places
 abbrev pub PIECES_MOST : ℕ
-PIECES_MOST = 368
+PIECES_MOST = 448
 
 -- quarters as they are written behind a smaller part
 abbrev pub quarters_text : List Corner → List ℕ

@@ -20,6 +20,7 @@ mod passing;
 mod path;
 mod pieces;
 mod place_fault;
+mod position_parts;
 mod ranges;
 mod resolving;
 mod spelling;

@@ -12,7 +12,7 @@ use twp_grid::Corner;
 pub(crate) const PATH_BYTES: usize = 16;
 
 /// The bytes of one quarter.
-const QUARTER_BYTES: usize = 5;
+pub(crate) const PATH_QUARTER_BYTES: usize = 5;
 
 /// The quarters that reach a square, smallest first, as `NE1/4SW1/4`. No memory is taken for them.
 #[derive(Drop)]
@@ -48,9 +48,9 @@ impl Path {
         ensures { result ≡ take PATH_MOST (step_text (Quarter corner) ++ self.now) }
     {
         let mut text = [0; PATH_BYTES];
-        text[..QUARTER_BYTES].copy_from_slice(quarter_text(corner));
-        text[QUARTER_BYTES..].copy_from_slice(&self.text[..PATH_BYTES - QUARTER_BYTES]);
-        let len = PATH_BYTES.min(self.len + QUARTER_BYTES);
+        text[..PATH_QUARTER_BYTES].copy_from_slice(quarter_text(corner));
+        text[PATH_QUARTER_BYTES..].copy_from_slice(&self.text[..PATH_BYTES - PATH_QUARTER_BYTES]);
+        let len = PATH_BYTES.min(self.len + PATH_QUARTER_BYTES);
         Path { text, len }
     }
 
@@ -74,7 +74,7 @@ impl Path {
 
 /// A quarter, as it is written.
 #[inline(always)]
-fn quarter_text(corner: Corner) -> &'static [u8; QUARTER_BYTES]
+pub(crate) fn quarter_text(corner: Corner) -> &'static [u8; PATH_QUARTER_BYTES]
     ensures { result.now ≡ step_text (Quarter corner) }
 {
     match corner {

@@ -4,7 +4,7 @@ ghost use Rattle.twp_text.specs.CanonicalText.{step_text};
 ghost use Rattle.twp_text.specs.Spelling.{PART_MOST, PIECES_MOST};
 ghost use Rattle.twp_text.specs.declared.item.Step.TheVariants.{Half, Quarter};
 
-use crate::path::{PATH_BYTES, Path};
+use crate::path::{PATH_BYTES, PATH_QUARTER_BYTES, Path, quarter_text};
 use std::alloc::AllocError;
 use std::marker::Model;
 use twp_grid::{Corner, Side};
@@ -15,8 +15,11 @@ const HALF_BYTES: usize = 6;
 /// The bytes of a quarter behind a comma.
 const QUARTER_BYTES: usize = 7;
 
+/// The bytes that are kept of a place: a quarter behind a comma, the quarter that it is of, and a path.
+const PLACE_BYTES: usize = QUARTER_BYTES + PATH_QUARTER_BYTES + PATH_BYTES;
+
 /// The bytes of as many parts as a position has places.
-const PIECES_BYTES: usize = 16 * (QUARTER_BYTES + PATH_BYTES);
+const PIECES_BYTES: usize = 16 * PLACE_BYTES;
 
 /// Parts as they are written, each behind a comma. No memory is taken for them.
 #[derive(Drop)]
@@ -32,7 +35,7 @@ impl Model for Pieces {
 
     ghost view = { λ pieces. take pieces.len pieces.bytes };
 
-    ghost invariant = { λ pieces. pieces.len ≤ 368 };
+    ghost invariant = { λ pieces. pieces.len ≤ 448 };
 }
 
 impl Pieces {
@@ -71,6 +74,22 @@ impl Pieces {
     {
         let behind = self.len + HALF_BYTES;
         self.bytes[self.len..behind].copy_from_slice(half_step(side));
+        self.bytes[behind..behind + PATH_BYTES].copy_from_slice(path.bytes());
+        self.len = behind + path.len();
+    }
+
+    /// Adds a quarter of a quarter of the square that a path reaches.
+    #[inline(always)]
+    pub(crate) fn push_inner(&mut self, corner: Corner, outer: Corner, path: &Path)
+        requires { length self.old + PART_MOST ≤ PIECES_MOST }
+        ensures text { self.new ≡ self.old
+            ++ ((codes ", " ++ step_text (Quarter corner)) ++ (step_text (Quarter outer) ++ path.now)) }
+        ensures most { length self.new ≤ length self.old + PART_MOST }
+    {
+        let middle = self.len + QUARTER_BYTES;
+        let behind = middle + PATH_QUARTER_BYTES;
+        self.bytes[self.len..middle].copy_from_slice(quarter_step(corner));
+        self.bytes[middle..behind].copy_from_slice(quarter_text(outer));
         self.bytes[behind..behind + PATH_BYTES].copy_from_slice(path.bytes());
         self.len = behind + path.len();
     }

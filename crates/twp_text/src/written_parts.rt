@@ -1,5 +1,5 @@
 //! The written parts of a section, quarter by quarter.
-ghost use Rattle.std.specs.Prelude.{◌≡◌, ◌↔◌, ◌+◌, ◌*◌, ◌<◌, ◌≤◌, [], ◌∷◌, ℕ, Bool, List, length, None, IsTrue, OnOk};
+ghost use Rattle.std.specs.Prelude.{◌≡◌, ◌↔◌, ◌+◌, ◌<◌, ◌∷◌, ℕ, Bool, List, IsTrue, OnOk};
 ghost use Rattle.twp_grid.specs.Places.{PLACE_DIGITS, places_across};
 ghost use Rattle.twp_grid.specs.Blocks.{CanQuarter};
 ghost use Rattle.twp_grid.specs.declared.block.Corner.{Corner};
@@ -7,14 +7,14 @@ ghost use Rattle.twp_text.specs.WrittenParts.{Part, IsFull, AreWrittenParts};
 ghost use Rattle.twp_text.specs.WrittenParts.Part.{square};
 ghost use Rattle.twp_text.specs.CanonicalText.{off_lots, HoldsEach};
 ghost use Rattle.twp_text.specs.Spelling.{IsBlockOf, AreOfSquare, AreOfQuarter};
-ghost use Rattle.twp_text.specs.Spelling.{AreWritten, AreFull, chosen_of, quarters_text};
-ghost use Rattle.twp_text.specs.Spelling.{PART_MOST, PIECES_MOST};
+ghost use Rattle.twp_text.specs.Spelling.{AreWritten, AreFull, quarters_text};
 
 use crate::chain::holds_of_lot;
 use crate::full_quarters::FullQuarters;
-use crate::part_text::{half_at, push_half, write_half, write_quarter as write_full_quarter};
+use crate::part_text::{half_at, write_half, write_quarter as write_full_quarter};
 use crate::path::Path;
 use crate::pieces::Pieces;
+use crate::position_parts::push_position;
 use std::alloc::AllocError;
 use twp_grid::{Block, Corner, Section, lot_at};
 use twp_land::Land;
@@ -147,176 +147,8 @@ fn write_position<L: Land>(
         se: se.all(),
     };
     let mut pieces = Pieces::new();
-    write_fours(full, ne, nw, sw, se, path, &mut pieces);
+    push_position(full, ne, nw, sw, se, path, &mut pieces);
     pieces.append_to(text)
-}
-
-/// Adds the written parts of such a position, of which the quarters have four places each.
-#[inline(always)]
-fn write_fours(
-    full: FullQuarters,
-    ne: FullQuarters,
-    nw: FullQuarters,
-    sw: FullQuarters,
-    se: FullQuarters,
-    path: &Path,
-    pieces: &mut Pieces,
-)
-    requires { pieces.old ≡ [] }
-    ensures { (held : ℕ → ℕ → Bool) (quarters : List Corner) → length quarters + 2 ≡ PLACE_DIGITS
-        → path.now ≡ quarters_text quarters
-        → ¬ IsFull PLACE_DIGITS held (square quarters)
-        → AreFull PLACE_DIGITS held quarters full
-        → AreFull PLACE_DIGITS held (Corner.NE ∷ quarters) ne
-        → AreFull PLACE_DIGITS held (Corner.NW ∷ quarters) nw
-        → AreFull PLACE_DIGITS held (Corner.SW ∷ quarters) sw
-        → AreFull PLACE_DIGITS held (Corner.SE ∷ quarters) se
-        → AreWritten (AreOfSquare PLACE_DIGITS held quarters) pieces.old pieces.new }
-{
-    if full.has_half() {
-        write_four(full, ne, Corner::NE, path, pieces);
-        write_four(full, nw, Corner::NW, path, pieces);
-        write_four(full, sw, Corner::SW, path, pieces);
-        write_four(full, se, Corner::SE, path, pieces);
-        return;
-    }
-    write_single_four(full, ne, Corner::NE, path, pieces);
-    write_single_four(full, nw, Corner::NW, path, pieces);
-    write_single_four(full, sw, Corner::SW, path, pieces);
-    write_single_four(full, se, Corner::SE, path, pieces);
-}
-
-/// Adds the written parts that begin in a quarter of such a position.
-#[inline(never)]
-fn write_four(
-    full: FullQuarters,
-    places: FullQuarters,
-    corner: Corner,
-    path: &Path,
-    pieces: &mut Pieces,
-)
-    requires { length pieces.old + 4 * PART_MOST ≤ PIECES_MOST }
-    ensures parts { (held : ℕ → ℕ → Bool) (quarters : List Corner)
-        → length quarters + 2 ≡ PLACE_DIGITS
-        → path.now ≡ quarters_text quarters
-        → ¬ IsFull PLACE_DIGITS held (square quarters)
-        → AreFull PLACE_DIGITS held quarters full
-        → AreFull PLACE_DIGITS held (corner ∷ quarters) places
-        → AreWritten (AreOfQuarter PLACE_DIGITS held quarters corner) pieces.old pieces.new }
-    ensures most { length pieces.new ≤ length pieces.old + 4 * PART_MOST }
-{
-    if let Some(side) = half_at(full.chosen_half(), corner) {
-        return push_half(side, corner, path, pieces);
-    }
-    if full.at(corner) {
-        return pieces.push_quarter(corner, path);
-    }
-    write_places(places, &path.quarter(corner), pieces)
-}
-
-/// Adds the written parts that begin in a quarter of such a position, where none of its halves is full.
-#[inline(always)]
-fn write_single_four(
-    full: FullQuarters,
-    places: FullQuarters,
-    corner: Corner,
-    path: &Path,
-    pieces: &mut Pieces,
-)
-    requires { length pieces.old + 4 * PART_MOST ≤ PIECES_MOST }
-    ensures parts { (held : ℕ → ℕ → Bool) (quarters : List Corner)
-        → length quarters + 2 ≡ PLACE_DIGITS
-        → path.now ≡ quarters_text quarters
-        → ¬ IsFull PLACE_DIGITS held (square quarters)
-        → AreFull PLACE_DIGITS held quarters full
-        → (chosen_of full ≡ None)
-        → AreFull PLACE_DIGITS held (corner ∷ quarters) places
-        → AreWritten (AreOfQuarter PLACE_DIGITS held quarters corner) pieces.old pieces.new }
-    ensures most { length pieces.new ≤ length pieces.old + 4 * PART_MOST }
-{
-    if full.at(corner) {
-        return pieces.push_quarter(corner, path);
-    }
-    let path = path.quarter(corner);
-    if places.has_half() {
-        return write_places(places, &path, pieces);
-    }
-    write_single_places(places, &path, pieces)
-}
-
-/// Adds the written parts of a square of four places that isn't full.
-#[inline(never)]
-fn write_places(full: FullQuarters, path: &Path, pieces: &mut Pieces)
-    requires { length pieces.old + 4 * PART_MOST ≤ PIECES_MOST }
-    ensures parts { (held : ℕ → ℕ → Bool) (quarters : List Corner)
-        → length quarters + 1 ≡ PLACE_DIGITS
-        → path.now ≡ quarters_text quarters
-        → ¬ IsFull PLACE_DIGITS held (square quarters)
-        → AreFull PLACE_DIGITS held quarters full
-        → AreWritten (AreOfSquare PLACE_DIGITS held quarters) pieces.old pieces.new }
-    ensures most { length pieces.new ≤ length pieces.old + 4 * PART_MOST }
-{
-    write_place(full, Corner::NE, path, pieces);
-    write_place(full, Corner::NW, path, pieces);
-    write_place(full, Corner::SW, path, pieces);
-    write_place(full, Corner::SE, path, pieces);
-}
-
-/// Adds the written part that begins in a place of such a square, if one does.
-#[inline(always)]
-fn write_place(full: FullQuarters, corner: Corner, path: &Path, pieces: &mut Pieces)
-    requires { length pieces.old + PART_MOST ≤ PIECES_MOST }
-    ensures parts { (held : ℕ → ℕ → Bool) (quarters : List Corner)
-        → length quarters + 1 ≡ PLACE_DIGITS
-        → path.now ≡ quarters_text quarters
-        → ¬ IsFull PLACE_DIGITS held (square quarters)
-        → AreFull PLACE_DIGITS held quarters full
-        → AreWritten (AreOfQuarter PLACE_DIGITS held quarters corner) pieces.old pieces.new }
-    ensures most { length pieces.new ≤ length pieces.old + PART_MOST }
-{
-    if let Some(side) = half_at(full.chosen_half(), corner) {
-        return push_half(side, corner, path, pieces);
-    }
-    if full.at(corner) {
-        return pieces.push_quarter(corner, path);
-    }
-}
-
-/// Adds the written parts of such a square, where none of its halves is full: the places that are held.
-#[inline(always)]
-fn write_single_places(full: FullQuarters, path: &Path, pieces: &mut Pieces)
-    requires { length pieces.old + 4 * PART_MOST ≤ PIECES_MOST }
-    ensures parts { (held : ℕ → ℕ → Bool) (quarters : List Corner)
-        → length quarters + 1 ≡ PLACE_DIGITS
-        → path.now ≡ quarters_text quarters
-        → ¬ IsFull PLACE_DIGITS held (square quarters)
-        → AreFull PLACE_DIGITS held quarters full
-        → (chosen_of full ≡ None)
-        → AreWritten (AreOfSquare PLACE_DIGITS held quarters) pieces.old pieces.new }
-    ensures most { length pieces.new ≤ length pieces.old + 4 * PART_MOST }
-{
-    write_single_place(full, Corner::NE, path, pieces);
-    write_single_place(full, Corner::NW, path, pieces);
-    write_single_place(full, Corner::SW, path, pieces);
-    write_single_place(full, Corner::SE, path, pieces);
-}
-
-/// Adds a place of such a square, if it is held.
-#[inline(always)]
-fn write_single_place(full: FullQuarters, corner: Corner, path: &Path, pieces: &mut Pieces)
-    requires { length pieces.old + PART_MOST ≤ PIECES_MOST }
-    ensures parts { (held : ℕ → ℕ → Bool) (quarters : List Corner)
-        → length quarters + 1 ≡ PLACE_DIGITS
-        → path.now ≡ quarters_text quarters
-        → ¬ IsFull PLACE_DIGITS held (square quarters)
-        → AreFull PLACE_DIGITS held quarters full
-        → (chosen_of full ≡ None)
-        → AreWritten (AreOfQuarter PLACE_DIGITS held quarters corner) pieces.old pieces.new }
-    ensures most { length pieces.new ≤ length pieces.old + PART_MOST }
-{
-    if full.at(corner) {
-        return pieces.push_quarter(corner, path);
-    }
 }
 
 /// Which quarters of a square are full.

@@ -44,7 +44,7 @@ returns g c = λ quarters of_square path_is short.
     (c.held_places-se.ensures.se ∙ free c.column-column.result c.row-row.result (omega arith) (omega arith) (omega arith) (omega arith)) in
     let full = position_full PLACE_DIGITS (off_lots PLACE_DIGITS c.args.section (g.L.Land.places c.args.land.now c.args.section)) quarters (record { ne = c.all.result; nw = c.all-2.result; sw = c.all-3.result; se = c.all-4.result })
     c.held_places-ne.result c.held_places-nw.result c.held_places-sw.result c.held_places-se.result level places c.all.ensures c.all-2.ensures c.all-3.ensures c.all-4.ensures in
-    pieces_appended c.append_to.result (AreOfSquare PLACE_DIGITS (off_lots PLACE_DIGITS c.args.section (g.L.Land.places c.args.land.now c.args.section)) quarters) c.args.text.now.items c.new-pieces.result c.write_fours.new.pieces c.append_to.new.text.items
+    pieces_appended c.append_to.result (AreOfSquare PLACE_DIGITS (off_lots PLACE_DIGITS c.args.section (g.L.Land.places c.args.land.now c.args.section)) quarters) c.args.text.now.items c.new-pieces.result c.push_position.new.pieces c.append_to.new.text.items
     c.new-pieces.ensures
-    (c.write_fours.ensures (off_lots PLACE_DIGITS c.args.section (g.L.Land.places c.args.land.now c.args.section)) quarters level path_is short full places.0 places.1.0 places.1.1.0 places.1.1.1)
+    (c.push_position.ensures (off_lots PLACE_DIGITS c.args.section (g.L.Land.places c.args.land.now c.args.section)) quarters level path_is short full places.0 places.1.0 places.1.1.0 places.1.1.1)
     c.append_to.ensures

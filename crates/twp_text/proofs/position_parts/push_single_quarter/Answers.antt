@@ -5,7 +5,7 @@ use Rattle.twp_grid.specs.Places.{PLACE_DIGITS}
 use Rattle.twp_text.proofs.HalfQuarters.{no_choice, off_all}
 use Rattle.twp_text.proofs.PathFacts.{path_of_quarter}
 use Rattle.twp_text.proofs.WritingFacts.{full_added, inner_added}
-use Rattle.twp_text.proofs.written_parts.write_single_four.Goals as goal
+use Rattle.twp_text.proofs.position_parts.push_single_quarter.Goals as goal
 
 pub returns-then-at-clause-parts : goal.returns-then-at-clause-parts
 returns-then-at-clause-parts c = λ held quarters level path_is short are none are_places.
@@ -14,17 +14,16 @@ returns-then-at-clause-parts c = λ held quarters level path_is short are none a
 
 pub returns-then-has_half-clause-parts : goal.returns-then-has_half-clause-parts
 returns-then-has_half-clause-parts c = λ held quarters level path_is short are none are_places.
-    inner_added PLACE_DIGITS held quarters c.args.corner c.args.pieces.now c.write_places.new.pieces
+    inner_added PLACE_DIGITS held quarters c.args.corner c.args.pieces.now c.push_places.new.pieces
     (off_all PLACE_DIGITS held quarters c.args.full c.args.corner (omega (arith, level)) none are short)
-    (c.write_places.ensures.parts held (c.args.corner ∷ quarters) (omega (arith, level))
-    (path_of_quarter c.args.corner quarters c.args.path.now c.quarter-path.result (omega (arith, level)) path_is c.quarter-path.ensures)
+    (c.push_places.ensures.parts held (c.args.corner ∷ quarters) (omega (arith, level))
+    (path_of_quarter c.args.corner quarters c.args.path.now c.quarter.result (omega (arith, level)) path_is c.quarter.ensures)
     (λ whole. false≢true (sym c.if-at.false ∙ c.at.ensures ∙ (are c.args.corner).1 whole)) are_places)
 
 pub returns-clause-parts : goal.returns-clause-parts
 returns-clause-parts c = λ held quarters level path_is short are none are_places.
-    inner_added PLACE_DIGITS held quarters c.args.corner c.args.pieces.now c.write_single_places.new.pieces
+    inner_added PLACE_DIGITS held quarters c.args.corner c.args.pieces.now c.push_single_places.new.pieces
     (off_all PLACE_DIGITS held quarters c.args.full c.args.corner (omega (arith, level)) none are short)
-    (c.write_single_places.ensures.parts held (c.args.corner ∷ quarters) (omega (arith, level))
-    (path_of_quarter c.args.corner quarters c.args.path.now c.quarter-path.result (omega (arith, level)) path_is c.quarter-path.ensures)
+    (c.push_single_places.ensures.parts held quarters level path_is
     (λ whole. false≢true (sym c.if-at.false ∙ c.at.ensures ∙ (are c.args.corner).1 whole)) are_places
     (no_choice c.args.places (sym c.has_half.ensures ∙ c.if-has_half.false)))
