@@ -228,9 +228,11 @@ run -h; ended '-h' $? 0 "$help_text" ''
 run help; ended 'help' $? 0 "$help_text" ''
 cp "$program" other-name
 ./other-name --help > out 2> err; ended 'called by another name' $? 0 "$help_text" ''
-acres_text="Writes the acres of the land that a description names
+# The help of a subcommand that takes a description, by its name and what it does.
+described_text() {
+    printf '%s\n' "$2
 
-Usage: township acres <NOTES> <DESCRIPTION>
+Usage: township $1 <NOTES> <DESCRIPTION>
 
 Arguments:
   <NOTES>        field notes of the township's 84 section lines, CSV
@@ -238,6 +240,8 @@ Arguments:
 
 Options:
   -h, --help  Print help"
+}
+acres_text=$(described_text acres 'Writes the acres of the land that a description names')
 run acres --help; ended 'acres --help' $? 0 "$acres_text" ''
 run help acres; ended 'help acres' $? 0 "$acres_text" ''
 run acres missing --help; ended 'help before a missing file' $? 0 "$acres_text" ''
@@ -251,16 +255,8 @@ Arguments:
 
 Options:
   -h, --help  Print help"
-normal_text="Writes the one canonical spelling of the land that a description names
-
-Usage: township normal <NOTES> <DESCRIPTION>
-
-Arguments:
-  <NOTES>        field notes of the township's 84 section lines, CSV
-  <DESCRIPTION>  description of land, as: sec. 5, lot 1.
-
-Options:
-  -h, --help  Print help"
+about_normal='Writes the one canonical spelling of the land that a description names'
+normal_text=$(described_text normal "$about_normal")
 run normal --help; ended 'normal --help' $? 0 "$normal_text" ''
 run help normal; ended 'help normal' $? 0 "$normal_text" ''
 run report --help; ended 'report --help' $? 0 "$report_text" ''

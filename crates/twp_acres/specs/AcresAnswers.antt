@@ -6,7 +6,7 @@ use Rattle.twp_grid.specs.Places.{PLACE_DIGITS}
 use Rattle.twp_grid.specs.Texts.{line_feed}
 use Rattle.twp_plat.specs.Plats.{TownshipPlat}
 use Rattle.twp_acres.specs.LandAreas.{IsLandArea}
-use Rattle.twp_acres.specs.Answers.{IsLandOnPlat, IsRefusal, refusal_line}
+use Rattle.twp_acres.specs.Answers.{AnswersRefusal, IsLandOnPlat, IsRefusal}
 use Rattle.twp_acres.specs.declared.verdict.Verdict.{Verdict}
 use Rattle.twp_acres.specs.declared.verdict.Verdict.TheVariants.{Accepted, Refused, TractRefused}
 
@@ -34,5 +34,5 @@ abbrev pub IsAcresAnswer : List ℕ → List ℕ → List ℕ → Verdict → Ty
 IsAcresAnswer notes description answer Accepted =
     (hundredths : ℕ) × HasAcres notes description hundredths × (answer ≡ acres_line hundredths)
 IsAcresAnswer notes description answer (Refused refusal) =
-    IsRefusal notes description refusal × (answer ≡ refusal_line refusal)
+    AnswersRefusal (IsRefusal notes description) refusal answer
 IsAcresAnswer notes description answer (TractRefused at inner) = ⊥

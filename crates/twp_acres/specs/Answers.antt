@@ -89,3 +89,7 @@ abbrev pub refusal_line : Refusal → List ℕ
 refusal_line refusal =
     codes "refused " ++ decimal refusal.number ++ codes " at " ++ decimal refusal.at
     ++ line_feed ∷ []
+
+-- the refusal is one of these, and the answer is its line
+abbrev pub AnswersRefusal : (Refusal → Type 0) → Refusal → List ℕ → Type 0
+AnswersRefusal Is refusal answer = Is refusal × (answer ≡ refusal_line refusal)

@@ -1,9 +1,9 @@
 -- The answer of the spelling run: the canonical text of the land described, or the refusal.
-use Rattle.std.specs.Prelude.{◌≡◌, ℕ, List, Bool}
+use Rattle.std.specs.Prelude.{ℕ, List, Bool}
 use Rattle.twp_grid.specs.Places.{PLACE_DIGITS}
 use Rattle.twp_plat.specs.Plats.{TownshipPlat}
 use Rattle.twp_text.specs.CanonicalText.{IsCanonicalText}
-use Rattle.twp_acres.specs.Answers.{IsLandOnPlat, IsRefusal, refusal_line}
+use Rattle.twp_acres.specs.Answers.{AnswersRefusal, IsLandOnPlat, IsRefusal}
 use Rattle.twp_acres.specs.declared.verdict.Verdict.{Verdict}
 use Rattle.twp_acres.specs.declared.verdict.Verdict.TheVariants.{Accepted, Refused, TractRefused}
 
@@ -19,5 +19,5 @@ pub record IsNormalForm (notes description text : List ℕ) : Type 0 where
 abbrev pub IsNormalAnswer : List ℕ → List ℕ → List ℕ → Verdict → Type 0
 IsNormalAnswer notes description answer Accepted = IsNormalForm notes description answer
 IsNormalAnswer notes description answer (Refused refusal) =
-    IsRefusal notes description refusal × (answer ≡ refusal_line refusal)
+    AnswersRefusal (IsRefusal notes description) refusal answer
 IsNormalAnswer notes description answer (TractRefused at inner) = ⊥

@@ -9,7 +9,7 @@ use Rattle.twp_grid.specs.Texts.{line_feed}
 use Rattle.twp_plat.specs.Plats.{TownshipPlat}
 use Rattle.twp_plat.specs.Pieces.{IsPieceArea, over_of}
 use Rattle.twp_plat.specs.PlatAreas.{IsSectionArea, IsTownshipArea}
-use Rattle.twp_acres.specs.Answers.{ArePlatted, IsNoPlat, refusal_line}
+use Rattle.twp_acres.specs.Answers.{AnswersRefusal, ArePlatted, IsNoPlat}
 use Rattle.twp_acres.specs.declared.verdict.Verdict.{Verdict}
 use Rattle.twp_acres.specs.declared.verdict.Verdict.TheVariants.{Accepted, Refused, TractRefused}
 
@@ -93,5 +93,5 @@ pub record IsPrintedPlat (notes text : List ℕ) : Type 0 where
 abbrev pub IsPlatAnswer : List ℕ → List ℕ → Verdict → Type 0
 IsPlatAnswer notes answer Accepted = IsPrintedPlat notes answer
 IsPlatAnswer notes answer (Refused refusal) =
-    IsNoPlat notes refusal × (answer ≡ refusal_line refusal)
+    AnswersRefusal (IsNoPlat notes) refusal answer
 IsPlatAnswer notes answer (TractRefused at inner) = ⊥

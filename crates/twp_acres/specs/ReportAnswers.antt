@@ -6,7 +6,7 @@ use Rattle.std.specs.List.{flat_map}
 use Rattle.twp_grid.specs.Places.{PLACE_DIGITS}
 use Rattle.twp_notes.specs.Records.{Fields, record_at}
 use Rattle.twp_plat.specs.Plats.{TownshipPlat}
-use Rattle.twp_acres.specs.Answers.{ArePlatted, Describe, IsNoPlat, refusal_line}
+use Rattle.twp_acres.specs.Answers.{AnswersRefusal, ArePlatted, Describe, IsNoPlat, refusal_line}
 use Rattle.twp_acres.specs.AcresAnswers.{AreHundredthsOf, acres_line}
 use Rattle.twp_acres.specs.Laws.{township_places}
 use Rattle.twp_acres.specs.Tracts.{name_in, description_in, tract_records}
@@ -101,7 +101,7 @@ pub record IsAnswerOnPlat (notes tracts answer : List ℕ) (verdict : Verdict) :
 -- the notes make no plat, and are refused
 abbrev pub IsPlatRefused : List ℕ → List ℕ → Verdict → Type 0
 IsPlatRefused notes answer (Refused refusal) =
-    IsNoPlat notes refusal × (answer ≡ refusal_line refusal)
+    AnswersRefusal (IsNoPlat notes) refusal answer
 IsPlatRefused notes answer other = ⊥
 
 -- The account, where the notes make a plat and the list is one of tracts on it, of which no two

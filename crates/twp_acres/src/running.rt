@@ -50,10 +50,12 @@ pub fn run_acres<N: Source, D: Source, W: Sink>(
         → IsAnswered (W.contents out.old) (W.contents out.new)
         (refusal_line refusal) (Verdict.Refused refusal) result }
 
-    // The run gives one of the two; what it reads, its faults, and what it writes at each.
+    // As each run of two texts: it gives one of the two answers, whatever the devices tell of their
+    // bytes; it answers a fault where a device has one; it reads no further than it has to.
     ensures run { RunsOnPlat IsAcresAnswer TEXT_LIMIT
         (used (N.remaining notes.old) (N.remaining notes.new) (N.has_failed notes.new))
-        (used (D.remaining description.old) (D.remaining description.new) (D.has_failed description.new))
+        (used (D.remaining description.old) (D.remaining description.new)
+        (D.has_failed description.new))
         (used (W.contents out.old) (W.contents out.new) (W.has_failed out.new))
         (description.new ≡ description.old) result }
 {
@@ -114,7 +116,7 @@ pub fn run_report<N: Source, T: Source, W: Sink>(
     requires tracts { T.has_failed tracts.old ≡ false }
     requires out { W.has_failed out.old ≡ false }
 
-    // The account or the refusal; what the run reads, its faults, and what it writes at each.
+    // As each run of two texts, with the account of the list, or the refusal.
     ensures run { RunsOnPlat IsReportAnswer TRACTS_LIMIT
         (used (N.remaining notes.old) (N.remaining notes.new) (N.has_failed notes.new))
         (used (T.remaining tracts.old) (T.remaining tracts.new) (T.has_failed tracts.new))
@@ -140,10 +142,11 @@ pub fn run_normal<N: Source, D: Source, W: Sink>(
     requires description { D.has_failed description.old ≡ false }
     requires out { W.has_failed out.old ≡ false }
 
-    // The canonical text or the refusal; what the run reads, its faults, and what it writes at each.
+    // As each run of two texts, with the canonical text of the land described, or the refusal.
     ensures run { RunsOnPlat IsNormalAnswer TEXT_LIMIT
         (used (N.remaining notes.old) (N.remaining notes.new) (N.has_failed notes.new))
-        (used (D.remaining description.old) (D.remaining description.new) (D.has_failed description.new))
+        (used (D.remaining description.old) (D.remaining description.new)
+        (D.has_failed description.new))
         (used (W.contents out.old) (W.contents out.new) (W.has_failed out.new))
         (description.new ≡ description.old) result }
 {

@@ -1,9 +1,8 @@
 -- From what a parse entered to its task.
-use Rattle.std.proofs.Common.{◌≡◌, ◌⊎◌, ◌∙◌, ap, true, [], ◌∷◌, Option, Some, None, refl, sym, inl}
+use Rattle.std.proofs.Common.{◌≡◌, ◌⊎◌, ◌∙◌, ap, true, [], Option, Some, None, refl, sym, inl}
 use Rattle.std.proofs.Common.{inr, subst}
 use Rattle.std.specs.Prelude.{option_map, codes, List, Box}
 use Rattle.std.specs.Box.{box_value}
-use Rattle.std.proofs.lemmas.List.Elements.{All-cons, All-nil}
 use Rattle.clap.specs.Simple.{subcommand_rows}
 use Rattle.clap.specs.declared.parser.matches.SubCommand.{SubCommand}
 use Rattle.clap.specs.Words.{App, IsAmong, Row, Text, fault_of, is_simple, is_simple_and_free}
@@ -13,11 +12,9 @@ use Rattle.clap.specs.declared.error.kind.ErrorKind.TheVariants.{DisplayHelp, Ou
 use Rattle.clap.specs.declared.parser.matches.ArgMatches.{ArgMatches}
 use Rattle.clap.specs.declared.parser.matches.ArgMatches.TheViews.{out-ArgMatches, out-SubCommand}
 use Rattle.twp_cmd.specs.Commands.{IsTownship, township}
-use Rattle.twp_cmd.specs.Parses.{HasValue, IsOfLand, IsTaskIn, IsWhole, ShowsAs}
-use Rattle.twp_cmd.specs.Tasks.{HasGiven, IsFaultOf, IsTaskOf, given_description, given_notes}
-use Rattle.twp_cmd.specs.Tasks.{given_tracts}
+use Rattle.twp_cmd.specs.Parses.{HasValue, IsOfLand, IsWhole, ShowsAs}
+use Rattle.twp_cmd.specs.Tasks.{IsFaultOf, IsTaskIn, IsTaskOf}
 use Rattle.twp_cmd.specs.declared.task.Task.{Task}
-use Rattle.twp_cmd.specs.declared.task.Task.TheVariants.{Plat, Acres, Normal, Report}
 use Rattle.twp_cmd.specs.declared.task.TaskFault.{TaskFault}
 use Rattle.twp_cmd.specs.declared.task.TaskFault.TheVariants.{Usage, Help, Memory}
 use Rattle.twp_cmd.proofs.TownshipWords.{township_whole}
@@ -67,44 +64,12 @@ pub parse_task : (app : App) (words : List Text) (rows : List Row) (entered : Op
     → (is_simple_and_free app ≡ true → fault_of app words ≡ [])
     → (is_simple app ≡ true → (rows ≡ matches_of app words) × (entered ≡ subcommand_of app words))
     → IsTaskIn entered task → IsTaskOf words task
-parse_task app words rows entered task is taken matches asks = go task asks
-  where
-    go : (t : Task) → IsTaskIn entered t → IsTaskOf words t
-    go (Plat notes) h = record {
-      app = app;
-      is_township = is;
-      taken = taken (rw is simple_and_free);
-      rows = h.0;
-      subcommand_is = sym (matches (rw is simple)).1 ∙ h.1;
-      values_are = All-cons (HasGiven h.0) (given_notes notes) [] h.2 (All-nil (HasGiven h.0));
-    }
-    go (Acres notes description) h = record {
-      app = app;
-      is_township = is;
-      taken = taken (rw is simple_and_free);
-      rows = h.0;
-      subcommand_is = sym (matches (rw is simple)).1 ∙ h.1;
-      values_are = All-cons (HasGiven h.0) (given_notes notes) (given_description description ∷ []) h.2
-          (All-cons (HasGiven h.0) (given_description description) [] h.3 (All-nil (HasGiven h.0)));
-    }
-    go (Normal notes description) h = record {
-      app = app;
-      is_township = is;
-      taken = taken (rw is simple_and_free);
-      rows = h.0;
-      subcommand_is = sym (matches (rw is simple)).1 ∙ h.1;
-      values_are = All-cons (HasGiven h.0) (given_notes notes) (given_description description ∷ []) h.2
-          (All-cons (HasGiven h.0) (given_description description) [] h.3 (All-nil (HasGiven h.0)));
-    }
-    go (Report notes tracts) h = record {
-      app = app;
-      is_township = is;
-      taken = taken (rw is simple_and_free);
-      rows = h.0;
-      subcommand_is = sym (matches (rw is simple)).1 ∙ h.1;
-      values_are = All-cons (HasGiven h.0) (given_notes notes) (given_tracts tracts ∷ []) h.2
-          (All-cons (HasGiven h.0) (given_tracts tracts) [] h.3 (All-nil (HasGiven h.0)));
-    }
+parse_task app words rows entered task is taken matches asks = record {
+  app = app;
+  is_township = is;
+  taken = taken (rw is simple_and_free);
+  entered = subst (λ e. IsTaskIn e task) (matches (rw is simple)).1 asks;
+}
 
 -- the error of a parse shows the fault of the words
 pub parse_fault : (app : App) (words : List Text) (kind : ErrorKind) (fault : TaskFault) → IsTownship app

@@ -1,5 +1,5 @@
 -- How the program ends, by the words of its command line.
-use Rattle.std.specs.Prelude.{◌≡◌, ◌⊎◌, ℕ, List, ⊤}
+use Rattle.std.specs.Prelude.{◌≡◌, ◌⊎◌, ℕ, ◌<◌, List, length, ⊤}
 use Rattle.clap.specs.Words.{Text}
 use Rattle.clap.specs.declared.error.kind.ErrorKind.TheVariants.{DisplayHelp}
 use Rattle.twp_acres.specs.Runs.{AnswerRelation}
@@ -8,6 +8,8 @@ use Rattle.twp_acres.specs.AcresAnswers.{IsAcresAnswer}
 use Rattle.twp_acres.specs.NormalAnswers.{IsNormalAnswer}
 use Rattle.twp_acres.specs.ReportAnswers.{IsReportAnswer}
 use Rattle.twp_acres.specs.declared.verdict.Verdict.{Verdict}
+use Rattle.twp_cmd.specs.Joined.{joined_description, joined_notes}
+use Rattle.twp_cmd.specs.Statuses.{status_of}
 use Rattle.twp_cmd.specs.Tasks.{HasKindAt, IsFaultOf, IsTaskOf}
 use Rattle.twp_cmd.specs.declared.ending.Ending.{Ending}
 use Rattle.twp_cmd.specs.declared.ending.Ending.TheVariants.{Answered, Helped, Misused, Failed}
@@ -51,3 +53,31 @@ EndsAs words Helped = HasKindAt words DisplayHelp
 EndsAs words (Misused text) = IsFaultOf words (Usage text)
 EndsAs words (Failed (Open name)) = (task : Task) × IsTaskOf words task × IsFileOf task name
 EndsAs words (Failed (Run fault)) = ⊤
+
+-- the verdict is that on some joined input, since standard input doesn't tell what it gave
+pub record IsJoinedVerdict (verdict : Verdict) : Type 0 where
+  pub bytes : List ℕ
+  pub answer : List ℕ
+  pub answers : IsAcresAnswer (joined_notes bytes) (joined_description bytes) answer verdict
+
+-- no file is opened without a word
+abbrev pub IsRunFailure : Failure → Type 0
+IsRunFailure (Open name) = ⊥
+IsRunFailure (Run fault) = ⊤
+
+-- without a word standard input is answered, or a device or memory fails
+abbrev pub EndsWithoutWords : Ending → Type 0
+EndsWithoutWords (Answered verdict) = IsJoinedVerdict verdict
+EndsWithoutWords (Failed failure) = IsRunFailure failure
+EndsWithoutWords other = ⊥
+
+-- the program ends by some words behind its name, since the host doesn't tell which, or without any
+abbrev pub EndsProgram : Ending → Type 0
+EndsProgram ending =
+    ((words : List Text) × (1 < length words) × EndsAs words ending) ⊎ EndsWithoutWords ending
+
+-- the status is that of such an ending
+pub record IsProgramStatus (status : ℕ) : Type 0 where
+  pub ending : Ending
+  pub ends : EndsProgram ending
+  pub status_is : status ≡ status_of ending

@@ -1,6 +1,5 @@
 -- What a command line asks for.
-use Rattle.std.specs.Prelude.{◌≡◌, ◌≢◌, List, [], ◌∷◌, Some, codes, ⊤}
-use Rattle.std.specs.List.{All}
+use Rattle.std.specs.Prelude.{◌≡◌, ◌≢◌, List, [], ◌∷◌, Option, Some, codes, ⊤}
 use Rattle.clap.specs.Words.{App, IsAmong, Row, Text, fault_of, first_of, subcommand_of}
 use Rattle.clap.specs.declared.error.kind.ErrorKind.{ErrorKind}
 use Rattle.clap.specs.declared.error.kind.ErrorKind.TheVariants.{DisplayHelp}
@@ -15,18 +14,11 @@ pub record Given : Type 0 where
   pub word : Text
   pub value : Text
 
--- the word has this value among the rows of a parse
-abbrev pub HasGiven : List Row → Given → Type 0
-HasGiven rows given = first_of given.word rows ≡ Some given.value
-
--- clap's rule takes the words, enters this subcommand, and gives its required words these values
-pub record Enters (words : List Text) (name : Text) (given : List Given) : Type 0 where
-  pub app : App
-  pub is_township : IsTownship app
-  pub taken : fault_of app words ≡ []
-  pub rows : List Row
-  pub subcommand_is : subcommand_of app words ≡ Some (name, rows)
-  pub values_are : All (HasGiven rows) given
+-- the words have these values among the rows of a parse
+abbrev pub HaveValues : List Row → List Given → Type 0
+HaveValues rows [] = ⊤
+HaveValues rows (given ∷ more) =
+    (first_of given.word rows ≡ Some given.value) × HaveValues rows more
 
 abbrev pub given_notes : Text → Given
 given_notes name = record { word = codes "NOTES"; value = name }
@@ -37,15 +29,32 @@ given_description name = record { word = codes "DESCRIPTION"; value = name }
 abbrev pub given_tracts : Text → Given
 given_tracts name = record { word = codes "TRACTS"; value = name }
 
--- the words ask for the task
-abbrev pub IsTaskOf : List Text → Task → Type 0
-IsTaskOf words (Plat notes) = Enters words (codes "plat") (given_notes notes ∷ [])
-IsTaskOf words (Acres notes description) =
-    Enters words (codes "acres") (given_notes notes ∷ given_description description ∷ [])
-IsTaskOf words (Normal notes description) =
-    Enters words (codes "normal") (given_notes notes ∷ given_description description ∷ [])
-IsTaskOf words (Report notes tracts) =
-    Enters words (codes "report") (given_notes notes ∷ given_tracts tracts ∷ [])
+-- the subcommand that a task is asked for by
+abbrev pub subcommand_name : Task → Text
+subcommand_name (Plat notes) = codes "plat"
+subcommand_name (Acres notes description) = codes "acres"
+subcommand_name (Normal notes description) = codes "normal"
+subcommand_name (Report notes tracts) = codes "report"
+
+-- the words that it requires, with the task's files
+abbrev pub given_of : Task → List Given
+given_of (Plat notes) = given_notes notes ∷ []
+given_of (Acres notes description) = given_notes notes ∷ given_description description ∷ []
+given_of (Normal notes description) = given_notes notes ∷ given_description description ∷ []
+given_of (Report notes tracts) = given_notes notes ∷ given_tracts tracts ∷ []
+
+-- the subcommand that was entered, with the values of its words, is the task
+pub record IsTaskIn (entered : Option (Text × List Row)) (task : Task) : Type 0 where
+  pub rows : List Row
+  pub entered_is : entered ≡ Some (subcommand_name task, rows)
+  pub values_are : HaveValues rows (given_of task)
+
+-- the words ask for the task: clap's rule takes them, and enters the task's subcommand
+pub record IsTaskOf (words : List Text) (task : Task) : Type 0 where
+  pub app : App
+  pub is_township : IsTownship app
+  pub taken : fault_of app words ≡ []
+  pub entered : IsTaskIn (subcommand_of app words) task
 
 -- clap's rule has a fault of this kind at the words
 pub record HasKindAt (words : List Text) (kind : ErrorKind) : Type 0 where

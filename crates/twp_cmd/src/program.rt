@@ -1,7 +1,8 @@
 //! The program over the host's capabilities, which `main` gives it.
-ghost use Rattle.std.specs.Prelude.{◌≡◌, ◌⊎◌, false, map, string_bytes, IfErr, IfOk};
+ghost use Rattle.std.specs.Prelude.{◌≡◌, ◌≢◌, ◌⊎◌, false, map, string_bytes, IfErr, IfOk};
 ghost use Rattle.twp_grid.specs.Devices.{device_failed};
-ghost use Rattle.twp_cmd.specs.Endings.{EndsAs, FailsOn, IsVerdictOf};
+ghost use Rattle.twp_cmd.specs.Endings.{EndsAs, EndsProgram, FailsOn, IsJoinedVerdict};
+ghost use Rattle.twp_cmd.specs.Endings.{IsProgramStatus, IsRunFailure, IsVerdictOf};
 ghost use Rattle.twp_cmd.specs.Statuses.{status_of};
 
 use crate::ending::{Ending, Failure};
@@ -16,18 +17,28 @@ use twp_acres::{RunFault, Verdict, run_acres, run_normal, run_plat, run_report};
 use twp_grid::Device;
 
 /// Runs the program, tells on standard error why there is no answer, and gives the status.
-pub fn run<R: Env + Files + Input + Print + Eprint + AllocGlobal>(rt: &R) -> u8 {
-    let ending = match words_of(rt) {
+pub fn run<R: Env + Files + Input + Print + Eprint + AllocGlobal>(rt: &R) -> u8
+    ensures { IsProgramStatus result }
+{
+    conclude(rt, &carry_out(rt))
+}
+
+/// Does what the words of the command line ask for, or answers standard input where there are none.
+fn carry_out<R: Env + Files + Input + Print + AllocGlobal>(rt: &R) -> Ending
+    ensures { EndsProgram result }
+{
+    match words_of(rt) {
         Ok(words) if words.len() > 1 => run_words(rt, words),
         Ok(_) => Ending::after(run_standard_input(rt)),
         Err(fault) => Ending::Failed(Failure::Run(fault)),
-    };
-    conclude(rt, &ending)
+    }
 }
 
-/// The words of the command line, the first of which is the program's name. What isn't text can't
-/// be read.
-fn words_of<R: Env + AllocGlobal>(rt: &R) -> Result<Vec<String>, RunFault> {
+/// The words of the command line, the first of which is the program's name. What isn't text can't be
+/// read.
+fn words_of<R: Env + AllocGlobal>(rt: &R) -> Result<Vec<String>, RunFault>
+    ensures { IfErr result (λ fault. fault ≢ RunFault.Write) }
+{
     match env::args(rt) {
         Ok(words) => Ok(words.collect(rt.alloc())?),
         Err(error) if error.kind() == ErrorKind::OutOfMemory => Err(RunFault::Memory),
@@ -36,7 +47,10 @@ fn words_of<R: Env + AllocGlobal>(rt: &R) -> Result<Vec<String>, RunFault> {
 }
 
 /// Answers the joined input on standard input.
-fn run_standard_input<R: Input + Print + AllocGlobal>(rt: &R) -> Result<Verdict, Failure> {
+fn run_standard_input<R: Input + Print + AllocGlobal>(rt: &R) -> Result<Verdict, Failure>
+    ensures answers { IfOk result IsJoinedVerdict }
+    ensures fails { IfErr result IsRunFailure }
+{
     let mut input = Device::new(rt.reader());
     let mut out = Device::new(io::writer(rt));
     Ok(run_joined(rt.alloc(), &mut input, &mut out)?)

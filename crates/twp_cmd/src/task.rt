@@ -1,7 +1,7 @@
 ghost use Rattle.std.specs.Prelude.{◌≡◌, IfErr, IfOk, Some, map, option_map, string_bytes};
 ghost use Rattle.clap.specs.Words.{first_of, found_of, kind_of, rows_of, subcommand_rows_of};
-ghost use Rattle.twp_cmd.specs.Parses.{HasValue, IsTaskIn, IsWhole, ShowsAs};
-ghost use Rattle.twp_cmd.specs.Tasks.{IsFaultOf, IsTaskOf};
+ghost use Rattle.twp_cmd.specs.Parses.{HasValue, IsWhole, ShowsAs};
+ghost use Rattle.twp_cmd.specs.Tasks.{IsFaultOf, IsTaskIn, IsTaskOf};
 
 use crate::command::township;
 use crate::name::Name;

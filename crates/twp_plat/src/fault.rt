@@ -28,10 +28,12 @@ pub enum PlatFault {
     #[error("the {half} half mile of the line of index {line} isn't from 39.750 to 40.250 chains")]
     Irregular { line: u8, half: HalfMile },
     /// 22, at the line: the last quarter mile of a closing line is too short.
-    #[error("the second half mile of the closing line of index {0} leaves less than 5.000 chains to its last quarter mile, which is from 5.000 to 25.000")]
+    #[error("the second half mile of the closing line of index {0} leaves less than \
+        5.000 chains to its last quarter mile, which is from 5.000 to 25.000")]
     ClosingShort(u8),
     /// 23, at the line: the last quarter mile of a closing line is too long.
-    #[error("the second half mile of the closing line of index {0} leaves more than 25.000 chains to its last quarter mile, which is from 5.000 to 25.000")]
+    #[error("the second half mile of the closing line of index {0} leaves more than \
+        25.000 chains to its last quarter mile, which is from 5.000 to 25.000")]
     ClosingLong(u8),
 }
 

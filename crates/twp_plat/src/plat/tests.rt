@@ -95,12 +95,14 @@ fn numbers_and_tells_faults(rt: HostRuntime) -> Result<(), Fail> {
         (
             PlatFault::ClosingShort(58),
             22,
-            "the second half mile of the closing line of index 58 leaves less than 5.000 chains to its last quarter mile, which is from 5.000 to 25.000",
+            "the second half mile of the closing line of index 58 leaves less than 5.000 chains to \
+             its last quarter mile, which is from 5.000 to 25.000",
         ),
         (
             PlatFault::ClosingLong(58),
             23,
-            "the second half mile of the closing line of index 58 leaves more than 25.000 chains to its last quarter mile, which is from 5.000 to 25.000",
+            "the second half mile of the closing line of index 58 leaves more than 25.000 chains to \
+             its last quarter mile, which is from 5.000 to 25.000",
         ),
     ] {
         assert_eq!(rt; fault.refusal(), Some(Refusal { number, at: 58 }));

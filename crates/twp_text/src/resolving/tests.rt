@@ -3,17 +3,17 @@ use std::alloc::Global;
 use std::process::Abort;
 use std::test::Fail;
 use twp_grid::{EastWest, NorthSouth};
-use twp_land::Grid;
+use twp_land::{Grid, Lanes};
 
-/// What a text names in township 2 north, range 3 west.
-fn answer(alloc: Global, text: &[u8]) -> Result<Result<Grid, PlaceFault>, Fail> {
+/// What a text names in township 2 north, range 3 west, as a land of one kind.
+fn answer<L: Land>(alloc: Global, text: &[u8]) -> Result<Result<L, PlaceFault>, Fail> {
     let township = Township::new(2, NorthSouth::N, 3, EastWest::W).ok_or("a township")?;
     let description = Description::read(alloc, text)?;
     Ok(resolve(&description, township))
 }
 
 /// How many places a land has.
-fn count(land: &Grid) -> u32 {
+fn count<L: Land>(land: &L) -> u32 {
     let mut count = 0u32;
     for number in 1..37u8 {
         if let Some(section) = Section::new(number) {
@@ -23,14 +23,28 @@ fn count(land: &Grid) -> u32 {
     count
 }
 
-/// Texts with the number of their refusal and its place.
+/// The number of a text's refusal, and its place.
+fn refusal_of<L: Land>(alloc: Global, text: &[u8]) -> Result<(u8, u32), Fail> {
+    let Err(fault) = answer::<L>(alloc, text)? else {
+        return Err(Fail::from("a land, where there is none"));
+    };
+    let refusal = fault.refusal().ok_or("a refusal")?;
+    Ok((refusal.number, refusal.at))
+}
+
+/// Texts with the number of their refusal and its place, for both kinds of land.
 fn check_refused(alloc: Global, rt: &impl Abort, rows: &[(&[u8], u8, u32)]) -> Result<(), Fail> {
     for (text, number, at) in rows {
-        let Err(fault) = answer(alloc, text)? else {
-            return Err(Fail::from("a land, where there is none"));
-        };
-        let refusal = fault.refusal().ok_or("a refusal")?;
-        assert_eq!(rt; (refusal.number, refusal.at), (*number, *at), "at {text:?}");
+        assert_eq!(rt;
+            refusal_of::<Grid>(alloc, text)?,
+            (*number, *at),
+            "at {text:?}"
+        );
+        assert_eq!(rt;
+            refusal_of::<Lanes>(alloc, text)?,
+            (*number, *at),
+            "at {text:?}"
+        );
     }
     Ok(())
 }
@@ -195,7 +209,9 @@ fn names_land(rt: HostRuntime) -> Result<(), Fail> {
         (b"sec. 5, SW1/4NE1/4; sec. 7, SE1/4NW1/4.", 32),
     ];
     for (text, places) in rows {
-        let land = answer(rt.alloc(), text)??;
+        let land: Grid = answer(rt.alloc(), text)??;
+        assert_eq!(rt; count(&land), places, "of {text:?}");
+        let land: Lanes = answer(rt.alloc(), text)??;
         assert_eq!(rt; count(&land), places, "of {text:?}");
     }
     Ok(())
@@ -203,10 +219,9 @@ fn names_land(rt: HostRuntime) -> Result<(), Fail> {
 
 /// The south half of the north-east quarter: columns 0 to 7 from the east, rows 8 to 11 from the south.
 /// The west half of the south-east quarter: columns 4 to 7, rows 0 to 7.
-#[test]
-fn takes_the_last_step_first(rt: HostRuntime) -> Result<(), Fail> {
+fn check_the_last_step_first<L: Land>(alloc: Global, rt: &impl Abort) -> Result<(), Fail> {
     let section = Section::new(14).ok_or("a section")?;
-    let land = answer(rt.alloc(), b"sec. 14, S1/2NE1/4, W1/2SE1/4.")??;
+    let land: L = answer(alloc, b"sec. 14, S1/2NE1/4, W1/2SE1/4.")??;
     assert_eq!(rt; count(&land), 64);
     for (column, row, held) in [
         (0, 8, true),
@@ -225,4 +240,10 @@ fn takes_the_last_step_first(rt: HostRuntime) -> Result<(), Fail> {
         );
     }
     Ok(())
+}
+
+#[test]
+fn takes_the_last_step_first(rt: HostRuntime) -> Result<(), Fail> {
+    check_the_last_step_first::<Grid>(rt.alloc(), &rt)?;
+    check_the_last_step_first::<Lanes>(rt.alloc(), &rt)
 }

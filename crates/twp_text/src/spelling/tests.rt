@@ -4,7 +4,7 @@ use crate::resolving::resolve;
 use std::process::Abort;
 use std::test::Fail;
 use twp_grid::{Corner, Side};
-use twp_land::Grid;
+use twp_land::{Grid, Lanes};
 
 /// A township of which texts are written.
 fn township() -> Result<Township, Fail> {
@@ -12,43 +12,52 @@ fn township() -> Result<Township, Fail> {
 }
 
 /// Adds a lot of a section.
-fn add_lot(land: &mut Grid, number: u8, lot: u8) -> Result<(), Fail> {
+fn add_lot<L: Land>(land: &mut L, number: u8, lot: u8) -> Result<(), Fail> {
     let section = Section::new(number).ok_or("a section")?;
     land.add(section, Block::of_lot(section, lot).ok_or("a lot")?);
     Ok(())
 }
 
 /// Three quarters of a section.
-#[test]
-fn spells_three_quarters(rt: HostRuntime) -> Result<(), Fail> {
+fn check_three_quarters<L: Land>(alloc: Global, rt: &impl Abort) -> Result<(), Fail> {
     let section = Section::new(14).ok_or("a section")?;
     let whole = Block::whole();
-    let mut land = Grid::empty();
+    let mut land = L::empty();
     land.add(section, whole.quarter(Corner::SE).ok_or("a quarter")?);
     land.add(section, whole.half(Side::N).ok_or("a half")?);
-    let text = spell(rt.alloc(), &land, township()?)?;
+    let text = spell(alloc, &land, township()?)?;
     assert_eq!(rt; text[..], b"T. 2 N., R. 3 W.,\nsec. 14, N1/2, SE1/4.\n"[..]);
     Ok(())
 }
 
-/// The empty land has no heading.
 #[test]
-fn spells_the_empty_land(rt: HostRuntime) -> Result<(), Fail> {
-    let text = spell(rt.alloc(), &Grid::empty(), township()?)?;
+fn spells_three_quarters(rt: HostRuntime) -> Result<(), Fail> {
+    check_three_quarters::<Grid>(rt.alloc(), &rt)?;
+    check_three_quarters::<Lanes>(rt.alloc(), &rt)
+}
+
+/// The empty land has no heading.
+fn check_the_empty_land<L: Land>(alloc: Global, rt: &impl Abort) -> Result<(), Fail> {
+    let text = spell(alloc, &L::empty(), township()?)?;
     assert_eq!(rt; text[..], b""[..]);
     Ok(())
 }
 
-/// Lots stand ahead of parts, whatever they were added as.
 #[test]
-fn spells_lots_and_parts(rt: HostRuntime) -> Result<(), Fail> {
+fn spells_the_empty_land(rt: HostRuntime) -> Result<(), Fail> {
+    check_the_empty_land::<Grid>(rt.alloc(), &rt)?;
+    check_the_empty_land::<Lanes>(rt.alloc(), &rt)
+}
+
+/// Lots stand ahead of parts, whatever they were added as.
+fn check_lots_and_parts<L: Land>(alloc: Global, rt: &impl Abort) -> Result<(), Fail> {
     let section = Section::new(5).ok_or("a section")?;
-    let mut land = Grid::empty();
+    let mut land = L::empty();
     land.add(section, Block::whole().half(Side::S).ok_or("a half")?);
     add_lot(&mut land, 5, 4)?;
     add_lot(&mut land, 5, 1)?;
     add_lot(&mut land, 5, 2)?;
-    let text = spell(rt.alloc(), &land, township()?)?;
+    let text = spell(alloc, &land, township()?)?;
     assert_eq!(rt;
         text[..],
         b"T. 2 N., R. 3 W.,\nsec. 5, lots 1, 2, 4, S1/2.\n"[..]
@@ -56,22 +65,33 @@ fn spells_lots_and_parts(rt: HostRuntime) -> Result<(), Fail> {
     Ok(())
 }
 
-/// A lot alone, a whole section of lots, and the last section.
 #[test]
-fn spells_several_sections(rt: HostRuntime) -> Result<(), Fail> {
-    let mut land = Grid::empty();
+fn spells_lots_and_parts(rt: HostRuntime) -> Result<(), Fail> {
+    check_lots_and_parts::<Grid>(rt.alloc(), &rt)?;
+    check_lots_and_parts::<Lanes>(rt.alloc(), &rt)
+}
+
+/// A lot alone, a whole section of lots, and the last section.
+fn check_several_sections<L: Land>(alloc: Global, rt: &impl Abort) -> Result<(), Fail> {
+    let mut land = L::empty();
     land.add(Section::new(36).ok_or("a section")?, Block::whole());
     land.add(Section::new(6).ok_or("a section")?, Block::whole());
     add_lot(&mut land, 1, 3)?;
-    let text = spell(rt.alloc(), &land, township()?)?;
+    let text = spell(alloc, &land, township()?)?;
     let lines = b"T. 2 N., R. 3 W.,\nsec. 1, lot 3;\nsec. 6, all;\nsec. 36, all.\n";
     assert_eq!(rt; text[..], lines[..]);
     Ok(())
 }
 
+#[test]
+fn spells_several_sections(rt: HostRuntime) -> Result<(), Fail> {
+    check_several_sections::<Grid>(rt.alloc(), &rt)?;
+    check_several_sections::<Lanes>(rt.alloc(), &rt)
+}
+
 /// Whether a land holds each of 16 positions of a section, from the south-east one on, as the bits
 /// of a number say, and nothing else of it.
-fn holds_positions(land: &Grid, section: Section, bits: u32) -> Result<bool, Fail> {
+fn holds_positions<L: Land>(land: &L, section: Section, bits: u32) -> Result<bool, Fail> {
     for index in 0..16u8 {
         let block = Block::position(index % 4, index / 4).ok_or("a position")?;
         let held = bits >> index & 1 == 1;
@@ -85,13 +105,11 @@ fn holds_positions(land: &Grid, section: Section, bits: u32) -> Result<bool, Fai
 /// Every 97th of the 65,535 lands of a section that are made of whole positions and aren't empty, in
 /// a section without lots and in one whose northern and western positions are lots: what is
 /// spelled names that land.
-#[test]
-fn spells_what_names_the_land(rt: HostRuntime) -> Result<(), Fail> {
-    let alloc = rt.alloc();
+fn check_what_names_the_land<L: Land>(alloc: Global, rt: &impl Abort) -> Result<(), Fail> {
     for number in [14, 6] {
         let section = Section::new(number).ok_or("a section")?;
         for bits in (1..65_536u32).step_by(97) {
-            let mut land = Grid::empty();
+            let mut land = L::empty();
             for index in 0..16u8 {
                 if bits >> index & 1 == 1 {
                     land.add(
@@ -102,12 +120,18 @@ fn spells_what_names_the_land(rt: HostRuntime) -> Result<(), Fail> {
             }
             let text = spell(alloc, &land, township()?)?;
             let description = Description::read(alloc, text.as_slice())?;
-            let named: Grid = resolve(&description, township()?)?;
-            assert!(&rt;
+            let named: L = resolve(&description, township()?)?;
+            assert!(rt;
                 holds_positions(&named, section, bits)?,
                 "{bits} of {number}"
             );
         }
     }
     Ok(())
+}
+
+#[test]
+fn spells_what_names_the_land(rt: HostRuntime) -> Result<(), Fail> {
+    check_what_names_the_land::<Grid>(rt.alloc(), &rt)?;
+    check_what_names_the_land::<Lanes>(rt.alloc(), &rt)
 }
