@@ -14,13 +14,31 @@ use thiserror::Error;
 #[derive(Debug, Drop)]
 pub enum Task {
     /// Write the plat of field notes.
-    Plat { notes: Name },
+    Plat {
+        /// The file of the notes.
+        notes: Name,
+    },
     /// Write the acres of a description of land on the plat of field notes.
-    Acres { notes: Name, description: Name },
+    Acres {
+        /// The file of the notes.
+        notes: Name,
+        /// The file of the description.
+        description: Name,
+    },
     /// Write the canonical spelling of a description of land on the plat of field notes.
-    Normal { notes: Name, description: Name },
+    Normal {
+        /// The file of the notes.
+        notes: Name,
+        /// The file of the description.
+        description: Name,
+    },
     /// Write the account of a list of tracts on the plat of field notes.
-    Report { notes: Name, tracts: Name },
+    Report {
+        /// The file of the notes.
+        notes: Name,
+        /// The file of the list.
+        tracts: Name,
+    },
 }
 
 /// Why the words of a command line give no task.

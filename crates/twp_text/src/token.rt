@@ -15,6 +15,7 @@ const EIGHT_SPACES: &[u8] = b"        ";
 /// A piece of a description: a word, a number, a half or a quarter, a mark, or what is none of these.
 #[derive(Clone, Copy, Debug, PartialEq, Eq)]
 pub struct Token<'a> {
+    /// What the bytes are.
     pub kind: Kind,
     /// The bytes of the token, a slice of the text that stands at `at`.
     pub text: &'a [u8],

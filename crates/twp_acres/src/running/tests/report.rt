@@ -38,7 +38,7 @@ fn adds_tracts_up(rt: HostRuntime) -> Result<(), Fail> {
     );
     assert_eq!(&rt; verdict, Verdict::Accepted);
 
-    // Lot 5 of section 6 has 38.70 acres: 23,037.56775.. less 38.70404.. are 22,998.86 and not
+    // Lot 5 of section 6 has 38.70 acres: 23,037.56775.. less 38.70495.. are 22,998.86 and not
     // 22,998.87.
     let one = "name,description\nA,\"sec. 6, lot 5.\"\n";
     let (text, _) = report_of(rt.alloc(), &notes, one.as_bytes())?;
