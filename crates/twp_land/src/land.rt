@@ -4,7 +4,7 @@ ghost use Rattle.twp_grid.specs.Places.{PLACE_DIGITS, places_across, IsPlace};
 ghost use Rattle.twp_land.specs.Lands.{no_places, union, difference, block_places, count_held};
 ghost use Rattle.twp_land.specs.Lands.{Meets, HoldsAll, SharePlace, SamePlaces, LieWithin};
 
-use twp_grid::{Block, Section};
+use twp_grid::{Block, SECTIONS, Section};
 
 /// A set of places of a township. A place's column is counted from the east and its row from the south of
 /// its section, 0 to 15 (this project's limit).
@@ -44,13 +44,21 @@ pub trait Land: Drop {
 
     /// Takes away all places.
     fn clear(&mut self)
-        ensures { places self.new ≡ no_places };
+        ensures { places self.new ≡ no_places }
+    {
+        *self = Self::empty();
+    }
 
     /// A first and a last section, outside of which no place is held. None only where none is held
     /// at all.
     fn sections(&self) -> Option<(Section, Section)>
         ensures { MatchOption result (places self.now ≡ no_places) (λ (first, last).
-            (first ≤ last) × LieWithin (places self.now) first last) };
+            (first ≤ last) × LieWithin (places self.now) first last) }
+    {
+        let first = Section::new(1).unwrap();
+        let last = Section::new(SECTIONS).unwrap();
+        Some((first, last))
+    }
 
     /// Whether both hold the same places.
     fn same(&self, other: &Self) -> bool
