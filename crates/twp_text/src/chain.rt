@@ -84,7 +84,7 @@ fn place_of(steps: &Steps) -> Option<Block>
     ensures { IfSome result (IsCutTo PLACE_DIGITS steps.now 0) }
 {
     let first = steps.first();
-    if steps.len() != 4 || first.len() != 4 {
+    if first.len() != 4 || steps.len() != first.len() {
         return None;
     }
     let half_mile = quarter_of(Block::whole(), first[3])?;
