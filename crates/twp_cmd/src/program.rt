@@ -34,8 +34,8 @@ fn carry_out<R: Env + Files + Input + Print + AllocGlobal>(rt: &R) -> Ending
     }
 }
 
-/// The words of the command line, the first of which is the program's name. What isn't text can't be
-/// read.
+/// The words of the command line, the first of which is the program's name. What isn't text can't
+/// be read.
 fn words_of<R: Env + AllocGlobal>(rt: &R) -> Result<Vec<String>, RunFault>
     ensures { IfErr result (λ fault. fault ≢ RunFault.Write) }
 {

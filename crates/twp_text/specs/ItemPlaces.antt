@@ -1,6 +1,7 @@
--- The places that the items of a description name. A place is one of its section's, by column from the
--- east and row from the south; g is how many binary digits each of both has.
-use Rattle.std.specs.Prelude.{ℕ, ◌==◌, ◌&&◌, nat_le, Bool, true, false, List, [], ◌∷◌, Option, Some, None, map}
+-- The places that the items of a description name. A place is one of its section's, by column from
+-- the east and row from the south; g is how many binary digits each of both has.
+use Rattle.std.specs.Prelude.{ℕ, ◌==◌, ◌&&◌, nat_le, Bool, true, false, List, [], ◌∷◌, Option, Some}
+use Rattle.std.specs.Prelude.{None, map}
 use Rattle.std.specs.List.{list_any}
 use Rattle.twp_grid.specs.Places.{is_place, binary, begins}
 use Rattle.twp_grid.specs.Cuts.{Cut, rows_asked, columns_asked}
@@ -39,7 +40,8 @@ in_item g section (Sections first last true) other column row =
 in_item g section (Sections first last false) other column row = false
 in_item g section (Lots first last) other column row =
     (section == other) && is_lot_from first.value last.value (lot_of_place g section column row)
-in_item g section (Chain steps at) other column row = (section == other) && in_chain g steps column row
+in_item g section (Chain steps at) other column row =
+    (section == other) && in_chain g steps column row
 in_item g section (All at) other column row = section == other
 
 -- an item, and the number of the section that it is of

@@ -14,7 +14,9 @@ use Rattle.twp_text.specs.declared.item.Numeral.{Numeral}
 use Rattle.twp_text.specs.declared.item.Step.{Step}
 use Rattle.twp_text.specs.declared.item.Step.TheVariants.{Half, Quarter}
 use Rattle.twp_text.specs.Tokens.{Token}
-use Rattle.twp_text.specs.Grammar.{Class, Value, kind_of, Ebnf, never, nothing, one, ◌⨾◌, ◌∣◌, many, number, step, chain, through, entry, entries, several, part, parts, group, heading, description}
+use Rattle.twp_text.specs.Grammar.{Class, Value, kind_of, Ebnf, never, nothing, one, ◌⨾◌, ◌∣◌, many}
+use Rattle.twp_text.specs.Grammar.{number, step, chain, through, entry, entries, several, part}
+use Rattle.twp_text.specs.Grammar.{parts, group, heading, description}
 
 -- a token of a class
 pub record Leaf (class : Class) : Type 0 where

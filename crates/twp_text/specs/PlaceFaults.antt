@@ -1,5 +1,6 @@
 -- Which descriptions lie on the plat without overlap, and the first fault of all others.
-use Rattle.std.specs.Prelude.{◌≡◌, ◌≢◌, ◌⊎◌, ℕ, ◌≤◌, ◌<◌, Bool, true, List, Option, Some, IsSome, Result, Ok, Err, slice_get, take}
+use Rattle.std.specs.Prelude.{◌≡◌, ◌≢◌, ◌⊎◌, ℕ, ◌≤◌, ◌<◌, Bool, true, List, Option, Some, IsSome}
+use Rattle.std.specs.Prelude.{Result, Ok, Err, slice_get, take}
 use Rattle.std.specs.List.{All, AllPairs}
 use Rattle.twp_grid.specs.Winding.{IsSection}
 use Rattle.twp_grid.specs.Lots.{position_of_lot}
@@ -26,8 +27,9 @@ pub record HoldsOfLot (g : ℕ) (part : ItemOfSection) : Type 0 where
   pub named : item_places g part part.section column row ≡ true
   pub of_lot : IsSome (lot_of_place g part.section column row)
 
--- The item lies on the plat: a heading is of the plat's township, sections are the township's and lots
--- their section's, no range runs backward, and no aliquot part is too fine or holds a place of a lot.
+-- The item lies on the plat: a heading is of the plat's township, sections are the township's and
+-- lots their section's, no range runs backward, and no aliquot part is too fine or holds a place of
+-- a lot.
 abbrev pub LiesOnPlat : ℕ → Designation → ℕ → Item → Type 0
 LiesOnPlat g township section (item.Heading number north_south range east_west at) =
     designation number north_south range east_west ≡ township
@@ -76,7 +78,8 @@ HasFlaw g township earlier section (item.Sections first last whole) no_last_sect
 HasFlaw g township earlier section (item.Sections first last whole) backward =
     last.value < first.value
 HasFlaw g township earlier section (item.Lots first last) backward = last.value < first.value
-HasFlaw g township earlier section (item.Lots first last) no_first_lot = ¬ HasLot section first.value
+HasFlaw g township earlier section (item.Lots first last) no_first_lot =
+    ¬ HasLot section first.value
 HasFlaw g township earlier section (item.Lots first last) no_last_lot = ¬ HasLot section last.value
 HasFlaw g township earlier section (item.Chain steps at) too_fine = ¬ AreWithin g (cuts_of steps)
 HasFlaw g township earlier section (item.Chain steps at) on_lot =
@@ -85,8 +88,8 @@ HasFlaw g township earlier section some overlap =
     SharePlace earlier (item_places g (record { section = section; item = some }))
 HasFlaw g township earlier section some other = ⊥
 
--- An item's flaws are looked for in this order: by number, and of the two numbers of a range, the first
--- before the second.
+-- An item's flaws are looked for in this order: by number, and of the two numbers of a range, the
+-- first before the second.
 abbrev pub turn_of : Flaw → ℕ
 turn_of other_township = 0
 turn_of no_first_section = 1
@@ -133,8 +136,8 @@ pub record HasFlawAt (g : ℕ) (township : Designation) (items : List Item) (ind
   pub has : HasFlaw g township (land_of g (take index (parts_of items))) part.section part.item flaw
 
 -- some item has a flaw, and this is its fault
-pub record HasPlaceFault (g : ℕ) (township : Designation) (items : List Item) (index : ℕ) (flaw : Flaw)
-    (place_fault : PlaceFault) : Type 0 where
+pub record HasPlaceFault (g : ℕ) (township : Designation) (items : List Item) (index : ℕ)
+    (flaw : Flaw) (place_fault : PlaceFault) : Type 0 where
   pub at_index : HasFlawAt g township items index flaw
   pub fault_is : place_fault ≡ fault_of_flaw flaw (offset_of_flaw at_index.part.item flaw)
 

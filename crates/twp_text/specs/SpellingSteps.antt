@@ -4,7 +4,8 @@ use Rattle.std.specs.Prelude.{◌≡◌, ℕ, ◌<◌, Bool, List, [], ◌∷◌
 use Rattle.std.specs.List.{flat_map, join_by, AllZip}
 use Rattle.twp_grid.specs.Townships.{Designation}
 use Rattle.twp_text.specs.Listing.{AreListed}
-use Rattle.twp_text.specs.CanonicalText.{lots_entry, IsLotHeld, IsSectionText, IsSectionOfLand, heading_line, line_end}
+use Rattle.twp_text.specs.CanonicalText.{lots_entry, IsLotHeld, IsSectionText, IsSectionOfLand}
+use Rattle.twp_text.specs.CanonicalText.{heading_line, line_end}
 
 -- entries as they are written behind a section's number
 abbrev pub entries_text : List (List ℕ) → List ℕ

@@ -1,7 +1,8 @@
--- What each step of resolving does with an item: it is taken into the land of the items before it, or its
--- first flaw is answered. No public promise speaks of it; proofs/ResolvingFacts shows that the steps lead
--- to the land of all items, or to the first fault.
-use Rattle.std.specs.Prelude.{◌≡◌, ◌==◌, ◌&&◌, nat_le, ℕ, ◌+◌, ◌≤◌, ◌<◌, Bool, true, List, drop, Option, IsSome}
+-- What each step of resolving does with an item: it is taken into the land of the items before it,
+-- or its first flaw is answered. No public promise speaks of it; proofs/ResolvingFacts shows that
+-- the steps lead to the land of all items, or to the first fault.
+use Rattle.std.specs.Prelude.{◌≡◌, ◌==◌, ◌&&◌, nat_le, ℕ, ◌+◌, ◌≤◌, ◌<◌, Bool, true, List, drop}
+use Rattle.std.specs.Prelude.{Option, IsSome}
 use Rattle.std.specs.Option.{option_map_or}
 use Rattle.twp_grid.specs.Blocks.{CanHalve, CanQuarter}
 use Rattle.twp_grid.specs.Cuts.{Cut, AreWithin, reached}
@@ -16,7 +17,8 @@ use Rattle.twp_text.specs.declared.item.Item.TheVariants as item
 use Rattle.twp_text.specs.declared.place_fault.PlaceFault.{PlaceFault}
 use Rattle.twp_text.specs.declared.item.Step.{Step}
 use Rattle.twp_text.specs.ItemPlaces.{ItemOfSection, cuts_of, is_lot_from, item_places}
-use Rattle.twp_text.specs.PlaceFaults.{LiesOnPlat, Flaw, HasFlaw, turn_of, fault_of_flaw, offset_of_flaw}
+use Rattle.twp_text.specs.PlaceFaults.{LiesOnPlat, Flaw, HasFlaw, turn_of, fault_of_flaw}
+use Rattle.twp_text.specs.PlaceFaults.{offset_of_flaw}
 
 -- an item of a section
 abbrev pub item_of : ℕ → Item → ItemOfSection

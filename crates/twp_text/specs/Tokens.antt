@@ -1,5 +1,6 @@
 -- What the bytes of a description are cut into: white space, and the texts of tokens.
-use Rattle.std.specs.Prelude.{◌≡◌, ◌==◌, ◌||◌, ◌&&◌, ℕ, ◌+◌, ◌<◌, ◌≤◌, Bool, true, false, List, [], ◌∷◌, ◌++◌, Option, Some, None, length, if◌then◌else◌, codes}
+use Rattle.std.specs.Prelude.{◌≡◌, ◌==◌, ◌||◌, ◌&&◌, ℕ, ◌+◌, ◌<◌, ◌≤◌, Bool, true, false, List, []}
+use Rattle.std.specs.Prelude.{◌∷◌, ◌++◌, Option, Some, None, length, if◌then◌else◌, codes}
 use Rattle.std.specs.Char.{is_ascii_alphabetic, is_ascii_digit}
 use Rattle.std.specs.List.{AllPass}
 use Rattle.std.specs.Str.{str_to_ascii_lowercase}
@@ -9,7 +10,10 @@ use Rattle.twp_grid.specs.declared.township.EastWest.TheVariants as ew
 use Rattle.twp_grid.specs.declared.block.Corner.TheVariants as corner
 use Rattle.twp_text.specs.declared.token.Token.{Token as Piece}
 use Rattle.twp_text.specs.declared.kind.Kind.{Kind}
-use Rattle.twp_text.specs.declared.kind.Kind.TheVariants.{Sec, Lot, All, And, To, Inclusive, Of, The, T, R, NorthSouth, EastWest, Corner, Half, Quarter, Number, Comma, Semicolon, Colon, Stop, Other, BadNumber, BadByte}
+use Rattle.twp_text.specs.declared.kind.Kind.TheVariants.{Sec, Lot, All, And, To, Inclusive, Of}
+use Rattle.twp_text.specs.declared.kind.Kind.TheVariants.{The, T, R, NorthSouth, EastWest, Corner}
+use Rattle.twp_text.specs.declared.kind.Kind.TheVariants.{Half, Quarter, Number, Comma, Semicolon}
+use Rattle.twp_text.specs.declared.kind.Kind.TheVariants.{Colon, Stop, Other, BadNumber, BadByte}
 
 -- a token: what it is, its bytes, and its place in the text
 pub record Token : Type 0 where

@@ -1,6 +1,7 @@
 -- The parts that a section's land is written as: squares, which quarters reach from the section,
 -- and halves of squares. Held is a test of column and row: the places that are to be written.
-use Rattle.std.specs.Prelude.{◌≡◌, ℕ, zero, suc, ◌+◌, ◌*◌, ◌/◌, ◌%◌, ◌<◌, Bool, true, List, [], ◌∷◌, map}
+use Rattle.std.specs.Prelude.{◌≡◌, ℕ, zero, suc, ◌+◌, ◌*◌, ◌/◌, ◌%◌, ◌<◌, Bool, true, List, [], ◌∷◌}
+use Rattle.std.specs.Prelude.{map}
 use Rattle.twp_grid.specs.Places.{IsPlace}
 use Rattle.twp_grid.specs.Cuts.{AreWithin}
 use Rattle.twp_grid.specs.declared.block.Side.{Side}

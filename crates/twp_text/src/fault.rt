@@ -82,7 +82,8 @@ mod tests {
                     at: 8,
                     expected: Expected::PartOrSection,
                 },
-                "the description goes wrong at 8: here could stand a part of the section, or another section's number",
+                "the description goes wrong at 8: here could stand a part of the section, or another \
+                 section's number",
             ),
             (TextFault::Memory, "out of memory"),
         ] {
