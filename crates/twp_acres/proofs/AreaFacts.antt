@@ -1,5 +1,6 @@
 -- The steps of the code that adds areas up.
-use Rattle.std.proofs.Common.{◌≡◌, ℕ, zero, suc, ◌+◌, ◌-◌, ◌*◌, ◌<◌, ◌≤◌, Bool, Option, Some, IfSome, ap, sym, ◌∙◌, arith}
+use Rattle.std.proofs.Common.{◌≡◌, ℕ, zero, suc, ◌+◌, ◌-◌, ◌*◌, ◌<◌, ◌≤◌, Bool, Option, Some}
+use Rattle.std.proofs.Common.{IfSome, ap, sym, ◌∙◌, arith}
 use Rattle.std.specs.Option.{SomeIff}
 use Rattle.std.proofs.lemmas.Nat.{mul-le}
 use Rattle.twp_measure.specs.Areas.{Fraction, IsArea}

@@ -4,7 +4,8 @@ ghost use Rattle.twp_land.specs.WholeLots.{HasWholeLots};
 ghost use Rattle.twp_plat.specs.Pieces.{over_of, OVER_MOST};
 ghost use Rattle.twp_plat.specs.PlatAreas.{ArePieces};
 ghost use Rattle.twp_acres.specs.LandAreas.{places_of_position, section_sum, IsLandArea};
-ghost use Rattle.twp_acres.specs.Bounds.{REGULAR_PLACE_UNITS, SECTION_PLACES_MOST, SECTION_UNITS_MOST};
+ghost use Rattle.twp_acres.specs.Bounds.{REGULAR_PLACE_UNITS, SECTION_PLACES_MOST};
+ghost use Rattle.twp_acres.specs.Bounds.{SECTION_UNITS_MOST};
 
 use twp_grid::{Block, PLACES_ACROSS, Section, lot_count, lot_place};
 use twp_land::Land;

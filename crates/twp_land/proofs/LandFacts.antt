@@ -1,15 +1,20 @@
 -- Sets of places as they are kept by section.
-use Rattle.std.proofs.Common.{get_or, sym, subst, ◌∙◌, if◌then◌else◌, ◌≡◌, ◌≢◌, ◌==◌, ℕ, zero, suc, ◌-◌, ◌<◌, ◌≤◌, ◌+◌, ◌&&◌, ◌||◌, ◌⊎◌, nat_le, Bool, true, false, List, [], ◌∷◌, length, Some, ap, refl, inl, inr, arith, replicate}
+use Rattle.std.proofs.Common.{get_or, sym, subst, ◌∙◌, if◌then◌else◌, ◌≡◌, ◌≢◌, ◌==◌, ℕ, zero, suc}
+use Rattle.std.proofs.Common.{◌-◌, ◌<◌, ◌≤◌, ◌+◌, ◌&&◌, ◌||◌, ◌⊎◌, nat_le, Bool, true, false, List}
+use Rattle.std.proofs.Common.{[], ◌∷◌, length, Some, ap, refl, inl, inr, arith, replicate}
 use Rattle.std.proofs.Math.Path.{fun_ext}
 use Rattle.std.proofs.Math.ListN.{set}
 use Rattle.std.specs.List.{slice_get}
 use Rattle.std.specs.Option.{option_map_or}
-use Rattle.std.proofs.lemmas.Bool.{cases_eq, cases_Bool, ne_eqb, eq-eqb, eqb-true, and_right, and_parts}
+use Rattle.std.proofs.lemmas.Bool.{cases_eq, cases_Bool, ne_eqb, eq-eqb, eqb-true, and_right}
+use Rattle.std.proofs.lemmas.Bool.{and_parts}
 use Rattle.std.proofs.lemmas.Bool.Decides.{nat_tests}
 use Rattle.twp_grid.specs.Winding.{SECTION_COUNT, IsSection}
 use Rattle.twp_grid.specs.Spans.{Rectangle}
-use Rattle.twp_land.specs.Lands.{no_places, union, difference, block_places, SharePlace, SamePlaces, LieWithin}
-use Rattle.twp_land.specs.Storage.{is_section, held_by_section, with_block, without_block, nothing_held, held_by_either, ShareHeld, SameHeld}
+use Rattle.twp_land.specs.Lands.{no_places, union, difference, block_places, SharePlace, SamePlaces}
+use Rattle.twp_land.specs.Lands.{LieWithin}
+use Rattle.twp_land.specs.Storage.{is_section, held_by_section, with_block, without_block}
+use Rattle.twp_land.specs.Storage.{nothing_held, held_by_either, ShareHeld, SameHeld}
 
 -- the set with one section's part exchanged
 abbrev exchanged : (ℕ → ℕ → ℕ → Bool) → ℕ → (ℕ → ℕ → Bool) → ℕ → ℕ → ℕ → Bool

@@ -7,8 +7,8 @@ use twp_grid::{Block, PLACES_ACROSS};
 /// A land that keeps a bit for each place, in lanes.
 pub type Lanes = Sections<LaneRows>;
 
-/// A section's places as lanes of bits: a lane for each row, from the south, and in it a bit for each
-/// column, from the east.
+/// A section's places as lanes of bits: a lane for each row, from the south, and in it a bit for
+/// each column, from the east.
 #[derive(Clone, Copy, Debug)]
 pub struct LaneRows {
     lanes: [u16; PLACES_ACROSS],

@@ -5,8 +5,8 @@ ghost use Rattle.twp_land.specs.WholeLots.{IsWholeOrNot, HasWholeLots};
 use crate::land::Land;
 use twp_grid::{Block, SECTIONS, Section, lot_count};
 
-/// Whether each lot is held whole or not at all (a lot is taken whole: Specifications for Descriptions
-/// of Land).
+/// Whether each lot is held whole or not at all (a lot is taken whole: Specifications for
+/// Descriptions of Land).
 pub fn lots_whole<L: Land>(land: &L) -> bool
     ensures { IsTrue result ↔ HasWholeLots PLACE_DIGITS (L.places land.now) }
 {

@@ -1,7 +1,8 @@
 ghost use Rattle.std.specs.Prelude.{◌≡◌, ◌<◌, ◌↔◌, ℕ, Bool, true, IsTrue};
 ghost use Rattle.twp_grid.specs.Places.{PLACE_DIGITS, places_across, IsPlace};
 ghost use Rattle.twp_land.specs.Lands.{Meets, HoldsAll, count_held};
-ghost use Rattle.twp_land.specs.Storage.{nothing_held, with_block, without_block, held_by_either, ShareHeld, SameHeld};
+ghost use Rattle.twp_land.specs.Storage.{nothing_held, with_block, without_block, held_by_either};
+ghost use Rattle.twp_land.specs.Storage.{ShareHeld, SameHeld};
 
 use twp_grid::Block;
 

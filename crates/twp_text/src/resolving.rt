@@ -1,4 +1,5 @@
-ghost use Rattle.std.specs.Prelude.{◌≡◌, ◌↔◌, ◌⊎◌, IsSome, IfOk, OnOk, IfErr, IsTrue, is_ok, MatchResult};
+ghost use Rattle.std.specs.Prelude.{◌≡◌, ◌↔◌, ◌⊎◌, IsSome, IfOk, OnOk, IfErr, IsTrue, is_ok};
+ghost use Rattle.std.specs.Prelude.{MatchResult};
 ghost use Rattle.twp_grid.specs.Places.{PLACE_DIGITS};
 ghost use Rattle.twp_grid.specs.Townships.{Designation};
 ghost use Rattle.twp_land.specs.WholeLots.{HasWholeLots};
@@ -15,9 +16,10 @@ use crate::taking::{add_block, take_heading};
 use twp_grid::{Block, Section, Township};
 use twp_land::Land;
 
-/// The land that a description names on a township's plat: all places of its items, of which none is
-/// named twice. A lot is taken whole, and an aliquot part that holds land of a lot is not on the plat
-/// (Specifications for Descriptions of Land). The first fault is the first item's that has one.
+/// The land that a description names on a township's plat: all places of its items, of which none
+/// is named twice. A lot is taken whole, and an aliquot part that holds land of a lot is not on the
+/// plat (Specifications for Descriptions of Land). The first fault is the first item's that has
+/// one.
 pub fn resolve<L: Land>(description: &Description, township: Township) -> Result<L, PlaceFault>
     ensures land { IfOk result
         (λ land. IsLandOfItems PLACE_DIGITS township description.now (L.places land)) }
@@ -30,8 +32,8 @@ pub fn resolve<L: Land>(description: &Description, township: Township) -> Result
     Ok(land)
 }
 
-/// Makes a land the one that `resolve` gives. What it held before is gone; after a fault it is of no
-/// use.
+/// Makes a land the one that `resolve` gives. What it held before is gone; after a fault it is of
+/// no use.
 pub fn resolve_into<L: Land>(
     land: &mut L,
     description: &Description,

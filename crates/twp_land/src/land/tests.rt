@@ -6,11 +6,12 @@ use std::process::Abort;
 use std::test::Fail;
 use twp_grid::{Corner, Side};
 
-// The lengths of the sides that halving 16 places gives, and how many such sides there are: 31 in all, and
-// 31 times 31 blocks.
+// The lengths of the sides that halving 16 places gives, and how many such sides there are: 31 in
+// all, and 31 times 31 blocks.
 const SIDES: [(u8, u8); 5] = [(16, 1), (8, 2), (4, 4), (2, 8), (1, 16)];
 
-// Numbers that look random: each step multiplies by 1,664,525 and adds 1,013,904,223, modulo 2 to the 32nd.
+// Numbers that look random: each step multiplies by 1,664,525 and adds 1,013,904,223, modulo 2 to
+// the 32nd.
 #[derive(Drop)]
 struct Random {
     state: u32,
@@ -166,8 +167,8 @@ fn lanes_share_and_join(rt: HostRuntime) -> Result<(), Fail> {
     check_joined::<Lanes>(&rt)
 }
 
-// The north-east quarter of section 14 and the south-west one have no place in common; each has 8 by 8
-// places.
+// The north-east quarter of section 14 and the south-west one have no place in common; each has 8
+// by 8 places.
 fn check_joined<L: Land>(rt: &impl Abort) -> Result<(), Fail> {
     let section = Section::new(14).ok_or("a section")?;
     let last = Section::new(36).ok_or("a section")?;
@@ -208,8 +209,8 @@ fn lanes_lose_what_is_removed(rt: HostRuntime) -> Result<(), Fail> {
     check_removed::<Lanes>(&rt)
 }
 
-// Of section 14's 256 places the S1/2 has 128, and the SW1/4 lies in it. What is left without the W1/2
-// is the NE1/4.
+// Of section 14's 256 places the S1/2 has 128, and the SW1/4 lies in it. What is left without the
+// W1/2 is the NE1/4.
 fn check_removed<L: Land>(rt: &impl Abort) -> Result<(), Fail> {
     let section = Section::new(14).ok_or("a section")?;
     let last = Section::new(36).ok_or("a section")?;

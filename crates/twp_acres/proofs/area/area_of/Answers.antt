@@ -4,7 +4,8 @@ use Rattle.twp_land.proofs.LotFacts.{section_is}
 use Rattle.twp_plat.specs.Pieces.{over_of}
 use Rattle.twp_acres.specs.Bounds.{SECTION_UNITS_MOST}
 use Rattle.twp_acres.specs.LandAreas.{section_sum}
-use Rattle.twp_acres.proofs.AreaFacts.{IsSumOf, grows, sum-first, sum-next, sum-last, sum-none, area_is, land_area}
+use Rattle.twp_acres.proofs.AreaFacts.{IsSumOf, grows, sum-first, sum-next, sum-last, sum-none}
+use Rattle.twp_acres.proofs.AreaFacts.{area_is, land_area}
 use Rattle.twp_acres.proofs.SectionSums.{none_held}
 use Rattle.twp_acres.proofs.area.area_of.Goals as goal
 

@@ -8,7 +8,8 @@ use Rattle.twp_text.specs.PlaceFaults.{IsLandOfItems}
 use Rattle.twp_text.specs.Taking.{number_of_section}
 use Rattle.twp_text.proofs.LandLots.{land_has_whole_lots}
 use Rattle.twp_text.proofs.PlaceAnswers.{no_fault}
-use Rattle.twp_text.proofs.ResolvingFacts.{taken_none, taken_next, refused_here, taken_all, not_known, may_be_taken, known_next}
+use Rattle.twp_text.proofs.ResolvingFacts.{taken_none, taken_next, refused_here, taken_all}
+use Rattle.twp_text.proofs.ResolvingFacts.{not_known, may_be_taken, known_next}
 use Rattle.twp_text.proofs.resolving.resolve_into.Goals as goal
 
 pub loop-item-init : goal.loop-item-init
