@@ -1,6 +1,7 @@
 -- What may be wrong with a list of tracts, each fault as a statement about the whole list, and
 -- which fault is answered.
-use Rattle.std.specs.Prelude.{◌≡◌, ◌≢◌, ◌⊎◌, ℕ, ◌+◌, ◌≤◌, ◌<◌, List, length, Option, Some, None, option_map}
+use Rattle.std.specs.Prelude.{◌≡◌, ◌≢◌, ◌⊎◌, ℕ, ◌+◌, ◌≤◌, ◌<◌, List, length, Option, Some, None}
+use Rattle.std.specs.Prelude.{option_map}
 use Rattle.twp_grid.specs.Townships.{Designation}
 use Rattle.twp_grid.specs.declared.refusal.Refusal.{Refusal}
 use Rattle.twp_notes.specs.Records.{Fields, record_at, record_numbered, records_of}
@@ -22,7 +23,8 @@ refusal_of (fault.TractsOverlap number_) = Some (record { number = 84; at = numb
 refusal_of fault.TooManyTracts = Some (record { number = 85; at = TRACTS_MOST + 2 })
 refusal_of fault.Memory = None
 
--- the verdict on a list that has the fault: its refusal, with that of a tract's description beside it
+-- the verdict on a list that has the fault: its refusal, with that of a tract's description beside
+-- it
 abbrev pub verdict_of : TractFault → Option Verdict
 verdict_of (fault.TractRefused number inner) = Some (TractRefused number inner)
 verdict_of other = option_map Refused (refusal_of other)

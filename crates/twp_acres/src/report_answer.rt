@@ -69,7 +69,8 @@ fn report_on<T: Source>(alloc: Global, plat: &Plat, tracts: &mut T) -> Result<An
     }
 }
 
-/// The answer of a list that has a fault: its refusal, and on a second line that of a tract's description.
+/// The answer of a list that has a fault: its refusal, and on a second line that of a tract's
+/// description.
 fn refuse_list(alloc: Global, fault: TractFault) -> Result<Answer, RunFault>
     ensures answer { IfOk result (λ answer. (verdict_of fault ≡ Some answer.verdict)
         × (answer.verdict ≢ Verdict.Accepted)

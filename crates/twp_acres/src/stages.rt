@@ -77,8 +77,8 @@ pub struct LandOnPlat<L: Land> {
     pub land: L,
 }
 
-/// The plat of the notes that a source gives, and the land on it of the description that another gives,
-/// which is read only where the notes make a plat.
+/// The plat of the notes that a source gives, and the land on it of the description that another
+/// gives, which is read only where the notes make a plat.
 pub fn read_land_on_plat<N: Source, D: Source, L: Land>(
     alloc: Global,
     notes: &mut N,

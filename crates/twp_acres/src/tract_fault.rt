@@ -61,8 +61,8 @@ impl TractFault {
         Some(Refusal { number, at })
     }
 
-    /// The verdict on a list that has the fault: its refusal, with that of a tract's description beside
-    /// it. None for `Memory`.
+    /// The verdict on a list that has the fault: its refusal, with that of a tract's description
+    /// beside it. None for `Memory`.
     pub fn verdict(&self) -> Option<Verdict>
         ensures { result ≡ verdict_of self.now }
     {
@@ -149,7 +149,10 @@ mod tests {
         let text = "record 5 has a description that is refused: 66 at 8";
         assert_eq!(rt; fault.to_string(rt.alloc())?.as_str(), text);
         assert_eq!(rt; fault.refusal(), Some(Refusal { number: 83, at: 5 }));
-        assert_eq!(rt; fault.verdict(), Some(Verdict::TractRefused { at: 5, inner }));
+        assert_eq!(rt;
+            fault.verdict(),
+            Some(Verdict::TractRefused { at: 5, inner })
+        );
         Ok(())
     }
 

@@ -1,5 +1,5 @@
--- Lands: sets of places of a township. A set is a test of section, column and row; what of it lies in one
--- section is a test of column and row.
+-- Lands: sets of places of a township. A set is a test of section, column and row; what of it lies
+-- in one section is a test of column and row.
 use Rattle.std.specs.Prelude.{◌≡◌, ◌==◌, ℕ, ◌≤◌, ◌&&◌, ◌||◌, not, Bool, true, false}
 use Rattle.twp_grid.specs.Spans.{Rectangle, in_rectangle}
 use Rattle.twp_grid.specs.Totals.{total_over, one_where}

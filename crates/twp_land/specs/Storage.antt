@@ -1,6 +1,7 @@
--- How the sets are kept: a township's as one set for each section, by number; a section's by rows from
--- the south, each by columns from the east, as tests or as the bits of a lane.
-use Rattle.std.specs.Prelude.{◌≡◌, ℕ, ◌+◌, ◌<◌, ◌-◌, ◌^◌, ◌==◌, ◌&&◌, ◌||◌, not, Bool, true, false, List, [], length, nat_le, slice_index_or}
+-- How the sets are kept: a township's as one set for each section, by number; a section's by rows
+-- from the south, each by columns from the east, as tests or as the bits of a lane.
+use Rattle.std.specs.Prelude.{◌≡◌, ℕ, ◌+◌, ◌<◌, ◌-◌, ◌^◌, ◌==◌, ◌&&◌, ◌||◌, not, Bool, true, false}
+use Rattle.std.specs.Prelude.{List, [], length, nat_le, slice_index_or}
 use Rattle.std.specs.List.{slice_get}
 use Rattle.std.specs.Int.{bit_at}
 use Rattle.std.specs.Option.{option_map_or}

@@ -7,7 +7,8 @@ use Rattle.twp_text.specs.declared.item.Item.{Item}
 use Rattle.twp_text.specs.declared.item.Step.{Step}
 use Rattle.twp_text.specs.declared.item.Step.TheVariants as step
 use Rattle.twp_text.specs.declared.kind.Kind.{Kind}
-use Rattle.twp_text.specs.declared.kind.Kind.TheVariants.{NorthSouth, EastWest, Corner, Half, Quarter}
+use Rattle.twp_text.specs.declared.kind.Kind.TheVariants.{NorthSouth, EastWest, Corner, Half}
+use Rattle.twp_text.specs.declared.kind.Kind.TheVariants.{Quarter}
 use Rattle.twp_text.specs.declared.state.State.{State}
 use Rattle.twp_text.specs.Tokens.{Token, StartsWith, HasTokens, kind_among, words}
 use Rattle.twp_text.specs.Cutting.{small_letter}

@@ -1,6 +1,7 @@
--- How the parts of a section are written by descent from it: quarter by quarter. No public promise speaks
--- of it; proofs/DescentLists shows that they are the section's written parts.
-use Rattle.std.specs.Prelude.{◌≡◌, ◌⊎◌, ◌↔◌, ◌&&◌, if◌then◌else◌, ℕ, Bool, IsTrue, List, [], ◌∷◌, ◌++◌, Option, Some, None, map, codes}
+-- How the parts of a section are written by descent from it: quarter by quarter. No public promise
+-- speaks of it; proofs/DescentLists shows that they are the section's written parts.
+use Rattle.std.specs.Prelude.{◌≡◌, ◌⊎◌, ◌↔◌, ◌&&◌, if◌then◌else◌, ℕ, Bool, IsTrue, List, [], ◌∷◌}
+use Rattle.std.specs.Prelude.{◌++◌, Option, Some, None, map, codes}
 use Rattle.std.specs.List.{flat_map}
 use Rattle.twp_grid.specs.Cuts.{AreWithin, reached}
 use Rattle.twp_grid.specs.Spans.{Rectangle}
@@ -12,7 +13,8 @@ use Rattle.twp_text.specs.declared.item.Step.TheVariants.{Quarter}
 use Rattle.twp_text.specs.declared.full_quarters.FullQuarters.{FullQuarters}
 use Rattle.twp_text.specs.ItemPlaces.{cuts_of}
 use Rattle.twp_text.specs.Listing.{AreListed}
-use Rattle.twp_text.specs.WrittenParts.{Part, steps_of_part, IsFull, IsChosenHalf, IsOnSide, IsWritten, StandsAhead}
+use Rattle.twp_text.specs.WrittenParts.{Part, steps_of_part, IsFull, IsChosenHalf, IsOnSide}
+use Rattle.twp_text.specs.WrittenParts.{IsWritten, StandsAhead}
 use Rattle.twp_text.specs.WrittenParts.Part.{square, half_of_square}
 use Rattle.twp_text.specs.CanonicalText.{step_text, part_text}
 
@@ -33,8 +35,8 @@ quarter_on S = SW
 quarter_on E = NE
 quarter_on W = NW
 
--- A part of a square begins in a quarter: it lies in the quarter, or is the half whose first quarter
--- this is.
+-- A part of a square begins in a quarter: it lies in the quarter, or is the half whose first
+-- quarter this is.
 abbrev pub BeginsIn : List Corner → Corner → Part → Type 0
 BeginsIn parent corner part = IsUnder (corner ∷ parent) (square_quarters part)
     ⊎ ((side : Side) × (part ≡ half_of_square side parent) × (quarter_on side ≡ corner))
@@ -94,7 +96,8 @@ IsOffChosen g held quarters corner =
 abbrev pub PATH_MOST : ℕ
 PATH_MOST = 16
 
--- the bytes that are kept of a part: a quarter behind a comma, the quarter that it is of, and a path
+-- the bytes that are kept of a part: a quarter behind a comma, the quarter that it is of, and a
+-- path
 abbrev pub PART_MOST : ℕ
 PART_MOST = 28
 

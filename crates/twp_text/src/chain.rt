@@ -1,4 +1,5 @@
-ghost use Rattle.std.specs.Prelude.{◌≡◌, ◌+◌, ◌≤◌, ◌↔◌, List, length, IfSome, IfOk, IfErr, IsTrue, MatchOption};
+ghost use Rattle.std.specs.Prelude.{◌≡◌, ◌+◌, ◌≤◌, ◌↔◌, List, length, IfSome, IfOk, IfErr, IsTrue};
+ghost use Rattle.std.specs.Prelude.{MatchOption};
 ghost use Rattle.std.specs.Option.{SomeIff};
 ghost use Rattle.twp_grid.specs.Places.{PLACE_DIGITS, places_across};
 ghost use Rattle.twp_grid.specs.Cuts.{AreWithin, part_of, reached};
@@ -6,7 +7,8 @@ ghost use Rattle.twp_grid.specs.Spans.{span_from, in_rectangle};
 ghost use Rattle.twp_grid.specs.Townships.{Designation};
 ghost use Rattle.twp_land.specs.Lands.{Meets};
 ghost use Rattle.twp_text.specs.ItemPlaces.{cut_of, cuts_of};
-ghost use Rattle.twp_text.specs.Taking.{CanCut, IsCutTo, IsTaken, IsFirstFlaw, HoldsLotPlace, Cross};
+ghost use Rattle.twp_text.specs.Taking.{CanCut, IsCutTo, IsTaken, IsFirstFlaw, HoldsLotPlace};
+ghost use Rattle.twp_text.specs.Taking.{Cross};
 ghost use Rattle.twp_text.specs.declared.item.Item.TheVariants.{Chain};
 ghost use Rattle.twp_text.specs.declared.item.Step.{Step as TakenStep};
 
@@ -63,8 +65,8 @@ fn take_block<L: Land>(
     add_block(land, section, block, at)
 }
 
-/// The block that an aliquot part's steps leave of a section, from the last step to the first. None where
-/// one of them would halve a side of one place.
+/// The block that an aliquot part's steps leave of a section, from the last step to the first. None
+/// where one of them would halve a side of one place.
 fn block_of(steps: &Steps) -> Option<Block>
     ensures { SomeIff result (AreWithin PLACE_DIGITS (cuts_of steps.now))
         (reached PLACE_DIGITS (cuts_of steps.now)) }
@@ -77,8 +79,8 @@ fn block_of(steps: &Steps) -> Option<Block>
     Some(block)
 }
 
-/// The place that four quarters leave of a section. None of other steps. Each quarter's size is known
-/// here, so that none is tested for being too fine.
+/// The place that four quarters leave of a section. None of other steps. Each quarter's size is
+/// known here, so that none is tested for being too fine.
 #[inline(always)]
 fn place_of(steps: &Steps) -> Option<Block>
     ensures { IfSome result (IsCutTo PLACE_DIGITS steps.now 0) }
@@ -127,8 +129,8 @@ fn cut(block: Block, step: Step) -> Option<Block>
     }
 }
 
-/// Whether a block of a section holds a place of a lot. Most sections have none, and a block no larger
-/// than a position lies in one, of which one look tells.
+/// Whether a block of a section holds a place of a lot. Most sections have none, and a block no
+/// larger than a position lies in one, of which one look tells.
 #[inline(always)]
 pub(crate) fn holds_of_lot(section: Section, block: Block) -> bool
     ensures { IsTrue result ↔ HoldsLotPlace PLACE_DIGITS section block }

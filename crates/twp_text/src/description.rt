@@ -1,5 +1,7 @@
-ghost use Rattle.std.specs.Prelude.{◌≡◌, ◌≤◌, List, length, IfOk, IfErr, IfSome, IsSomeAnd, MatchOption, MatchResult};
-ghost use Rattle.twp_text.specs.TextFaults.{refusal_of, fault_of_bad, HasNoneBad, GoesWrong, Helps, IsBadToken, IsFirstTextFault};
+ghost use Rattle.std.specs.Prelude.{◌≡◌, ◌≤◌, List, length, IfOk, IfErr, IfSome, IsSomeAnd};
+ghost use Rattle.std.specs.Prelude.{MatchOption, MatchResult};
+ghost use Rattle.twp_text.specs.TextFaults.{refusal_of, fault_of_bad, HasNoneBad, GoesWrong, Helps};
+ghost use Rattle.twp_text.specs.TextFaults.{IsBadToken, IsFirstTextFault};
 
 use crate::expected::Expected;
 use crate::fault::{TEXT_LIMIT, TextFault};
@@ -12,7 +14,8 @@ use crate::token::{Token, Tokens};
 use std::alloc::Global;
 use std::marker::Model;
 
-/// There is room from the start for an item for each so many bytes: fine aliquot parts take some twenty.
+/// There is room from the start for an item for each so many bytes: fine aliquot parts take some
+/// twenty.
 const BYTES_TO_ITEM: usize = 16;
 
 /// A description of land, as the items that it names, from left to right.
@@ -37,8 +40,8 @@ impl Description {
     ghost use Rattle.twp_text.specs.Items.{BeginWithSections};
     ghost use Rattle.twp_text.specs.TextFaults.{IsReadAs};
 
-    /// Reads a description by the grammar (the form of the Specifications for Descriptions of Land; the
-    /// grammar is this project's). Nothing is judged of a plat.
+    /// Reads a description by the grammar (the form of the Specifications for Descriptions of Land;
+    /// the grammar is this project's). Nothing is judged of a plat.
     pub fn read(alloc: Global, text: &[u8]) -> Result<Description, TextFault>
         ensures read { IfOk result (IsReadAs text.now) }
         ensures taken { (items : List Item) → IsReadAs text.now items
@@ -92,8 +95,8 @@ impl Description {
     }
 }
 
-/// The fault of a text that goes wrong at a place, where something else could stand: its leftmost bad
-/// token, if it has one.
+/// The fault of a text that goes wrong at a place, where something else could stand: its leftmost
+/// bad token, if it has one.
 #[cold]
 #[inline(never)]
 fn fault_of(text: &[u8], at: usize, expected: Expected) -> TextFault

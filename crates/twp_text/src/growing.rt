@@ -28,8 +28,8 @@ impl Item {
     }
 }
 
-/// Takes the steps by which a chain goes on, as long as each is spelled as is usual: those that stand right
-/// behind each other, and those behind `of the`.
+/// Takes the steps by which a chain goes on, as long as each is spelled as is usual: those that
+/// stand right behind each other, and those behind `of the`.
 #[inline(always)]
 fn take_steps(steps: &mut Steps, text: &[u8], from: Reached) -> Result<Reached, AllocError>
     requires place { from.at ≤ length text.now }

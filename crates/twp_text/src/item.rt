@@ -30,8 +30,8 @@ impl Default for Step {
     }
 }
 
-/// The steps of an aliquot part, the smallest first, as they are written: `S1/2NE1/4` is the south half
-/// of the north-east quarter. Up to eight take no memory of their own.
+/// The steps of an aliquot part, the smallest first, as they are written: `S1/2NE1/4` is the south
+/// half of the north-east quarter. Up to eight take no memory of their own.
 #[derive(Debug, Drop)]
 pub struct Steps {
     first: ArrayVec<Step, 8>,
@@ -134,8 +134,8 @@ pub enum Item {
         /// The place of its `T`.
         at: u32,
     },
-    /// The sections from `first` to `last`: whole, or the one section of which the parts that follow are
-    /// parts.
+    /// The sections from `first` to `last`: whole, or the one section of which the parts that
+    /// follow are parts.
     Sections {
         /// The first section.
         first: Numeral,

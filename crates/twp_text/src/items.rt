@@ -30,7 +30,9 @@ impl Model for Items {
 
 impl Items {
     ghost use Rattle.std.specs.Prelude.{reverse};
-    ghost use Rattle.twp_text.specs.Machine.{with_newest, before_parts, take_step, take_number, take_all, take_township, take_north_south, take_east_west, take_token};
+    ghost use Rattle.twp_text.specs.Machine.{with_newest, before_parts, take_step, take_number};
+    ghost use Rattle.twp_text.specs.Machine.{take_all, take_township, take_north_south};
+    ghost use Rattle.twp_text.specs.Machine.{take_east_west, take_token};
 
     /// No items yet, with room for so many.
     pub fn with_room(alloc: Global, room: usize) -> Result<Items, AllocError>
@@ -166,8 +168,9 @@ impl Items {
         }
     }
 
-    /// Takes what stands next of a chain, and the parts behind it, as long as each step is spelled as is usual:
-    /// as they stand, and not token by token. Gives the place that is reached so, and the state there.
+    /// Takes what stands next of a chain, and the parts behind it, as long as each step is spelled
+    /// as is usual: as they stand, and not token by token. Gives the place that is reached so, and
+    /// the state there.
     #[inline(always)]
     pub fn take_parts(
         &mut self,

@@ -1,5 +1,6 @@
 //! A square's written half, and its written quarter.
-ghost use Rattle.std.specs.Prelude.{◌≡◌, ◌↔◌, ◌+◌, ◌++◌, ◌≤◌, Some, length, IsTrue, OnOk, MatchOption, codes};
+ghost use Rattle.std.specs.Prelude.{◌≡◌, ◌↔◌, ◌+◌, ◌++◌, ◌≤◌, Some, length, IsTrue, OnOk};
+ghost use Rattle.std.specs.Prelude.{MatchOption, codes};
 ghost use Rattle.twp_text.specs.declared.item.Step.TheVariants.{Half, Quarter};
 ghost use Rattle.twp_text.specs.WrittenParts.{IsOnSide};
 ghost use Rattle.twp_text.specs.CanonicalText.{step_text};

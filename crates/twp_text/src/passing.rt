@@ -1,5 +1,6 @@
 //! What the reader takes as a whole, though it is several tokens: steps in their usual spelling.
-ghost use Rattle.std.specs.Prelude.{◌≡◌, ◌≤◌, ◌<◌, ◌∷◌, ◌++◌, ◌+◌, [], true, List, length, drop, IsTrue, IfSome};
+ghost use Rattle.std.specs.Prelude.{◌≡◌, ◌≤◌, ◌<◌, ◌∷◌, ◌++◌, ◌+◌, [], true, List, length, drop};
+ghost use Rattle.std.specs.Prelude.{IsTrue, IfSome};
 ghost use Rattle.std.specs.Char.{is_ascii_lowercase};
 ghost use Rattle.twp_text.specs.Tokens.{kind_among, words};
 ghost use Rattle.twp_text.specs.declared.item.Item.{Item};
@@ -44,8 +45,8 @@ pub struct UsualStep {
     pub size: usize,
 }
 
-/// Passes over the half or the quarter that mostly stands behind the letters of a step. It says nothing more
-/// of the items; what is spelled otherwise is left as it is.
+/// Passes over the half or the quarter that mostly stands behind the letters of a step. It says
+/// nothing more of the items; what is spelled otherwise is left as it is.
 #[inline(always)]
 pub fn behind_fraction(text: &[u8], at: usize, state: State) -> Reached
     requires { at ≤ length text.now }
@@ -120,8 +121,8 @@ pub fn behind_comma(text: &[u8], end: Reached) -> Reached
     }
 }
 
-/// The step that stands at a place, if its fraction stands right behind its letters, as `1/2`, `1/4` or one
-/// sign.
+/// The step that stands at a place, if its fraction stands right behind its letters, as `1/2`,
+/// `1/4` or one sign.
 #[inline(always)]
 pub fn step_at(text: &[u8], at: usize) -> Option<UsualStep>
     requires { at ≤ length text.now }

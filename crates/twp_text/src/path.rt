@@ -7,8 +7,8 @@ ghost use Rattle.twp_text.specs.declared.item.Step.TheVariants.{Quarter};
 use std::marker::Model;
 use twp_grid::Corner;
 
-/// The bytes that are kept of a path. The longest one that stands behind a part has three quarters, or
-/// 15 bytes; 16 are copied at once.
+/// The bytes that are kept of a path. The longest one that stands behind a part has three quarters,
+/// or 15 bytes; 16 are copied at once.
 pub(crate) const PATH_BYTES: usize = 16;
 
 /// The bytes of one quarter.

@@ -15,7 +15,8 @@ const HALF_BYTES: usize = 6;
 /// The bytes of a quarter behind a comma.
 const QUARTER_BYTES: usize = 7;
 
-/// The bytes that are kept of a place: a quarter behind a comma, the quarter that it is of, and a path.
+/// The bytes that are kept of a place: a quarter behind a comma, the quarter that it is of, and a
+/// path.
 const PLACE_BYTES: usize = QUARTER_BYTES + PATH_QUARTER_BYTES + PATH_BYTES;
 
 /// The bytes of as many parts as a position has places.

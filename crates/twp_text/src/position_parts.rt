@@ -13,7 +13,8 @@ use crate::path::Path;
 use crate::pieces::Pieces;
 use twp_grid::Corner;
 
-/// Adds the written parts of a position that isn't full, of which the quarters have four places each.
+/// Adds the written parts of a position that isn't full, of which the quarters have four places
+/// each.
 #[inline(always)]
 pub(crate) fn push_position(
     full: FullQuarters,
@@ -76,7 +77,8 @@ fn push_quarter_of(
     push_places(places, &path.quarter(corner), pieces)
 }
 
-/// Adds the written parts that begin in a quarter of such a position, where none of its halves is full.
+/// Adds the written parts that begin in a quarter of such a position, where none of its halves is
+/// full.
 #[inline(always)]
 fn push_single_quarter(
     full: FullQuarters,
@@ -143,8 +145,8 @@ fn push_place(full: FullQuarters, corner: Corner, path: &Path, pieces: &mut Piec
     }
 }
 
-/// Adds the written parts of a quarter of such a position, where none of the quarter's halves is full:
-/// the places that are held.
+/// Adds the written parts of a quarter of such a position, where none of the quarter's halves is
+/// full: the places that are held.
 #[inline(always)]
 fn push_single_places(full: FullQuarters, outer: Corner, path: &Path, pieces: &mut Pieces)
     requires { length pieces.old + 4 * PART_MOST ≤ PIECES_MOST }

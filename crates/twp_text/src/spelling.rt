@@ -15,7 +15,8 @@ use twp_land::Land;
 
 /// The canonical text of a land of a township, as of `T. 2 N., R. 3 W.,` and, on the next line,
 /// `sec. 14, N1/2, SE1/4.`: its sections by rising number, each with `all` or with the lots and the
-/// aliquot parts that are held. The empty land's is empty. A lot of which some place is held is named.
+/// aliquot parts that are held. The empty land's is empty. A lot of which some place is held is
+/// named.
 pub fn spell<L: Land>(alloc: Global, land: &L, township: Township) -> Result<Vec<u8>, AllocError>
     ensures text { IfOk result
         (λ text. IsCanonicalText PLACE_DIGITS township (L.places land.now) text.items) }

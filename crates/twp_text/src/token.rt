@@ -12,7 +12,8 @@ use std::marker::Model;
 /// Lines are often indented by many spaces.
 const EIGHT_SPACES: &[u8] = b"        ";
 
-/// A piece of a description: a word, a number, a half or a quarter, a mark, or what is none of these.
+/// A piece of a description: a word, a number, a half or a quarter, a mark, or what is none of
+/// these.
 #[derive(Clone, Copy, Debug, PartialEq, Eq)]
 pub struct Token<'a> {
     /// What the bytes are.
@@ -41,8 +42,9 @@ impl<'a> Token<'a> {
     }
 }
 
-/// The tokens of a description, from left to right. White space between them is left out. A byte that
-/// begins no token is one of kind `BadByte`, and more than four digits are one of kind `BadNumber`.
+/// The tokens of a description, from left to right. White space between them is left out. A byte
+/// that begins no token is one of kind `BadByte`, and more than four digits are one of kind
+/// `BadNumber`.
 #[derive(Debug, Drop)]
 pub struct Tokens<'a> {
     text: &'a [u8],
@@ -106,7 +108,8 @@ pub(crate) fn behind_white(text: &[u8], from: usize) -> usize
     at
 }
 
-/// Whether eight spaces stand at a place. The last one is looked at first: mostly there is one space.
+/// Whether eight spaces stand at a place. The last one is looked at first: mostly there is one
+/// space.
 #[inline(always)]
 fn is_indented(text: &[u8], at: usize) -> bool
     requires { at ≤ length text.now }

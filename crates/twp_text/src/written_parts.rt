@@ -98,8 +98,8 @@ fn write_quarter<L: Land>(
         return write_full_quarter(corner, path, text);
     }
     let quarter = block.quarter(corner).unwrap();
-    // A place can't be cut further. None comes here, since a position is written by itself; the tests show
-    // that the descent ends without a word on positions.
+    // A place can't be cut further. None comes here, since a position is written by itself; the
+    // tests show that the descent ends without a word on positions.
     if quarter.width() == 1 {
         return Ok(());
     }

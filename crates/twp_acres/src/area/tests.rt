@@ -5,9 +5,9 @@ use twp_land::{Grid, lots_whole};
 use twp_measure::Length;
 use twp_notes::{Notes, Returned};
 
-// The corners that make the north and the west uneven, by the lines' indexes; all other lines are of
-// 40 and 80 chains. The closing quarters: 20.20 between sections 4 and 5, 20.40 between 5 and 6, 20.80
-// west of 6, 19.20 north of 6, 19.60 between 6 and 7, 19.50 between 7 and 18.
+// The corners that make the north and the west uneven, by the lines' indexes; all other lines are
+// of 40 and 80 chains. The closing quarters: 20.20 between sections 4 and 5, 20.40 between 5 and 6,
+// 20.80 west of 6, 19.20 north of 6, 19.60 between 6 and 7, 19.50 between 7 and 18.
 const UNEVEN: [(usize, &str); 6] = [
     (4, "80.20"),
     (5, "80.40"),
@@ -72,14 +72,15 @@ fn adds_whole_sections_up(rt: HostRuntime) -> Result<(), Fail> {
         // 480 acres, and four lots: 80 * (20.2 + 20.4) / 2 = 1,624 square chains.
         (5, 5, 64_240),
         // In square chains 3,600; lots 1 to 3, which at 60 chains are 20.4 + 0.4 * 60 / 79.2 =
-        // 20.70303 high: 60 * (20.4 + 20.70303) / 2 = 1,233.09091; lots 5 to 7, which at 60 chains are
-        // 19.6 - 0.4 * 60 / 80.8 = 19.30297 wide: 60 * (19.6 + 19.30297) / 2 = 1,167.08911; lot 4:
-        // (19.30297 + 19.2) / 2 * (20.70303 + 20.8) / 2 = 399.49748. Together 6,399.6775.
+        // 20.70303 high: 60 * (20.4 + 20.70303) / 2 = 1,233.09091; lots 5 to 7, which at 60 chains
+        // are 19.6 - 0.4 * 60 / 80.8 = 19.30297 wide: 60 * (19.6 + 19.30297) / 2 = 1,167.08911; lot
+        // 4: (19.30297 + 19.2) / 2 * (20.70303 + 20.8) / 2 = 399.49748. Together 6,399.6775.
         (6, 6, 63_997),
         // 480 acres, and 80 * (19.6 + 19.5) / 2 = 1,564 square chains.
         (7, 7, 63_640),
-        // 36 * 640 = 23,040 acres; section 4 has 80 * (20 + 20.2) / 2 - 1,600 = 8 square chains more,
-        // 5 has 24 more, 6 has 0.3225 less, 7 has 36 less, 18 has 1,600 - 80 * (19.5 + 20) / 2 = 20 less.
+        // 36 * 640 = 23,040 acres; section 4 has 80 * (20 + 20.2) / 2 - 1,600 = 8 square chains
+        // more, 5 has 24 more, 6 has 0.3225 less, 7 has 36 less, 18 has 1,600 - 80 * (19.5 + 20) /
+        // 2 = 20 less.
         (1, 36, 2_303_757),
     ] {
         let acreage = area(&plat, &sections(first, last)?)?;

@@ -40,7 +40,8 @@ const READ: [&[u8]; 37] = [
     b"secs. 9 to 4.",
     b"secs. 1, 1.",
     b"sec. 6, SE1/4, S1/2NE1/4, E1/2SW1/4, SE1/4NW1/4.",
-    // Each choice of the grammar once more: capitals, brackets left out, `and` behind each separator.
+    // Each choice of the grammar once more: capitals, brackets left out, `and` behind each
+    // separator.
     b"T 2 S R 3 E sec 1",
     b"t2n.,r3w.,sections 1 through 3 inclusive;and sec 9:lots 1,2 and all",
     b"SECS 1 THRU 3, INCLUSIVE, 5 AND 7: ALL",
@@ -131,7 +132,8 @@ fn reads_a_text_cut_short(rt: HostRuntime) -> Result<(), Fail> {
     Ok(())
 }
 
-/// Whatever two bytes come, the answer is there, and a refusal's place lies in the text or at its end.
+/// Whatever two bytes come, the answer is there, and a refusal's place lies in the text or at its
+/// end.
 #[test]
 fn answers_all_pairs_of_bytes(rt: HostRuntime) -> Result<(), Fail> {
     for first in 0..=255 {
@@ -167,9 +169,9 @@ fn refuses_too_large_texts_before_all(rt: HostRuntime) -> Result<(), Fail> {
     Ok(())
 }
 
-/// The items of `T. 2 N., R. 3 W., sec. 6, lots 1 thru 3, S1/2 of the NE1/4; secs. 7, 8 all`. Of the places,
-/// `sec` begins at 18, its number at 23, `lots` at 26, the lots at 31 and 38, the chain at 41, `secs` at 60,
-/// its numbers at 66 and 69.
+/// The items of `T. 2 N., R. 3 W., sec. 6, lots 1 thru 3, S1/2 of the NE1/4; secs. 7, 8 all`. Of
+/// the places, `sec` begins at 18, its number at 23, `lots` at 26, the lots at 31 and 38, the chain
+/// at 41, `secs` at 60, its numbers at 66 and 69.
 #[test]
 fn names_items(rt: HostRuntime) -> Result<(), Fail> {
     let text = b"T. 2 N., R. 3 W., sec. 6, lots 1 thru 3, S1/2 of the NE1/4; secs. 7, 8 all";
@@ -318,8 +320,8 @@ fn tells_what_could_stand_there(rt: HostRuntime) -> Result<(), Fail> {
     Ok(())
 }
 
-/// What is told at a word that is none of a description, behind a front of each kind: worked out by hand
-/// from the grammar.
+/// What is told at a word that is none of a description, behind a front of each kind: worked out by
+/// hand from the grammar.
 const TOLD: [(&str, &str); 25] = [
     ("", "`T.` of a heading, or `sec.`"),
     ("t", "the township's number"),

@@ -141,8 +141,8 @@ fn refuses_what_is_too_fine(rt: HostRuntime) -> Result<(), Fail> {
     )
 }
 
-/// Lots fill the north of section 5, the west of section 7, and both in section 6. The north-east quarter
-/// of the north-east quarter of section 5 is lot 1 itself.
+/// Lots fill the north of section 5, the west of section 7, and both in section 6. The north-east
+/// quarter of the north-east quarter of section 5 is lot 1 itself.
 #[test]
 fn refuses_what_holds_of_a_lot(rt: HostRuntime) -> Result<(), Fail> {
     check_refused(
@@ -217,8 +217,8 @@ fn names_land(rt: HostRuntime) -> Result<(), Fail> {
     Ok(())
 }
 
-/// The south half of the north-east quarter: columns 0 to 7 from the east, rows 8 to 11 from the south.
-/// The west half of the south-east quarter: columns 4 to 7, rows 0 to 7.
+/// The south half of the north-east quarter: columns 0 to 7 from the east, rows 8 to 11 from the
+/// south. The west half of the south-east quarter: columns 4 to 7, rows 0 to 7.
 fn check_the_last_step_first<L: Land>(alloc: Global, rt: &impl Abort) -> Result<(), Fail> {
     let section = Section::new(14).ok_or("a section")?;
     let land: L = answer(alloc, b"sec. 14, S1/2NE1/4, W1/2SE1/4.")??;

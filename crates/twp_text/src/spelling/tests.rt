@@ -102,8 +102,8 @@ fn holds_positions<L: Land>(land: &L, section: Section, bits: u32) -> Result<boo
     Ok(true)
 }
 
-/// Every 97th of the 65,535 lands of a section that are made of whole positions and aren't empty, in
-/// a section without lots and in one whose northern and western positions are lots: what is
+/// Every 97th of the 65,535 lands of a section that are made of whole positions and aren't empty,
+/// in a section without lots and in one whose northern and western positions are lots: what is
 /// spelled names that land.
 fn check_what_names_the_land<L: Land>(alloc: Global, rt: &impl Abort) -> Result<(), Fail> {
     for number in [14, 6] {
