@@ -58,9 +58,9 @@ pub(crate) fn write_half(
     pieces.append_to(text)
 }
 
-/// Appends a quarter.
+/// Appends a quarter that is full.
 #[inline(never)]
-pub(crate) fn write_quarter(
+pub(crate) fn write_full_quarter(
     corner: Corner,
     path: &Path,
     text: &mut Vec<u8>,

@@ -42,7 +42,7 @@ impl Path {
         }
     }
 
-    /// The path of a quarter of the square. What is longer than the longest path loses its end.
+    /// The path of a quarter of the square. What is longer than the bytes that are kept loses its end.
     #[inline(always)]
     pub(crate) fn quarter(&self, corner: Corner) -> Path
         ensures { result ≡ take PATH_MOST (step_text (Quarter corner) ++ self.now) }

@@ -11,7 +11,7 @@ ghost use Rattle.twp_text.specs.Spelling.{AreWritten, AreFull, quarters_text};
 
 use crate::chain::holds_of_lot;
 use crate::full_quarters::FullQuarters;
-use crate::part_text::{half_at, write_half, write_quarter as write_full_quarter};
+use crate::part_text::{half_at, write_full_quarter, write_half};
 use crate::path::Path;
 use crate::pieces::Pieces;
 use crate::position_parts::push_position;

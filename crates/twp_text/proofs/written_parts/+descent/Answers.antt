@@ -24,8 +24,8 @@ write_quarter-returns-in-Some g t c = λ quarters of_square path_is short are.
 pub write_quarter-returns-then-at : goal.write_quarter-returns-then-at
 write_quarter-returns-then-at g t c = λ quarters of_square path_is short are.
     let choice = choice_made PLACE_DIGITS (off_lots PLACE_DIGITS c.args.section (g.L.Land.places c.args.land.now c.args.section)) quarters c.args.full c.chosen_half.result (deeper PLACE_DIGITS quarters c.args.block of_square c.requires.0) c.chosen_half.ensures are short in
-    full_written c.write_quarter.result PLACE_DIGITS (off_lots PLACE_DIGITS c.args.section (g.L.Land.places c.args.land.now c.args.section)) quarters c.args.corner (codes ", " ++ step_text (Quarter c.args.corner)) c.args.path.now c.args.text.now.items c.write_quarter.new.text.items
-    path_is refl short (off_choice PLACE_DIGITS (off_lots PLACE_DIGITS c.args.section (g.L.Land.places c.args.land.now c.args.section)) quarters c.chosen_half.result c.args.corner choice c.in_default.ensures) ((are c.args.corner).0 (sym c.at.ensures ∙ c.if-at.true)) c.write_quarter.ensures
+    full_written c.write_full_quarter.result PLACE_DIGITS (off_lots PLACE_DIGITS c.args.section (g.L.Land.places c.args.land.now c.args.section)) quarters c.args.corner (codes ", " ++ step_text (Quarter c.args.corner)) c.args.path.now c.args.text.now.items c.write_full_quarter.new.text.items
+    path_is refl short (off_choice PLACE_DIGITS (off_lots PLACE_DIGITS c.args.section (g.L.Land.places c.args.land.now c.args.section)) quarters c.chosen_half.result c.args.corner choice c.in_default.ensures) ((are c.args.corner).0 (sym c.at.ensures ∙ c.if-at.true)) c.write_full_quarter.ensures
 
 pub write_quarter-returns-then-width-eq1 : goal.write_quarter-returns-then-width-eq1
 write_quarter-returns-then-width-eq1 g t c = λ quarters of_square path_is short are.
