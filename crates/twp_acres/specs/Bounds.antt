@@ -1,4 +1,4 @@
--- What is added up of a section, and the most that it comes to.
+-- What is added up of a section, and the most that it comes to. No public promise speaks of it.
 use Rattle.std.specs.Prelude.{ℕ, ◌+◌, ◌*◌, ◌/◌}
 use Rattle.twp_grid.specs.Places.{PLACE_DIGITS, places_across}
 use Rattle.twp_plat.specs.Closing.{CLOSING_MOST, QUARTER_MILE}

@@ -1,4 +1,4 @@
--- Which names there are.
+-- Which names there are. No public promise speaks of it.
 use Rattle.std.specs.Prelude.{ℕ, List, Bool}
 use Rattle.std.specs.HashSet.{contains_text}
 use Rattle.twp_acres.specs.declared.names.Names.{Names}

@@ -1,4 +1,4 @@
--- What the stages of a run come to.
+-- What the stages of a run come to. No public promise speaks of it.
 use Rattle.std.specs.Prelude.{ℕ, Bool, List, Result, Ok, Err, ⊤}
 use Rattle.twp_grid.specs.Townships.{Designation}
 use Rattle.twp_grid.specs.declared.refusal.Refusal.{Refusal}

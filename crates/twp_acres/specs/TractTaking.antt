@@ -1,4 +1,5 @@
--- How an account grows by one tract, and for what the next record is refused.
+-- How an account grows by one tract, and for what the next record is refused. No public
+-- promise speaks of it.
 use Rattle.std.specs.Prelude.{◌≡◌, ℕ, ◌+◌, ◌-◌, ◌≤◌, ◌<◌, ◌||◌, Bool, true, false}
 use Rattle.std.specs.Prelude.{List, ◌++◌, length, ⊤}
 use Rattle.std.specs.Str.{bytes_eq}

@@ -99,6 +99,33 @@ pub fn run_plat<N: Source, W: Sink>(
     write_answer(out, &answer)
 }
 
+/// Writes the canonical text of the land described: one text for each land, however it was
+/// spelled. Where the notes make no plat, or the description is of no land on it, it writes the
+/// numbered refusal of the first fault, at its place.
+///
+/// The whole answer is made before its first byte is written.
+pub fn run_normal<N: Source, D: Source, W: Sink>(
+    alloc: Global,
+    notes: &mut N,
+    description: &mut D,
+    out: &mut W,
+) -> Result<Verdict, RunFault>
+    requires notes { N.has_failed notes.old ≡ false }
+    requires description { D.has_failed description.old ≡ false }
+    requires out { W.has_failed out.old ≡ false }
+
+    // As each run of two texts, with the canonical text of the land described, or the refusal.
+    ensures run { RunsOnPlat IsNormalAnswer TEXT_LIMIT
+        (used (N.remaining notes.old) (N.remaining notes.new) (N.has_failed notes.new))
+        (used (D.remaining description.old) (D.remaining description.new)
+        (D.has_failed description.new))
+        (used (W.contents out.old) (W.contents out.new) (W.has_failed out.new))
+        (description.new ≡ description.old) result }
+{
+    let answer = normal_answer::answer_of(alloc, notes, description)?;
+    write_answer(out, &answer)
+}
+
 /// Writes the account of a list of tracts, where the field notes make a plat and the list is one
 /// of tracts on it: of each tract its acres, then those of all places that are in a tract, and
 /// then those of all others. Each figure is an exact area, rounded once. Otherwise it writes the
@@ -124,33 +151,6 @@ pub fn run_report<N: Source, T: Source, W: Sink>(
         (tracts.new ≡ tracts.old) result }
 {
     let answer = report_answer::answer_of(alloc, notes, tracts)?;
-    write_answer(out, &answer)
-}
-
-/// Writes the canonical text of the land described: one text for each land, however it was
-/// spelled. Where the notes make no plat, or the description is of no land on it, it writes the
-/// numbered refusal of the first fault, at its place.
-///
-/// The whole answer is made before its first byte is written.
-pub fn run_normal<N: Source, D: Source, W: Sink>(
-    alloc: Global,
-    notes: &mut N,
-    description: &mut D,
-    out: &mut W,
-) -> Result<Verdict, RunFault>
-    requires notes { N.has_failed notes.old ≡ false }
-    requires description { D.has_failed description.old ≡ false }
-    requires out { W.has_failed out.old ≡ false }
-
-    // As each run of two texts, with the canonical text of the land described, or the refusal.
-    ensures run { RunsOnPlat IsNormalAnswer TEXT_LIMIT
-        (used (N.remaining notes.old) (N.remaining notes.new) (N.has_failed notes.new))
-        (used (D.remaining description.old) (D.remaining description.new)
-        (D.has_failed description.new))
-        (used (W.contents out.old) (W.contents out.new) (W.has_failed out.new))
-        (description.new ≡ description.old) result }
-{
-    let answer = normal_answer::answer_of(alloc, notes, description)?;
     write_answer(out, &answer)
 }
 

@@ -17,8 +17,7 @@ use twp_plat::Plat;
 /// The number of the record behind the heading, the first one of a tract.
 const FIRST_TRACT: u32 = 2;
 
-/// The text of the account of the list of tracts that bytes are, of which there are no more than
-/// there may be.
+/// The text of a list's account. The list is within its limit of bytes.
 pub(crate) fn account_of(alloc: Global, plat: &Plat, bytes: &[u8]) -> Result<Vec<u8>, TractFault>
     requires { length bytes.now ≤ TRACTS_LIMIT }
     ensures account { IfOk result (λ text. IsAccountOf plat.now bytes.now text.items) }

@@ -145,6 +145,9 @@ fn lanes_answer_as_a_grid_does(rt: HostRuntime) -> Result<(), Fail> {
         assert_eq!(&rt; lanes.count(section, block), grid.count(section, block));
         grid.add(section, block);
         lanes.add(section, block);
+        let less = random.block();
+        grid.remove(section, less);
+        lanes.remove(section, less);
         for column in 0..16u8 {
             for row in 0..16u8 {
                 assert_eq!(&rt;
