@@ -129,6 +129,28 @@ fn lanes_tell_961_blocks_apart(rt: HostRuntime) -> Result<(), Fail> {
 }
 
 #[test]
+fn lanes_answer_as_a_grid_does_behind_1_000_changes(rt: HostRuntime) -> Result<(), Fail> {
+    let section = Section::new(21).ok_or("a section")?;
+    let mut random = Random { state: 1805 };
+    let mut grid = Grid::empty();
+    let mut lanes = Lanes::empty();
+    for _ in 0..500u16 {
+        let more = random.block();
+        grid.add(section, more);
+        lanes.add(section, more);
+        let less = random.block();
+        grid.remove(section, less);
+        lanes.remove(section, less);
+    }
+    for block in blocks(rt.alloc(), &rt)? {
+        assert_eq!(&rt; lanes.meets(section, block), grid.meets(section, block));
+        assert_eq!(&rt; lanes.full(section, block), grid.full(section, block));
+        assert_eq!(&rt; lanes.count(section, block), grid.count(section, block));
+    }
+    Ok(())
+}
+
+#[test]
 fn lanes_answer_as_a_grid_does(rt: HostRuntime) -> Result<(), Fail> {
     let section = Section::new(29).ok_or("a section")?;
     let mut random = Random { state: 1796 };
