@@ -205,7 +205,8 @@ fn names_long_chains(rt: HostRuntime) -> Result<(), Fail> {
     let told = format!(in rt.alloc(); "{:?}", items.last())?;
     assert_eq!(rt;
         told.as_str(),
-        "Some(Chain { steps: Steps { first: [Quarter(NE), Half(E), Half(S), Half(W), Half(N), Quarter(SW), Quarter(SE), Quarter(NW)], more: [Half(S), Half(N)] }, at: 7 })"
+        "Some(Chain { steps: Steps { first: [Quarter(NE), Half(E), Half(S), Half(W), Half(N), \
+        Quarter(SW), Quarter(SE), Quarter(NW)], more: [Half(S), Half(N)] }, at: 7 })"
     );
     Ok(())
 }
@@ -297,7 +298,8 @@ fn tells_what_could_stand_there(rt: HostRuntime) -> Result<(), Fail> {
         ),
         (
             "sec. 14, lots 1 and.",
-            "the description goes wrong at 19: here could stand another lot's number, `inclusive` of a range, or another part",
+            "the description goes wrong at 19: here could stand another lot's number, \
+            `inclusive` of a range, or another part",
         ),
         (
             "T. 2 N. R. 3 W.",
