@@ -15,7 +15,7 @@ use Rattle.twp_text.specs.declared.item.Item.TheVariants.{Chain}
 use Rattle.twp_text.specs.declared.item.Step.{Step}
 use Rattle.twp_text.specs.declared.item.Step.TheVariants as step
 use Rattle.twp_text.specs.declared.kind.Kind.{Kind}
-use Rattle.twp_text.specs.declared.kind.Kind.TheVariants.{Half, Quarter, Of, The, Comma}
+use Rattle.twp_text.specs.declared.kind.Kind.TheVariants.{Half, Quarter, Of, The, And, Comma, Stop}
 use Rattle.twp_text.specs.declared.passing.UsualStep.{UsualStep}
 use Rattle.twp_text.specs.declared.state.State.{State}
 use Rattle.twp_text.specs.declared.state.State.TheVariants as past
@@ -23,8 +23,8 @@ use Rattle.twp_text.specs.declared.state.State.TheVariants.{Start}
 use Rattle.twp_text.specs.Cutting.{small_letter}
 use Rattle.twp_text.specs.Tokens.{Token, StartsWith, HasTokens, IsToken, IsGoodToken, begins_with, is_white, kind_among, words}
 use Rattle.twp_text.specs.Tokens.IsToken.{good}
-use Rattle.twp_text.specs.Tokens.IsGoodToken.{a_word, a_half, a_half_sign, a_quarter, a_quarter_sign, a_comma}
-use Rattle.twp_text.specs.Grammar.{class_of, lot}
+use Rattle.twp_text.specs.Tokens.IsGoodToken.{a_word, a_half, a_half_sign, a_quarter, a_quarter_sign, a_comma, a_stop}
+use Rattle.twp_text.specs.Grammar.{class_of, lot, comma, stop}
 use Rattle.twp_text.specs.Machine.{next, take_token, run, with_newest, is_in_chain, before_parts}
 use Rattle.twp_text.specs.Passing.{Leads, StandsAt, IsStepAt, end_of, letters_of, fraction_of, BeginWithStep}
 use Rattle.twp_text.proofs.LetterFacts.{by_bit, by_its_bit}
@@ -148,16 +148,66 @@ of_the_leads text at its spelt within =
     (leads_token text (at + 3) past.Of its (made The (codes "the") (at + 4)) (at + 7) past.OfThe the_starts (omega arith) (omega arith) refl))
     (subst (λ (n : ℕ). Leads text (at + 7) past.OfThe its n past.OfThe its) the_end (leads_space text (at + 7) past.OfThe its space (omega arith)))
 
--- a comma behind a part, and the space behind it
-pub comma_leads : (text : List ℕ) (at : ℕ) (its : List Item) → drop at text ≡ codes ", " ++ drop (at + 2) text → at + 2 ≤ length text → Leads text at past.Step its (at + 2) past.PartComma its
-comma_leads text at its spelt within =
-    let behind : drop (at + 1) text ≡ codes " " ++ drop (at + 2) text = left_behind text at 1 (codes ", " ++ drop (at + 2) text) spelt in
+-- a mark right at a place
+pub record IsMark (byte : ℕ) (kind : Kind) : Type 0 where
+  pub is : (rest : List ℕ) → IsGoodToken (byte ∷ []) rest kind
+  pub kept : (state : State) (at : ℕ) (its : List Item) → take_token state kind at its ≡ its
+
+pub a_full_stop : IsMark 46 Stop
+a_full_stop = record { is = λ rest. a_stop refl refl; kept = λ state at its. refl }
+
+pub the_comma : IsMark 44 Comma
+the_comma = record { is = λ rest. a_comma refl refl; kept = λ state at its. refl }
+
+pub mark_leads : (text : List ℕ) (at byte : ℕ) (kind : Kind) (state behind : State) (its : List Item) → IsMark byte kind → next state (class_of kind) ≡ Some behind → drop at text ≡ byte ∷ drop (at + 1) text → at + 1 ≤ length text → Leads text at state its (at + 1) behind its
+mark_leads text at byte kind state behind its mark is spelt within =
+    let starts : StartsWith at (drop at text) (made kind (byte ∷ []) at) (drop (at + 1) text) =
+    record { space = []; white = AllPass-from_list_all is_white [] refl; spelt = spelt; place = omega arith; is = good (mark.is (drop (at + 1) text)) } in
+    subst (λ (js : List Item). Leads text at state its (at + 1) behind js) (mark.kept state at its)
+    (leads_token text at state its (made kind (byte ∷ []) at) (at + 1) behind starts refl within is)
+
+-- a full stop, and the space behind it
+pub stop_leads : (text : List ℕ) (at : ℕ) (state behind : State) (its : List Item) → next state stop ≡ Some behind → drop at text ≡ codes ". " ++ drop (at + 2) text → at + 2 ≤ length text → Leads text at state its (at + 2) behind its
+stop_leads text at state behind its is spelt within =
+    let space : drop (at + 1) text ≡ codes " " ++ drop (at + 2) text = left_behind text at 1 (codes ". " ++ drop (at + 2) text) spelt in
     let end : (at + 1) + 1 ≡ at + 2 = omega arith in
-    let starts : StartsWith at (drop at text) (made Comma (codes ",") at) (drop (at + 1) text) =
-    record { space = []; white = AllPass-from_list_all is_white [] refl; spelt = rw behind spelt; place = omega arith; is = good (a_comma refl refl) } in
-    leads_then text at past.Step its (at + 1) past.PartComma its (at + 2) past.PartComma its
-    (leads_token text at past.Step its (made Comma (codes ",") at) (at + 1) past.PartComma starts refl (omega arith) refl)
-    (subst (λ (n : ℕ). Leads text (at + 1) past.PartComma its n past.PartComma its) end (leads_space text (at + 1) past.PartComma its (rw end behind) (omega arith)))
+    leads_then text at state its (at + 1) behind its (at + 2) behind its
+    (mark_leads text at 46 Stop state behind its a_full_stop is (rw space spelt) (omega arith))
+    (subst (λ (n : ℕ). Leads text (at + 1) behind its n behind its) end (leads_space text (at + 1) behind its (rw end space) (omega arith)))
+
+-- a full stop and a comma
+pub stop_comma_leads : (text : List ℕ) (at : ℕ) (state between behind : State) (its : List Item) → next state stop ≡ Some between → next between comma ≡ Some behind → drop at text ≡ codes ".," ++ drop (at + 2) text → at + 2 ≤ length text → Leads text at state its (at + 2) behind its
+stop_comma_leads text at state between behind its is is_behind spelt within =
+    let left : drop (at + 1) text ≡ codes "," ++ drop (at + 2) text = left_behind text at 1 (codes ".," ++ drop (at + 2) text) spelt in
+    let end : (at + 1) + 1 ≡ at + 2 = omega arith in
+    leads_then text at state its (at + 1) between its (at + 2) behind its
+    (mark_leads text at 46 Stop state between its a_full_stop is (rw left spelt) (omega arith))
+    (subst (λ (n : ℕ). Leads text (at + 1) between its n behind its) end (mark_leads text (at + 1) 44 Comma between behind its the_comma is_behind (rw end left) (omega arith)))
+
+-- a full stop and a comma, and the space behind them
+pub stop_comma_space_leads : (text : List ℕ) (at : ℕ) (state between behind : State) (its : List Item) → next state stop ≡ Some between → next between comma ≡ Some behind → drop at text ≡ codes "., " ++ drop (at + 3) text → at + 3 ≤ length text → Leads text at state its (at + 3) behind its
+stop_comma_space_leads text at state between behind its is is_behind spelt within =
+    let space : drop (at + 2) text ≡ codes " " ++ drop (at + 3) text = left_behind text at 2 (codes "., " ++ drop (at + 3) text) spelt in
+    let end : (at + 2) + 1 ≡ at + 3 = omega arith in
+    leads_then text at state its (at + 2) behind its (at + 3) behind its
+    (stop_comma_leads text at state between behind its is is_behind (rw space spelt) (omega arith))
+    (subst (λ (n : ℕ). Leads text (at + 2) behind its n behind its) end (leads_space text (at + 2) behind its (rw end space) (omega arith)))
+
+-- `and` behind the comma of a part, and the space behind it
+pub and_leads : (text : List ℕ) (at : ℕ) (its : List Item) → drop at text ≡ codes "and " ++ drop (at + 4) text → at + 4 ≤ length text → Leads text at past.PartComma its (at + 4) past.BeforePart its
+and_leads text at its spelt within =
+    let space : drop (at + 3) text ≡ codes " " ++ drop (at + 4) text = left_behind text at 3 (codes "and " ++ drop (at + 4) text) spelt in
+    let end : (at + 3) + 1 ≡ at + 4 = omega arith in
+    let starts : StartsWith at (drop at text) (made And (codes "and") at) (drop (at + 3) text) = record {
+      space = [];
+      white = AllPass-from_list_all is_white [] refl;
+      spelt = rw space spelt;
+      place = omega arith;
+      is = rw space (good (a_word (record { some = omega arith; all = AllPass-from_list_all is_ascii_alphabetic (codes "and") refl; ends = refl }) refl));
+    } in
+    leads_then text at past.PartComma its (at + 3) past.BeforePart its (at + 4) past.BeforePart its
+    (leads_token text at past.PartComma its (made And (codes "and") at) (at + 3) past.BeforePart starts refl (omega arith) refl)
+    (subst (λ (n : ℕ). Leads text (at + 3) past.BeforePart its n past.BeforePart its) end (leads_space text (at + 3) past.BeforePart its (rw end space) (omega arith)))
 
 -- the letters that bytes begin with are those of a step, where its fraction follows
 record AreLetters (bytes : List ℕ) (size : ℕ) (kind : Kind) : Type 0 where
@@ -462,6 +512,22 @@ white_leads text from at state its is within =
         white_append front (drop at text) (list_all-from_AllPass is_white front (all_white bytes)) (list_all-from_AllPass is_white (drop at text) has) in
         subst (λ (b : List ℕ). AllPass is_white b) (ap (λ b. front ++ b) (sym behind) ∙ take-append-drop (prefix_len is_white bytes) bytes) (AllPass-from_list_all is_white (front ++ drop at text) all)
     before (token ∷ tokens) (rest, starts, more) = (rest, behind_space text from at token rest is starts, more)
+
+-- a comma behind a part, and the space behind it
+pub comma_space_leads : (text : List ℕ) (at : ℕ) (its : List Item) → drop at text ≡ codes ", " ++ drop (at + 2) text → at + 2 ≤ length text → Leads text at past.Step its (at + 2) past.PartComma its
+comma_space_leads text at its spelt within =
+    let space : drop (at + 1) text ≡ codes " " ++ drop (at + 2) text = left_behind text at 1 (codes ", " ++ drop (at + 2) text) spelt in
+    let end : (at + 1) + 1 ≡ at + 2 = omega arith in
+    leads_then text at past.Step its (at + 1) past.PartComma its (at + 2) past.PartComma its
+    (mark_leads text at 44 Comma past.Step past.PartComma its the_comma refl (rw space spelt) (omega arith))
+    (subst (λ (n : ℕ). Leads text (at + 1) past.PartComma its n past.PartComma its) end (leads_space text (at + 1) past.PartComma its (rw end space) (omega arith)))
+
+-- a comma behind a part, and the white space behind it
+pub comma_leads : (text : List ℕ) (at behind : ℕ) (its : List Item) → drop at text ≡ codes "," ++ drop (at + 1) text → at + 1 ≤ length text → behind ≡ (at + 1) + prefix_len is_white (drop (at + 1) text) → behind ≤ length text → Leads text at past.Step its behind past.PartComma its
+comma_leads text at behind its spelt begins is within =
+    leads_then text at past.Step its (at + 1) past.PartComma its behind past.PartComma its
+    (mark_leads text at 44 Comma past.Step past.PartComma its the_comma refl spelt begins)
+    (white_leads text (at + 1) behind past.PartComma its is within)
 
 -- the first step of a part leads on, and then what follows the step
 pub first_leads : (text : List ℕ) (at : ℕ) (state : State) (its : List Item) (it : Step) (size to : ℕ) (behind : State) (grown : List Item) → true ≡ is_some (next state lot) → IsStepAt text at it size → Leads text (at + size) past.Step (Chain (it ∷ []) at ∷ before_parts state its) to behind grown → Leads text at state its to behind grown

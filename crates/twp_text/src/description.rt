@@ -8,7 +8,7 @@ use crate::fault::{TEXT_LIMIT, TextFault};
 use crate::item::Item;
 use crate::items::Items;
 use crate::kind::Kind;
-use crate::passing::behind_fraction;
+use crate::passing::behind_token;
 use crate::state::State;
 use crate::token::{Token, Tokens};
 use std::alloc::Global;
@@ -73,7 +73,7 @@ impl Description {
                 return Err(fault_of(text, token.at, state.expected()));
             };
             items.take(alloc, state, token.kind, token.at as u32)?;
-            let reached = behind_fraction(text, token.at + token.text.len(), behind);
+            let reached = behind_token(text, token.at + token.text.len(), behind);
             let reached = items.take_parts(alloc, text, reached)?;
             state = reached.state;
             at = reached.at;

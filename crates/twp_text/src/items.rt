@@ -7,7 +7,7 @@ ghost use Rattle.twp_text.specs.TextFaults.{TEXT_LIMIT};
 use crate::change::Change;
 use crate::item::{Item, Numeral, Step, Steps};
 use crate::kind::Kind;
-use crate::passing::{Reached, UsualStep, ahead_of_part, behind_step, step_at};
+use crate::passing::{Reached, UsualStep, ahead_of_part, behind_and, behind_step, step_at};
 use crate::state::State;
 use std::alloc::{AllocError, Global};
 use std::marker::Model;
@@ -186,11 +186,14 @@ impl Items {
         let begun = self.take_more(text, from)?;
         let mut reached = ahead_of_part(text, begun);
         while reached.state.begins_part() {
-            let Some(first) = step_at(text, reached.at) else {
+            if let Some(first) = step_at(text, reached.at) {
+                self.before_parts(reached.state)?;
+                reached = self.take_chain(alloc, text, reached.at, first)?;
+            } else if let Some(behind) = behind_and(text, reached) {
+                reached = behind;
+            } else {
                 break;
-            };
-            self.before_parts(reached.state)?;
-            reached = self.take_chain(alloc, text, reached.at, first)?;
+            }
         }
         Ok(reached)
     }
@@ -234,9 +237,9 @@ impl Items {
     fn push_chain(&mut self, alloc: Global, step: Step, at: u32) -> Result<(), AllocError>
         ensures { OnOk result (self.new ≡ Item.Chain (step ∷ []) at ∷ self.old) }
     {
-        let steps = Steps::none(alloc);
-        self.push(Item::Chain { steps, at })?;
-        self.change(Change::Grown(step))
+        let mut steps = Steps::none(alloc);
+        steps.push(step)?;
+        self.push(Item::Chain { steps, at })
     }
 
     /// A number of the heading, the first or the last number of a range of sections or lots.

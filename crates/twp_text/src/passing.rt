@@ -28,8 +28,23 @@ const SMALL: u8 = 0x20;
 /// How many bytes `of the` has, with a space on either side.
 const OF_THE: usize = 8;
 
+/// How many bytes a comma has.
+const COMMA: usize = 1;
+
 /// How many bytes a comma has, with a space behind it.
-const COMMA: usize = 2;
+const COMMA_SPACE: usize = 2;
+
+/// How many bytes a full stop has, with a space behind it.
+const STOP: usize = 2;
+
+/// How many bytes a full stop and a comma have.
+const STOP_COMMA: usize = 2;
+
+/// How many bytes a full stop and a comma have, with a space behind them.
+const STOP_COMMA_SPACE: usize = 3;
+
+/// How many bytes `and` has, with a space behind it.
+const AND: usize = 4;
 
 /// A place in a text, and what the tokens before it are the beginning of.
 #[derive(Clone, Copy)]
@@ -45,10 +60,11 @@ pub struct UsualStep {
     pub size: usize,
 }
 
-/// Passes over the half or the quarter that mostly stands behind the letters of a step. It says
-/// nothing more of the items; what is spelled otherwise is left as it is.
+/// Passes over what mostly stands behind a token: the half or the quarter behind the letters of a
+/// step, and the marks in a heading. It says nothing more of the items; what is spelled otherwise
+/// is left as it is.
 #[inline(always)]
-pub fn behind_fraction(text: &[u8], at: usize, state: State) -> Reached
+pub fn behind_token(text: &[u8], at: usize, state: State) -> Reached
     requires { at ≤ length text.now }
     ensures { (items : List Item)
         → Leads text.now at state items result.at result.state items }
@@ -56,6 +72,22 @@ pub fn behind_fraction(text: &[u8], at: usize, state: State) -> Reached
     match state {
         State::Side if goes_on(text, at, b"1/2") => behind_step(at + FRACTION),
         State::Corner if goes_on(text, at, b"1/4") => behind_step(at + FRACTION),
+        State::Township if goes_on(text, at, b". ") => Reached {
+            at: at + STOP,
+            state: State::TownshipStop,
+        },
+        State::TownshipSide if goes_on(text, at, b"., ") => Reached {
+            at: at + STOP_COMMA_SPACE,
+            state: State::TownshipComma,
+        },
+        State::Range if goes_on(text, at, b". ") => Reached {
+            at: at + STOP,
+            state: State::RangeStop,
+        },
+        State::RangeSide if goes_on(text, at, b".,") => Reached {
+            at: at + STOP_COMMA,
+            state: State::BeforeGroup,
+        },
         _ => Reached { at, state },
     }
 }
@@ -105,7 +137,7 @@ pub fn ahead_of_part(text: &[u8], from: Reached) -> Reached
     }
 }
 
-/// Passes over the comma behind a part, and the space behind the comma.
+/// Passes over the comma behind a part, and the space behind the comma, or the end of the line.
 #[inline(always)]
 pub fn behind_comma(text: &[u8], end: Reached) -> Reached
     requires { end.at ≤ length text.now }
@@ -114,10 +146,31 @@ pub fn behind_comma(text: &[u8], end: Reached) -> Reached
 {
     match end.state {
         State::Step if goes_on(text, end.at, b", ") => Reached {
-            at: end.at + COMMA,
+            at: end.at + COMMA_SPACE,
+            state: State::PartComma,
+        },
+        State::Step if goes_on(text, end.at, b",") => Reached {
+            at: behind_white(text, end.at + COMMA),
             state: State::PartComma,
         },
         _ => end,
+    }
+}
+
+/// The place behind `and`, if it stands behind the comma of a part in these very bytes.
+#[inline(always)]
+pub fn behind_and(text: &[u8], comma: Reached) -> Option<Reached>
+    requires { comma.at ≤ length text.now }
+    ensures leads { IfSome result (λ behind. (items : List Item)
+        → Leads text.now comma.at comma.state items behind.at behind.state items) }
+    ensures forward { IfSome result (λ behind. comma.at < behind.at) }
+{
+    match comma.state {
+        State::PartComma if goes_on(text, comma.at, b"and ") => Some(Reached {
+            at: comma.at + AND,
+            state: State::BeforePart,
+        }),
+        _ => None,
     }
 }
 
@@ -135,7 +188,8 @@ pub fn step_at(text: &[u8], at: usize) -> Option<UsualStep>
     step_of(bytes[0], bytes[1], bytes[2], bytes[3], bytes[4])
 }
 
-/// The step that five bytes begin with, if they do. U+00BC is the bytes C2 BC, and U+00BD is C2 BD.
+/// The step that five bytes begin with, if they do. U+00BC is the bytes C2 BC, and U+00BD is C2 BD:
+/// the third byte of a step with a sign is never ASCII.
 #[inline(always)]
 fn step_of(first: u8, second: u8, third: u8, fourth: u8, fifth: u8) -> Option<UsualStep>
     ensures { IfSome result
@@ -146,6 +200,9 @@ fn step_of(first: u8, second: u8, third: u8, fourth: u8, fifth: u8) -> Option<Us
     }
     if second == b'1' && third == b'/' && fourth == b'2' {
         return half(first, FRACTION);
+    }
+    if third.is_ascii() {
+        return None;
     }
     if third == 0xC2 && fourth == 0xBC {
         return quarter(first, second, SIGN);

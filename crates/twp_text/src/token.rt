@@ -103,21 +103,12 @@ pub(crate) fn behind_white(text: &[u8], from: usize) -> usize
 {
     let mut at = from;
     while at < text.len() && is_white(text[at]) {
-        at += if is_indented(text, at) { 8 } else { 1 };
+        at += 1;
+        if goes_on(text, at, EIGHT_SPACES) {
+            at += 8;
+        }
     }
     at
-}
-
-/// Whether eight spaces stand at a place. The last one is looked at first: mostly there is one
-/// space.
-#[inline(always)]
-fn is_indented(text: &[u8], at: usize) -> bool
-    requires { at ≤ length text.now }
-    ensures spelt { IsTrue result
-        → drop at text.now ≡ codes "        " ++ drop (at + 8) text.now }
-    ensures within { IsTrue result → at + 8 ≤ length text.now }
-{
-    text.len() - at >= 8 && text[at + 7] == b' ' && goes_on(text, at, EIGHT_SPACES)
 }
 
 /// Whether a byte is a space, a tabulator, a line feed or a carriage return.
