@@ -10,6 +10,7 @@ pub mod Cuts
 pub mod TokenFacts
 pub mod ReaderFacts
 pub mod PassingFacts
+pub mod FrontFacts
 pub mod OneAnswer
 pub mod StepFacts
 pub mod LetterFacts

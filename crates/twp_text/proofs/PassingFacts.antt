@@ -15,7 +15,7 @@ use Rattle.twp_text.specs.declared.item.Item.TheVariants.{Chain}
 use Rattle.twp_text.specs.declared.item.Step.{Step}
 use Rattle.twp_text.specs.declared.item.Step.TheVariants as step
 use Rattle.twp_text.specs.declared.kind.Kind.{Kind}
-use Rattle.twp_text.specs.declared.kind.Kind.TheVariants.{Half, Quarter, Of, The, And, Comma, Stop}
+use Rattle.twp_text.specs.declared.kind.Kind.TheVariants.{Half, Quarter, Of, The, And, Comma}
 use Rattle.twp_text.specs.declared.passing.UsualStep.{UsualStep}
 use Rattle.twp_text.specs.declared.state.State.{State}
 use Rattle.twp_text.specs.declared.state.State.TheVariants as past
@@ -23,8 +23,8 @@ use Rattle.twp_text.specs.declared.state.State.TheVariants.{Start}
 use Rattle.twp_text.specs.Cutting.{small_letter}
 use Rattle.twp_text.specs.Tokens.{Token, StartsWith, HasTokens, IsToken, IsGoodToken, begins_with, is_white, kind_among, words}
 use Rattle.twp_text.specs.Tokens.IsToken.{good}
-use Rattle.twp_text.specs.Tokens.IsGoodToken.{a_word, a_half, a_half_sign, a_quarter, a_quarter_sign, a_comma, a_stop}
-use Rattle.twp_text.specs.Grammar.{class_of, lot, comma, stop}
+use Rattle.twp_text.specs.Tokens.IsGoodToken.{a_word, a_half, a_half_sign, a_quarter, a_quarter_sign, a_comma}
+use Rattle.twp_text.specs.Grammar.{class_of, lot}
 use Rattle.twp_text.specs.Machine.{next, take_token, run, with_newest, is_in_chain, before_parts}
 use Rattle.twp_text.specs.Passing.{Leads, StandsAt, IsStepAt, end_of, letters_of, fraction_of, BeginWithStep}
 use Rattle.twp_text.proofs.LetterFacts.{by_bit, by_its_bit}
@@ -63,7 +63,7 @@ leads_then text at state its mid between some to behind grown f g =
     }
 
 -- one token
-leads_token : (text : List ℕ) (at : ℕ) (state : State) (its : List Item) (token : Token) (to : ℕ) (behind : State) → StartsWith at (drop at text) token (drop to text) → end_of token ≡ to → to ≤ length text → next state (class_of token.kind) ≡ Some behind → Leads text at state its to behind (take_token state token.kind token.at its)
+pub leads_token : (text : List ℕ) (at : ℕ) (state : State) (its : List Item) (token : Token) (to : ℕ) (behind : State) → StartsWith at (drop at text) token (drop to text) → end_of token ≡ to → to ≤ length text → next state (class_of token.kind) ≡ Some behind → Leads text at state its to behind (take_token state token.kind token.at its)
 leads_token text at state its token to behind starts ends within is =
     let place : token.at ≡ at + length starts.space = starts.place in
     record {
@@ -91,11 +91,11 @@ spaced text at spelt (token ∷ tokens) (rest, starts, more) =
       more,
     )
 
-leads_space : (text : List ℕ) (at : ℕ) (state : State) (its : List Item) → drop at text ≡ codes " " ++ drop (at + 1) text → at + 1 ≤ length text → Leads text at state its (at + 1) state its
+pub leads_space : (text : List ℕ) (at : ℕ) (state : State) (its : List Item) → drop at text ≡ codes " " ++ drop (at + 1) text → at + 1 ≤ length text → Leads text at state its (at + 1) state its
 leads_space text at state its spelt within =
     record { tokens = []; cut = spaced text at spelt; walked = refl; forward = omega arith; within = within }
 
-abbrev made : Kind → List ℕ → ℕ → Token
+abbrev pub made : Kind → List ℕ → ℕ → Token
 made kind text at = record { kind = kind; text = text; at = at }
 
 -- a half and a quarter, right at a place
@@ -117,7 +117,7 @@ quarter_leads text at its spelt within =
     leads_token text at past.Corner its (made Quarter (codes "1/4") at) (at + 3) past.Step (quarter_starts text at spelt) refl within refl
 
 -- what is left of a text behind some bytes that it goes on with
-left_behind : (text : List ℕ) (at n : ℕ) (bytes : List ℕ) → drop at text ≡ bytes → drop (at + n) text ≡ drop n bytes
+pub left_behind : (text : List ℕ) (at n : ℕ) (bytes : List ℕ) → drop at text ≡ bytes → drop (at + n) text ≡ drop n bytes
 left_behind text at n bytes spelt = sym (drop-drop n at text) ∙ ap (λ b. drop n b) spelt
 
 -- `of` and `the` behind a step, and the space behind them
@@ -153,9 +153,6 @@ pub record IsMark (byte : ℕ) (kind : Kind) : Type 0 where
   pub is : (rest : List ℕ) → IsGoodToken (byte ∷ []) rest kind
   pub kept : (state : State) (at : ℕ) (its : List Item) → take_token state kind at its ≡ its
 
-pub a_full_stop : IsMark 46 Stop
-a_full_stop = record { is = λ rest. a_stop refl refl; kept = λ state at its. refl }
-
 pub the_comma : IsMark 44 Comma
 the_comma = record { is = λ rest. a_comma refl refl; kept = λ state at its. refl }
 
@@ -165,33 +162,6 @@ mark_leads text at byte kind state behind its mark is spelt within =
     record { space = []; white = AllPass-from_list_all is_white [] refl; spelt = spelt; place = omega arith; is = good (mark.is (drop (at + 1) text)) } in
     subst (λ (js : List Item). Leads text at state its (at + 1) behind js) (mark.kept state at its)
     (leads_token text at state its (made kind (byte ∷ []) at) (at + 1) behind starts refl within is)
-
--- a full stop, and the space behind it
-pub stop_leads : (text : List ℕ) (at : ℕ) (state behind : State) (its : List Item) → next state stop ≡ Some behind → drop at text ≡ codes ". " ++ drop (at + 2) text → at + 2 ≤ length text → Leads text at state its (at + 2) behind its
-stop_leads text at state behind its is spelt within =
-    let space : drop (at + 1) text ≡ codes " " ++ drop (at + 2) text = left_behind text at 1 (codes ". " ++ drop (at + 2) text) spelt in
-    let end : (at + 1) + 1 ≡ at + 2 = omega arith in
-    leads_then text at state its (at + 1) behind its (at + 2) behind its
-    (mark_leads text at 46 Stop state behind its a_full_stop is (rw space spelt) (omega arith))
-    (subst (λ (n : ℕ). Leads text (at + 1) behind its n behind its) end (leads_space text (at + 1) behind its (rw end space) (omega arith)))
-
--- a full stop and a comma
-pub stop_comma_leads : (text : List ℕ) (at : ℕ) (state between behind : State) (its : List Item) → next state stop ≡ Some between → next between comma ≡ Some behind → drop at text ≡ codes ".," ++ drop (at + 2) text → at + 2 ≤ length text → Leads text at state its (at + 2) behind its
-stop_comma_leads text at state between behind its is is_behind spelt within =
-    let left : drop (at + 1) text ≡ codes "," ++ drop (at + 2) text = left_behind text at 1 (codes ".," ++ drop (at + 2) text) spelt in
-    let end : (at + 1) + 1 ≡ at + 2 = omega arith in
-    leads_then text at state its (at + 1) between its (at + 2) behind its
-    (mark_leads text at 46 Stop state between its a_full_stop is (rw left spelt) (omega arith))
-    (subst (λ (n : ℕ). Leads text (at + 1) between its n behind its) end (mark_leads text (at + 1) 44 Comma between behind its the_comma is_behind (rw end left) (omega arith)))
-
--- a full stop and a comma, and the space behind them
-pub stop_comma_space_leads : (text : List ℕ) (at : ℕ) (state between behind : State) (its : List Item) → next state stop ≡ Some between → next between comma ≡ Some behind → drop at text ≡ codes "., " ++ drop (at + 3) text → at + 3 ≤ length text → Leads text at state its (at + 3) behind its
-stop_comma_space_leads text at state between behind its is is_behind spelt within =
-    let space : drop (at + 2) text ≡ codes " " ++ drop (at + 3) text = left_behind text at 2 (codes "., " ++ drop (at + 3) text) spelt in
-    let end : (at + 2) + 1 ≡ at + 3 = omega arith in
-    leads_then text at state its (at + 2) behind its (at + 3) behind its
-    (stop_comma_leads text at state between behind its is is_behind (rw space spelt) (omega arith))
-    (subst (λ (n : ℕ). Leads text (at + 2) behind its n behind its) end (leads_space text (at + 2) behind its (rw end space) (omega arith)))
 
 -- `and` behind the comma of a part, and the space behind it
 pub and_leads : (text : List ℕ) (at : ℕ) (its : List Item) → drop at text ≡ codes "and " ++ drop (at + 4) text → at + 4 ≤ length text → Leads text at past.PartComma its (at + 4) past.BeforePart its

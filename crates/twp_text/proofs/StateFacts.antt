@@ -3,7 +3,7 @@ use Rattle.std.proofs.Common.{◌≡◌, true, false, Option, Some, None, refl}
 use Rattle.std.specs.Option.{option_map, is_some}
 use Rattle.twp_text.specs.declared.state.State.{State}
 use Rattle.twp_text.specs.declared.state.State.TheVariants as past
-use Rattle.twp_text.specs.Grammar.{lot, north_south, east_west, corner}
+use Rattle.twp_text.specs.Grammar.{lot, sec, north_south, east_west, corner}
 use Rattle.twp_text.specs.Machine.{next, is_in_chain}
 
 pub leads_on : (o : Option State) (behind : State) → is_some o ≡ true → Some behind ≡ option_map (λ _. behind) o
@@ -57,3 +57,12 @@ east_west_of_step past.Step h = refl
 east_west_of_step past.Of h = refl
 east_west_of_step past.OfThe h = refl
 east_west_of_step _ h = cc h
+
+-- where sections may begin, their word does
+pub sections_begin : (state : State) → true ≡ is_some (next state sec) → next state sec ≡ Some past.SectionWord
+sections_begin past.Start h = refl
+sections_begin past.RangeSide h = refl
+sections_begin past.RangeSideStop h = refl
+sections_begin past.BeforeGroup h = refl
+sections_begin past.Semicolon h = refl
+sections_begin _ h = cc h

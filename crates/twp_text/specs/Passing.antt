@@ -12,7 +12,9 @@ use Rattle.twp_text.specs.declared.kind.Kind.TheVariants.{Quarter}
 use Rattle.twp_text.specs.declared.state.State.{State}
 use Rattle.twp_text.specs.Tokens.{Token, StartsWith, HasTokens, kind_among, words}
 use Rattle.twp_text.specs.Cutting.{small_letter}
-use Rattle.twp_text.specs.Machine.{run}
+use Rattle.twp_text.specs.declared.item.Numeral.{Numeral}
+use Rattle.twp_text.specs.Grammar.{number}
+use Rattle.twp_text.specs.Machine.{next, run, take_number}
 
 -- The tokens of a text between two places lead the machine from a state and items to others.
 pub record Leads (text : List ℕ) (at : ℕ) (state : State) (items : List Item)
@@ -82,3 +84,9 @@ BeginWithStep first second third fourth fifth it size =
     ⊎ (AreQuarter first second it × (size ≡ 5) × (third ≡ 49) × (fourth ≡ 47) × (fifth ≡ 52))
     ⊎ (AreHalf first it × (size ≡ 3) × (second ≡ 0xC2) × (third ≡ 0xBD))
     ⊎ (AreQuarter first second it × (size ≡ 4) × (third ≡ 0xC2) × (fourth ≡ 0xBC))
+
+-- a number is the next token of a text from a place on, and ends at another
+abbrev pub IsNumberBehind : List ℕ → ℕ → Numeral → ℕ → Type 0
+IsNumberBehind text from it end =
+    (state behind : State) (items : List Item) → next state number ≡ Some behind
+    → Leads text from state items end behind (take_number state it items)

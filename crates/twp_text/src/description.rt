@@ -8,7 +8,7 @@ use crate::fault::{TEXT_LIMIT, TextFault};
 use crate::item::Item;
 use crate::items::Items;
 use crate::kind::Kind;
-use crate::passing::behind_token;
+use crate::passing::behind_fraction;
 use crate::state::State;
 use crate::token::{Token, Tokens};
 use std::alloc::Global;
@@ -66,14 +66,15 @@ impl Description {
         ensures helps { IfErr result (Helps text.now) }
     {
         let mut items = Items::with_room(alloc, text.len() / BYTES_TO_ITEM)?;
-        let mut state = State::Start;
-        let mut at = 0;
+        let front = items.take_front(alloc, text)?;
+        let mut state = front.state;
+        let mut at = front.at;
         while let Some(token) = Token::first(text, at) {
             let Some(behind) = state.next(token.kind) else {
                 return Err(fault_of(text, token.at, state.expected()));
             };
             items.take(alloc, state, token.kind, token.at as u32)?;
-            let reached = behind_token(text, token.at + token.text.len(), behind);
+            let reached = behind_fraction(text, token.at + token.text.len(), behind);
             let reached = items.take_parts(alloc, text, reached)?;
             state = reached.state;
             at = reached.at;

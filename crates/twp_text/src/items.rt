@@ -51,8 +51,9 @@ impl Items {
         items
     }
 
+    /// Adds an item.
     #[inline(always)]
-    fn push(&mut self, item: Item) -> Result<(), AllocError>
+    pub(crate) fn push(&mut self, item: Item) -> Result<(), AllocError>
         ensures { OnOk result (self.new ≡ item ∷ self.old) }
     {
         self.items.push(item)?;
@@ -288,7 +289,7 @@ impl Items {
 
     /// The first part of a section makes it one that isn't whole.
     #[inline(always)]
-    fn before_parts(&mut self, state: State) -> Result<(), AllocError>
+    pub(crate) fn before_parts(&mut self, state: State) -> Result<(), AllocError>
         ensures { OnOk result (self.new ≡ before_parts state self.old) }
     {
         match state {

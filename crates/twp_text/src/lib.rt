@@ -8,6 +8,7 @@ mod change;
 mod description;
 mod expected;
 mod fault;
+mod front;
 mod full_quarters;
 mod growing;
 mod item;

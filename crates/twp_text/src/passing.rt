@@ -34,15 +34,6 @@ const COMMA: usize = 1;
 /// How many bytes a comma has, with a space behind it.
 const COMMA_SPACE: usize = 2;
 
-/// How many bytes a full stop has, with a space behind it.
-const STOP: usize = 2;
-
-/// How many bytes a full stop and a comma have.
-const STOP_COMMA: usize = 2;
-
-/// How many bytes a full stop and a comma have, with a space behind them.
-const STOP_COMMA_SPACE: usize = 3;
-
 /// How many bytes `and` has, with a space behind it.
 const AND: usize = 4;
 
@@ -60,11 +51,10 @@ pub struct UsualStep {
     pub size: usize,
 }
 
-/// Passes over what mostly stands behind a token: the half or the quarter behind the letters of a
-/// step, and the marks in a heading. It says nothing more of the items; what is spelled otherwise
-/// is left as it is.
+/// Passes over the half or the quarter that mostly stands behind the letters of a step. It says
+/// nothing more of the items; what is spelled otherwise is left as it is.
 #[inline(always)]
-pub fn behind_token(text: &[u8], at: usize, state: State) -> Reached
+pub fn behind_fraction(text: &[u8], at: usize, state: State) -> Reached
     requires { at ≤ length text.now }
     ensures { (items : List Item)
         → Leads text.now at state items result.at result.state items }
@@ -72,22 +62,6 @@ pub fn behind_token(text: &[u8], at: usize, state: State) -> Reached
     match state {
         State::Side if goes_on(text, at, b"1/2") => behind_step(at + FRACTION),
         State::Corner if goes_on(text, at, b"1/4") => behind_step(at + FRACTION),
-        State::Township if goes_on(text, at, b". ") => Reached {
-            at: at + STOP,
-            state: State::TownshipStop,
-        },
-        State::TownshipSide if goes_on(text, at, b"., ") => Reached {
-            at: at + STOP_COMMA_SPACE,
-            state: State::TownshipComma,
-        },
-        State::Range if goes_on(text, at, b". ") => Reached {
-            at: at + STOP,
-            state: State::RangeStop,
-        },
-        State::RangeSide if goes_on(text, at, b".,") => Reached {
-            at: at + STOP_COMMA,
-            state: State::BeforeGroup,
-        },
         _ => Reached { at, state },
     }
 }

@@ -1,6 +1,6 @@
 ghost use Rattle.std.specs.Prelude.{◌≡◌};
 ghost use Rattle.std.specs.Option.{is_some};
-ghost use Rattle.twp_text.specs.Grammar.{lot, corner};
+ghost use Rattle.twp_text.specs.Grammar.{lot, corner, sec};
 ghost use Rattle.twp_text.specs.Machine.{next, is_final, is_in_chain};
 ghost use Rattle.twp_text.specs.Expected.{expected_of};
 
@@ -133,6 +133,21 @@ impl State {
         ensures { result ≡ is_in_chain self }
     {
         matches!(self, State::Step | State::Of | State::OfThe)
+    }
+
+    /// Whether a group of sections may begin here.
+    #[inline(always)]
+    pub fn begins_sections(self) -> bool
+        ensures { result ≡ is_some (next self sec) }
+    {
+        matches!(
+            self,
+            State::Start
+                | State::RangeSide
+                | State::RangeSideStop
+                | State::BeforeGroup
+                | State::Semicolon
+        )
     }
 
     /// Whether a part of one section may begin here.

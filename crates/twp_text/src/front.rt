@@ -1,0 +1,235 @@
+//! The front of a description in its usual spelling: its heading and its first section.
+ghost use Rattle.std.specs.Prelude.{◌≡◌, ◌≤◌, ◌∷◌, ◌+◌, List, Some, length, IfOk, IfSome};
+ghost use Rattle.twp_text.specs.declared.item.Item.{Item as TakenItem};
+ghost use Rattle.twp_text.specs.declared.change.Change.TheVariants.{TownshipSide, RangeSide};
+ghost use Rattle.twp_text.specs.Grammar.{number};
+ghost use Rattle.twp_text.specs.Machine.{next, with_newest};
+ghost use Rattle.twp_text.specs.Passing.{Leads, IsNumberBehind};
+ghost use Rattle.twp_text.specs.TextFaults.{TEXT_LIMIT};
+
+use crate::change::Change;
+use crate::item::{Item, Numeral};
+use crate::items::Items;
+use crate::kind::Kind;
+use crate::passing::{Reached, goes_on};
+use crate::state::State;
+use crate::token::{Token, behind_white};
+use std::alloc::{AllocError, Global};
+use twp_grid::{EastWest, NorthSouth};
+
+/// How many bytes `T. ` has.
+const TOWNSHIP: usize = 3;
+
+/// How many bytes ` N., R. ` has.
+const TOWNSHIP_SIDE: usize = 8;
+
+/// How many bytes ` W.,` has.
+const RANGE_SIDE: usize = 4;
+
+/// How many bytes `sec. ` has.
+const SEC: usize = 5;
+
+/// How many bytes `Section ` has.
+const SECTION: usize = 8;
+
+/// How many bytes a colon has.
+const COLON: usize = 1;
+
+/// What a heading says, and the place behind it.
+#[derive(Clone, Copy)]
+struct UsualHeading {
+    number: u16,
+    north_south: NorthSouth,
+    range: u16,
+    east_west: EastWest,
+    end: usize,
+}
+
+/// A number, and the place behind it.
+#[derive(Clone, Copy)]
+struct UsualNumber {
+    numeral: Numeral,
+    end: usize,
+}
+
+impl Items {
+    /// Takes the heading, the first section and its first parts, as far as they are spelled as is
+    /// usual.
+    #[inline(never)]
+    pub(crate) fn take_front(
+        &mut self,
+        alloc: Global,
+        text: &[u8],
+    ) -> Result<Reached, AllocError>
+        requires { length text.now ≤ TEXT_LIMIT }
+        ensures { IfOk result
+            (λ to. Leads text.now 0 State.Start self.old to.at to.state self.new) }
+    {
+        let heading = self.take_heading(text)?;
+        let section = self.take_section(text, heading)?;
+        self.take_parts(alloc, text, section)
+    }
+
+    /// Takes a heading as `T. 2 N., R. 3 W.,`.
+    fn take_heading(&mut self, text: &[u8]) -> Result<Reached, AllocError>
+        requires { length text.now ≤ TEXT_LIMIT }
+        ensures { IfOk result
+            (λ to. Leads text.now 0 State.Start self.old to.at to.state self.new) }
+    {
+        let Some(heading) = heading_of(text) else {
+            return Ok(Reached {
+                at: 0,
+                state: State::Start,
+            });
+        };
+        self.push(Item::Heading {
+            number: heading.number,
+            north_south: heading.north_south,
+            range: heading.range,
+            east_west: heading.east_west,
+            at: 0,
+        })?;
+        Ok(Reached {
+            at: heading.end,
+            state: State::BeforeGroup,
+        })
+    }
+
+    /// Takes a section as `sec. 5`, and the colon behind it.
+    fn take_section(&mut self, text: &[u8], from: Reached) -> Result<Reached, AllocError>
+        requires place { from.at ≤ length text.now }
+        requires limit { length text.now ≤ TEXT_LIMIT }
+        ensures { IfOk result
+            (λ to. Leads text.now from.at from.state self.old to.at to.state self.new) }
+    {
+        let Some(word) = behind_sec(text, from) else {
+            return Ok(from);
+        };
+        let Some(number) = number_behind(text, word.at) else {
+            return Ok(from);
+        };
+        self.push(Item::Sections {
+            first: number.numeral,
+            last: number.numeral,
+            whole: true,
+        })?;
+        if !goes_on(text, number.end, b":") {
+            return Ok(Reached {
+                at: number.end,
+                state: State::SectionNumber,
+            });
+        }
+        self.before_parts(State::SectionNumber)?;
+        Ok(Reached {
+            at: number.end + COLON,
+            state: State::BeforePart,
+        })
+    }
+}
+
+/// The heading that a text begins with, if it is spelled as is usual.
+#[inline(always)]
+fn heading_of(text: &[u8]) -> Option<UsualHeading>
+    requires { length text.now ≤ TEXT_LIMIT }
+    ensures { IfSome result (λ heading. (items : List TakenItem)
+        → Leads text.now 0 State.Start items heading.end State.BeforeGroup
+        (TakenItem.Heading heading.number heading.north_south heading.range heading.east_west 0
+        ∷ items)) }
+{
+    if !goes_on(text, 0, b"T. ") {
+        return None;
+    }
+    let number = number_behind(text, TOWNSHIP)?;
+    let north_south = township_side(text, number.end)?;
+    let range = number_behind(text, number.end + TOWNSHIP_SIDE)?;
+    let east_west = range_side(text, range.end)?;
+    Some(UsualHeading {
+        number: number.numeral.value,
+        north_south,
+        range: range.numeral.value,
+        east_west,
+        end: range.end + RANGE_SIDE,
+    })
+}
+
+/// The township's side, if it is spelled as ` N., R. `.
+#[inline(always)]
+fn township_side(text: &[u8], at: usize) -> Option<NorthSouth>
+    requires { at ≤ length text.now }
+    ensures { IfSome result (λ side. (items : List TakenItem)
+        → Leads text.now at State.TownshipNumber items (at + 8) State.RangeStop
+        (with_newest (TownshipSide side) items)) }
+{
+    if goes_on(text, at, b" N., R. ") {
+        return Some(NorthSouth::N);
+    }
+    if goes_on(text, at, b" S., R. ") {
+        return Some(NorthSouth::S);
+    }
+    None
+}
+
+/// The range's side, if it is spelled as ` W.,`.
+#[inline(always)]
+fn range_side(text: &[u8], at: usize) -> Option<EastWest>
+    requires { at ≤ length text.now }
+    ensures { IfSome result (λ side. (items : List TakenItem)
+        → Leads text.now at State.RangeNumber items (at + 4) State.BeforeGroup
+        (with_newest (RangeSide side) items)) }
+{
+    if goes_on(text, at, b" W.,") {
+        return Some(EastWest::W);
+    }
+    if goes_on(text, at, b" E.,") {
+        return Some(EastWest::E);
+    }
+    None
+}
+
+/// The place behind the word that a section begins with, if it is spelled as `sec. ` or `Section `.
+#[inline(always)]
+fn behind_sec(text: &[u8], from: Reached) -> Option<Reached>
+    requires { from.at ≤ length text.now }
+    ensures leads { IfSome result (λ word. (items : List TakenItem)
+        → Leads text.now from.at from.state items word.at word.state items) }
+    ensures number { IfSome result (λ word. next word.state number ≡ Some State.SectionNumber) }
+{
+    if !from.state.begins_sections() {
+        return None;
+    }
+    let at = behind_white(text, from.at);
+    if goes_on(text, at, b"sec. ") {
+        return Some(Reached {
+            at: at + SEC,
+            state: State::SectionStop,
+        });
+    }
+    if goes_on(text, at, b"Section ") {
+        return Some(Reached {
+            at: at + SECTION,
+            state: State::SectionWord,
+        });
+    }
+    None
+}
+
+/// The number that is the next token of a text from a place on.
+#[inline(always)]
+fn number_behind(text: &[u8], from: usize) -> Option<UsualNumber>
+    requires place { from ≤ length text.now }
+    requires limit { length text.now ≤ TEXT_LIMIT }
+    ensures number { IfSome result (λ it. IsNumberBehind text.now from it.numeral it.end) }
+    ensures within { IfSome result (λ it. it.end ≤ length text.now) }
+{
+    let token = Token::first(text, from)?;
+    let Kind::Number(value) = token.kind else {
+        return None;
+    };
+    Some(UsualNumber {
+        numeral: Numeral {
+            value,
+            at: token.at as u32,
+        },
+        end: token.at + token.text.len(),
+    })
+}
