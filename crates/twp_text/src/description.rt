@@ -66,21 +66,20 @@ impl Description {
         ensures helps { IfErr result (Helps text.now) }
     {
         let mut items = Items::with_room(alloc, text.len() / BYTES_TO_ITEM)?;
-        let front = items.take_front(alloc, text)?;
-        let mut state = front.state;
-        let mut at = front.at;
-        while let Some(token) = Token::first(text, at) {
-            let Some(behind) = state.next(token.kind) else {
-                return Err(fault_of(text, token.at, state.expected()));
+        let mut reached = items.take_front(text)?;
+        'tokens: loop {
+            reached = items.take_parts(alloc, text, reached)?;
+            let Some(token) = Token::first(text, reached.at) else {
+                break;
             };
-            items.take(alloc, state, token.kind, token.at as u32)?;
-            let reached = behind_fraction(text, token.at + token.text.len(), behind);
-            let reached = items.take_parts(alloc, text, reached)?;
-            state = reached.state;
-            at = reached.at;
+            let Some(behind) = reached.state.next(token.kind) else {
+                return Err(fault_of(text, token.at, reached.state.expected()));
+            };
+            items.take(alloc, reached.state, token.kind, token.at as u32)?;
+            reached = behind_fraction(text, token.at + token.text.len(), behind);
         }
-        if !state.is_final() {
-            return Err(fault_of(text, text.len(), state.expected()));
+        if !reached.state.is_final() {
+            return Err(fault_of(text, text.len(), reached.state.expected()));
         }
         Ok(Description {
             items: items.into_vec(),

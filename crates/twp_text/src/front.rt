@@ -14,7 +14,7 @@ use crate::kind::Kind;
 use crate::passing::{Reached, goes_on};
 use crate::state::State;
 use crate::token::{Token, behind_white};
-use std::alloc::{AllocError, Global};
+use std::alloc::AllocError;
 use twp_grid::{EastWest, NorthSouth};
 
 /// How many bytes `T. ` has.
@@ -53,21 +53,15 @@ struct UsualNumber {
 }
 
 impl Items {
-    /// Takes the heading, the first section and its first parts, as far as they are spelled as is
-    /// usual.
+    /// Takes the heading and the first section, as far as they are spelled as is usual.
     #[inline(never)]
-    pub(crate) fn take_front(
-        &mut self,
-        alloc: Global,
-        text: &[u8],
-    ) -> Result<Reached, AllocError>
+    pub(crate) fn take_front(&mut self, text: &[u8]) -> Result<Reached, AllocError>
         requires { length text.now ≤ TEXT_LIMIT }
         ensures { IfOk result
             (λ to. Leads text.now 0 State.Start self.old to.at to.state self.new) }
     {
         let heading = self.take_heading(text)?;
-        let section = self.take_section(text, heading)?;
-        self.take_parts(alloc, text, section)
+        self.take_section(text, heading)
     }
 
     /// Takes a heading as `T. 2 N., R. 3 W.,`.

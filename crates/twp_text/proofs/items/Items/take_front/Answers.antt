@@ -11,13 +11,10 @@ returns c =
     let text = c.args.text.now in
     let begun : List Item = c.args.self.now in
     let heading = c.in_ok-heading.heading in
-    let section = c.in_ok-section.section in
     let headed : List Item = c.take_heading.new.self in
-    let sectioned : List Item = c.take_section.new.self in
-    let grown : List Item = c.take_parts.new.self in
-    if_ok c.take_parts.result
-    (λ to. Leads text section.at section.state sectioned to.at to.state grown)
+    let grown : List Item = c.take_section.new.self in
+    if_ok c.take_section.result
+    (λ to. Leads text heading.at heading.state headed to.at to.state grown)
     (λ to. Leads text 0 past.Start begun to.at to.state grown)
-    (λ to leads. leads_then text 0 past.Start begun heading.at heading.state headed to.at to.state grown c.in_ok-heading.ensures
-    (leads_then text heading.at heading.state headed section.at section.state sectioned to.at to.state grown c.in_ok-section.ensures leads))
-    c.take_parts.ensures
+    (λ to leads. leads_then text 0 past.Start begun heading.at heading.state headed to.at to.state grown c.in_ok-heading.ensures leads)
+    c.take_section.ensures
