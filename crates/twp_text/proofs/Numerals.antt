@@ -1,5 +1,5 @@
 -- Digits and the numbers that they spell.
-use Rattle.std.proofs.Common.{◌≡◌, ℕ, ◌+◌, ◌-◌, ◌*◌, ◌^◌, ◌<◌, ◌≤◌, Bool, true, false, cond, one-add, le-leb, inl, inr, List, [], ◌∷◌, length, take, get_or, refl, ap, sym, ◌∙◌, arith, add-one}
+use Rattle.std.proofs.Common.{◌≡◌, ℕ, ◌+◌, ◌-◌, ◌*◌, ◌^◌, ◌<◌, ◌≤◌, Bool, true, false, cond, one-add, le-leb, inl, inr, List, [], ◌∷◌, length, take, slice_index, get_or, refl, ap, sym, ◌∙◌, arith, add-one}
 use Rattle.std.specs.Char.{is_ascii_digit, digit_value}
 use Rattle.std.specs.Int.{IsInRange}
 use Rattle.std.specs.Str.{all_ascii_digits}
@@ -70,6 +70,24 @@ many_digits bytes size is many =
   where
     not_le : (n : ℕ) → 4 < n → leb n 4 ≡ false
     not_le n many = elim (leb_tells n 4) [ inl (e, few) ↦ absurd (omega arith) | inr (e, more) ↦ e ]
+
+-- one digit in front of something else
+one_in_bytes : (bytes : List ℕ) → is_ascii_digit (slice_index bytes 0) ≡ true → is_ascii_digit (slice_index bytes 1) ≡ false → 1 ≡ prefix_len is_ascii_digit bytes
+one_in_bytes [] h k = cc h
+one_in_bytes (x ∷ []) h k = rw h refl
+one_in_bytes (x ∷ y ∷ bytes) h k = rw (h, k) refl
+
+its_value : (bytes : List ℕ) → is_ascii_digit (slice_index bytes 0) ≡ true → digits_value 10 (take 1 bytes) ≡ slice_index bytes 0 - 48
+its_value [] h = cc h
+its_value (x ∷ bytes) h =
+    let all : AllDigits 10 (x ∷ []) = digits_tested (x ∷ []) (rw h refl) in
+    let more : OneMoreDigit (x ∷ []) 0 0 = one_more_digit (x ∷ []) 0 0 all (omega arith) refl (omega arith) in
+    let value : 10 * 0 + (x - 48) ≡ digits_value 10 (x ∷ []) = more.value in
+    sym value ∙ omega arith
+
+pub one_digit : (bytes : List ℕ) → is_ascii_digit (slice_index bytes 0) ≡ true → is_ascii_digit (slice_index bytes 1) ≡ false → lexeme (Number (slice_index bytes 0 - 48)) 1 ≡ cut_number bytes
+one_digit bytes h k =
+    ap (λ v. lexeme (Number v) 1) (sym (its_value bytes h)) ∙ few_digits bytes 1 (one_in_bytes bytes h k) (omega arith)
 
 -- what digits in front of a text are
 pub ruleset numbers = (digits_in_front, few_digits, many_digits)

@@ -1,4 +1,4 @@
-ghost use Rattle.std.specs.Prelude.{◌≡◌, ◌+◌, ◌<◌, ◌≤◌, Some, IfSome, length, take, drop};
+ghost use Rattle.std.specs.Prelude.{◌≡◌, ◌+◌, ◌<◌, ◌≤◌, true, Some, IfSome, length, take, drop};
 ghost use Rattle.std.specs.Prelude.{slice_index};
 ghost use Rattle.std.specs.Char.{is_ascii_alphabetic, is_ascii_digit};
 ghost use Rattle.std.specs.List.{prefix_len};
@@ -169,7 +169,8 @@ fn count_digits(text: &[u8], at: usize) -> usize
 #[inline(always)]
 #[tactic(auto, unfolding(crate::specs::Cutting::cut_digits))]
 fn digits(text: &[u8], at: usize) -> Lexeme
-    requires { at < length text.now }
+    requires place { at < length text.now }
+    requires digit { is_ascii_digit (slice_index (drop at text.now) 0) ≡ true }
     ensures { result ≡ cut_digits (drop at text.now) }
 {
     if byte_at(text, at, 0) == b'1' && byte_at(text, at, 1) == b'/' {
@@ -192,10 +193,26 @@ fn digits(text: &[u8], at: usize) -> Lexeme
     number(text, at)
 }
 
-/// Digits: a number, or too many.
+/// Digits: a number, or too many. Mostly there is one digit.
 #[inline(always)]
-#[tactic(auto, using(crate::proofs::Numerals::numbers))]
+#[tactic(auto, using(crate::proofs::Numerals::one_digit))]
 fn number(text: &[u8], at: usize) -> Lexeme
+    requires place { at < length text.now }
+    requires digit { is_ascii_digit (slice_index (drop at text.now) 0) ≡ true }
+    ensures { result ≡ cut_number (drop at text.now) }
+{
+    if byte_at(text, at, 1).is_ascii_digit() {
+        return long_number(text, at);
+    }
+    Lexeme {
+        kind: Kind::Number(u16::from(byte_at(text, at, 0) - b'0')),
+        size: 1,
+    }
+}
+
+/// Two digits or more: a number, or too many.
+#[tactic(auto, using(crate::proofs::Numerals::numbers))]
+fn long_number(text: &[u8], at: usize) -> Lexeme
     requires { at ≤ length text.now }
     ensures { result ≡ cut_number (drop at text.now) }
 {
