@@ -42,6 +42,9 @@ impl From<AllocError> for ReadFault {
 /// How many bytes are asked for at a time.
 const PIECE: usize = 1_024;
 
+/// How many bytes there is room for from the start: growing copies what was read so far.
+const ROOM: usize = 131_072;
+
 /// Reads all the bytes that a source gives, to the end of the input. None where there are more than
 /// `limit`: then one byte more was read, and no further one was asked for.
 pub fn read_whole<S: Source>(
@@ -86,7 +89,7 @@ pub fn read_up_to<S: Source>(
     ensures bytes { IfOk result (λ read. (bytes : List ℕ)
         × Tells (S.remaining source.old) bytes × (read.items ≡ take most bytes)) }
 {
-    let mut read = Vec::new(alloc);
+    let mut read = Vec::with_capacity(alloc, ROOM.min(most))?;
     let mut piece = [0; PIECE];
     'pieces: while read.len() < most {
         let room = PIECE.min(most - read.len());
