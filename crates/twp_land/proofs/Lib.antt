@@ -7,4 +7,5 @@ pub mod LaneFacts
 pub mod LotFacts
 pub mod RemovalFacts
 pub mod RowFacts
+pub mod RowLaneFacts
 pub mod SameFacts

@@ -35,6 +35,16 @@ pub(crate) fn ones(start: u8, len: u8) -> u16
     (u32::from(ONES[usize::from(len)]) << u32::from(start)) as u16
 }
 
+/// The bits of a block's columns.
+#[inline(always)]
+pub(crate) fn column_bits(block: Block) -> u16
+    ensures value { result
+        ≡ 2 ^ (block.columns.start + block.columns.len) - 2 ^ block.columns.start }
+    ensures dyadic { IsDyadic PLACE_DIGITS block.columns }
+{
+    ones(block.column(), block.width())
+}
+
 /// In the lane of each row of a block, the bits of its columns.
 #[inline(always)]
 pub(crate) fn block_lanes(block: Block) -> u16x16
@@ -43,7 +53,7 @@ pub(crate) fn block_lanes(block: Block) -> u16x16
     ensures columns { IsDyadic PLACE_DIGITS block.columns }
 {
     let rows = u16x16::splat(ones(block.row(), block.height()));
-    let columns = u16x16::splat(ones(block.column(), block.width()));
+    let columns = u16x16::splat(column_bits(block));
     let row_bits = vector(&ROW_BITS);
     (rows & row_bits)
         .simd_eq(row_bits)

@@ -1,4 +1,4 @@
-use crate::bits::{block_lanes, vector};
+use crate::bits::{block_lanes, column_bits, vector};
 use crate::plot::Plot;
 use crate::sections::Sections;
 use std::simd::prelude::*;
@@ -9,6 +9,9 @@ pub type Lanes = Sections<LaneRows>;
 
 /// A section's places as lanes of bits: a lane for each row, from the south, and in it a bit for
 /// each column, from the east.
+///
+/// Most parts that descriptions name are single places or lie in one row. Whether such a block is
+/// met, and to add it, takes its row's lane alone; blocks of more rows take all lanes at once.
 #[derive(Clone, Copy, Debug)]
 pub struct LaneRows {
     lanes: [u16; PLACES_ACROSS],
@@ -36,6 +39,9 @@ impl Plot for LaneRows {
 
     #[inline]
     fn meets(&self, block: Block) -> bool {
+        if block.height() == 1 {
+            return self.lanes[usize::from(block.row())] & column_bits(block) != 0;
+        }
         (vector(&self.lanes) & block_lanes(block)).reduce_or() != 0
     }
 
@@ -53,6 +59,10 @@ impl Plot for LaneRows {
 
     #[inline]
     fn add(&mut self, block: Block) {
+        if block.height() == 1 {
+            self.lanes[usize::from(block.row())] |= column_bits(block);
+            return;
+        }
         let held = vector(&self.lanes) | block_lanes(block);
         held.copy_to_slice(&mut self.lanes);
     }
