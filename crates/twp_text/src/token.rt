@@ -1,4 +1,4 @@
-ghost use Rattle.std.specs.Prelude.{◌≡◌, ◌==◌, ◌||◌, ◌≤◌, ◌+◌, ◌++◌, drop, length, codes, IsTrue};
+ghost use Rattle.std.specs.Prelude.{◌≡◌, ◌≤◌, ◌+◌, ◌++◌, drop, length, codes, IsTrue};
 ghost use Rattle.twp_text.specs.Tokens.{is_white};
 ghost use Rattle.twp_text.specs.Cutting.{GivesFirst};
 ghost use Rattle.std.specs.Iterator.{at_most};
@@ -116,16 +116,7 @@ pub(crate) fn behind_white(text: &[u8], from: usize) -> usize
 fn is_white(byte: u8) -> bool
     ensures { result ≡ is_white byte }
 {
-    byte <= b' ' && (byte == b' ' || is_white_control(byte))
-}
-
-/// Whether a byte is a tabulator, a line feed or a carriage return, which are rarer than spaces.
-#[cold]
-#[inline(never)]
-fn is_white_control(byte: u8) -> bool
-    ensures { result ≡ (byte == 9) || (byte == 10) || (byte == 13) }
-{
-    matches!(byte, b'\t' | b'\n' | b'\r')
+    matches!(byte, b' ' | b'\t' | b'\n' | b'\r')
 }
 
 #[cfg(test)]
