@@ -14,7 +14,7 @@ fn answer(alloc: Global, text: &[u8]) -> Result<Option<(u8, u32)>, TextFault> {
 }
 
 /// Descriptions that are read.
-const READ: [&[u8]; 37] = [
+const READ: [&[u8]; 39] = [
     b"sec. 14.",
     b"secs. 1 thru 36.",
     b"sec. 5, lot 1.",
@@ -54,6 +54,8 @@ const READ: [&[u8]; 37] = [
     b"sec 1, all and all",
     b"sec 1, lots 1 to 2, inclusive, and 3, SW1/4",
     b"section 0000, LOT 9999",
+    b"T. 10 S., R. 3 E.,\n          Section 8: NE1/4,\n          and N1/2 of the SW1/4.",
+    b"T. 9999 N., R. 0 W., sec. 36: all.",
 ];
 
 #[test]
@@ -183,6 +185,30 @@ fn names_items(rt: HostRuntime) -> Result<(), Fail> {
         "Chain { steps: Steps { first: [Half(S), Quarter(NE)], more: [] }, at: 41 }",
         "Sections { first: Numeral { value: 7, at: 66 }, last: Numeral { value: 7, at: 66 }, whole: true }",
         "Sections { first: Numeral { value: 8, at: 69 }, last: Numeral { value: 8, at: 69 }, whole: true }",
+    ];
+    let items = description.items();
+    assert_eq!(rt; items.len(), wanted.len());
+    for (item, wanted) in items.iter().zip(wanted) {
+        let told = format!(in rt.alloc(); "{item:?}")?;
+        assert_eq!(rt; told.as_str(), wanted);
+    }
+    Ok(())
+}
+
+/// The items of a heading, a section and parts as they are mostly spelled. The places are counted
+/// by hand.
+#[test]
+fn names_items_in_usual_spelling(rt: HostRuntime) -> Result<(), Fail> {
+    let text =
+        b"T. 12 S., R. 3 E.,\n  Section 10: N1/2 of the NE1/4,\n         and SW1/4, NW1/4";
+    let description = Description::read(rt.alloc(), text)?;
+    let wanted = [
+        "Heading { number: 12, north_south: S, range: 3, east_west: E, at: 0 }",
+        "Sections { first: Numeral { value: 10, at: 29 }, last: Numeral { value: 10, at: 29 }, \
+        whole: false }",
+        "Chain { steps: Steps { first: [Half(N), Quarter(NE)], more: [] }, at: 33 }",
+        "Chain { steps: Steps { first: [Quarter(SW)], more: [] }, at: 65 }",
+        "Chain { steps: Steps { first: [Quarter(NW)], more: [] }, at: 72 }",
     ];
     let items = description.items();
     assert_eq!(rt; items.len(), wanted.len());
