@@ -7,10 +7,9 @@ use Rattle.twp_notes.specs.Records.{Fields, record_at}
 use Rattle.twp_plat.specs.Plats.{TownshipPlat}
 use Rattle.twp_acres.specs.Answers.{Describe}
 use Rattle.twp_acres.specs.LandAreas.{IsLandArea}
-use Rattle.twp_acres.specs.Laws.{township_places}
+use Rattle.twp_acres.specs.Laws.{IsOne, township_places}
 use Rattle.twp_acres.specs.Tracts.{description_in, tract_records, IsTractList, IsLandOfTracts}
 use Rattle.twp_acres.specs.ReportAnswers.{other_places, IsReportAnswer}
-use Rattle.twp_acres.specs.declared.verdict.Verdict.{Verdict}
 
 -- the area of a set of places and that of all others are together the area of the whole township
 abbrev pub RestAddsUp : Type 0
@@ -44,7 +43,4 @@ TractsAddUp = (plat : TownshipPlat) (bytes : List ℕ) (areas : ℕ → Fraction
 
 -- two texts, the field notes and the list of tracts, have one account, or one refusal
 abbrev pub OneReportAnswer : Type 0
-OneReportAnswer = (notes tracts answer answer' : List ℕ) (verdict verdict' : Verdict)
-    → IsReportAnswer notes tracts answer verdict
-    → IsReportAnswer notes tracts answer' verdict'
-    → (answer ≡ answer') × (verdict ≡ verdict')
+OneReportAnswer = (notes tracts : List ℕ) → IsOne (IsReportAnswer notes tracts)

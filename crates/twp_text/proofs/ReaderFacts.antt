@@ -12,7 +12,7 @@ use Rattle.twp_text.specs.Tokens.{Token, StartsWith, HasTokens, is_white}
 use Rattle.twp_text.specs.Grammar.{class_of, heading, description}
 use Rattle.twp_text.specs.declared.item.Numeral.{Numeral}
 use Rattle.twp_text.specs.Items.{Tree, ◌&◌, behind, items, numeral, end_of, range_of, whole_sections_item, parts_items, group_items, heading_item, BeginWithSections}
-use Rattle.twp_text.specs.Sentences.{IsSentence, HasItems}
+use Rattle.twp_text.specs.Sentences.{IsSentence, HasItems, MayFollow}
 use Rattle.twp_text.specs.Machine.{next, is_final, take_token, run}
 use Rattle.twp_text.specs.declared.kind.Kind.{Kind}
 use Rattle.twp_text.specs.declared.kind.Kind.TheVariants.{BadByte, BadNumber}
@@ -23,7 +23,7 @@ use Rattle.twp_text.specs.Expected.{expected_of}
 use Rattle.twp_text.specs.TextFaults.{refusal_of, fault_of_bad, TEXT_LIMIT, IsReadAs, refusal, number_of_bad, NoneBad, place_of, IsBadToken, IsSyntaxFault, GoesWrong, Helps, HasNoneBad}
 use Rattle.twp_text.proofs.TokenFacts.{one_token_list, has_token_list}
 use Rattle.twp_text.proofs.Walk.{newest_first}
-use Rattle.twp_text.proofs.Reading.{ended, go_on, run-append, accepted, fault_here, fault_at_end, what_follows}
+use Rattle.twp_text.proofs.Reading.{ended, go_on, run-append, accepted, fault_here, fault_at_end, what_follows, what_is_told}
 
 -- the tokens before some place: those behind it are the rest of the text's
 pub record Before (text : List ℕ) (at : ℕ) (bytes : List ℕ) (before : List Token) : Type 0 where
@@ -86,6 +86,8 @@ wrong_here text at bytes state its token rest f starts stuck =
       place = sym (place_here f.tokens left.0 token (length text));
       named_is = λ other more is. what_follows f.tokens other more state its f.walked
           (subst (λ (ts : List Token). IsSentence (ts ++ other ∷ more)) (take-append_seam f.tokens (token ∷ left.0)) is);
+      told_is = λ class is. subst (λ (ts : List Token). MayFollow ts class) (sym (take-append_seam f.tokens (token ∷ left.0)))
+          (what_is_told f.tokens state its f.walked class is);
     }
 
 all_tokens : (text : List ℕ) (at : ℕ) (bytes : List ℕ) (tokens : List Token) → Before text at bytes tokens → AllPass is_white bytes → HasTokens 0 text tokens
@@ -100,6 +102,8 @@ wrong_at_end text at bytes state its f white final = record {
   place = sym (place_at_end f.tokens (length text));
   named_is = λ other more is. what_follows f.tokens other more state its f.walked
       (subst (λ (ts : List Token). IsSentence (ts ++ other ∷ more)) (take_all (length f.tokens) f.tokens (omega arith)) is);
+  told_is = λ class is. subst (λ (ts : List Token). MayFollow ts class) (sym (take_all (length f.tokens) f.tokens (omega arith)))
+      (what_is_told f.tokens state its f.walked class is);
 }
 
 -- newest first, turned round

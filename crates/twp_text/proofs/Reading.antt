@@ -1,6 +1,7 @@
 -- What the machine finds is what the definitions say: sentences and their items, and the place of a fault.
 use Rattle.std.proofs.Common.{◌≡◌, ◌+◌, true, false, List, [], ◌∷◌, ◌++◌, map, length, take, Option, Some, None, refl, sym, ap, subst, ◌∙◌, inl, inr, append_assoc, arith, length-append}
 use Rattle.std.specs.List.{list_any}
+use Rattle.std.specs.Option.{is_some}
 use Rattle.std.proofs.lemmas.Bool.{cases_Bool}
 use Rattle.std.proofs.lemmas.List.{append-nil, length-map, take_all}
 use Rattle.std.proofs.Math.Seq.{take-append_seam, take-append-add}
@@ -13,9 +14,9 @@ use Rattle.twp_grid.specs.declared.block.Corner.TheVariants as which
 use Rattle.twp_text.specs.Tokens.{Token}
 use Rattle.twp_text.specs.Grammar.{Class, sec, lot, all, and, to, inclusive, of, the, t, r, north_south, east_west, corner, half, quarter, number, comma, semicolon, colon, stop, other, bad_number, bad_byte, Value, class_of, kind_of, description}
 use Rattle.twp_text.specs.Items.{tokens, items}
-use Rattle.twp_text.specs.Sentences.{HasItems, IsSentence, IsFront, IsFault}
+use Rattle.twp_text.specs.Sentences.{HasItems, IsSentence, IsFront, IsFault, MayFollow}
 use Rattle.twp_text.specs.Machine.{next, is_final, take_token, run}
-use Rattle.twp_text.specs.Expected.{named, expected_of, IsNamed}
+use Rattle.twp_text.specs.Expected.{told, named, expected_of, IsNamed}
 use Rattle.twp_text.proofs.Derivatives.{same_class, same_class_tells, Derives, derives_none, takes_token}
 use Rattle.twp_text.proofs.Table as table
 use Rattle.twp_text.proofs.Walk.{newest_first, IsRead, read_description}
@@ -245,3 +246,21 @@ what_follows before token more s its h is = follows (next s (class_of token.kind
     follows : (o : Option State) → next s (class_of token.kind) ≡ o → IsNamed (class_of token.kind) (named (expected_of s))
     follows None stuck = absurd (not_stuck (before ++ token ∷ more) (run-append (Some Start) [] before (token ∷ more) ∙ ap (λ o. go_on o (token ∷ more)) h ∙ ap (λ o. run o (take_token s token.kind token.at its) more) stuck) is)
     follows (Some s') step = named_of (class_of token.kind) (named (expected_of s)) (table.follows_named s s' (class_of token.kind) step)
+
+-- a sentence has a token of each class that is told of in the state that some tokens lead to
+pub what_is_told : (before : List Token) (s : State) (its : List Item) → run (Some Start) [] before ≡ ended s its → (c : Class) → IsNamed c (told (expected_of s)) → MayFollow before c
+what_is_told before s its h c is = follows (next s c) refl (table.told_follows s c is)
+  where
+    follows : (o : Option State) → next s c ≡ o → is_some o ≡ true → MayFollow before c
+    follows None step some = cc some
+    follows (Some s') step some =
+        let token : Token = any_token c in
+        let its' : List Item = take_token s token.kind token.at its in
+        let read : run (Some Start) [] (before ++ token ∷ []) ≡ ended s' its' = run-append (Some Start) [] before (token ∷ []) ∙ ap (λ o. go_on o (token ∷ [])) h ∙ ap (λ d. run (next s d) its' []) (class_of_any c) ∙ ap (λ o. run o its' []) step in
+        let goes_on = front (before ++ token ∷ []) s' its' read in
+        record {
+          token = token;
+          more = goes_on.0;
+          of_class = class_of_any c;
+          sentence = subst (λ ts. IsSentence ts) (append_assoc before (token ∷ []) goes_on.0) goes_on.2;
+        }

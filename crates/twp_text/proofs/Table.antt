@@ -1,11 +1,12 @@
 -- The machine is the grammar's: in each state what it takes is what the grammar leaves to be read there.
-use Rattle.std.proofs.Common.{◌≡◌, ℕ, zero, suc, ◌<◌, ◌≤◌, Bool, true, false, ◌&&◌, List, [], ◌∷◌, Option, Some, None, length, get_or, refl, ap, subst, arith}
+use Rattle.std.proofs.Common.{◌≡◌, ℕ, zero, suc, ◌<◌, ◌≤◌, Bool, true, false, ◌&&◌, List, [], ◌∷◌, Option, Some, None, length, get_or, refl, ap, subst, inl, inr, arith}
 use Rattle.std.specs.List.{list_all, list_any}
+use Rattle.std.specs.Option.{is_some}
 use Rattle.twp_text.specs.declared.state.State.{State}
 use Rattle.twp_text.specs.declared.state.State.TheVariants as past
 use Rattle.twp_text.specs.Grammar.{Class, sec, lot, all, and, to, inclusive, of, the, t, r, north_south, east_west, corner, half, quarter, number, comma, semicolon, colon, stop, other, bad_number, bad_byte, Ebnf, never, nothing, one, ◌⨾◌, ◌∣◌, many, description}
 use Rattle.twp_text.specs.Machine.{next, is_final}
-use Rattle.twp_text.specs.Expected.{named, expected_of}
+use Rattle.twp_text.specs.Expected.{told, named, expected_of, IsNamed}
 use Rattle.twp_text.proofs.Derivatives.{classes, place_of_class, class_at_place, same_class, same_class_tells, is_nullable, after}
 
 -- the state behind some classes, read from Start
@@ -151,53 +152,54 @@ record Row (s : State) : Type 0 where
   no_byte : next s bad_byte ≡ None
   no_number : next s bad_number ≡ None
   names_all : list_all (λ c. is_among c (next s c) (named (expected_of s))) classes ≡ true
+  tells_all : list_all (λ c. is_some (next s c)) (told (expected_of s)) ≡ true
 
 row : (s : State) → Row s
 unfolding rest after_all
-row past.Start = record { edges = refl; end = refl; out = refl; few = omega arith; no_byte = refl; no_number = refl; names_all = refl }
-row past.Township = record { edges = refl; end = refl; out = refl; few = omega arith; no_byte = refl; no_number = refl; names_all = refl }
-row past.TownshipStop = record { edges = refl; end = refl; out = refl; few = omega arith; no_byte = refl; no_number = refl; names_all = refl }
-row past.TownshipNumber = record { edges = refl; end = refl; out = refl; few = omega arith; no_byte = refl; no_number = refl; names_all = refl }
-row past.TownshipSide = record { edges = refl; end = refl; out = refl; few = omega arith; no_byte = refl; no_number = refl; names_all = refl }
-row past.TownshipSideStop = record { edges = refl; end = refl; out = refl; few = omega arith; no_byte = refl; no_number = refl; names_all = refl }
-row past.TownshipComma = record { edges = refl; end = refl; out = refl; few = omega arith; no_byte = refl; no_number = refl; names_all = refl }
-row past.Range = record { edges = refl; end = refl; out = refl; few = omega arith; no_byte = refl; no_number = refl; names_all = refl }
-row past.RangeStop = record { edges = refl; end = refl; out = refl; few = omega arith; no_byte = refl; no_number = refl; names_all = refl }
-row past.RangeNumber = record { edges = refl; end = refl; out = refl; few = omega arith; no_byte = refl; no_number = refl; names_all = refl }
-row past.RangeSide = record { edges = refl; end = refl; out = refl; few = omega arith; no_byte = refl; no_number = refl; names_all = refl }
-row past.RangeSideStop = record { edges = refl; end = refl; out = refl; few = omega arith; no_byte = refl; no_number = refl; names_all = refl }
-row past.SectionWord = record { edges = refl; end = refl; out = refl; few = omega arith; no_byte = refl; no_number = refl; names_all = refl }
-row past.SectionStop = record { edges = refl; end = refl; out = refl; few = omega arith; no_byte = refl; no_number = refl; names_all = refl }
-row past.SectionNumber = record { edges = refl; end = refl; out = refl; few = omega arith; no_byte = refl; no_number = refl; names_all = refl }
-row past.SectionComma = record { edges = refl; end = refl; out = refl; few = omega arith; no_byte = refl; no_number = refl; names_all = refl }
-row past.Semicolon = record { edges = refl; end = refl; out = refl; few = omega arith; no_byte = refl; no_number = refl; names_all = refl }
-row past.BeforeGroup = record { edges = refl; end = refl; out = refl; few = omega arith; no_byte = refl; no_number = refl; names_all = refl }
-row past.End = record { edges = refl; end = refl; out = refl; few = omega arith; no_byte = refl; no_number = refl; names_all = refl }
-row past.ListTo = record { edges = refl; end = refl; out = refl; few = omega arith; no_byte = refl; no_number = refl; names_all = refl }
-row past.ListAnd = record { edges = refl; end = refl; out = refl; few = omega arith; no_byte = refl; no_number = refl; names_all = refl }
-row past.ListNumber = record { edges = refl; end = refl; out = refl; few = omega arith; no_byte = refl; no_number = refl; names_all = refl }
-row past.ListLast = record { edges = refl; end = refl; out = refl; few = omega arith; no_byte = refl; no_number = refl; names_all = refl }
-row past.ListInclusive = record { edges = refl; end = refl; out = refl; few = omega arith; no_byte = refl; no_number = refl; names_all = refl }
-row past.ListComma = record { edges = refl; end = refl; out = refl; few = omega arith; no_byte = refl; no_number = refl; names_all = refl }
-row past.ListLastComma = record { edges = refl; end = refl; out = refl; few = omega arith; no_byte = refl; no_number = refl; names_all = refl }
-row past.ListColon = record { edges = refl; end = refl; out = refl; few = omega arith; no_byte = refl; no_number = refl; names_all = refl }
-row past.ListAll = record { edges = refl; end = refl; out = refl; few = omega arith; no_byte = refl; no_number = refl; names_all = refl }
-row past.Lot = record { edges = refl; end = refl; out = refl; few = omega arith; no_byte = refl; no_number = refl; names_all = refl }
-row past.LotNumber = record { edges = refl; end = refl; out = refl; few = omega arith; no_byte = refl; no_number = refl; names_all = refl }
-row past.LotTo = record { edges = refl; end = refl; out = refl; few = omega arith; no_byte = refl; no_number = refl; names_all = refl }
-row past.LotLast = record { edges = refl; end = refl; out = refl; few = omega arith; no_byte = refl; no_number = refl; names_all = refl }
-row past.LotInclusive = record { edges = refl; end = refl; out = refl; few = omega arith; no_byte = refl; no_number = refl; names_all = refl }
-row past.LotComma = record { edges = refl; end = refl; out = refl; few = omega arith; no_byte = refl; no_number = refl; names_all = refl }
-row past.LotLastComma = record { edges = refl; end = refl; out = refl; few = omega arith; no_byte = refl; no_number = refl; names_all = refl }
-row past.LotAnd = record { edges = refl; end = refl; out = refl; few = omega arith; no_byte = refl; no_number = refl; names_all = refl }
-row past.BeforePart = record { edges = refl; end = refl; out = refl; few = omega arith; no_byte = refl; no_number = refl; names_all = refl }
-row past.Side = record { edges = refl; end = refl; out = refl; few = omega arith; no_byte = refl; no_number = refl; names_all = refl }
-row past.Corner = record { edges = refl; end = refl; out = refl; few = omega arith; no_byte = refl; no_number = refl; names_all = refl }
-row past.All = record { edges = refl; end = refl; out = refl; few = omega arith; no_byte = refl; no_number = refl; names_all = refl }
-row past.PartComma = record { edges = refl; end = refl; out = refl; few = omega arith; no_byte = refl; no_number = refl; names_all = refl }
-row past.Step = record { edges = refl; end = refl; out = refl; few = omega arith; no_byte = refl; no_number = refl; names_all = refl }
-row past.Of = record { edges = refl; end = refl; out = refl; few = omega arith; no_byte = refl; no_number = refl; names_all = refl }
-row past.OfThe = record { edges = refl; end = refl; out = refl; few = omega arith; no_byte = refl; no_number = refl; names_all = refl }
+row past.Start = record { edges = refl; end = refl; out = refl; few = omega arith; no_byte = refl; no_number = refl; names_all = refl; tells_all = refl }
+row past.Township = record { edges = refl; end = refl; out = refl; few = omega arith; no_byte = refl; no_number = refl; names_all = refl; tells_all = refl }
+row past.TownshipStop = record { edges = refl; end = refl; out = refl; few = omega arith; no_byte = refl; no_number = refl; names_all = refl; tells_all = refl }
+row past.TownshipNumber = record { edges = refl; end = refl; out = refl; few = omega arith; no_byte = refl; no_number = refl; names_all = refl; tells_all = refl }
+row past.TownshipSide = record { edges = refl; end = refl; out = refl; few = omega arith; no_byte = refl; no_number = refl; names_all = refl; tells_all = refl }
+row past.TownshipSideStop = record { edges = refl; end = refl; out = refl; few = omega arith; no_byte = refl; no_number = refl; names_all = refl; tells_all = refl }
+row past.TownshipComma = record { edges = refl; end = refl; out = refl; few = omega arith; no_byte = refl; no_number = refl; names_all = refl; tells_all = refl }
+row past.Range = record { edges = refl; end = refl; out = refl; few = omega arith; no_byte = refl; no_number = refl; names_all = refl; tells_all = refl }
+row past.RangeStop = record { edges = refl; end = refl; out = refl; few = omega arith; no_byte = refl; no_number = refl; names_all = refl; tells_all = refl }
+row past.RangeNumber = record { edges = refl; end = refl; out = refl; few = omega arith; no_byte = refl; no_number = refl; names_all = refl; tells_all = refl }
+row past.RangeSide = record { edges = refl; end = refl; out = refl; few = omega arith; no_byte = refl; no_number = refl; names_all = refl; tells_all = refl }
+row past.RangeSideStop = record { edges = refl; end = refl; out = refl; few = omega arith; no_byte = refl; no_number = refl; names_all = refl; tells_all = refl }
+row past.SectionWord = record { edges = refl; end = refl; out = refl; few = omega arith; no_byte = refl; no_number = refl; names_all = refl; tells_all = refl }
+row past.SectionStop = record { edges = refl; end = refl; out = refl; few = omega arith; no_byte = refl; no_number = refl; names_all = refl; tells_all = refl }
+row past.SectionNumber = record { edges = refl; end = refl; out = refl; few = omega arith; no_byte = refl; no_number = refl; names_all = refl; tells_all = refl }
+row past.SectionComma = record { edges = refl; end = refl; out = refl; few = omega arith; no_byte = refl; no_number = refl; names_all = refl; tells_all = refl }
+row past.Semicolon = record { edges = refl; end = refl; out = refl; few = omega arith; no_byte = refl; no_number = refl; names_all = refl; tells_all = refl }
+row past.BeforeGroup = record { edges = refl; end = refl; out = refl; few = omega arith; no_byte = refl; no_number = refl; names_all = refl; tells_all = refl }
+row past.End = record { edges = refl; end = refl; out = refl; few = omega arith; no_byte = refl; no_number = refl; names_all = refl; tells_all = refl }
+row past.ListTo = record { edges = refl; end = refl; out = refl; few = omega arith; no_byte = refl; no_number = refl; names_all = refl; tells_all = refl }
+row past.ListAnd = record { edges = refl; end = refl; out = refl; few = omega arith; no_byte = refl; no_number = refl; names_all = refl; tells_all = refl }
+row past.ListNumber = record { edges = refl; end = refl; out = refl; few = omega arith; no_byte = refl; no_number = refl; names_all = refl; tells_all = refl }
+row past.ListLast = record { edges = refl; end = refl; out = refl; few = omega arith; no_byte = refl; no_number = refl; names_all = refl; tells_all = refl }
+row past.ListInclusive = record { edges = refl; end = refl; out = refl; few = omega arith; no_byte = refl; no_number = refl; names_all = refl; tells_all = refl }
+row past.ListComma = record { edges = refl; end = refl; out = refl; few = omega arith; no_byte = refl; no_number = refl; names_all = refl; tells_all = refl }
+row past.ListLastComma = record { edges = refl; end = refl; out = refl; few = omega arith; no_byte = refl; no_number = refl; names_all = refl; tells_all = refl }
+row past.ListColon = record { edges = refl; end = refl; out = refl; few = omega arith; no_byte = refl; no_number = refl; names_all = refl; tells_all = refl }
+row past.ListAll = record { edges = refl; end = refl; out = refl; few = omega arith; no_byte = refl; no_number = refl; names_all = refl; tells_all = refl }
+row past.Lot = record { edges = refl; end = refl; out = refl; few = omega arith; no_byte = refl; no_number = refl; names_all = refl; tells_all = refl }
+row past.LotNumber = record { edges = refl; end = refl; out = refl; few = omega arith; no_byte = refl; no_number = refl; names_all = refl; tells_all = refl }
+row past.LotTo = record { edges = refl; end = refl; out = refl; few = omega arith; no_byte = refl; no_number = refl; names_all = refl; tells_all = refl }
+row past.LotLast = record { edges = refl; end = refl; out = refl; few = omega arith; no_byte = refl; no_number = refl; names_all = refl; tells_all = refl }
+row past.LotInclusive = record { edges = refl; end = refl; out = refl; few = omega arith; no_byte = refl; no_number = refl; names_all = refl; tells_all = refl }
+row past.LotComma = record { edges = refl; end = refl; out = refl; few = omega arith; no_byte = refl; no_number = refl; names_all = refl; tells_all = refl }
+row past.LotLastComma = record { edges = refl; end = refl; out = refl; few = omega arith; no_byte = refl; no_number = refl; names_all = refl; tells_all = refl }
+row past.LotAnd = record { edges = refl; end = refl; out = refl; few = omega arith; no_byte = refl; no_number = refl; names_all = refl; tells_all = refl }
+row past.BeforePart = record { edges = refl; end = refl; out = refl; few = omega arith; no_byte = refl; no_number = refl; names_all = refl; tells_all = refl }
+row past.Side = record { edges = refl; end = refl; out = refl; few = omega arith; no_byte = refl; no_number = refl; names_all = refl; tells_all = refl }
+row past.Corner = record { edges = refl; end = refl; out = refl; few = omega arith; no_byte = refl; no_number = refl; names_all = refl; tells_all = refl }
+row past.All = record { edges = refl; end = refl; out = refl; few = omega arith; no_byte = refl; no_number = refl; names_all = refl; tells_all = refl }
+row past.PartComma = record { edges = refl; end = refl; out = refl; few = omega arith; no_byte = refl; no_number = refl; names_all = refl; tells_all = refl }
+row past.Step = record { edges = refl; end = refl; out = refl; few = omega arith; no_byte = refl; no_number = refl; names_all = refl; tells_all = refl }
+row past.Of = record { edges = refl; end = refl; out = refl; few = omega arith; no_byte = refl; no_number = refl; names_all = refl; tells_all = refl }
+row past.OfThe = record { edges = refl; end = refl; out = refl; few = omega arith; no_byte = refl; no_number = refl; names_all = refl; tells_all = refl }
 
 both : (x y : Bool) → (x && y) ≡ true → (x ≡ true) × (y ≡ true)
 both true y h = (refl, h)
@@ -285,3 +287,16 @@ pub follows_named : (s s' : State) (c : Class) → next s c ≡ Some s' → list
 follows_named s s' c e =
     let found : is_among c (next s c) (named (expected_of s)) ≡ true = of_class (λ d. is_among d (next s d) (named (expected_of s))) c (row s).names_all in
     subst (λ (o : Option State). is_among c o (named (expected_of s)) ≡ true) e found
+
+-- what is told of in a state may follow there
+told_among : (s : State) (c : Class) (cs : List Class) → list_all (λ d. is_some (next s d)) cs ≡ true → IsNamed c cs → is_some (next s c) ≡ true
+told_among s c [] each is = absurd is
+told_among s c (d ∷ ds) each is =
+    let parts = both (is_some (next s d)) (list_all (λ e. is_some (next s e)) ds) each in
+    elim is [
+      | inl same ↦ rw same parts.0
+      | inr later ↦ told_among s c ds parts.1 later
+    ]
+
+pub told_follows : (s : State) (c : Class) → IsNamed c (told (expected_of s)) → is_some (next s c) ≡ true
+told_follows s c is = told_among s c (told (expected_of s)) (row s).tells_all is

@@ -1,8 +1,8 @@
 -- Which lists of tokens are descriptions, and where one that isn't goes wrong.
-use Rattle.std.specs.Prelude.{◌≡◌, ℕ, ◌+◌, ◌≤◌, ◌<◌, List, ◌++◌, length, take}
+use Rattle.std.specs.Prelude.{◌≡◌, ℕ, ◌+◌, ◌≤◌, ◌<◌, List, ◌∷◌, ◌++◌, length, take}
 use Rattle.twp_text.specs.declared.item.Item.{Item}
 use Rattle.twp_text.specs.Tokens.{Token}
-use Rattle.twp_text.specs.Grammar.{description}
+use Rattle.twp_text.specs.Grammar.{Class, class_of, description}
 use Rattle.twp_text.specs.Items as derived
 
 -- the grammar derives the tokens, and these are the items
@@ -24,6 +24,13 @@ LONGEST_COMPLETION = 7
 abbrev pub IsFront : List Token → Type 0
 IsFront tokens =
     (more : List Token) × (length more ≤ LONGEST_COMPLETION) × IsSentence (tokens ++ more)
+
+-- some sentence has a token of the class behind the tokens
+pub record MayFollow (tokens : List Token) (class : Class) : Type 0 where
+  pub token : Token
+  pub more : List Token
+  pub of_class : class_of token.kind ≡ class
+  pub sentence : IsSentence (tokens ++ token ∷ more)
 
 -- the tokens before the i-th begin a sentence, and with it they begin none; or all of them begin
 -- one, and are none

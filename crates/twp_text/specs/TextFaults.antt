@@ -8,9 +8,9 @@ use Rattle.twp_text.specs.declared.item.Item.{Item}
 use Rattle.twp_text.specs.declared.fault.TextFault.{TextFault}
 use Rattle.twp_text.specs.declared.fault.TextFault.TheVariants as fault
 use Rattle.twp_text.specs.Tokens.{Token, HasTokens}
-use Rattle.twp_text.specs.Grammar.{class_of}
-use Rattle.twp_text.specs.Sentences.{HasItems, IsSentence, IsFault}
-use Rattle.twp_text.specs.Expected.{named, IsNamed}
+use Rattle.twp_text.specs.Grammar.{Class, class_of}
+use Rattle.twp_text.specs.Sentences.{HasItems, IsSentence, IsFault, MayFollow}
+use Rattle.twp_text.specs.Expected.{told, named, IsNamed}
 use Rattle.twp_text.specs.declared.expected.Expected.{Expected}
 
 -- the most bytes of a description
@@ -91,8 +91,8 @@ refusal_of (fault.BadNumber at) = Some (refusal 43 at)
 refusal_of (fault.Syntax at expected) = Some (refusal 44 at)
 refusal_of fault.Memory = None
 
--- The text goes wrong at this place, whether or not it has bad tokens, and whatever token a
--- sentence could have there is named.
+-- The text goes wrong at this place, whether or not it has bad tokens; whatever token a sentence
+-- could have there is named; and of each class that is told of, a sentence could have one there.
 pub record GoesWrong (text : List ℕ) (at : ℕ) (expected : Expected) : Type 0 where
   pub tokens : List Token
   pub cut : HasTokens 0 text tokens
@@ -101,8 +101,10 @@ pub record GoesWrong (text : List ℕ) (at : ℕ) (expected : Expected) : Type 0
   pub place : at ≡ place_of tokens i (length text)
   pub named_is : (token : Token) (more : List Token) → IsSentence (take i tokens ++ token ∷ more)
       → IsNamed (class_of token.kind) (named expected)
+  pub told_is : (class : Class) → IsNamed class (told expected)
+      → MayFollow (take i tokens) class
 
--- the refusal of syntax names whatever could stand at its place
+-- the refusal of syntax names whatever could stand at its place, and tells of nothing else
 abbrev pub Helps : List ℕ → TextFault → Type 0
 Helps text (fault.Syntax at expected) = GoesWrong text at expected
 Helps text other = ⊤

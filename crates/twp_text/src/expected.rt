@@ -25,10 +25,14 @@ pub enum Expected {
     PartOrSection,
     /// Behind an entry of a list of sections.
     MoreSections,
+    /// Behind the last number of a range of sections.
+    InclusiveOrMoreSections,
     /// Behind `to` in a list of sections.
     LastSection,
     /// Behind a comma in a list of sections.
     SectionOrAll,
+    /// Behind the comma after the last number of a range of sections.
+    InclusiveSectionOrAll,
     /// Behind the colon after several sections.
     All,
     /// Behind the `all` of several sections.
@@ -37,17 +41,23 @@ pub enum Expected {
     LotNumber,
     /// Behind an entry of a list of lots.
     MoreLots,
+    /// Behind the last number of a range of lots.
+    InclusiveOrMoreLots,
     /// Behind `to` in a list of lots.
     LastLot,
     /// Behind a comma or `and` in a list of lots.
     LotOrPart,
+    /// Behind the comma after the last number of a range of lots.
+    InclusiveLotOrPart,
     /// Behind the colon after one section, or what separates its parts.
     Part,
     /// Behind the letter of a half.
     Half,
     /// Behind the letters of a quarter.
     Quarter,
-    /// Behind a step of an aliquot part, or behind the `all` of one section.
+    /// Behind a step of an aliquot part.
+    MoreStepsOrParts,
+    /// Behind the `all` of one section.
     MoreParts,
     /// Behind `of`.
     Step,
@@ -68,22 +78,29 @@ impl fmt::Display for Expected {
             Expected::SectionNumber => "a section's number",
             Expected::PartsOrSections => "parts of the section, more sections, `;`, or the end",
             Expected::PartOrSection => "a part of the section, or another section's number",
-            Expected::MoreSections =>
-                "more sections, `inclusive` of a range, `all`, `;`, or the end",
+            Expected::MoreSections => "more sections, `all`, `;`, or the end",
+            Expected::InclusiveOrMoreSections =>
+                "`inclusive` of the range, more sections, `all`, `;`, or the end",
             Expected::LastSection => "the number of the last section",
-            Expected::SectionOrAll => "another section's number, `inclusive` of a range, or `all`",
+            Expected::SectionOrAll => "another section's number, or `all`",
+            Expected::InclusiveSectionOrAll =>
+                "`inclusive` of the range, another section's number, or `all`",
             Expected::All => "`all`",
             Expected::GroupEnd => "`;`, or the end",
             Expected::LotNumber => "a lot's number",
-            Expected::MoreLots =>
-                "more lots, `inclusive` of a range, another part, `;`, or the end",
+            Expected::MoreLots => "more lots, another part, `;`, or the end",
+            Expected::InclusiveOrMoreLots =>
+                "`inclusive` of the range, more lots, another part, `;`, or the end",
             Expected::LastLot => "the number of the last lot",
-            Expected::LotOrPart => "another lot's number, `inclusive` of a range, or another part",
+            Expected::LotOrPart => "another lot's number, or another part",
+            Expected::InclusiveLotOrPart =>
+                "`inclusive` of the range, another lot's number, or another part",
             Expected::Part => "`lot`, an aliquot part, or `all`",
             Expected::Half => "`1/2`",
             Expected::Quarter => "`1/4`",
-            Expected::MoreParts =>
+            Expected::MoreStepsOrParts =>
                 "`of` or more steps of an aliquot part, another part, `;`, or the end",
+            Expected::MoreParts => "another part, `;`, or the end",
             Expected::Step => "what the aliquot part is of, as `NE1/4`",
             Expected::Nothing => "nothing more",
         })

@@ -325,7 +325,7 @@ fn tells_what_could_stand_there(rt: HostRuntime) -> Result<(), Fail> {
         (
             "sec. 14, lots 1 and.",
             "the description goes wrong at 19: here could stand another lot's number, \
-            `inclusive` of a range, or another part",
+            or another part",
         ),
         (
             "T. 2 N. R. 3 W.",
@@ -350,7 +350,7 @@ fn tells_what_could_stand_there(rt: HostRuntime) -> Result<(), Fail> {
 
 /// What is told at a word that is none of a description, behind a front of each kind: worked out by
 /// hand from the grammar.
-const TOLD: [(&str, &str); 25] = [
+const TOLD: [(&str, &str); 33] = [
     ("", "`T.` of a heading, or `sec.`"),
     ("t", "the township's number"),
     ("t 2", "`N` or `S`"),
@@ -367,27 +367,40 @@ const TOLD: [(&str, &str); 25] = [
         "sec 1,",
         "a part of the section, or another section's number",
     ),
+    ("sec 1, 2", "more sections, `all`, `;`, or the end"),
     (
         "sec 1 to 4",
-        "more sections, `inclusive` of a range, `all`, `;`, or the end",
+        "`inclusive` of the range, more sections, `all`, `;`, or the end",
+    ),
+    (
+        "sec 1 to 4 inclusive",
+        "more sections, `all`, `;`, or the end",
     ),
     ("sec 1 to", "the number of the last section"),
+    ("sec 1, 2,", "another section's number, or `all`"),
     (
         "sec 1 to 4,",
-        "another section's number, `inclusive` of a range, or `all`",
+        "`inclusive` of the range, another section's number, or `all`",
     ),
     ("sec 1, 2:", "`all`"),
     ("sec 1, 2 all", "`;`, or the end"),
     ("sec 1 lot", "a lot's number"),
+    ("sec 1 lot 2", "more lots, another part, `;`, or the end"),
     (
         "sec 1 lot 2 to 3",
-        "more lots, `inclusive` of a range, another part, `;`, or the end",
+        "`inclusive` of the range, more lots, another part, `;`, or the end",
+    ),
+    (
+        "sec 1 lot 2 to 3 inclusive",
+        "more lots, another part, `;`, or the end",
     ),
     ("sec 1 lot 2 to", "the number of the last lot"),
+    ("sec 1 lot 2,", "another lot's number, or another part"),
     (
         "sec 1 lot 2 to 3,",
-        "another lot's number, `inclusive` of a range, or another part",
+        "`inclusive` of the range, another lot's number, or another part",
     ),
+    ("sec 1 lot 2 and", "another lot's number, or another part"),
     ("sec 1:", "`lot`, an aliquot part, or `all`"),
     ("sec 1 n", "`1/2`"),
     ("sec 1 ne", "`1/4`"),
@@ -395,6 +408,7 @@ const TOLD: [(&str, &str); 25] = [
         "sec 1 ne1/4",
         "`of` or more steps of an aliquot part, another part, `;`, or the end",
     ),
+    ("sec 1 all", "another part, `;`, or the end"),
     ("sec 1 ne1/4 of", "what the aliquot part is of, as `NE1/4`"),
     ("sec 1.", "nothing more"),
 ];
