@@ -10,6 +10,7 @@ pub mod RunFacts
 pub mod OneAnswer
 pub mod FigureFacts
 pub mod OnePlat
+pub mod NameFacts
 pub mod TractFacts
 pub mod TractLands
 pub mod TallyFacts

@@ -65,7 +65,7 @@ impl<L: Land> Account<L> {
         let Some(tract) = tract_of(row) else {
             return Err(TractFault::TractRow(number));
         };
-        if !self.names.add(alloc, tract.name)? {
+        if !self.names.add(tract.name)? {
             return Err(TractFault::NameRepeated(number));
         }
         if let Err(stop) = describe_into(

@@ -1,14 +1,17 @@
-ghost use Rattle.std.specs.Prelude.{◌≡◌, ◌||◌, List, ℕ, Bool, false, not, IfOk, OnErr};
+ghost use Rattle.std.specs.Prelude.{◌≡◌, ◌≤◌, ◌||◌, List, ℕ, Bool, false, not, length, IfOk, OnErr};
 ghost use Rattle.std.specs.Str.{bytes_eq};
 ghost use Rattle.twp_acres.specs.Names.{has_name};
+ghost use Rattle.twp_acres.specs.Tracts.{NAME_MOST};
 
+use crate::tract::NAME_MOST;
+use arrayvec::ArrayString;
 use std::alloc::{AllocError, Global};
 use std::collections::HashSet;
 
-/// The names of tracts so far, by their bytes.
+/// The names of tracts so far, by their bytes. A name takes no memory of its own.
 #[derive(Drop)]
 pub struct Names {
-    names: HashSet<String>,
+    names: HashSet<ArrayString<NAME_MOST>>,
 }
 
 impl Names {
@@ -22,12 +25,15 @@ impl Names {
     }
 
     /// Adds a name, and answers whether it wasn't there.
-    pub fn add(&mut self, alloc: Global, name: &str) -> Result<bool, AllocError>
+    pub fn add(&mut self, name: &str) -> Result<bool, AllocError>
+        requires { length name.now ≤ NAME_MOST }
         ensures is_new { IfOk result (λ is_new. is_new ≡ not (has_name self.old name.now)) }
         ensures names { IfOk result (λ _. (other : List ℕ)
             → has_name self.new other ≡ (bytes_eq name.now other || has_name self.old other)) }
     {
-        let name = String::from_str(alloc, name)?;
+        let Ok(name) = ArrayString::from(name) else {
+            unreachable!();
+        };
         let Ok(is_new) = self.names.insert(name) else {
             return Err(AllocError);
         };

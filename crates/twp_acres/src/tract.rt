@@ -12,7 +12,7 @@ use twp_notes::field;
 const FIELDS: usize = 2;
 
 /// The most bytes of a tract's name.
-const NAME_MOST: usize = 64;
+pub(crate) const NAME_MOST: usize = 64;
 
 /// A tract's name, and the description of its land, which isn't read yet.
 #[derive(Clone, Copy)]
