@@ -10,8 +10,9 @@ pub type Lanes = Sections<LaneRows>;
 /// A section's places as lanes of bits: a lane for each row, from the south, and in it a bit for
 /// each column, from the east.
 ///
-/// Most parts that descriptions name are single places or lie in one row. Whether such a block is
-/// met, and to add it, takes its row's lane alone; blocks of more rows take all lanes at once.
+/// The finest parts, which long lists are made of, are single places or lie in one row. To tell
+/// whether such a block is met, and to add it, its row's lane is enough, and no vector of all lanes
+/// is made for it. A block of more rows takes all lanes at once.
 #[derive(Clone, Copy, Debug)]
 pub struct LaneRows {
     lanes: [u16; PLACES_ACROSS],
