@@ -25,7 +25,7 @@ pub one_name_more : {S : Type 0} (name : ArrayString) (old new : HashSet ArraySt
     → (other : List ℕ) → contains_by (λ key. bytes_eq other key.bytes) new ≡ (if bytes_eq name.bytes other then true else contains_by (λ key. bytes_eq other key.bytes) old)
 one_name_more name old new updates other =
     elim (cases_Bool (bytes_eq name.bytes other)) [
-      inl same ↦
+      | inl same ↦
           let is : name.bytes ≡ other = (bytes_eq-Decides name.bytes other).0 same in
           rw same (subst (λ (bytes : List ℕ). contains_by (λ key. bytes_eq bytes key.bytes) new ≡ true) is updates.1)
       | inr differ ↦

@@ -199,8 +199,7 @@ fn names_items(rt: HostRuntime) -> Result<(), Fail> {
 /// by hand.
 #[test]
 fn names_items_in_usual_spelling(rt: HostRuntime) -> Result<(), Fail> {
-    let text =
-        b"T. 12 S., R. 3 E.,\n  Section 10: N1/2 of the NE1/4,\n         and SW1/4, NW1/4";
+    let text = b"T. 12 S., R. 3 E.,\n  Section 10: N1/2 of the NE1/4,\n         and SW1/4, NW1/4";
     let description = Description::read(rt.alloc(), text)?;
     let wanted = [
         "Heading { number: 12, north_south: S, range: 3, east_west: E, at: 0 }",
