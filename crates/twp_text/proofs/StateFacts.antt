@@ -59,10 +59,16 @@ east_west_of_step past.OfThe h = refl
 east_west_of_step _ h = cc h
 
 -- where sections may begin, their word does
-pub sections_begin : (state : State) → true ≡ is_some (next state sec) → next state sec ≡ Some past.SectionWord
+pub sections_begin : (s : State) → is_some (next s sec) ≡ true → Some past.SectionWord ≡ next s sec
 sections_begin past.Start h = refl
 sections_begin past.RangeSide h = refl
 sections_begin past.RangeSideStop h = refl
 sections_begin past.BeforeGroup h = refl
 sections_begin past.Semicolon h = refl
 sections_begin _ h = cc h
+
+pub nothing_begins : (o : Option State) → is_some o ≡ false → None ≡ o
+nothing_begins None h = refl
+nothing_begins (Some s) h = cc h
+
+pub ruleset sections_begin_there = (sections_begin, nothing_begins)

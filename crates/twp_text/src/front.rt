@@ -7,7 +7,6 @@ ghost use Rattle.twp_text.specs.Machine.{next, with_newest};
 ghost use Rattle.twp_text.specs.Passing.{Leads, IsNumberBehind};
 ghost use Rattle.twp_text.specs.TextFaults.{TEXT_LIMIT};
 
-use crate::change::Change;
 use crate::item::{Item, Numeral};
 use crate::items::Items;
 use crate::kind::Kind;

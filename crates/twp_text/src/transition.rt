@@ -71,16 +71,14 @@ impl State {
 
     /// The word that sections begin with.
     #[inline(always)]
+    #[tactic(auto, using(crate::proofs::StateFacts::sections_begin_there))]
     fn with_sections(self) -> Option<State>
         ensures { result ≡ next self sec }
     {
-        match self {
-            State::Start
-            | State::RangeSide
-            | State::RangeSideStop
-            | State::BeforeGroup
-            | State::Semicolon => Some(State::SectionWord),
-            _ => None,
+        if self.begins_sections() {
+            Some(State::SectionWord)
+        } else {
+            None
         }
     }
 

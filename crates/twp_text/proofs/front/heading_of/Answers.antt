@@ -1,4 +1,4 @@
-use Rattle.std.proofs.Common.{◌+◌, ◌≤◌, ℕ, List, [], ◌∷◌, length, refl}
+use Rattle.std.proofs.Common.{◌+◌, ℕ, List, [], ◌∷◌, refl}
 use Rattle.twp_grid.specs.declared.township.NorthSouth.TheVariants.{N}
 use Rattle.twp_grid.specs.declared.township.EastWest.TheVariants.{E}
 use Rattle.twp_text.specs.declared.item.Item.{Item}

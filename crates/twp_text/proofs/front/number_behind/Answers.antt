@@ -1,4 +1,4 @@
-use Rattle.std.proofs.Common.{ℕ, ◌+◌, length, refl, ap}
+use Rattle.std.proofs.Common.{ℕ, ◌+◌, length, refl}
 use Rattle.twp_text.specs.Tokens.{seen}
 use Rattle.twp_text.proofs.FrontFacts.{number_leads}
 use Rattle.twp_text.proofs.front.number_behind.Goals as goal
