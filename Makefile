@@ -15,7 +15,7 @@ try:
 
 test:
 	rt ci
-	@$(MAKE) --no-print-directory e2e
+	@sh scripts/e2e.sh crates/twp_cmd/out/twp_cmd
 
 e2e: township
 	@sh scripts/e2e.sh
