@@ -63,7 +63,7 @@ leading expected.Part = and ∷ []
 leading expected.Step = the ∷ []
 leading _ = []
 
--- all classes of tokens that can stand there
+-- what can stand there is of one of these classes
 abbrev pub named : Expected → List Class
 named e = told e ++ leading e
 

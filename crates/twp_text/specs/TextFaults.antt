@@ -104,7 +104,7 @@ pub record GoesWrong (text : List ℕ) (at : ℕ) (expected : Expected) : Type 0
   pub told_is : (class : Class) → IsNamed class (told expected)
       → MayFollow (take i tokens) class
 
--- the refusal of syntax names whatever could stand at its place, and tells of nothing else
+-- the refusal of syntax names whatever could stand at its place, and what it tells of could
 abbrev pub Helps : List ℕ → TextFault → Type 0
 Helps text (fault.Syntax at expected) = GoesWrong text at expected
 Helps text other = ⊤
