@@ -18,6 +18,7 @@ test:
 	@sh scripts/e2e.sh crates/twp_cmd/out/twp_cmd
 
 e2e: township
+	@cd crates/twp_growth && rt run -- write-acres 3905 2 > /dev/null
 	@sh scripts/e2e.sh
 
 check:

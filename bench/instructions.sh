@@ -1,7 +1,8 @@
 #!/bin/sh
 # Prints how many instructions the whole process of ./township takes, from its start to its end: of joined
 # input on the sample, on the longest that is refused and on one of fine parts; of subcommands on the sample;
-# of the spelling of fine parts and of half as many; and of reports on 1,000 tracts and on 500.
+# of the spelling of fine parts and of half as many; of reports on 1,000 tracts and on 500; and of the texts
+# whose bytes are the dearest to read.
 set -eu
 # What is counted stands on standard input, or is named by words. The environment is left out, since each
 # of its variables is counted too.
@@ -59,6 +60,21 @@ awk 'BEGIN {
             corners[int(n / 16) % 4 + 1], corners[int(n / 4) % 4 + 1], corners[n % 4 + 1]
 }' > "$work/tracts"
 head -n 501 "$work/tracts" > "$work/half-of-tracts"
+# The same tracts with names of 64 bytes, which fall into one place of a hashed set; and with names that differ
+# from them in that alone. bench/colliding-names has the 13 bytes by which each differs from the others: five of
+# a count, and eight that undo, in the hasher's first step, what the count changed.
+names() {
+    awk -v part="$1" 'NR == FNR { end[NR] = $0; next }
+        FNR == 1 { print; next }
+        {
+            name = "parcel of  " (part == "end" ? end[FNR - 1] : FNR - 1)
+            while (length(name) < 64) name = name "-"
+            sub(/^[^,]*/, "")
+            print name $0
+        }' bench/colliding-names "$work/tracts"
+}
+names end > "$work/colliding"
+names count > "$work/long-names"
 # A list of 1,000 tracts near its limit, each of six places in words, on a line of its own each.
 awk 'BEGIN {
     print "name,description"
@@ -85,6 +101,10 @@ printf '%-44s %12s\n' "places ($(wc -c < "$work/places") bytes, accepted)" "$(co
 printf '%-44s %12s\n' 'nothing (the start of the process)' "$(count < "$work/empty")"
 printf 'secs. 1 thru 36.' > "$work/all"
 printf '%-44s %12s\n' 'acres of all 36 sections' "$(count acres samples/b1.csv "$work/all")"
+for account in exact plat; do
+    printf '%-44s %12s\n' "acres of them, --account $account" \
+        "$(count acres --account "$account" samples/b1.csv "$work/all")"
+done
 printf '%-44s %12s\n' 'plat' "$(count plat samples/b1.csv)"
 printf '%-44s %12s\n' 'normal of the places' "$(count normal samples/b1.csv "$work/parts")"
 printf '%-44s %12s\n' 'normal of half of the places' "$(count normal samples/b1.csv "$work/half-of-parts")"
@@ -96,4 +116,39 @@ printf '%-44s %12s\n' "report of 1,000 tracts ($(wc -c < "$work/tracts") bytes)"
 printf '%-44s %12s\n' 'report of half of the tracts' "$(count report samples/b1.csv "$work/half-of-tracts")"
 printf '%-44s %12s\n' "report of 1,000 tracts ($(wc -c < "$work/words") bytes)" \
     "$(count report samples/b1.csv "$work/words")"
+printf '%-44s %12s\n' 'report of 1,000 names of 64 bytes' "$(count report samples/b1.csv "$work/long-names")"
+printf '%-44s %12s\n' 'report of 1,000 names that collide' "$(count report samples/b1.csv "$work/colliding")"
 printf '%-44s %12s\n' 'help' "$(count --help)"
+# 65,536 bytes of $1 and then $2 again and again, filled up with spaces.
+text() {
+    awk -v front="$1" -v again="$2" 'BEGIN {
+        text = front
+        while (length(text) + length(again) <= 65536) text = text again
+        printf "%-65536s", text
+    }'
+}
+nothing=$(count acres samples/b1.csv "$work/empty")
+# One row of `acres` on such a text, less `acres` on an empty one; and what is left for each byte.
+byte_row() {
+    text "$2" "$3" > "$work/text"
+    more=$(($(count acres samples/b1.csv "$work/text") - nothing))
+    printf '%-44s %12s %5s\n' "$1" "$more" "$(awk -v more="$more" 'BEGIN { printf "%.1f", more / 65536 }')"
+}
+printf '\n%-44s %12s %5s\n' '65,536 bytes, less those of an empty text' 'instructions' 'each'
+byte_row 'lots 1,1,1' 'sec. 1, lots 1' ',1'
+byte_row 'lots 1, 1, 1' 'sec. 1, lots 1' ', 1'
+byte_row 'lots 10,10' 'sec. 1, lots 10' ',10'
+byte_row 'lots 1,2,3,4 of section after section' 'sec. 1' ', lots 1,2,3,4; sec. 1'
+byte_row 'secs. 1,1,1' 'secs. 1' ',1'
+byte_row 'secs. 1, 1' 'secs. 1' ', 1'
+byte_row 'tabulators' '' '\t'
+byte_row 'spaces and tabulators by turns' '' ' \t'
+byte_row 'line feeds' '' '\n'
+byte_row 'carriage returns' '' '\r'
+byte_row 'CRLF' '' '\r\n'
+byte_row 'indented empty lines' '' '\n    '
+byte_row 'no white space: form feeds' '' '\f'
+spaces 1048576 ',' > "$work/commas"
+more=$(($(count report samples/b1.csv "$work/commas") - $(count report samples/b1.csv "$work/empty")))
+printf '%-44s %12s %5s\n' 'report of 1,048,576 commas' "$more" \
+    "$(awk -v more="$more" 'BEGIN { printf "%.1f", more / 1048576 }')"

@@ -1,13 +1,15 @@
 #!/bin/sh
 # Runs ./township, or the program that is named, as people do: on files, pipes, folders and devices. It
-# compares the status, standard output and standard error of each run. The last line is
-# 'N passed, 0 failed'.
+# compares the status, standard output and standard error of each run. Then it tries the program's limits and
+# refused growths of memory, each by its own script; twp_growth is found in its crate, or is named second. The
+# last line counts all: 'N passed, 0 failed'.
 set -u
 # A program that goes wrong fills no disk and doesn't run forever.
 ulimit -f 2000
 ulimit -t 20
 program=$(readlink -f "${1:-./township}")
 root=$(readlink -f "$(dirname "$0")/..")
+calls=$(readlink -f "${2:-$root/crates/twp_growth/out/twp_growth}")
 work=$(mktemp -d)
 trap 'rm -rf "$work"' EXIT
 cd "$work" || exit 1
@@ -44,6 +46,8 @@ printf 'sec. 5, lot 1.\n' | cat - n.csv > joined
 mkdir folder
 cp n.csv ./-h
 cp n.csv 'my notes.csv'
+cp n.csv ' notes'
+cp d.txt ' description'
 bad_name=$(printf 'n\377.csv')
 cp n.csv "$bad_name"
 
@@ -51,10 +55,23 @@ cp n.csv "$bad_name"
 run acres n.csv d.txt; ended 'acres' $? 0 '40.45 acres' ''
 run acres ./n.csv "$work/d.txt"; ended 'names with slashes' $? 0 '40.45 acres' ''
 run acres 'my notes.csv' d.txt; ended 'a name with a space' $? 0 '40.45 acres' ''
+run acres ' notes' ' description'; ended 'names that begin with a space' $? 0 '40.45 acres' ''
 run acres -- -h d.txt; ended 'a file called -h' $? 0 '40.45 acres' ''
 run acres /dev/stdin d.txt < n.csv; ended 'notes on a device' $? 0 '40.45 acres' ''
 cat n.csv | run acres /dev/stdin d.txt; ended 'notes on a pipe' $? 0 '40.45 acres' ''
 run acres n.csv d.txt <&-; ended 'standard input is not wanted' $? 0 '40.45 acres' ''
+run acres --account exact n.csv d.txt; ended 'the exact account' $? 0 '40.45 acres' ''
+run acres n.csv d.txt --account=exact; ended 'the account behind the files' $? 0 '40.45 acres' ''
+# Four lots of 39.175, 39.125, 39.075 and 39.025 acres, which are printed as 39.18, 39.13, 39.08 and 39.03.
+printf 'sec. 7, lots 1 to 4, inclusive.' > lots
+run acres n.csv lots; ended 'four lots' $? 0 '156.40 acres' ''
+run acres --account plat n.csv lots; ended 'four lots by the plat' $? 0 '156.42 acres' ''
+run acres --account=plat n.csv lots; ended 'four lots by the plat, in one word' $? 0 '156.42 acres' ''
+run acres n.csv --account plat lots; ended 'the account between the files' $? 0 '156.42 acres' ''
+run acres n.csv lots --account plat; ended 'the account after the files' $? 0 '156.42 acres' ''
+run acres --account plat empty d.txt; ended 'refused notes, by the plat' $? 1 'refused 2 at 1' ''
+run acres -- --account=plat d.txt
+ended 'a file called as the option' $? 3 '' 'township: cannot open --account=plat'
 run acres empty d.txt; ended 'refused notes' $? 1 'refused 2 at 1' ''
 run acres /dev/null d.txt; ended 'no notes' $? 1 'refused 2 at 1' ''
 run acres /dev/zero d.txt; ended 'endless notes' $? 1 'refused 1 at 65536' ''
@@ -101,6 +118,8 @@ sec. 8: total 640.00
 township total 23037.57' ''
 run plat empty; ended 'a refused plat' $? 1 'refused 2 at 1' ''
 run plat /dev/stdin < edited; ended 'the plat of a device' $? 1 'refused 23 at 53' ''
+sed '/^W,6,7,/d' "$root/samples/b0.csv" > lacking
+run plat lacking; ended 'the plat of a line too few' $? 1 'refused 11 at 53' ''
 
 # The canonical spelling, which is spelled as it is.
 printf 'sec. 14, SE1/4, NE1/4, NW1/4.' > parts
@@ -228,20 +247,18 @@ run -h; ended '-h' $? 0 "$help_text" ''
 run help; ended 'help' $? 0 "$help_text" ''
 cp "$program" other-name
 ./other-name --help > out 2> err; ended 'called by another name' $? 0 "$help_text" ''
-# The help of a subcommand that takes a description, by its name and what it does.
-described_text() {
-    printf '%s\n' "$2
+acres_text="Writes the acres of the land that a description names
 
-Usage: township $1 <NOTES> <DESCRIPTION>
+Usage: township acres [OPTIONS] <NOTES> <DESCRIPTION>
 
 Arguments:
   <NOTES>        field notes of the township's 84 section lines, CSV
   <DESCRIPTION>  description of land, as: sec. 5, lot 1.
 
 Options:
-  -h, --help  Print help"
-}
-acres_text=$(described_text acres 'Writes the acres of the land that a description names')
+      --account <ACCOUNT>  how each whole lot counts: by its exact area, or by the acres that the plat \
+prints [default: exact] [possible values: exact, plat]
+  -h, --help               Print help"
 run acres --help; ended 'acres --help' $? 0 "$acres_text" ''
 run help acres; ended 'help acres' $? 0 "$acres_text" ''
 run acres missing --help; ended 'help before a missing file' $? 0 "$acres_text" ''
@@ -255,8 +272,16 @@ Arguments:
 
 Options:
   -h, --help  Print help"
-about_normal='Writes the one canonical spelling of the land that a description names'
-normal_text=$(described_text normal "$about_normal")
+normal_text="Writes the one canonical spelling of the land that a description names
+
+Usage: township normal <NOTES> <DESCRIPTION>
+
+Arguments:
+  <NOTES>        field notes of the township's 84 section lines, CSV
+  <DESCRIPTION>  description of land, as: sec. 5, lot 1.
+
+Options:
+  -h, --help  Print help"
 run normal --help; ended 'normal --help' $? 0 "$normal_text" ''
 run help normal; ended 'help normal' $? 0 "$normal_text" ''
 run report --help; ended 'report --help' $? 0 "$report_text" ''
@@ -267,7 +292,10 @@ more="For more information, try '--help'."
 usage="Usage: township <COMMAND>
 
 $more"
-acres_usage="Usage: township acres <NOTES> <DESCRIPTION>
+acres_words="Usage: township acres <NOTES> <DESCRIPTION>
+
+$more"
+acres_usage="Usage: township acres [OPTIONS] <NOTES> <DESCRIPTION>
 
 $more"
 normal_usage="Usage: township normal <NOTES> <DESCRIPTION>
@@ -288,10 +316,47 @@ $usage"
 run acres n.csv; ended 'a word too few' $? 2 '' "error: the following required arguments were not provided:
   <DESCRIPTION>
 
-$acres_usage"
+$acres_words"
 run acres n.csv d.txt d.txt; ended 'a word too many' $? 2 '' "error: unexpected argument 'd.txt' found
 
 $acres_usage"
+twice="error: the argument '--account <ACCOUNT>' cannot be used multiple times
+
+$acres_usage"
+run acres --account plat --account plat n.csv d.txt; ended 'an account twice' $? 2 '' "$twice"
+run acres --account=exact n.csv d.txt --account=plat; ended 'two accounts' $? 2 '' "$twice"
+# What is wrong with a value is told with the values.
+values="  [possible values: exact, plat]
+
+$more"
+no_value="error: a value is required for '--account <ACCOUNT>' but none was supplied
+$values"
+run acres n.csv d.txt --account; ended 'an account without a name' $? 2 '' "$no_value"
+run acres --account= n.csv d.txt; ended 'an empty account' $? 2 '' "$no_value"
+run acres --account '' n.csv d.txt; ended 'an account of the empty word' $? 2 '' "$no_value"
+for value in printed PLAT; do
+    run acres --account "$value" n.csv d.txt
+    ended "no account: $value" $? 2 '' "error: invalid value '$value' for '--account <ACCOUNT>'
+$values"
+done
+run --account plat acres n.csv d.txt
+ended 'an account before its subcommand' $? 2 '' "error: unexpected argument '--account' found
+
+  tip: 'acres --account' exists
+
+$usage"
+no_account="error: unexpected argument '--account' found
+
+  tip: to pass '--account' as a value, use '-- --account'
+"
+run plat --account plat n.csv; ended 'plat by an account' $? 2 '' "$no_account
+Usage: township plat <NOTES>
+
+$more"
+run normal n.csv d.txt --account=plat; ended 'normal by an account' $? 2 '' "$no_account
+$normal_usage"
+run report n.csv t.csv --account=plat; ended 'report by an account' $? 2 '' "$no_account
+$report_usage"
 run plat; ended 'plat without notes' $? 2 '' "error: the following required arguments were not provided:
   <NOTES>
 
@@ -382,16 +447,21 @@ unread help; ended 'help, no reader' $? 3 '' "$broken"
 "$program" acres missing gone > out 2> /dev/full; ended 'full standard error' $? 3 '' ''
 "$program" akres > out 2>&-; ended 'usage, closed standard error' $? 2 '' ''
 
-# Memory: between too little to start and enough, some limit starts the program and refuses it memory.
-limit=1000
-status=none
-while [ "$limit" -lt 20000 ]; do
-    (ulimit -v "$limit" && exec "$program" acres n.csv d.txt) > out 2> err < /dev/null
-    status=$?
-    if [ "$status" = 0 ] || [ "$status" = 3 ]; then break; fi
-    limit=$((limit + 50))
-done 2> lost
-ended 'little memory' "$status" 3 '' 'township: out of memory'
+# Each file is opened in its turn and once: a pipe is opened by the program only while it is by the other
+# side, which opens the notes first, and takes the names away as soon as both are open. With three standard
+# streams the program may have no file open but these two.
+in_turn() {
+    subcommand=$1 second=$2
+    rm -f first second
+    mkfifo first second
+    timeout 10 sh -c 'exec 3> first 4> second; rm first second; cat n.csv >&3; exec 3>&-; cat "$1" >&4' \
+        sh "$second" 2> lost &
+    (ulimit -n 5 && exec timeout 10 "$program" "$subcommand" first second) \
+        > out 2> err < /dev/null 3<&- 4<&-
+}
+in_turn acres d.txt; ended 'acres opens its files in their turn' $? 0 '40.45 acres' ''
+in_turn normal parts; ended 'normal opens its files in their turn' $? 0 "$(cat canonical)" ''
+in_turn report t.csv; ended 'report opens its files in their turn' $? 0 "$account" ''
 
 # The table of docs/REFUSALS.md has the numbers and names of the code, and no other.
 find "$root/crates" -path '*/src/*' -name '*.rt' -exec \
@@ -400,6 +470,21 @@ find "$root/crates" -path '*/src/*' -name '*.rt' -exec \
 sed -n 's/^| \([0-9][0-9]*\) | \([A-Za-z]*\) |.*/\1 \2/p' "$root/docs/REFUSALS.md" | sort > out
 : > err
 [ -s in_code ]; ended 'the table of refusals' $? 0 "$(cat in_code)" ''
+
+# Counts what a script of its own tries, whose last line is 'N passed, M failed'.
+count() {
+    "$@" > counted
+    sed '$d' counted
+    if ! tail -n 1 counted | grep -x '[0-9]* passed, [0-9]* failed' > last; then
+        failed=$((failed + 1))
+        echo "FAILED: no count by $*"
+        return
+    fi
+    read -r more _ wrong _ < last
+    passed=$((passed + more)) failed=$((failed + wrong))
+}
+count env -i PATH="$PATH" sh "$root/scripts/limits.sh" "$program"
+count sh "$root/scripts/growths.sh" "$program" "$calls"
 
 echo "$passed passed, $failed failed"
 [ "$failed" = 0 ]

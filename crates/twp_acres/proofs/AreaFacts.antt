@@ -1,22 +1,28 @@
 -- The steps of the code that adds areas up.
 use Rattle.std.proofs.Common.{◌≡◌, ℕ, zero, suc, ◌+◌, ◌-◌, ◌*◌, ◌<◌, ◌≤◌, Bool, Option, Some}
-use Rattle.std.proofs.Common.{IfSome, ap, sym, ◌∙◌, arith}
+use Rattle.std.proofs.Common.{IfSome, ap, refl, sym, ◌∙◌, arith}
 use Rattle.std.specs.Option.{SomeIff}
+use Rattle.std.specs.Prelude.{sum_by}
 use Rattle.std.proofs.lemmas.Nat.{mul-le}
-use Rattle.twp_measure.specs.Areas.{Fraction, IsArea}
+use Rattle.twp_measure.specs.Areas.{Fraction, IsArea, HUNDREDTH_OF_AN_ACRE}
 use Rattle.twp_grid.specs.Lots.{IsPosition, position_of_lot}
 use Rattle.twp_grid.specs.Places.{PLACE_DIGITS}
 use Rattle.twp_grid.specs.Spans.{whole_block}
 use Rattle.twp_grid.specs.Totals.{total}
 use Rattle.twp_grid.proofs.TotalFacts.{total-next, total-zero}
 use Rattle.twp_land.specs.Lands.{no_places, Meets, LieWithin}
+use Rattle.twp_land.specs.WholeLots.{HasWholeLots}
 use Rattle.twp_land.proofs.LandFacts.{nothing_within}
 use Rattle.twp_plat.specs.Plats.{TownshipPlat, IsPlat}
-use Rattle.twp_plat.specs.Pieces.{over_of}
-use Rattle.twp_plat.specs.PlatAreas.{ArePieces}
-use Rattle.twp_acres.specs.LandAreas.{section_sum, township_sum, IsLandArea}
+use Rattle.twp_acres.specs.LandAreas.{section_sum, township_sum}
+use Rattle.twp_acres.specs.PlatAccounts.{lots_held, places_off_lots, printed_units}
+use Rattle.twp_acres.specs.Accounts.{IsAreaBy, over_by, position_units, AreUnitsBy}
+use Rattle.twp_acres.specs.declared.account.Account.{Account}
+use Rattle.twp_acres.specs.declared.account.Account.TheVariants.{Exact, Plat}
 use Rattle.twp_plat.proofs.SectionPieces.{pieces_of}
 use Rattle.twp_acres.proofs.SectionSums.{none_held}
+use Rattle.twp_acres.proofs.FigureFacts.{plat_figures}
+use Rattle.twp_acres.proofs.LotSums.{sum_by_lots}
 
 -- where a lot is
 pub record LotAt (section lot column row : ℕ) : Type 0 where
@@ -49,13 +55,13 @@ abbrev pub sections_sum : (ℕ → ℕ → ℕ → ℕ) → (ℕ → ℕ → ℕ
 sections_sum pieces places count = total count (λ before. section_sum PLACE_DIGITS (pieces (before + 1)) (places (before + 1)))
 
 -- what was added up of so many sections
-abbrev pub IsSumOf : TownshipPlat → (ℕ → ℕ → ℕ → Bool) → ℕ → ℕ → Type 0
-IsSumOf plat places count units = (pieces : ℕ → ℕ → ℕ → ℕ) → ArePieces plat pieces → 16 * units ≡ sections_sum pieces places count
+abbrev pub IsSumOf : Account → TownshipPlat → (ℕ → ℕ → ℕ → Bool) → ℕ → ℕ → Type 0
+IsSumOf account plat places count units = (pieces : ℕ → ℕ → ℕ → ℕ) → AreUnitsBy account plat pieces → 16 * units ≡ sections_sum pieces places count
 
-pub sum-next : (plat : TownshipPlat) (places : ℕ → ℕ → ℕ → Bool) (number section units more : ℕ) → 1 ≤ number → section ≡ number → IsSumOf plat places (number - 1) units
-    → ((pieces : ℕ → ℕ → ℕ → ℕ) → ArePieces plat pieces → 16 * more ≡ section_sum PLACE_DIGITS (pieces section) (places section))
-    → IsSumOf plat places (number + 1 - 1) (units + more)
-sum-next plat places number section units more first is so_far added pieces are =
+pub sum-next : (account : Account) (plat : TownshipPlat) (places : ℕ → ℕ → ℕ → Bool) (number section units more : ℕ) → 1 ≤ number → section ≡ number → IsSumOf account plat places (number - 1) units
+    → ((pieces : ℕ → ℕ → ℕ → ℕ) → AreUnitsBy account plat pieces → 16 * more ≡ section_sum PLACE_DIGITS (pieces section) (places section))
+    → IsSumOf account plat places (number + 1 - 1) (units + more)
+sum-next account plat places number section units more first is so_far added pieces are =
     let last : number - 1 + 1 ≡ section = omega arith in
     let count : number + 1 - 1 ≡ number - 1 + 1 = omega arith in
     let next : sections_sum pieces places (number - 1 + 1) ≡ sections_sum pieces places (number - 1) + section_sum PLACE_DIGITS (pieces (number - 1 + 1)) (places (number - 1 + 1)) =
@@ -83,23 +89,23 @@ sum-without pieces places count (suc more) none =
     next = omega arith
 
 -- no place is held before the first section
-pub sum-first : (plat : TownshipPlat) (places : ℕ → ℕ → ℕ → Bool) (first last : ℕ) → LieWithin places first last → IsSumOf plat places (first - 1) 0
-sum-first plat places first last within pieces are =
+pub sum-first : (account : Account) (plat : TownshipPlat) (places : ℕ → ℕ → ℕ → Bool) (first last : ℕ) → LieWithin places first last → IsSumOf account plat places (first - 1) 0
+sum-first account plat places first last within pieces are =
     let none = sum-without pieces places 0 (first - 1) (λ section above below held. let lies = within section held.column held.row held.is_held in omega (arith, lies.0)) in
     let all : 0 + (first - 1) ≡ first - 1 = omega arith in
     sym (sym (ap (sections_sum pieces places) all) ∙ none ∙ total-zero _)
 
 -- no place is held behind the last section
-pub sum-last : (plat : TownshipPlat) (places : ℕ → ℕ → ℕ → Bool) (first last number units : ℕ) → LieWithin places first last → 1 ≤ number → last < number → number ≤ 37
-    → IsSumOf plat places (number - 1) units → IsSumOf plat places (37 - 1) units
-sum-last plat places first last number units within least behind most so_far pieces are =
+pub sum-last : (account : Account) (plat : TownshipPlat) (places : ℕ → ℕ → ℕ → Bool) (first last number units : ℕ) → LieWithin places first last → 1 ≤ number → last < number → number ≤ 37
+    → IsSumOf account plat places (number - 1) units → IsSumOf account plat places (37 - 1) units
+sum-last account plat places first last number units within least behind most so_far pieces are =
     let none = sum-without pieces places (number - 1) (37 - number) (λ section above below held. let lies = within section held.column held.row held.is_held in omega (arith, lies.1)) in
     let all : number - 1 + (37 - number) ≡ 36 = omega arith in
     so_far pieces are ∙ sym (sym (ap (sections_sum pieces places) all) ∙ none)
 
 -- no place is held at all
-pub sum-none : (plat : TownshipPlat) (places : ℕ → ℕ → ℕ → Bool) → places ≡ no_places → IsSumOf plat places (37 - 1) 0
-sum-none plat places none = sum-first plat places 37 36 (nothing_within places 37 36 none)
+pub sum-none : (account : Account) (plat : TownshipPlat) (places : ℕ → ℕ → ℕ → Bool) → places ≡ no_places → IsSumOf account plat places (37 - 1) 0
+sum-none account plat places none = sum-first account plat places 37 36 (nothing_within places 37 36 none)
 
 -- the value of a fraction in bounds
 pub area_is : (units over : ℕ) (found : Option Fraction) (area : Fraction) → SomeIff found (IsArea units over) (record { units = units; over = over }) → found ≡ Some area
@@ -107,10 +113,23 @@ pub area_is : (units over : ℕ) (found : Option Fraction) (area : Fraction) →
 area_is units over found area is there = (rw there at is).1
 
 -- what was added up of all sections is the land's area
-pub land_area : (plat : TownshipPlat) (places : ℕ → ℕ → ℕ → Bool) (number units over : ℕ) (area : Fraction) → IsPlat plat → over ≡ over_of plat → number ≡ 37
-    → IsSumOf plat places (number - 1) units → area ≡ record { units = units; over = over } → IsLandArea PLACE_DIGITS plat places area
-land_area plat places number units over area is over_is all sum area_is =
+pub land_area : (account : Account) (plat : TownshipPlat) (places : ℕ → ℕ → ℕ → Bool) (number units over : ℕ) (area : Fraction) → IsPlat plat → HasWholeLots PLACE_DIGITS places
+    → over ≡ over_by account plat → number ≡ 37 → IsSumOf account plat places (number - 1) units → area ≡ record { units = units; over = over } → IsAreaBy account PLACE_DIGITS plat places area
+land_area Exact plat places number units over area is whole over_is all sum area_is =
     let has = pieces_of plat is in
     let count : number - 1 ≡ 36 = omega arith in
     let total_is : 16 * units ≡ township_sum PLACE_DIGITS has.pieces places = rw count at (sum has.pieces has.are) in
     rw area_is (record { pieces = has.pieces; are = has.are; over_is = over_is; sum_is = total_is })
+land_area Plat plat places number units over area is whole over_is all sum area_is =
+    let (figures, are) = plat_figures plat is in
+    let lot_units : ℕ → ℕ → ℕ = λ section lot. HUNDREDTH_OF_AN_ACRE * figures.lots section lot in
+    let count : number - 1 ≡ 36 = omega arith in
+    let total_is : 16 * units ≡ township_sum PLACE_DIGITS (position_units lot_units 400000000) places =
+    rw count at (sum (position_units lot_units 400000000) (record { figures = figures; are = are; units_are = refl })) in
+    let by_lots = sum_by_lots PLACE_DIGITS (omega arith) lot_units 400000000 places whole in
+    let units_are : units ≡ sum_by (printed_units figures) (lots_held PLACE_DIGITS places) + 25000000 * places_off_lots PLACE_DIGITS places =
+    parts units _ _ (total_is ∙ sym by_lots) in
+    rw area_is (record { figures = figures; are = are; share = 25000000; share_is = refl; over_is = over_is; sum_is = units_are })
+  where
+    parts : (units lots off : ℕ) → 16 * units ≡ 16 * lots + 400000000 * off → units ≡ lots + 25000000 * off
+    parts units lots off is = omega arith

@@ -18,11 +18,11 @@ use Rattle.twp_plat.proofs.RatioFacts.{cancelled}
 use Rattle.twp_plat.specs.PlatAreas.{ArePieces}
 use Rattle.twp_acres.specs.LandAreas.{IsLandArea, places_of_position, piece_where_held}
 use Rattle.twp_acres.specs.LandAreas.{township_sum}
-use Rattle.twp_acres.specs.Laws.{OneLandArea, DisjointAreasAdd, township_places}
+use Rattle.twp_acres.specs.Laws.{OneLandArea, DisjointSumsAdd, DisjointAreasAdd, township_places}
 use Rattle.twp_plat.proofs.SectionPieces.{same_pieces}
 
 -- sums over the places of a township of functions that agree there
-township-ext : (g : ℕ) (f f' : ℕ → ℕ → ℕ → ℕ) → ((section column row : ℕ) → IsSection section → column < places_across g → row < places_across g → f section column row ≡ f' section column row)
+pub township-ext : (g : ℕ) (f f' : ℕ → ℕ → ℕ → ℕ) → ((section column row : ℕ) → IsSection section → column < places_across g → row < places_across g → f section column row ≡ f' section column row)
     → total SECTION_COUNT (λ before. total_over (whole_block g) (f (before + 1))) ≡ total SECTION_COUNT (λ before. total_over (whole_block g) (f' (before + 1)))
 township-ext g f f' same =
     total-ext SECTION_COUNT (λ before. total_over (whole_block g) (f (before + 1))) (λ before. total_over (whole_block g) (f' (before + 1))) (λ before below.
@@ -30,7 +30,7 @@ township-ext g f f' same =
     total-ext (places_across g) (λ along. f (before + 1) (0 + along) (0 + up)) (λ along. f' (before + 1) (0 + along) (0 + up)) (λ along in_along.
     same (before + 1) (0 + along) (0 + up) (omega arith, omega arith) (omega arith) (omega arith))))
 
-township-both : (g : ℕ) (f f' : ℕ → ℕ → ℕ → ℕ) → total SECTION_COUNT (λ before. total_over (whole_block g) (λ column row. f (before + 1) column row + f' (before + 1) column row))
+pub township-both : (g : ℕ) (f f' : ℕ → ℕ → ℕ → ℕ) → total SECTION_COUNT (λ before. total_over (whole_block g) (λ column row. f (before + 1) column row + f' (before + 1) column row))
     ≡ total SECTION_COUNT (λ before. total_over (whole_block g) (f (before + 1))) + total SECTION_COUNT (λ before. total_over (whole_block g) (f' (before + 1)))
 township-both g f f' =
     total-ext SECTION_COUNT (λ before. total_over (whole_block g) (λ column row. f (before + 1) column row + f' (before + 1) column row)) (λ before. total_over (whole_block g) (f (before + 1)) + total_over (whole_block g) (f' (before + 1))) (λ before below.
@@ -49,7 +49,7 @@ one_sum g fits plat places pieces pieces' are are' =
     (same_pieces plat pieces pieces' are are' section (position_along g column) (position_along g row) range (one_position g fits column row (in_column, in_row)).0))
 
 -- a position has places
-some_places : (g : ℕ) → POSITIONS_ACROSS ≤ places_across g → 0 < places_of_position g
+pub some_places : (g : ℕ) → POSITIONS_ACROSS ≤ places_across g → 0 < places_of_position g
 some_places g fits = square (places_to_position g) (quarter (places_across g) fits)
   where
     quarter : (n : ℕ) → 4 ≤ n → 0 < n / 4
@@ -109,14 +109,26 @@ one_land_area g fits plat places area area' is is' =
     order : (n u : ℕ) → u * n ≡ n * u
     order n u = omega arith
 
+pub disjoint_sums_add : DisjointSumsAdd
+disjoint_sums_add g pieces places more apart =
+    let first : ℕ → ℕ → ℕ → ℕ = λ section. piece_where_held g (pieces section) (places section) in
+    let second : ℕ → ℕ → ℕ → ℕ = λ section. piece_where_held g (pieces section) (more section) in
+    township-ext g (λ section. piece_where_held g (pieces section) (union places more section))
+    (λ section column row. first section column row + second section column row)
+    (λ section column row range in_column in_row. either (places section column row) (more section column row)
+    (pieces section (position_along g column) (position_along g row)) (apart section column row))
+    ∙ township-both g first second
+  where
+    either : (a b : Bool) (p : ℕ) → (a ≡ true → b ≡ true → ⊥)
+        → (if a || b then p else 0) ≡ (if a then p else 0) + (if b then p else 0)
+    either true true p apart = absurd (apart refl refl)
+    either true false p apart = omega arith
+    either false true p apart = omega arith
+    either false false p apart = omega arith
+
 pub disjoint_areas_add : DisjointAreasAdd
 disjoint_areas_add g fits plat places more area other apart is is' =
-    let first : ℕ → ℕ → ℕ → ℕ = λ section. piece_where_held g (is.pieces section) (places section) in
-    let second : ℕ → ℕ → ℕ → ℕ = λ section. piece_where_held g (is.pieces section) (more section) in
-    let sum : township_sum g is.pieces (union places more) ≡ township_sum g is.pieces places + township_sum g is.pieces more =
-    township-ext g (λ section. piece_where_held g (is.pieces section) (union places more section)) (λ section column row. first section column row + second section column row) (λ section column row range in_column in_row.
-    either (places section column row) (more section column row) (is.pieces section (position_along g column) (position_along g row)) (apart section column row))
-    ∙ township-both g first second in
+    let sum = disjoint_sums_add g is.pieces places more apart in
     let same = one_sum g fits plat more is.pieces is'.pieces is.are is'.are in
     record {
       pieces = is.pieces;
@@ -125,11 +137,5 @@ disjoint_areas_add g fits plat places more area other apart is is' =
       sum_is = both (places_of_position g) area.units other.units (township_sum g is.pieces places) (township_sum g is.pieces more) is.sum_is (is'.sum_is ∙ sym same) ∙ sym sum;
     }
   where
-    either : (a b : Bool) (p : ℕ) → (a ≡ true → b ≡ true → ⊥) → (if a || b then p else 0) ≡ (if a then p else 0) + (if b then p else 0)
-    either true true p apart = absurd (apart refl refl)
-    either true false p apart = omega arith
-    either false true p apart = omega arith
-    either false false p apart = omega arith
-
     both : (n u u' s s' : ℕ) → n * u ≡ s → n * u' ≡ s' → n * (u + u') ≡ s + s'
     both n u u' s s' e e' = omega arith

@@ -3,20 +3,24 @@ use Rattle.std.proofs.Common.{◌≡◌, ℕ, suc, ◌+◌, ◌-◌, ◌*◌, �
 use Rattle.std.proofs.Common.{Some, ap, refl, sym, ◌∙◌, arith, append_assoc}
 use Rattle.std.specs.Prelude.{OnOk, Result, Ok, Err, unwrap_or}
 use Rattle.std.proofs.lemmas.List.{append-nil}
+use Rattle.std.proofs.lemmas.Nat.{mul-le}
 use Rattle.twp_measure.specs.Areas.{Fraction, IsRounded}
 use Rattle.twp_measure.proofs.RoundingFacts.{one_rounding, rounded}
 use Rattle.twp_grid.specs.Winding.{SECTION_COUNT, IsSection}
+use Rattle.twp_grid.specs.Lines.{north_run, west_run}
 use Rattle.twp_grid.specs.Lots.{IsPosition, position_of_lot}
 use Rattle.twp_grid.specs.Places.{PLACE_DIGITS}
 use Rattle.twp_grid.specs.Totals.{total, over_positions}
 use Rattle.twp_grid.proofs.LotFacts.{lots_match}
 use Rattle.twp_land.proofs.LotFacts.{fills}
-use Rattle.twp_plat.specs.Plats.{TownshipPlat}
-use Rattle.twp_plat.specs.Pieces.{IsPieceArea, over_of}
+use Rattle.twp_plat.specs.Plats.{TownshipPlat, IsPlat, closing_quarter_of}
+use Rattle.twp_plat.specs.Pieces.{over_of, line_length}
+use Rattle.twp_plat.proofs.SectionPieces.{pieces_of}
 use Rattle.twp_plat.specs.PlatAreas.{IsSectionArea, IsTownshipArea}
-use Rattle.twp_plat.proofs.OneAnswer.{one_area}
+use Rattle.twp_plat.specs.LotFigures.{IsFigureOfLot}
+use Rattle.twp_plat.proofs.FigureFacts.{same_figure}
 use Rattle.twp_acres.specs.Laws.{section_places, township_places}
-use Rattle.twp_acres.specs.PlatAnswers.{IsLotFigure, IsSectionFigure, IsTownshipFigure, PlatFigures}
+use Rattle.twp_acres.specs.PlatAnswers.{IsSectionFigure, IsTownshipFigure, PlatFigures}
 use Rattle.twp_acres.specs.PlatAnswers.{AreFigures, texts_to}
 use Rattle.twp_acres.proofs.AreaLaws.{one_land_area}
 use Rattle.twp_acres.proofs.WholeAreas.{section_area_is_of_land, township_area_is_of_land}
@@ -28,12 +32,10 @@ in_position section lot column row range is =
     (there.in_column, there.in_row)
 
 -- the figure of a lot is one
-pub same_lot : (plat : TownshipPlat) (section lot h h' : ℕ) (p : ℕ × ℕ) (area : Fraction) → IsSection section → position_of_lot section lot ≡ Some p
-    → IsPieceArea plat section p.0 p.1 area → area.over ≡ over_of plat → IsRounded area h → IsLotFigure plat section p.0 p.1 h' → h ≡ h'
-same_lot plat section lot h h' p area range there piece over rounded is =
-    let inside = in_position section lot p.0 p.1 range there in
-    let same : area ≡ is.area = one_area plat section p.0 p.1 area is.area inside.0 inside.1 piece is.piece_is (over ∙ sym is.over_is) in
-    one_rounding is.area h h' (rw same at rounded) is.rounded
+pub same_lot : (plat : TownshipPlat) (figures : PlatFigures) (section lot h : ℕ) → IsSection section → AreFigures plat figures → IsFigureOfLot plat section lot h → h ≡ figures.lots section lot
+same_lot plat figures section lot h range are is =
+    same_figure plat section is.column is.row h (figures.lots section lot) (in_position section lot is.column is.row range is.position_is) is.figure_is
+    (are.lots section lot is.column is.row range is.position_is)
 
 -- the figure of a section is one
 pub same_section : (plat : TownshipPlat) (section h h' : ℕ) (area : Fraction) → IsSection section → IsSectionArea plat section area → IsRounded area h
@@ -85,6 +87,20 @@ figures_of plat area is some =
         };
       },
     )
+
+-- a plat's denominator isn't 0
+over_some : (plat : TownshipPlat) → 0 < over_of plat
+unfolding over_of
+over_some plat = some (closing_quarter_of plat (west_run 0 5)) (closing_quarter_of plat (north_run 0 6))
+  where
+    some : (n w : ℕ) → 0 < 4 * line_length n * line_length w
+    some n w = let least = mul-le 1 1 (4 * line_length n) (line_length w) (omega arith) (omega arith) in omega arith
+
+pub plat_figures : (plat : TownshipPlat) → IsPlat plat → (figures : PlatFigures) × AreFigures plat figures
+plat_figures plat is =
+    let has = pieces_of plat is in
+    let units : ℕ = total SECTION_COUNT (λ before. over_positions (has.pieces (before + 1))) in
+    figures_of plat (record { units = units; over = over_of plat }) (record { pieces = has.pieces; are = has.are; over_is = refl; sum_is = refl }) (over_some plat)
 
 pub no_texts : (text : ℕ → List ℕ) → texts_to 0 text ≡ []
 unfolding texts_to

@@ -1,7 +1,8 @@
 pub mod PositionSums
 pub mod RegularFacts
-pub mod PieceFacts
 pub mod SectionSums
+pub mod PieceFacts
+pub mod LotSums
 pub mod AreaLaws
 pub mod WholeAreas
 pub mod AreaFacts
@@ -10,6 +11,8 @@ pub mod RunFacts
 pub mod OneAnswer
 pub mod FigureFacts
 pub mod OnePlat
+pub mod PlatLaws
+pub mod OneAccountAnswer
 pub mod NameFacts
 pub mod TractFacts
 pub mod TractLands

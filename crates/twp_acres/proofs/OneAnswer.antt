@@ -72,7 +72,7 @@ acres_of_land notes d h plat places land is =
     let l : is.places ≡ places = one_land plat.township d is.places places described land.described in
     subst (λ q. AreHundredthsOf plat q h) l (subst (λ q. AreHundredthsOf q is.places h) p is.acres)
 
-one_acres : (notes d : List ℕ) (h h' : ℕ) → HasAcres notes d h → HasAcres notes d h' → h ≡ h'
+pub one_acres : (notes d : List ℕ) (h h' : ℕ) → HasAcres notes d h → HasAcres notes d h' → h ≡ h'
 one_acres notes d h h' is is' =
     one_hundredths is'.plat is'.places h h' (acres_of_land notes d h is'.plat is'.places is'.land is) is'.acres
 

@@ -47,8 +47,8 @@ one_lot : (plat : TownshipPlat) (figures figures' : PlatFigures) (section lot : 
     → 1 ≤ lot → lot ≤ number_of_lots section → figures.lots section lot ≡ figures'.lots section lot
 one_lot plat figures figures' section lot are are' range least most =
     let at = stands section lot range least most in
-    let figure = are.lots section lot at.place.0 at.place.1 range at.there in
-    same_lot plat section lot _ _ at.place figure.area range at.there figure.piece_is figure.over_is figure.rounded (are'.lots section lot at.place.0 at.place.1 range at.there)
+    same_lot plat figures' section lot (figures.lots section lot) range are'
+    (record { column = at.place.0; row = at.place.1; position_is = at.there; figure_is = are.lots section lot at.place.0 at.place.1 range at.there })
 
 one_section : (plat : TownshipPlat) (figures figures' : PlatFigures) (section : ℕ) → AreFigures plat figures → AreFigures plat figures' → IsSection section
     → figures.sections section ≡ figures'.sections section

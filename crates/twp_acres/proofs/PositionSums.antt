@@ -61,7 +61,7 @@ positions_differ a b f g in-a in-b same =
     omega arith
 
 -- a sum by stretches of one length
-total_blocks : (m n : ℕ) (f : ℕ → ℕ) → total (m * n) f ≡ total m (λ q. total n (λ k. f (q * n + k)))
+pub total_blocks : (m n : ℕ) (f : ℕ → ℕ) → total (m * n) f ≡ total m (λ q. total n (λ k. f (q * n + k)))
 unfolding total
 total_blocks zero n f = let none : zero * n ≡ 0 = omega arith in rw none refl
 total_blocks (suc m) n f =

@@ -1,17 +1,19 @@
 -- What runs read and write, over plain values.
-use Rattle.std.proofs.Common.{◌≡◌, ℕ, List, [], Option, Some, None, Result, Ok, Err, inl, inr, refl}
-use Rattle.std.proofs.Common.{ap, subst, sym, ◌∙◌, ◌+◌, Bool, true, false, ◌⊎◌, ◌↔◌}
+use Rattle.std.proofs.Common.{◌≡◌, ◌≢◌, ℕ, List, [], Option, Some, None, Result, Ok, Err, inl, inr}
+use Rattle.std.proofs.Common.{refl, ap, subst, sym, ◌∙◌, ◌+◌, Bool, true, false, ◌⊎◌, ◌↔◌}
 use Rattle.std.specs.Prelude.{IfOk, IfErr, OnOk, OnErr, IsErrOf, IsOkUnless, is_err, unwrap_or}
 use Rattle.std.specs.Io.KnownBytes.{Appends}
 use Rattle.twp_grid.specs.Devices.{Tells, TakesAtMost}
 use Rattle.twp_notes.specs.FieldNotes.{NOTES_MOST}
+use Rattle.twp_notes.specs.ReadBytes.{TakesFirst}
 use Rattle.twp_notes.specs.declared.reading.ReadFault.{ReadFault}
 use Rattle.twp_notes.specs.declared.reading.ReadFault.TheVariants as reading
 use Rattle.twp_acres.specs.PassedFaults.{run_fault_of, IsStopOfPlaces}
 use Rattle.twp_acres.specs.Runs.{AnswerRelation, AnyFailed, AppendsFront, IsAnswered, IsRun}
-use Rattle.twp_acres.specs.Runs.{Reads, ReadsTwo, RunsOnPlat, Use}
+use Rattle.twp_acres.specs.Runs.{Reads, ReadsTwo, RunsOnPlat, Use, used}
 use Rattle.twp_grid.specs.Places.{PLACE_DIGITS}
 use Rattle.twp_grid.specs.Townships.{Designation}
+use Rattle.twp_grid.specs.declared.refusal.Refusal.{Refusal}
 use Rattle.twp_plat.specs.Plats.{TownshipPlat}
 use Rattle.twp_text.specs.TextFaults.{IsReadAs}
 use Rattle.twp_text.specs.PlaceFaults.{IsFirstPlaceFault}
@@ -24,6 +26,7 @@ use Rattle.twp_acres.specs.declared.stop.Stop.TheVariants as stop
 use Rattle.twp_acres.specs.declared.verdict.RunFault.{RunFault}
 use Rattle.twp_acres.specs.declared.verdict.RunFault.TheVariants.{Memory, Read, Write}
 use Rattle.twp_acres.specs.declared.verdict.Verdict.{Verdict}
+use Rattle.twp_acres.proofs.OneAnswer.{not_platted}
 
 -- the bytes that a device tells, or some where it tells none
 pub some_bytes : (told : Option (List ℕ)) → Tells told (unwrap_or told [])
@@ -57,6 +60,21 @@ refused_of_notes n d (stop.Failed fault) none = tt
 pub refused_on_plat : (n d : List ℕ) (plat : TownshipPlat) (is : Stop) → ArePlatted n plat → IfRefused is (IsNoDescription plat.township d) → IfRefused is (IsRefusal n d)
 refused_on_plat n d plat (stop.Refused refusal) platted none = inr (record { plat = plat; platted = platted; refused = none })
 refused_on_plat n d plat (stop.Failed fault) platted none = tt
+
+-- notes that are refused make no plat
+pub none_platted : (told : Option (List ℕ)) (n : List ℕ) (refusal : Refusal) → Reads told (λ bytes. IsNoPlat bytes refusal)
+    → told ≡ Some n → MakePlat n → ⊥
+none_platted told n refusal read is makes =
+    not_platted n refusal makes.0 (told_one told n (λ bytes. IsNoPlat bytes refusal) read is) makes.1
+
+-- so of notes that make a plat a run stops for a fault alone
+pub plat_stops_by_fault : (told : Option (List ℕ)) (n : List ℕ) (by : Stop) → Reads told (λ bytes. IfRefused by (IsNoPlat bytes))
+    → told ≡ Some n → MakePlat n → by ≢ stop.Failed Read → by ≢ stop.Failed Write → by ≢ stop.Failed Memory → ⊥
+plat_stops_by_fault told n (stop.Refused refusal) read is makes not_read not_write not_memory =
+    none_platted told n refusal read is makes
+plat_stops_by_fault told n (stop.Failed Read) read is makes not_read not_write not_memory = not_read refl
+plat_stops_by_fault told n (stop.Failed Write) read is makes not_read not_write not_memory = not_write refl
+plat_stops_by_fault told n (stop.Failed Memory) read is makes not_read not_write not_memory = not_memory refl
 
 -- items that don't lie on the plat stop the run by their refusal
 pub stopped_by_places : (township : Designation) (d : List ℕ) (is : List Item) (fault : PlaceFault) (stopped : Stop) → IsReadAs d is
@@ -100,15 +118,34 @@ pub read_answered : (r : Result Verdict RunFault) → IfErr r (λ fault. fault �
 read_answered (Ok v) by wrong = cc wrong
 read_answered (Err e) by wrong = cc (sym (ap Err by) ∙ wrong)
 
+-- an answer that was made, and the fault of one that wasn't
+abbrev pub made : {T : Type 0} → T → Result T RunFault
+made answer = Ok answer
+
+abbrev pub unmade : {T : Type 0} → RunFault → Result T RunFault
+unmade fault = Err fault
+
+-- the notes were read to their end or to one byte past the limit, unless their reader failed
+abbrev pub TakesNotes : {T : Type 0} → Use → Result T RunFault → Type 0
+TakesNotes notes r = notes.has_failed ≡ false → r ≢ Err Memory → TakesFirst notes.old notes.new (NOTES_MOST + 1)
+
+-- and so was the second text, where the notes make a plat
+abbrev pub TakesSecond : {T : Type 0} → Use → Use → ℕ → Result T RunFault → Type 0
+TakesSecond notes second most r = (n : List ℕ) → notes.old ≡ Some n → MakePlat n → notes.has_failed ≡ false → second.has_failed ≡ false
+    → r ≢ Err Memory → TakesFirst second.old second.new (most + 1)
+
 -- a run that had an answer of two texts, and wrote it
-pub run_on_plat : (Answers : List ℕ → List ℕ → AnswerRelation) (most : ℕ) (notes second out : Use) (unread : Type 0) (text : List ℕ) (verdict : Verdict) (r : Result Verdict RunFault)
+pub run_on_plat : {T : Type 0} (answer : T) (Answers : List ℕ → List ℕ → AnswerRelation) (most : ℕ) (notes second out : Use) (unread : Type 0)
+    (text : List ℕ) (verdict : Verdict) (r : Result Verdict RunFault)
     → ReadsTwo notes.old second.old MakePlat unread (λ n s. Answers n s text verdict)
     → (AnyFailed notes.has_failed second.has_failed → ⊥) → (notes.has_failed ≡ true → unread)
     → TakesAtMost notes.old notes.new (NOTES_MOST + 1) → TakesAtMost second.old second.new (most + 1)
+    → TakesNotes notes (made answer) → TakesSecond notes second most (made answer)
     → IfOk r (λ v. v ≡ verdict) → OnOk r (Appends out.old out.new text) → OnErr r (AppendsFront out.old out.new text)
     → IfErr r (λ fault. fault ≡ Write) → out.has_failed ≡ is_err r
     → RunsOnPlat Answers most notes second out unread r
-run_on_plat Answers most notes second out unread text verdict r read none_failed after notes_most second_most is whole front by failed =
+run_on_plat answer Answers most notes second out unread text verdict r read none_failed after notes_most second_most
+    notes_exact second_exact is whole front by failed =
     let wrote : (n s : List ℕ) → Answers n s text verdict → IsRun (Answers n s) out.old out.new r
     = λ n s answers. written (Answers n s) out.old out.new text verdict r answers is whole front by in
     let ran : ReadsTwo notes.old second.old MakePlat unread (λ n s. IsRun (Answers n s) out.old out.new r)
@@ -130,6 +167,63 @@ run_on_plat Answers most notes second out unread text verdict r read none_failed
       write = write_answered r out.has_failed by failed;
       notes_most = notes_most;
       second_most = second_most;
+      notes_exact = λ notes _. notes_exact notes (λ wrong. cc wrong);
+      second_exact = λ n is-n makes notes second _. second_exact n is-n makes notes second (λ wrong. cc wrong);
+    }
+
+-- what stops without an answer, and not by its writer, has written nothing
+nothing_written : (Answers : AnswerRelation) (old : Option (List ℕ)) (fault : RunFault) → fault ≢ Write
+    → IsRun Answers old old (Err fault)
+nothing_written Answers None Read not_write = tt
+nothing_written Answers (Some bytes) Read not_write = refl
+nothing_written Answers None Memory not_write = tt
+nothing_written Answers (Some bytes) Memory not_write = refl
+nothing_written Answers old Write not_write = absurd (not_write refl)
+
+-- and where no device failed it stops for want of memory
+wants_memory : (fault : RunFault) → fault ≢ Read → fault ≢ Write → fault ≡ Memory
+wants_memory Read not_read not_write = absurd (not_read refl)
+wants_memory Write not_read not_write = absurd (not_write refl)
+wants_memory Memory not_read not_write = refl
+
+-- where neither device failed
+pub none_failed_of : (first second : Bool) → first ≡ false → second ≡ false → AnyFailed first second → ⊥
+none_failed_of first second first_open second_open (inl failed) = cc (first_open, failed)
+none_failed_of first second first_open second_open (inr failed) = cc (second_open, failed)
+
+-- a run of two texts that stopped before it had an answer
+pub run_stopped : {T : Type 0} (Answers : List ℕ → List ℕ → AnswerRelation) (most : ℕ) (notes second : Use) (out : Option (List ℕ))
+    (out_failed : Bool) (unread : Type 0) (fault : RunFault) (Holds : List ℕ → List ℕ → Type 0) → ReadsTwo notes.old second.old MakePlat unread Holds
+    → IsErrOf (unmade {T = T} fault) Read ↔ AnyFailed notes.has_failed second.has_failed → (notes.has_failed ≡ true → unread)
+    → fault ≢ Write → out_failed ≡ false
+    → TakesAtMost notes.old notes.new (NOTES_MOST + 1) → TakesAtMost second.old second.new (most + 1)
+    → TakesNotes notes (unmade {T = T} fault) → TakesSecond notes second most (unmade {T = T} fault)
+    → RunsOnPlat Answers most notes second (used out out out_failed) unread (Err fault)
+run_stopped Answers most notes second out out_failed unread fault Holds read by after not_write out_open notes_most second_most
+    notes_exact second_exact =
+    let ran : ReadsTwo notes.old second.old MakePlat unread (λ n s. IsRun (Answers n s) out out (Err fault))
+    = record {
+      first_bytes = read.first_bytes;
+      second_bytes = read.second_bytes;
+      first_tells = read.first_tells;
+      second_tells = read.second_tells;
+      holds = nothing_written (Answers read.first_bytes read.second_bytes) out fault not_write;
+      order = read.order;
+    } in
+    record {
+      told = λ n s is-n is-s. nothing_written (Answers n s) out fault not_write;
+      answers = λ notes_open second_open _.
+          wants_memory fault (λ is. none_failed_of _ _ notes_open second_open (by.0 (ap Err is))) not_write;
+      ran = ran;
+      unread = λ n is-n stops. unread_of notes.old second.old n MakePlat unread _ ran is-n stops;
+      unread_after_fault = after;
+      read = ((λ is. by.0 (ap Err (cc is))), (λ any. ap Err (cc (by.1 any))));
+      write = ((λ is. absurd (not_write (cc is))), (λ failed. cc (out_open, failed)));
+      notes_most = notes_most;
+      second_most = second_most;
+      notes_exact = λ notes not_memory. notes_exact notes (λ is. not_memory (ap Err (cc is)));
+      second_exact = λ n is-n makes notes second not_memory.
+          second_exact n is-n makes notes second (λ is. not_memory (ap Err (cc is)));
     }
 
 -- what was answered is the one answer that there is

@@ -10,12 +10,8 @@ use Rattle.twp_grid.proofs.TotalFacts.{total-ext, total-same, total-scale, total
 use Rattle.twp_land.specs.Lands.{count_held, Meets}
 use Rattle.twp_land.specs.WholeLots.{lot_of_place, IsWholeOrNot}
 use Rattle.twp_land.proofs.LotFacts.{fills, has_lot}
-use Rattle.twp_plat.specs.Plats.{TownshipPlat, IsPlat}
-use Rattle.twp_plat.specs.Pieces.{over_of}
-use Rattle.twp_plat.specs.PlatAreas.{ArePieces}
 use Rattle.twp_acres.specs.LandAreas.{piece_where_held, section_sum}
 use Rattle.twp_acres.proofs.PositionSums.{positions-ext, positions-le, positions-zero, positions-both, positions-scale, positions_differ, by_position}
-use Rattle.twp_acres.proofs.PieceFacts.{regular_units}
 
 -- the lot is numbered below n
 abbrev pub is_below : Option ℕ → ℕ → Bool
@@ -177,53 +173,56 @@ lots_within section n held range whole =
         rw (held_of_lot section lot column row held (whole lot) is) (at_most (is_below (lot_at_position section column row) n) (places_where held column row))
 
 -- the lots that are held, and the places off the lots, are all that is held
-record AtPosition (plat : TownshipPlat) (section last : ℕ) (held : ℕ → ℕ → Bool) (pieces : ℕ → ℕ → ℕ) (column row : ℕ) : Type 0 where
+record AtPosition (over section last : ℕ) (held : ℕ → ℕ → Bool) (pieces : ℕ → ℕ → ℕ) (column row : ℕ) : Type 0 where
   places_are : held_of held column row ≡ off_lots section last (held_of held) column row + of_lots section last (places_where held) column row
-  sum_is : pieces column row * held_of held column row ≡ 16 * of_lots section last (piece_where held pieces) column row + 400000000 * over_of plat * off_lots section last (held_of held) column row
+  sum_is : pieces column row * held_of held column row ≡ 16 * of_lots section last (piece_where held pieces) column row + 400000000 * over * off_lots section last (held_of held) column row
 
-at_position : (plat : TownshipPlat) (section last : ℕ) (held : ℕ → ℕ → Bool) (pieces : ℕ → ℕ → ℕ → ℕ) (column row : ℕ) (lot : Option ℕ) → IsPlat plat → ArePieces plat pieces
+-- off its lots, a section's positions are regular
+abbrev pub AreRegular : ℕ → ℕ → (ℕ → ℕ → ℕ) → Type 0
+AreRegular over section pieces = (column row : ℕ) → IsPosition column row → lot_at_position section column row ≡ None → pieces column row ≡ 400000000 * over
+
+at_position : (over section last : ℕ) (held : ℕ → ℕ → Bool) (pieces : ℕ → ℕ → ℕ) (column row : ℕ) (lot : Option ℕ) → AreRegular over section pieces
     → IsSection section → ((lot : ℕ) → IsWholeOrNot PLACE_DIGITS section lot held) → number_of_lots section < last → IsPosition column row
-    → lot_at_position section column row ≡ lot → AtPosition plat section last held (pieces section) column row
-at_position plat section last held pieces column row None is are range whole most position there =
-    let regular = regular_units plat pieces section column row is are range position there in
+    → lot_at_position section column row ≡ lot → AtPosition over section last held pieces column row
+at_position over section last held pieces column row None are range whole most position there =
+    let regular = are column row position there in
     record {
       places_are = rw there (omega arith);
       sum_is = rw (there, regular) (omega arith);
     }
-at_position plat section last held pieces column row (Some lot) is are range whole most position there =
+at_position over section last held pieces column row (Some lot) are range whole most position there =
     let filled = fills section column row lot range there in
     let number : lot < last = omega (arith, filled.most) in
     let test : nat_lt lot last ≡ true = grind (arith, nat_tests) in
     let all = held_of_lot section lot column row held (whole lot) there in
     record {
       places_are = rw (there, test, all) (omega arith);
-      sum_is = rw (there, test, all) (in_lot (held (column * 4) (row * 4)) (pieces section column row) (over_of plat));
+      sum_is = rw (there, test, all) (in_lot (held (column * 4) (row * 4)) (pieces column row) over);
     }
   where
     in_lot : (b : Bool) (p over : ℕ) → p * (if b then 16 else 0) ≡ 16 * (if b then p else 0) + 400000000 * over * 0
     in_lot true p over = omega arith
     in_lot false p over = omega arith
 
-pub sum_of_section : (plat : TownshipPlat) (section last count units : ℕ) (held : ℕ → ℕ → Bool) (pieces : ℕ → ℕ → ℕ → ℕ) → IsPlat plat → ArePieces plat pieces
+pub sum_of_section : (over section last count units : ℕ) (held : ℕ → ℕ → Bool) (pieces : ℕ → ℕ → ℕ) → AreRegular over section pieces
     → IsSection section → ((lot : ℕ) → IsWholeOrNot PLACE_DIGITS section lot held) → number_of_lots section < last
     → count + over_positions (of_lots section last (places_where held)) ≡ count_held held (whole_block PLACE_DIGITS)
-    → units ≡ over_positions (of_lots section last (piece_where held (pieces section)))
-    → 16 * (units + 25000000 * (over_of plat * count)) ≡ section_sum PLACE_DIGITS (pieces section) held
-sum_of_section plat section last count units held pieces is are range whole most taken gained =
-    let each : (column row : ℕ) → column < 4 → row < 4 → AtPosition plat section last held (pieces section) column row = λ column row in_column in_row.
-    at_position plat section last held pieces column row (lot_at_position section column row) is are range whole most (in_column, in_row) refl in
+    → units ≡ over_positions (of_lots section last (piece_where held pieces))
+    → 16 * (units + 25000000 * (over * count)) ≡ section_sum PLACE_DIGITS pieces held
+sum_of_section over section last count units held pieces are range whole most taken gained =
+    let each : (column row : ℕ) → column < 4 → row < 4 → AtPosition over section last held pieces column row = λ column row in_column in_row.
+    at_position over section last held pieces column row (lot_at_position section column row) are range whole most (in_column, in_row) refl in
     let places : over_positions (held_of held) ≡ over_positions (off_lots section last (held_of held)) + over_positions (of_lots section last (places_where held)) =
     positions-ext (held_of held) (λ column row. off_lots section last (held_of held) column row + of_lots section last (places_where held) column row) (λ column row in_column in_row. (each column row in_column in_row).places_are)
     ∙ positions-both (off_lots section last (held_of held)) (of_lots section last (places_where held)) in
     let all = held_by_position held in
     let rest : count ≡ over_positions (off_lots section last (held_of held)) = omega arith in
-    let over : ℕ = over_of plat in
-    let lots : ℕ → ℕ → ℕ = of_lots section last (piece_where held (pieces section)) in
+    let lots : ℕ → ℕ → ℕ = of_lots section last (piece_where held pieces) in
     let off : ℕ → ℕ → ℕ = off_lots section last (held_of held) in
-    let sum : section_sum PLACE_DIGITS (pieces section) held ≡ 16 * over_positions lots + 400000000 * over * over_positions off =
-    by_position (piece_where_held PLACE_DIGITS (pieces section) held)
-    ∙ positions-ext (λ column row. total_over (position_block PLACE_DIGITS column row) (piece_where_held PLACE_DIGITS (pieces section) held)) (λ column row. 16 * lots column row + 400000000 * over * off column row) (λ column row in_column in_row.
-    position_sum held (pieces section) column row ∙ (each column row in_column in_row).sum_is)
+    let sum : section_sum PLACE_DIGITS pieces held ≡ 16 * over_positions lots + 400000000 * over * over_positions off =
+    by_position (piece_where_held PLACE_DIGITS pieces held)
+    ∙ positions-ext (λ column row. total_over (position_block PLACE_DIGITS column row) (piece_where_held PLACE_DIGITS pieces held)) (λ column row. 16 * lots column row + 400000000 * over * off column row) (λ column row in_column in_row.
+    position_sum held pieces column row ∙ (each column row in_column in_row).sum_is)
     ∙ positions-both (λ column row. 16 * lots column row) (λ column row. 400000000 * over * off column row)
     ∙ ap (λ t. t + over_positions (λ column row. 400000000 * over * off column row)) (positions-scale 16 lots)
     ∙ ap (λ t. 16 * over_positions lots + t) (positions-scale (400000000 * over) off) in

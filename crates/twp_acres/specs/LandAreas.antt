@@ -23,7 +23,8 @@ piece_where_held g pieces held column row =
 abbrev pub section_sum : ℕ → (ℕ → ℕ → ℕ) → (ℕ → ℕ → Bool) → ℕ
 section_sum g pieces held = total_over (whole_block g) (piece_where_held g pieces held)
 
--- their sum over the places of a township, section by section
+-- Their sum over the places of a township, section by section: of any set of places, whether or not
+-- it holds lots whole.
 abbrev pub township_sum : ℕ → (ℕ → ℕ → ℕ → ℕ) → (ℕ → ℕ → ℕ → Bool) → ℕ
 township_sum g pieces places =
     total SECTION_COUNT (λ before. section_sum g (pieces (before + 1)) (places (before + 1)))

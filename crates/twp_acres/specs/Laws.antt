@@ -8,7 +8,7 @@ use Rattle.twp_land.specs.Lands.{union}
 use Rattle.twp_land.specs.Storage.{is_section}
 use Rattle.twp_plat.specs.Plats.{TownshipPlat}
 use Rattle.twp_plat.specs.PlatAreas.{IsSectionArea, IsTownshipArea}
-use Rattle.twp_acres.specs.LandAreas.{IsLandArea}
+use Rattle.twp_acres.specs.LandAreas.{IsLandArea, township_sum}
 use Rattle.twp_acres.specs.Answers.{IsLandOnPlat}
 use Rattle.twp_acres.specs.AcresAnswers.{IsAcresAnswer}
 use Rattle.twp_acres.specs.PlatAnswers.{IsPlatAnswer}
@@ -27,7 +27,15 @@ OneLandArea = (g : ℕ) → POSITIONS_ACROSS ≤ places_across g → (plat : Tow
     (places : ℕ → ℕ → ℕ → Bool) (area area' : Fraction)
     → IsLandArea g plat places area → IsLandArea g plat places area' → area ≡ area'
 
--- the area of two disjoint sets together is the sum of theirs
+-- The sum over the places of any two disjoint sets together is the sum of theirs: nothing is
+-- divided yet, so the sets need not hold lots whole.
+abbrev pub DisjointSumsAdd : Type 0
+DisjointSumsAdd = (g : ℕ) (pieces : ℕ → ℕ → ℕ → ℕ) (places more : ℕ → ℕ → ℕ → Bool)
+    → AreDisjoint places more
+    → township_sum g pieces (union places more)
+    ≡ township_sum g pieces places + township_sum g pieces more
+
+-- the area of two disjoint sets together is the sum of theirs, where both come out in whole units
 abbrev pub DisjointAreasAdd : Type 0
 DisjointAreasAdd = (g : ℕ) → POSITIONS_ACROSS ≤ places_across g → (plat : TownshipPlat)
     (places more : ℕ → ℕ → ℕ → Bool) (area other : Fraction) → AreDisjoint places more

@@ -12,6 +12,10 @@ pub mod TractFaults
 pub mod ReportAnswers
 pub mod TractTaking
 pub mod TractLaws
+pub mod PlatAccounts
+pub mod Accounts
+pub mod AccountAnswers
 pub mod NormalAnswers
 pub mod NormalLaws
 pub mod Laws
+pub mod PlatAccountLaws

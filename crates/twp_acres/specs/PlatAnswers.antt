@@ -7,18 +7,11 @@ use Rattle.twp_grid.specs.Winding.{SECTION_COUNT, IsSection}
 use Rattle.twp_grid.specs.Lots.{number_of_lots, position_of_lot}
 use Rattle.twp_grid.specs.Texts.{line_feed}
 use Rattle.twp_plat.specs.Plats.{TownshipPlat}
-use Rattle.twp_plat.specs.Pieces.{IsPieceArea, over_of}
 use Rattle.twp_plat.specs.PlatAreas.{IsSectionArea, IsTownshipArea}
+use Rattle.twp_plat.specs.LotFigures.{IsLotFigure}
 use Rattle.twp_acres.specs.Answers.{AnswersRefusal, ArePlatted, IsNoPlat}
 use Rattle.twp_acres.specs.declared.verdict.Verdict.{Verdict}
 use Rattle.twp_acres.specs.declared.verdict.Verdict.TheVariants.{Accepted, Refused, TractRefused}
-
--- the figure of a lot: the piece of its position, rounded
-pub record IsLotFigure (plat : TownshipPlat) (section column row hundredths : ℕ) : Type 0 where
-  pub area : Fraction
-  pub piece_is : IsPieceArea plat section column row area
-  pub over_is : area.over ≡ over_of plat
-  pub rounded : IsRounded area hundredths
 
 -- the figure of a section: the sum of its pieces, rounded
 pub record IsSectionFigure (plat : TownshipPlat) (section hundredths : ℕ) : Type 0 where

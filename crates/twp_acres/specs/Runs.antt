@@ -1,9 +1,10 @@
 -- What a run reads, and what it does to its writer.
-use Rattle.std.specs.Prelude.{◌≡◌, ◌⊎◌, ◌↔◌, ℕ, ◌+◌, ◌≤◌, Bool, true, false, List, length, take}
-use Rattle.std.specs.Prelude.{Option, Some, Result, Ok, Err, IfOk, IsErrOf, IsOkUnless}
+use Rattle.std.specs.Prelude.{◌≡◌, ◌≢◌, ◌⊎◌, ◌↔◌, ℕ, ◌+◌, ◌≤◌, Bool, true, false, List, length}
+use Rattle.std.specs.Prelude.{take, Option, Some, Result, Ok, Err, IfOk, IsErrOf, IsOkUnless}
 use Rattle.std.specs.Io.KnownBytes.{Appends, Keeps}
 use Rattle.twp_grid.specs.Devices.{Tells, TakesAtMost}
 use Rattle.twp_notes.specs.FieldNotes.{NOTES_MOST}
+use Rattle.twp_notes.specs.ReadBytes.{TakesFirst}
 use Rattle.twp_acres.specs.Answers.{MakePlat}
 use Rattle.twp_acres.specs.declared.verdict.Verdict.{Verdict}
 use Rattle.twp_acres.specs.declared.verdict.RunFault.{RunFault}
@@ -101,3 +102,10 @@ pub record RunsOnPlat (Answers : List ℕ → List ℕ → AnswerRelation) (most
   -- Reading ends one byte past the limit, if not before.
   pub notes_most : TakesAtMost notes.old notes.new (NOTES_MOST + 1)
   pub second_most : TakesAtMost second.old second.new (most + 1)
+  -- It ends just there or at the end of the input, where no device fails and no memory is refused:
+  -- of the notes, and of the second text where they make a plat.
+  pub notes_exact : notes.has_failed ≡ false → result ≢ Err Memory
+      → TakesFirst notes.old notes.new (NOTES_MOST + 1)
+  pub second_exact : (n : List ℕ) → notes.old ≡ Some n → MakePlat n
+      → notes.has_failed ≡ false → second.has_failed ≡ false → result ≢ Err Memory
+      → TakesFirst second.old second.new (most + 1)

@@ -19,7 +19,7 @@ use Rattle.twp_acres.specs.Tracts.{IsTractRecord, AreTracts, IsLandOfTracts}
 use Rattle.twp_acres.specs.TractFaults.{HasAt, turn_of}
 use Rattle.twp_acres.specs.ReportAnswers.{tract_line, AreTractLines, text_of}
 use Rattle.twp_acres.specs.ReportAnswers.{other_places, total_lines}
-use Rattle.twp_acres.specs.declared.account.Account.{Account}
+use Rattle.twp_acres.specs.declared.running_account.RunningAccount.{RunningAccount}
 use Rattle.twp_acres.specs.declared.names.Names.{Names}
 use Rattle.twp_acres.specs.declared.totals.Totals.{Totals}
 use Rattle.twp_acres.specs.declared.stop.Stop.{Stop}
@@ -35,7 +35,7 @@ pub record Tally : Type 0 where
   pub text : List ℕ
 
 -- the tally of an account, whose land holds these places
-abbrev pub tally_of : {L : Type 0} → (L → ℕ → ℕ → ℕ → Bool) → Account L → Tally
+abbrev pub tally_of : {L : Type 0} → (L → ℕ → ℕ → ℕ → Bool) → RunningAccount L → Tally
 tally_of places account = record {
   names = account.names;
   places = places account.land;

@@ -1,108 +1,57 @@
-//! The account of tracts, which grows by one tract after another.
-ghost use Rattle.std.specs.Prelude.{◌≡◌, ◌++◌, ℕ, List, [], false, OnOk, IfErr};
-ghost use Rattle.csv.specs.Records.{fields_of};
-ghost use Rattle.twp_land.specs.Lands.{no_places};
-ghost use Rattle.twp_acres.specs.Names.{has_name};
-ghost use Rattle.twp_acres.specs.ReportAnswers.{tract_line};
-ghost use Rattle.twp_acres.specs.TractTaking.{tally_of, AreTotals, TakesTract};
-ghost use Rattle.twp_acres.specs.TractTaking.{IsTractRefused, fault_of_stop};
+//! The accounts of a land: what its whole lots count.
+ghost use Rattle.std.specs.Prelude.{◌≡◌, ℕ, ◌*◌, ◌≤◌, ◌<◌, Some};
+ghost use Rattle.twp_grid.specs.Lots.{number_of_lots, position_of_lot};
+ghost use Rattle.twp_plat.specs.Closing.{CLOSING_MOST};
+ghost use Rattle.twp_plat.specs.Plats.{IsPlat};
+ghost use Rattle.twp_plat.specs.Pieces.{OVER_MOST};
+ghost use Rattle.twp_acres.specs.Accounts.{over_by, AreUnitsBy};
 
-use crate::answer::write_acres_line;
-use crate::area::area_of;
-use crate::names::Names;
-use crate::stages::describe_into;
-use crate::stop::Stop;
-use crate::totals::Totals;
-use crate::tract::tract_of;
-use crate::tract_fault::TractFault;
-use csv::ByteRecord;
-use std::alloc::{AllocError, Global};
-use twp_land::Land;
+use twp_grid::{Section, lot_place};
 use twp_plat::Plat;
 
-/// What is known of the tracts so far. One land is kept for the tract at hand, so that none has to
-/// be made for each.
-#[derive(Drop)]
-pub(crate) struct Account<L> {
-    pub(crate) names: Names,
-    pub(crate) land: L,
-    tract: L,
-    pub(crate) totals: Totals,
-    pub(crate) text: Vec<u8>,
+/// Which area a whole lot counts with in the acreage run (this project's rule).
+#[derive(Clone, Copy, Debug, PartialEq, Eq)]
+pub enum Account {
+    /// The exact area of its position.
+    Exact,
+    /// The acres that the plat prints of it.
+    Plat,
 }
 
-impl<L: Land> Account<L> {
-    /// The account of no tract.
-    pub(crate) fn new(alloc: Global, plat: &Plat) -> Account<L>
-        ensures names { (name : List ℕ) → has_name result.names name ≡ false }
-        ensures land { L.places result.land ≡ no_places }
-        ensures totals { AreTotals plat.now no_places result.totals }
-        ensures text { result.text.items ≡ [] }
+/// A hundredth of an acre, in square thousandths of a chain.
+const HUNDREDTH_OF_AN_ACRE: u128 = 100_000;
+
+impl Account {
+    /// What the account's areas are divided by.
+    pub(crate) fn over(self, plat: &Plat) -> u64
+        ensures value { result ≡ over_by self plat.now }
+        ensures range { (0 < result) × (result ≤ OVER_MOST) }
+        ensures plat { IsPlat plat.now }
     {
-        Account {
-            names: Names::new(alloc),
-            land: L::empty(),
-            tract: L::empty(),
-            totals: Totals::new(plat),
-            text: Vec::new(alloc),
+        let over = plat.over();
+        match self {
+            Account::Exact => over,
+            Account::Plat => 1,
         }
     }
 
-    /// Takes the tract of the record of this number.
-    pub(crate) fn take(
-        &mut self,
-        alloc: Global,
-        plat: &Plat,
-        row: &ByteRecord,
-        number: u32,
-    ) -> Result<(), TractFault>
-        requires { AreTotals plat.now (L.places self.old.land) self.old.totals }
-        ensures taken { OnOk result (TakesTract plat.now (fields_of row.now)
-            (tally_of L.places self.old) (tally_of L.places self.new)) }
-        ensures fault { IfErr result (IsTractRefused plat.now.township (fields_of row.now)
-            (tally_of L.places self.old) number) }
+    /// The area of a section's lot, in parts of the account's denominator.
+    pub(crate) fn lot_units(self, plat: &Plat, section: Section, lot: u8) -> u128
+        requires least { 1 ≤ lot }
+        requires most { lot ≤ number_of_lots section }
+        ensures units { (units : ℕ → ℕ → ℕ → ℕ) (column row : ℕ) → AreUnitsBy self plat.now units
+            → position_of_lot section lot ≡ Some (column, row) → result ≡ units section column row }
+        ensures most { result ≤ CLOSING_MOST * CLOSING_MOST * over_by self plat.now }
     {
-        let Some(tract) = tract_of(row) else {
-            return Err(TractFault::TractRow(number));
-        };
-        if !self.names.add(tract.name)? {
-            return Err(TractFault::NameRepeated(number));
+        match self {
+            Account::Exact => {
+                let (column, row) = lot_place(section, lot).unwrap();
+                plat.piece_area(section, column, row).units()
+            }
+            Account::Plat => {
+                let hundredths = plat.lot_hundredths(section, lot).unwrap();
+                HUNDREDTH_OF_AN_ACRE * u128::from(hundredths)
+            }
         }
-        if let Err(stop) = describe_into(
-            alloc,
-            &mut self.tract,
-            plat.township(),
-            tract.description,
-        ) {
-            return Err(fault_of(stop, number));
-        }
-        if self.land.meets_land(&self.tract) {
-            return Err(TractFault::TractsOverlap(number));
-        }
-        let area = area_of(plat, &self.tract);
-        self.totals.take(&area);
-        self.land.add_land(&self.tract);
-        write_tract(tract.name, area.hundredths(), &mut self.text)?;
-        Ok(())
     }
-}
-
-/// The fault of the record of this number, whose description stopped for this.
-fn fault_of(stop: Stop, number: u32) -> TractFault
-    ensures { result ≡ fault_of_stop stop number }
-{
-    match stop {
-        Stop::Refused(inner) => TractFault::TractRefused { at: number, inner },
-        Stop::Failed(_) => TractFault::Memory,
-    }
-}
-
-/// Appends a tract's name and its hundredths of an acre, as `tract A: 39.18 acres`.
-fn write_tract(name: &str, hundredths: u64, text: &mut Vec<u8>) -> Result<(), AllocError>
-    ensures ok { OnOk result (text.new.items ≡ text.old.items ++ tract_line name.now hundredths) }
-{
-    text.extend_from_slice(b"tract ")?;
-    text.extend_from_slice(name.as_bytes())?;
-    text.extend_from_slice(b": ")?;
-    write_acres_line(hundredths, text)
 }

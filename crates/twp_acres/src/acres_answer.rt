@@ -1,14 +1,18 @@
-//! The answer of the acreage run.
-ghost use Rattle.std.specs.Prelude.{◌≡◌, ◌≢◌, ◌+◌, ◌↔◌, true, false, IfOk, IfErr, IsErrOf};
+//! The answer of the acreage run, by an account.
+ghost use Rattle.std.specs.Prelude.{◌≡◌, ◌≢◌, ◌+◌, ◌↔◌, ℕ, List, Some, true, false};
+ghost use Rattle.std.specs.Prelude.{IfOk, IfErr, IsErrOf};
 ghost use Rattle.twp_grid.specs.Devices.{TakesAtMost};
 ghost use Rattle.twp_notes.specs.FieldNotes.{NOTES_MOST};
+ghost use Rattle.twp_notes.specs.ReadBytes.{TakesFirst};
 ghost use Rattle.twp_text.specs.TextFaults.{TEXT_LIMIT};
 ghost use Rattle.twp_acres.specs.Answers.{MakePlat};
-ghost use Rattle.twp_acres.specs.AcresAnswers.{IsAcresAnswer, acres_line};
+ghost use Rattle.twp_acres.specs.AcresAnswers.{acres_line};
+ghost use Rattle.twp_acres.specs.AccountAnswers.{IsAcresAnswerBy};
 ghost use Rattle.twp_acres.specs.Runs.{AnyFailed, ReadsTwo};
 
+use crate::account::Account;
 use crate::answer::{Answer, refuse, write_acres_line};
-use crate::area::area_of;
+use crate::area::area_by;
 use crate::stages::read_land_on_plat;
 use crate::stop::Stop;
 use crate::verdict::{RunFault, Verdict};
@@ -22,6 +26,7 @@ pub fn answer_of<N: Source, D: Source>(
     alloc: Global,
     notes: &mut N,
     description: &mut D,
+    account: Account,
 ) -> Result<Answer, RunFault>
     requires notes { N.has_failed notes.old ≡ false }
     requires description { D.has_failed description.old ≡ false }
@@ -33,12 +38,19 @@ pub fn answer_of<N: Source, D: Source>(
         (N.remaining notes.new) (NOTES_MOST + 1) }
     ensures description_most { TakesAtMost (D.remaining description.old)
         (D.remaining description.new) (TEXT_LIMIT + 1) }
+    ensures notes_exact { N.has_failed notes.new ≡ false → result ≢ Err RunFault.Memory
+        → TakesFirst (N.remaining notes.old) (N.remaining notes.new) (NOTES_MOST + 1) }
+    ensures description_exact { (n : List ℕ) → N.remaining notes.old ≡ Some n → MakePlat n
+        → N.has_failed notes.new ≡ false → D.has_failed description.new ≡ false
+        → result ≢ Err RunFault.Memory
+        → TakesFirst (D.remaining description.old) (D.remaining description.new) (TEXT_LIMIT + 1) }
     ensures answer { ReadsTwo (N.remaining notes.old) (D.remaining description.old)
         MakePlat (description.new ≡ description.old)
-        (λ n d. IfOk result (λ answer. IsAcresAnswer n d answer.text.items answer.verdict)) }
+        (λ n d. IfOk result (λ answer.
+        IsAcresAnswerBy account n d answer.text.items answer.verdict)) }
 {
     match read_land_on_plat::<N, D, Lanes>(alloc, notes, description) {
-        Ok(read) => accept(alloc, area_of(&read.plat, &read.land).hundredths()),
+        Ok(read) => accept(alloc, area_by(account, &read.plat, &read.land).hundredths()),
         Err(Stop::Refused(refusal)) => refuse(alloc, refusal),
         Err(Stop::Failed(fault)) => Err(fault),
     }

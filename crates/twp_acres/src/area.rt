@@ -1,12 +1,14 @@
 ghost use Rattle.std.specs.Prelude.{◌≡◌, ℕ, ◌*◌, ◌≤◌};
 ghost use Rattle.twp_grid.specs.Places.{PLACE_DIGITS};
 ghost use Rattle.twp_land.specs.WholeLots.{HasWholeLots};
-ghost use Rattle.twp_plat.specs.Pieces.{over_of, OVER_MOST};
-ghost use Rattle.twp_plat.specs.PlatAreas.{ArePieces};
+ghost use Rattle.twp_plat.specs.Pieces.{OVER_MOST};
 ghost use Rattle.twp_acres.specs.LandAreas.{places_of_position, section_sum, IsLandArea};
+ghost use Rattle.twp_acres.specs.PlatAccounts.{IsPlatArea};
+ghost use Rattle.twp_acres.specs.Accounts.{IsAreaBy, over_by, AreUnitsBy};
 ghost use Rattle.twp_acres.specs.Bounds.{REGULAR_PLACE_UNITS, SECTION_PLACES_MOST};
 ghost use Rattle.twp_acres.specs.Bounds.{SECTION_UNITS_MOST};
 
+use crate::account::Account;
 use twp_grid::{Block, PLACES_ACROSS, Section, lot_count, lot_place};
 use twp_land::Land;
 use twp_measure::Area;
@@ -33,7 +35,24 @@ pub fn area_of<L: Land>(plat: &Plat, land: &L) -> Area
     requires whole { HasWholeLots PLACE_DIGITS (L.places land.now) }
     ensures { IsLandArea PLACE_DIGITS plat.now (L.places land.now) result }
 {
-    let over = plat.over();
+    area_by(Account::Exact, plat, land)
+}
+
+/// The plat area of a land: each lot counts with the acres that the plat prints of it, and each
+/// place off the lots with a sixteenth of 40 acres (this project's rule).
+pub fn plat_area_of<L: Land>(plat: &Plat, land: &L) -> Area
+    requires whole { HasWholeLots PLACE_DIGITS (L.places land.now) }
+    ensures { IsPlatArea PLACE_DIGITS plat.now (L.places land.now) result }
+{
+    area_by(Account::Plat, plat, land)
+}
+
+/// The area of a land by an account.
+pub(crate) fn area_by<L: Land>(account: Account, plat: &Plat, land: &L) -> Area
+    requires whole { HasWholeLots PLACE_DIGITS (L.places land.now) }
+    ensures { IsAreaBy account PLACE_DIGITS plat.now (L.places land.now) result }
+{
+    let over = account.over(plat);
     let Some((first, last)) = land.sections() else {
         return Area::zero(over);
     };
@@ -43,22 +62,22 @@ pub fn area_of<L: Land>(plat: &Plat, land: &L) -> Area
         if !land.meets(section, Block::whole()) {
             continue;
         }
-        units += units_in_section(plat, land, section);
+        units += units_in_section(account, plat, land, section);
     }
     Area::new(units, over).unwrap()
 }
 
-/// What a land holds of a section, in parts of the plat's denominator. A lot is held whole, so one
-/// of its places tells whether it is held, and then its piece is added; what is off the lots is
-/// counted.
-fn units_in_section<L: Land>(plat: &Plat, land: &L, section: Section) -> u128
+/// What a land holds of a section, in parts of the account's denominator. A lot is held whole, so
+/// one of its places tells whether it is held, and then its units are added; what is off the lots
+/// is counted.
+fn units_in_section<L: Land>(account: Account, plat: &Plat, land: &L, section: Section) -> u128
     requires whole { HasWholeLots PLACE_DIGITS (L.places land.now) }
-    ensures sum { (pieces : ℕ → ℕ → ℕ → ℕ) → ArePieces plat.now pieces
+    ensures sum { (units : ℕ → ℕ → ℕ → ℕ) → AreUnitsBy account plat.now units
         → places_of_position PLACE_DIGITS * result
-        ≡ section_sum PLACE_DIGITS (pieces section) (L.places land.now section) }
-    ensures most { result ≤ SECTION_UNITS_MOST * over_of plat.now }
+        ≡ section_sum PLACE_DIGITS (units section) (L.places land.now section) }
+    ensures most { result ≤ SECTION_UNITS_MOST * over_by account plat.now }
 {
-    let over = plat.over();
+    let over = account.over(plat);
     let mut off_lots = land.count(section, Block::whole());
     let mut units = 0;
     for lot in 1..lot_count(section) + 1 {
@@ -69,7 +88,7 @@ fn units_in_section<L: Land>(plat: &Plat, land: &L, section: Section) -> u128
             row * PLACES_TO_POSITION,
         ) {
             off_lots -= PLACES_OF_POSITION;
-            units += plat.piece_area(section, column, row).units();
+            units += account.lot_units(plat, section, lot);
         }
     }
     units + regular_units(off_lots, over)

@@ -12,6 +12,7 @@ mod normal_answer;
 mod plat_answer;
 mod report_answer;
 mod running;
+mod running_account;
 mod stages;
 mod stop;
 mod totals;
@@ -21,6 +22,7 @@ mod tracts;
 mod verdict;
 mod writing;
 
-pub use area::area_of;
-pub use running::{run_acres, run_normal, run_plat, run_report};
+pub use account::Account;
+pub use area::{area_of, plat_area_of};
+pub use running::{run_acres, run_acres_as, run_normal, run_plat, run_report};
 pub use verdict::{RunFault, Verdict};

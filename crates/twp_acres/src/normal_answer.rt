@@ -1,8 +1,10 @@
 //! The answer of the spelling run.
-ghost use Rattle.std.specs.Prelude.{◌≡◌, ◌≢◌, ◌+◌, ◌↔◌, true, false, IfOk, IfErr, IsErrOf};
+ghost use Rattle.std.specs.Prelude.{◌≡◌, ◌≢◌, ◌+◌, ◌↔◌, ℕ, List, Some, true, false};
+ghost use Rattle.std.specs.Prelude.{IfOk, IfErr, IsErrOf};
 ghost use Rattle.twp_grid.specs.Devices.{TakesAtMost};
 ghost use Rattle.twp_grid.specs.Places.{PLACE_DIGITS};
 ghost use Rattle.twp_notes.specs.FieldNotes.{NOTES_MOST};
+ghost use Rattle.twp_notes.specs.ReadBytes.{TakesFirst};
 ghost use Rattle.twp_land.specs.WholeLots.{HasWholeLots};
 ghost use Rattle.twp_text.specs.CanonicalText.{IsCanonicalText};
 ghost use Rattle.twp_text.specs.TextFaults.{TEXT_LIMIT};
@@ -36,6 +38,12 @@ pub fn answer_of<N: Source, D: Source>(
         (N.remaining notes.new) (NOTES_MOST + 1) }
     ensures description_most { TakesAtMost (D.remaining description.old)
         (D.remaining description.new) (TEXT_LIMIT + 1) }
+    ensures notes_exact { N.has_failed notes.new ≡ false → result ≢ Err RunFault.Memory
+        → TakesFirst (N.remaining notes.old) (N.remaining notes.new) (NOTES_MOST + 1) }
+    ensures description_exact { (n : List ℕ) → N.remaining notes.old ≡ Some n → MakePlat n
+        → N.has_failed notes.new ≡ false → D.has_failed description.new ≡ false
+        → result ≢ Err RunFault.Memory
+        → TakesFirst (D.remaining description.old) (D.remaining description.new) (TEXT_LIMIT + 1) }
     ensures answer { ReadsTwo (N.remaining notes.old) (D.remaining description.old)
         MakePlat (description.new ≡ description.old)
         (λ n d. IfOk result (λ answer. IsNormalAnswer n d answer.text.items answer.verdict)) }

@@ -5,6 +5,7 @@ ghost use Rattle.twp_grid.specs.Devices.{TakesAtMost};
 ghost use Rattle.twp_grid.specs.Winding.{IsSection};
 ghost use Rattle.twp_grid.specs.Lots.{number_of_lots};
 ghost use Rattle.twp_notes.specs.FieldNotes.{NOTES_MOST};
+ghost use Rattle.twp_notes.specs.ReadBytes.{TakesFirst};
 ghost use Rattle.twp_acres.specs.PlatAnswers.{PlatFigures, AreFigures, IsPlatAnswer};
 ghost use Rattle.twp_acres.specs.PlatAnswers.{lot_text, total_text, section_name, section_line};
 ghost use Rattle.twp_acres.specs.PlatAnswers.{plat_text};
@@ -16,7 +17,7 @@ use crate::stop::Stop;
 use crate::verdict::{RunFault, Verdict};
 use itoa::Buffer;
 use std::alloc::{AllocError, Global};
-use twp_grid::{SECTIONS, Section, Source, lot_count, lot_place};
+use twp_grid::{SECTIONS, Section, Source, lot_count};
 use twp_measure::write_acres;
 use twp_plat::Plat;
 
@@ -27,6 +28,8 @@ pub fn answer_of<N: Source>(alloc: Global, notes: &mut N) -> Result<Answer, RunF
     ensures no_write { IfErr result (λ fault. fault ≢ RunFault.Write) }
     ensures most { TakesAtMost (N.remaining notes.old)
         (N.remaining notes.new) (NOTES_MOST + 1) }
+    ensures exact { N.has_failed notes.new ≡ false → result ≢ Err RunFault.Memory
+        → TakesFirst (N.remaining notes.old) (N.remaining notes.new) (NOTES_MOST + 1) }
     ensures answer { Reads (N.remaining notes.old) (λ n.
         IfOk result (λ answer. IsPlatAnswer n answer.text.items answer.verdict)) }
 {
@@ -106,8 +109,7 @@ fn lot_figure(plat: &Plat, section: Section, lot: u8) -> u64
     ensures { (figures : PlatFigures) → AreFigures plat.now figures
         → result ≡ figures.lots section lot }
 {
-    let (column, row) = lot_place(section, lot).unwrap();
-    plat.piece_area(section, column, row).hundredths()
+    plat.lot_hundredths(section, lot).unwrap()
 }
 
 /// A section's hundredths of an acre.

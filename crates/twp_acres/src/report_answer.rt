@@ -1,7 +1,9 @@
 //! The answer of the report run.
-ghost use Rattle.std.specs.Prelude.{◌≡◌, ◌≢◌, ◌+◌, ◌↔◌, Some, true, false, IfOk, IfErr, IsErrOf};
+ghost use Rattle.std.specs.Prelude.{◌≡◌, ◌≢◌, ◌+◌, ◌↔◌, ℕ, List, Some, true, false};
+ghost use Rattle.std.specs.Prelude.{IfOk, IfErr, IsErrOf};
 ghost use Rattle.twp_grid.specs.Devices.{TakesAtMost};
 ghost use Rattle.twp_notes.specs.FieldNotes.{NOTES_MOST};
+ghost use Rattle.twp_notes.specs.ReadBytes.{TakesFirst};
 ghost use Rattle.twp_acres.specs.Answers.{MakePlat};
 ghost use Rattle.twp_acres.specs.Tracts.{TRACTS_LIMIT};
 ghost use Rattle.twp_acres.specs.TractFaults.{verdict_of};
@@ -36,6 +38,12 @@ pub fn answer_of<N: Source, T: Source>(
         (N.remaining notes.new) (NOTES_MOST + 1) }
     ensures tracts_most { TakesAtMost (T.remaining tracts.old)
         (T.remaining tracts.new) (TRACTS_LIMIT + 1) }
+    ensures notes_exact { N.has_failed notes.new ≡ false → result ≢ Err RunFault.Memory
+        → TakesFirst (N.remaining notes.old) (N.remaining notes.new) (NOTES_MOST + 1) }
+    ensures tracts_exact { (n : List ℕ) → N.remaining notes.old ≡ Some n → MakePlat n
+        → N.has_failed notes.new ≡ false → T.has_failed tracts.new ≡ false
+        → result ≢ Err RunFault.Memory
+        → TakesFirst (T.remaining tracts.old) (T.remaining tracts.new) (TRACTS_LIMIT + 1) }
     ensures answer { ReadsTwo (N.remaining notes.old) (T.remaining tracts.old)
         MakePlat (tracts.new ≡ tracts.old)
         (λ n t. IfOk result (λ answer. IsReportAnswer n t answer.text.items answer.verdict)) }
@@ -48,12 +56,16 @@ pub fn answer_of<N: Source, T: Source>(
 }
 
 /// The answer of a list of tracts on a plat.
+// Not inlined: else its reader stands on the stack while the notes are read.
+#[inline(never)]
 fn report_on<T: Source>(alloc: Global, plat: &Plat, tracts: &mut T) -> Result<Answer, RunFault>
     requires { T.has_failed tracts.old ≡ false }
     ensures read { IsErrOf result RunFault.Read ↔ (T.has_failed tracts.new ≡ true) }
     ensures no_write { IfErr result (λ fault. fault ≢ RunFault.Write) }
     ensures most { TakesAtMost (T.remaining tracts.old)
         (T.remaining tracts.new) (TRACTS_LIMIT + 1) }
+    ensures exact { T.has_failed tracts.new ≡ false → result ≢ Err RunFault.Memory
+        → TakesFirst (T.remaining tracts.old) (T.remaining tracts.new) (TRACTS_LIMIT + 1) }
     ensures answer { Reads (T.remaining tracts.old) (λ t.
         IfOk result (λ answer. AnswersList plat.now t answer.text.items answer.verdict)) }
 {

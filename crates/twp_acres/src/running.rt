@@ -1,18 +1,21 @@
-ghost use Rattle.std.specs.Prelude.{◌≡◌, ◌+◌, ◌↔◌, ℕ, List, Some, true, false};
+ghost use Rattle.std.specs.Prelude.{◌≡◌, ◌≢◌, ◌+◌, ◌↔◌, ℕ, List, Some, true, false};
 ghost use Rattle.std.specs.Prelude.{OnOk, OnErr, IfOk, IfErr, IsErrOf, IsOkUnless, is_err};
 ghost use Rattle.std.specs.Io.KnownBytes.{Appends};
 ghost use Rattle.twp_grid.specs.Devices.{TakesAtMost};
 ghost use Rattle.twp_grid.specs.declared.refusal.Refusal.{Refusal};
 ghost use Rattle.twp_notes.specs.FieldNotes.{NOTES_MOST};
+ghost use Rattle.twp_notes.specs.ReadBytes.{TakesFirst};
 ghost use Rattle.twp_text.specs.TextFaults.{TEXT_LIMIT};
 ghost use Rattle.twp_acres.specs.Answers.{IsRefusal, refusal_line};
 ghost use Rattle.twp_acres.specs.AcresAnswers.{HasAcres, IsAcresAnswer, acres_line};
+ghost use Rattle.twp_acres.specs.AccountAnswers.{IsAcresAnswerBy};
 ghost use Rattle.twp_acres.specs.PlatAnswers.{IsPlatAnswer};
 ghost use Rattle.twp_acres.specs.NormalAnswers.{IsNormalAnswer};
 ghost use Rattle.twp_acres.specs.ReportAnswers.{IsReportAnswer};
 ghost use Rattle.twp_acres.specs.Tracts.{TRACTS_LIMIT};
 ghost use Rattle.twp_acres.specs.Runs.{AppendsFront, IsAnswered, IsRun, Reads, RunsOnPlat, used};
 
+use crate::account::Account;
 use crate::answer::Answer;
 use crate::verdict::{RunFault, Verdict};
 use crate::writing::write_whole;
@@ -59,7 +62,34 @@ pub fn run_acres<N: Source, D: Source, W: Sink>(
         (used (W.contents out.old) (W.contents out.new) (W.has_failed out.new))
         (description.new ≡ description.old) result }
 {
-    let answer = acres_answer::answer_of(alloc, notes, description)?;
+    run_acres_as(alloc, notes, description, out, Account::Exact)
+}
+
+/// Writes the acres of the land described as `run_acres` does, with each whole lot by the account:
+/// by its exact area, or by the acres that the plat prints of it, which are rounded already; other
+/// land then counts with its nominal area (this project's rule).
+///
+/// The whole answer is made before its first byte is written.
+pub fn run_acres_as<N: Source, D: Source, W: Sink>(
+    alloc: Global,
+    notes: &mut N,
+    description: &mut D,
+    out: &mut W,
+    account: Account,
+) -> Result<Verdict, RunFault>
+    requires notes { N.has_failed notes.old ≡ false }
+    requires description { D.has_failed description.old ≡ false }
+    requires out { W.has_failed out.old ≡ false }
+
+    // As each run of two texts, with the acres by the account, or the refusal.
+    ensures run { RunsOnPlat (IsAcresAnswerBy account) TEXT_LIMIT
+        (used (N.remaining notes.old) (N.remaining notes.new) (N.has_failed notes.new))
+        (used (D.remaining description.old) (D.remaining description.new)
+        (D.has_failed description.new))
+        (used (W.contents out.old) (W.contents out.new) (W.has_failed out.new))
+        (description.new ≡ description.old) result }
+{
+    let answer = acres_answer::answer_of(alloc, notes, description, account)?;
     write_answer(out, &answer)
 }
 
@@ -94,6 +124,11 @@ pub fn run_plat<N: Source, W: Sink>(
     // Reading ends one byte past the limit, if not before.
     ensures most { TakesAtMost (N.remaining notes.old)
         (N.remaining notes.new) (NOTES_MOST + 1) }
+
+    // It ends just there or at the end of the input, where the reader doesn't fail and no memory is
+    // refused.
+    ensures exact { N.has_failed notes.new ≡ false → result ≢ Err RunFault.Memory
+        → TakesFirst (N.remaining notes.old) (N.remaining notes.new) (NOTES_MOST + 1) }
 {
     let answer = plat_answer::answer_of(alloc, notes)?;
     write_answer(out, &answer)

@@ -1,8 +1,10 @@
 //! The stages of a run: the plat of the field notes, and the land of a description on it.
-ghost use Rattle.std.specs.Prelude.{◌≡◌, ◌≢◌, ◌+◌, ◌↔◌, true, false, IfOk, OnOk, IfErr, IsErrOf};
+ghost use Rattle.std.specs.Prelude.{◌≡◌, ◌≢◌, ◌+◌, ◌↔◌, ℕ, List, Some, true, false};
+ghost use Rattle.std.specs.Prelude.{IfOk, OnOk, IfErr, IsErrOf};
 ghost use Rattle.twp_grid.specs.Devices.{TakesAtMost};
 ghost use Rattle.twp_grid.specs.Places.{PLACE_DIGITS};
 ghost use Rattle.twp_notes.specs.FieldNotes.{NOTES_MOST};
+ghost use Rattle.twp_notes.specs.ReadBytes.{TakesFirst};
 ghost use Rattle.twp_land.specs.WholeLots.{HasWholeLots};
 ghost use Rattle.twp_text.specs.TextFaults.{TEXT_LIMIT};
 ghost use Rattle.twp_acres.specs.Answers.{MakePlat};
@@ -26,6 +28,8 @@ pub fn read_plat<N: Source>(alloc: Global, notes: &mut N) -> Result<Plat, Stop>
     ensures no_write { IfErr result (λ stop. stop ≢ Failed RunFault.Write) }
     ensures most { TakesAtMost (N.remaining notes.old)
         (N.remaining notes.new) (NOTES_MOST + 1) }
+    ensures exact { N.has_failed notes.new ≡ false → result ≢ Err (Failed RunFault.Memory)
+        → TakesFirst (N.remaining notes.old) (N.remaining notes.new) (NOTES_MOST + 1) }
     ensures plat { Reads (N.remaining notes.old) (λ n. IsPlatted n result) }
 {
     let notes = Notes::read(alloc, notes)?;
@@ -43,6 +47,8 @@ pub fn read_land<D: Source, L: Land>(
     ensures no_write { IfErr result (λ stop. stop ≢ Failed RunFault.Write) }
     ensures most { TakesAtMost (D.remaining description.old)
         (D.remaining description.new) (TEXT_LIMIT + 1) }
+    ensures exact { D.has_failed description.new ≡ false → result ≢ Err (Failed RunFault.Memory)
+        → TakesFirst (D.remaining description.old) (D.remaining description.new) (TEXT_LIMIT + 1) }
     ensures land { Reads (D.remaining description.old) (λ d.
         IsDescribed L.places township d result) }
     ensures whole_lots { IfOk result (λ land. HasWholeLots PLACE_DIGITS (L.places land)) }
@@ -94,6 +100,12 @@ pub fn read_land_on_plat<N: Source, D: Source, L: Land>(
         (N.remaining notes.new) (NOTES_MOST + 1) }
     ensures description_most { TakesAtMost (D.remaining description.old)
         (D.remaining description.new) (TEXT_LIMIT + 1) }
+    ensures notes_exact { N.has_failed notes.new ≡ false → result ≢ Err (Failed RunFault.Memory)
+        → TakesFirst (N.remaining notes.old) (N.remaining notes.new) (NOTES_MOST + 1) }
+    ensures description_exact { (n : List ℕ) → N.remaining notes.old ≡ Some n → MakePlat n
+        → N.has_failed notes.new ≡ false → D.has_failed description.new ≡ false
+        → result ≢ Err (Failed RunFault.Memory)
+        → TakesFirst (D.remaining description.old) (D.remaining description.new) (TEXT_LIMIT + 1) }
     ensures land { ReadsTwo (N.remaining notes.old) (D.remaining description.old)
         MakePlat (description.new ≡ description.old)
         (λ n d. IsRead (λ read. read.plat) (λ read. L.places read.land) n d result) }

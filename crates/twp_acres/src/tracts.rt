@@ -5,7 +5,7 @@ ghost use Rattle.twp_acres.specs.Tracts.{TRACTS_LIMIT, TRACTS_MOST};
 ghost use Rattle.twp_acres.specs.ReportAnswers.{IsAccountOf, AnswersFault};
 ghost use Rattle.twp_acres.specs.TractTaking.{tally_of, IsTallyOf, AreTractsRefused};
 
-use crate::account::Account;
+use crate::running_account::RunningAccount;
 use crate::tract::is_heading;
 use crate::tract_fault::{TRACTS_MOST, TractFault};
 use csv::ByteRecord;
@@ -31,7 +31,7 @@ pub(crate) fn account_of(alloc: Global, plat: &Plat, bytes: &[u8]) -> Result<Vec
     if !is_heading(&row) {
         return Err(TractFault::TractRow(1));
     }
-    let mut account: Account<Lanes> = take_tracts(alloc, plat, &mut records, &mut row)?;
+    let mut account: RunningAccount<Lanes> = take_tracts(alloc, plat, &mut records, &mut row)?;
     account.totals.write(&mut account.text)?;
     Ok(account.text)
 }
@@ -42,7 +42,7 @@ fn take_tracts<L: Land>(
     plat: &Plat,
     records: &mut Records<'_>,
     row: &mut ByteRecord,
-) -> Result<Account<L>, TractFault>
+) -> Result<RunningAccount<L>, TractFault>
     requires { IsReading records.old }
     ensures taken { IfOk result (λ account. IsTallyOf plat.now (records_left records.old)
         (length (records_left records.old)) (tally_of L.places account)) }
@@ -50,7 +50,7 @@ fn take_tracts<L: Land>(
     ensures fault { IfErr result
         (AreTractsRefused plat.now.township (records_left records.old)) }
 {
-    let mut account = Account::new(alloc, plat);
+    let mut account = RunningAccount::new(alloc, plat);
     let mut taken = 0;
     'records: while records.read(row)? {
         if taken == TRACTS_MOST {

@@ -1,27 +1,34 @@
--- What clap's walk over the words of a subcommand holds, where the subcommand's only flags are those of help: each row has a value.
-use Rattle.std.proofs.Common.{zero, suc, ◌≡◌, ◌⊎◌, ◌++◌, ◌<◌, ◌&&◌, ℕ, Bool, true, false, not, List}
-use Rattle.std.proofs.Common.{[], ◌∷◌, length, is_some, Option, Some, None, refl, inl, inr, arith}
-use Rattle.std.proofs.Common.{length-append}
-use Rattle.std.specs.Prelude.{⊤, find, fold, slice_get, if◌then◌else◌, codes}
+-- What clap's walk over the words of a subcommand holds, where each argument wants a value or asks for help:
+-- each row has a value, and its values are such as its id may have.
+use Rattle.std.proofs.Common.{zero, suc, ◌≡◌, ◌⊎◌, ◌++◌, ◌<◌, ◌&&◌, ◌||◌, ℕ, Bool, true, false, List}
+use Rattle.std.proofs.Common.{[], ◌∷◌, length, drop, is_some, Option, Some, None, refl, inl, inr, sym}
+use Rattle.std.proofs.Common.{subst, arith, length-append}
+use Rattle.std.specs.Prelude.{⊤, find, fold, slice_get, if◌then◌else◌, nat_lt, codes, encode_utf8}
+use Rattle.std.specs.Option.{option_map_or}
 use Rattle.std.specs.Str.{bytes_eq, chars}
+use Rattle.std.proofs.lemmas.Bool.{ne_eqb}
+use Rattle.std.proofs.lemmas.Slice.Eq.{bytes_eq-Decides}
 use Rattle.clap.specs.Lexer.{long_of, short_of}
-use Rattle.clap.specs.Kinds.{Kinds, or_else, range_kinds}
-use Rattle.clap.specs.Walk.{Held, Names, Row, Rule, Step, Text, Waiting, Walk, action_of, arg_by_id}
-use Rattle.clap.specs.Walk.{arg_by_index, arg_by_long, arg_by_short, at_row, takes_values, used}
-use Rattle.clap.specs.Walk.{used_by_id, used_as, settled, settled_rows, pushed, started}
-use Rattle.clap.specs.Walk.{with_default, default_rows, finished, nothing_held, walk, walk_from}
-use Rattle.clap.specs.Walk.{walked, walked_from, word_met, after_step, to_positional, is_pending}
-use Rattle.clap.specs.Walk.{takes_several, bundle, bundle_met, bundle_step, plain, idle, option}
-use Rattle.clap.specs.Walk.{positional, next, trailing, subcommand, value, values_or_missing}
-use Rattle.clap.specs.Walk.{reading_by, with_values, without, subcommand_met, subcommand_or_other}
-use Rattle.clap.specs.Walk.{is_multiple, has_long, has_short, long_or_other, plain_word, first_of}
-use Rattle.clap.specs.Walk.{has_row, most_values, more_values}
-use Rattle.clap.specs.Facts.{unwrap_or_range}
+use Rattle.clap.specs.Kinds.{Kinds, or_else, range_kinds, request_kinds, value_kinds}
+use Rattle.clap.specs.Walk.{Held, Names, Outcome, Row, Rule, Step, Text, Waiting, Walk, action_of}
+use Rattle.clap.specs.Walk.{after_flag, after_step, arg_by_id, arg_by_index, arg_by_long, arg_by_short}
+use Rattle.clap.specs.Walk.{attached_value, bundle, bundle_met, bundle_step, default_rows, done}
+use Rattle.clap.specs.Walk.{finished, first_of, flag_met, has_row, idle, is_empty, is_pending, long_met}
+use Rattle.clap.specs.Walk.{long_or_other, more_values, most_values, next, nothing_held, option}
+use Rattle.clap.specs.Walk.{option_met, option_word, plain, plain_word, positional, reacted, reading_by}
+use Rattle.clap.specs.Walk.{refused, settled, settled_rows, short_met, short_or_plain, subcommand}
+use Rattle.clap.specs.Walk.{subcommand_met, subcommand_or_other, takes_several, takes_values, to_positional}
+use Rattle.clap.specs.Walk.{trailing, used, used_as, used_by_id, value, values_or_missing, waits, walk}
+use Rattle.clap.specs.Walk.{walk_from, walked, walked_from, with_default, with_values, without, word_met}
+use Rattle.clap.specs.Facts.{parser_of_value, unwrap_or_range}
 use Rattle.clap.specs.Takes.{is_given}
 use Rattle.clap.specs.Simple.{Shape}
-use Rattle.clap.specs.Faults.{action_fault, settle_fault, react_fault, long_fault, short_fault}
-use Rattle.clap.specs.Faults.{bundle_step_fault, flags_fault, flag_word_fault, other_fault}
-use Rattle.clap.specs.Faults.{word_fault, turn_fault, walk_fault}
+use Rattle.clap.specs.Faults.{action_fault, bundle_fault, bundle_step_fault, default_fault}
+use Rattle.clap.specs.Faults.{defaults_fault, flag_word_fault, flags_fault, given_default_fault}
+use Rattle.clap.specs.Faults.{long_fault, option_fault, other_fault, positional_fault, react_fault}
+use Rattle.clap.specs.Faults.{repeat_fault, settle_fault, short_fault, step_fault, stray_fault}
+use Rattle.clap.specs.Faults.{turn_fault, use_fault, values_fault, walk_fault, word_fault}
+use Rattle.clap.specs.declared.error.kind.ErrorKind.TheVariants.{TooManyValues}
 use Rattle.clap.specs.declared.builder.action.ArgAction.{ArgAction}
 use Rattle.clap.specs.declared.builder.action.ArgAction.TheVariants.{Set, Append, SetTrue, SetFalse}
 use Rattle.clap.specs.declared.builder.action.ArgAction.TheVariants.{Count, Help, HelpShort}
@@ -29,98 +36,6 @@ use Rattle.clap.specs.declared.builder.action.ArgAction.TheVariants.{HelpLong, V
 use Rattle.clap.specs.declared.builder.value_parser.Reading.{Reading}
 use Rattle.clap.specs.declared.parser.matches.ValueSource.{ValueSource}
 use Rattle.clap.specs.declared.parser.matches.ValueSource.TheVariants.{DefaultValue, CommandLine}
-
--- each row has a value
-abbrev pub HasValues : List Row → Type 0
-HasValues [] = ⊤
-HasValues (r ∷ rs) = (0 < length r.values) × HasValues rs
-
-appended : (xs ys : List Row) → HasValues xs → HasValues ys → HasValues (xs ++ ys)
-appended [] ys h g = g
-appended (x ∷ xs) ys h g = (h.0, appended xs ys h.1 g)
-
-at_row_values : (id : Text) (change : Row → List Row) (missing rows : List Row) → ((r : Row) → 0 < length r.values → HasValues (change r))
-    → HasValues missing → HasValues rows → HasValues (at_row id change missing rows)
-at_row_values id change missing [] keeps m h = m
-at_row_values id change missing (r ∷ rs) keeps m h = go (bytes_eq r.id id) (at_row_values id change missing rs keeps m h.1)
-  where
-    go : (t : Bool) → HasValues (at_row id change missing rs) → HasValues (if t then change r ++ rs else r ∷ at_row id change missing rs)
-    go true rest = appended (change r) rs (keeps r h.0) h.1
-    go false rest = (h.0, rest)
-
-keeps_nothing : (id : Text) (rows : List Row) → HasValues rows → HasValues (without id rows)
-keeps_nothing id rows h = at_row_values id (λ r. []) [] rows (λ r g. tt) tt h
-
-with_values_values : (id : Text) (how : Reading) (source : ValueSource) (v : Text) (vs : List Text) (rows : List Row)
-    → HasValues rows → HasValues (with_values id how source (v ∷ vs) rows)
-with_values_values id how source v vs rows h =
-    let more : (r : Row) → 0 < length r.values → HasValues (more_values source (v ∷ vs) r) = λ r g. (rw (length-append r.values (v ∷ vs)) (omega arith), tt) in
-    let new : Row = record { id = id; values = v ∷ vs; count = None; source = Some source; reading = how } in
-    let one : HasValues (new ∷ []) = (omega arith, tt) in
-    at_row_values id (more_values source (v ∷ vs)) (new ∷ []) rows more one h
-
-used_values : (a : Rule) (v : Text) (vs : List Text) (rows : List Row) → HasValues rows → HasValues (used a (v ∷ vs) rows)
-used_values a v vs rows h = go (action_of a)
-  where
-    go : (act : ArgAction) → HasValues (used_as act a.id (reading_by a) (v ∷ vs) rows)
-    go Set = with_values_values a.id (reading_by a) CommandLine v vs (without a.id rows) (keeps_nothing a.id rows h)
-    go SetTrue = with_values_values a.id (reading_by a) CommandLine v vs (without a.id rows) (keeps_nothing a.id rows h)
-    go SetFalse = with_values_values a.id (reading_by a) CommandLine v vs (without a.id rows) (keeps_nothing a.id rows h)
-    go Append = with_values_values a.id (reading_by a) CommandLine v vs rows h
-    go Count = with_values_values a.id (reading_by a) CommandLine v vs (without a.id rows) (keeps_nothing a.id rows h)
-    go Help = h
-    go HelpShort = h
-    go HelpLong = h
-    go Version = h
-
--- what waits for its use has a value
-abbrev pub PendingValues : Option (Text × List Text) → Type 0
-PendingValues None = ⊤
-PendingValues (Some p) = 0 < length p.1
-
-pub record HeldValues (h : Held) : Type 0 where
-  pub rows : HasValues h.rows
-  pub pending : PendingValues h.pending
-  pub skip : h.skip ≡ 0
-
-settled_values : (c : List Rule) (h : Held) → HeldValues h → HeldValues (settled c h)
-settled_values c h g = record { rows = go h.pending g.pending; pending = tt; skip = g.skip }
-  where
-    at : (a : Option Rule) (values : List Text) → 0 < length values → HasValues (used_by_id a values h.rows)
-    at None values lt = g.rows
-    at (Some a) [] lt = absurd (omega arith)
-    at (Some a) (v ∷ vs) lt = used_values a v vs h.rows g.rows
-
-    go : (p : Option (Text × List Text)) → PendingValues p → HasValues (settled_rows c p h.rows)
-    go None q = g.rows
-    go (Some p) q = at (arg_by_id c p.0) p.1 q
-
-pushed_values : (id word : Text) (h : Held) → HeldValues h → HeldValues (pushed id word h)
-pushed_values id word h g = record { rows = g.rows; pending = rw (length-append (started id h.pending).1 (word ∷ [])) (omega arith); skip = g.skip }
-
--- a flag that asks for help
-abbrev pub IsHelpFlag : Rule → Type 0
-IsHelpFlag a = (takes_values a ≡ false) × (action_of a ≡ Help)
-
--- all arguments are positional, but for flags that ask for help
-abbrev pub OnlyHelpFlags : List Rule → Type 0
-OnlyHelpFlags [] = ⊤
-OnlyHelpFlags (a ∷ rest) = ((is_some a.index ≡ true) ⊎ IsHelpFlag a) × OnlyHelpFlags rest
-
-found_flag : (p : Rule → Bool) (c : List Rule) (a : Rule) → OnlyHelpFlags c → find (λ x. not (is_some x.index) && p x) c ≡ Some a → IsHelpFlag a
-found_flag p [] a h is = cc
-found_flag p (x ∷ xs) a h is = go (not (is_some x.index) && p x) refl (λ rest. found_flag p xs a h.1 rest)
-  where
-    flag : not (is_some x.index) && p x ≡ true → ((is_some x.index ≡ true) ⊎ IsHelpFlag x) → IsHelpFlag x
-    flag t (inl i) = let bad : false ≡ true = rw i at t in cc
-    flag t (inr f) = f
-
-    go : (t : Bool) → not (is_some x.index) && p x ≡ t → (find (λ x. not (is_some x.index) && p x) xs ≡ Some a → IsHelpFlag a) → IsHelpFlag a
-    go true t rest =
-        let same : Some x ≡ Some a = rw t at is in
-        let one : x ≡ a = cc in
-        rw (← one) (flag t h.0)
-    go false t rest = rest (rw t at is)
 
 pub first_empty : (xs ys : Kinds) → or_else xs ys ≡ [] → xs ≡ []
 first_empty [] ys h = refl
@@ -130,205 +45,443 @@ pub second_empty : (xs ys : Kinds) → or_else xs ys ≡ [] → ys ≡ []
 second_empty [] ys h = h
 second_empty (k ∷ ks) ys h = cc
 
--- a use of a flag that asks for help is a fault
-help_is_fault : (c : List Rule) (again : Bool) (a : Rule) (values : List Text) (h : Held) → IsHelpFlag a → react_fault c again a values h ≡ [] → ⊥
-help_is_fault c again a values h flag e =
-    let one = second_empty (settle_fault c again h) _ e in
-    let act = second_empty (range_kinds (unwrap_or_range a.range).start_inclusive (most_values a) (length values)) (action_fault (action_of a) again a (values_or_missing a values) (settled c h).rows) one in
-    let bad : action_fault Help again a (values_or_missing a values) (settled c h).rows ≡ [] = rw flag.1 at act in
-    cc
+same_id : (x y : Text) → bytes_eq x y ≡ true → x ≡ y
+same_id x y t = (bytes_eq-Decides x y).0 t
 
-no_long : (c : List Rule) (again : Bool) (name : Text) (v : Option Text) (h : Held) → OnlyHelpFlags c → long_fault c again (arg_by_long c name) v h ≡ [] → ⊥
-no_long c again name v h only e = go (arg_by_long c name) v refl e
-  where
-    go : (o : Option Rule) (v : Option Text) → arg_by_long c name ≡ o → long_fault c again o v h ≡ [] → ⊥
-    go None v is e = cc
-    go (Some a) None is e =
-        let flag = found_flag (λ x. has_long x name) c a only is in
-        help_is_fault c again a [] h flag (rw flag.0 at e)
-    go (Some a) (Some v) is e =
-        let flag = found_flag (λ x. has_long x name) c a only is in
-        let bad = rw flag.0 at e in
-        cc
-
-no_short : (c : List Rule) (again : Bool) (x : ℕ) (rest : Text) (h : Held) (more : Held → Kinds) → OnlyHelpFlags c
-    → short_fault c again (arg_by_short c x) rest h more ≡ [] → ⊥
-no_short c again x rest h more only e = go (arg_by_short c x) refl e
-  where
-    go : (o : Option Rule) → arg_by_short c x ≡ o → short_fault c again o rest h more ≡ [] → ⊥
-    go None is e = cc
-    go (Some a) is e =
-        let flag = found_flag (λ y. has_short y x) c a only is in
-        help_is_fault c again a [] h flag (first_empty _ _ (rw flag.0 at e))
-
--- a word of short flags that is no fault spells no character, and is taken for no flag
-flags_plain : (c : List Rule) (again : Bool) (k : ℕ) (flags : Text) (h : Held) → OnlyHelpFlags c
-    → flags_fault c again k flags 0 h ≡ [] → bundle_met c k flags 0 plain h ≡ (h, plain)
-unfolding flags_fault bundle_met
-flags_plain c again zero flags h only e = refl
-flags_plain c again (suc k) flags h only e = go (slice_get (chars flags) 0) e
-  where
-    go : (o : Option ℕ) → bundle_step_fault c again o flags 0 h (flags_fault c again k) ≡ []
-        → bundle_step c o flags 0 plain h (bundle_met c k) ≡ (h, plain)
-    go None e = refl
-    go (Some x) e = absurd (no_short c again x _ h _ only e)
-
--- nothing waits for the values of an option
-abbrev pub NoOption : Waiting → Type 0
-NoOption idle = ⊤
-NoOption (option id) = ⊥
-NoOption positional = ⊤
+some_not_empty : (v : Text) (vs : List Text) → is_empty (v ∷ vs) ≡ false
+some_not_empty v vs = ne_eqb _ _ (λ e. omega arith)
 
 abbrev pub IsNoHelp : Text → Type 0
 IsNoHelp name = bytes_eq name (codes "help") ≡ false
-
--- a word is a value, `--`, or a subcommand other than `help`
-abbrev pub PlainStep : Step → Type 0
-PlainStep (next w) = ⊥
-PlainStep (trailing p) = ⊤
-PlainStep (subcommand name) = IsNoHelp name
-PlainStep value = ⊤
-
-pub record IsMet (met : Held × Step) : Type 0 where
-  pub held : HeldValues met.0
-  pub step : PlainStep met.1
-
-plain_met : (c : List Rule) (waiting : Waiting) (word : Text) (h : Held) → NoOption waiting → HeldValues h → IsMet (plain_word c waiting word h)
-plain_met c idle word h free g = record { held = g; step = tt }
-plain_met c (option id) word h free g = absurd free
-plain_met c positional word h free g = record { held = g; step = tt }
-
-flag_met : (c : List Rule) (again : Bool) (waiting : Waiting) (word : Text) (h : Held) → OnlyHelpFlags c → NoOption waiting → HeldValues h
-    → flag_word_fault c again (long_of word) word h ≡ [] → IsMet (long_or_other c waiting word (long_of word) h)
-flag_met c again waiting word h only free g e = go (long_of word) (short_of word) refl e
-  where
-    go : (l : Option (Text × Option Text)) (s : Option Text) → short_of word ≡ s → flag_word_fault c again l word h ≡ []
-        → IsMet (long_or_other c waiting word l h)
-    go (Some p) s is e = absurd (no_long c again p.0 p.1 h only e)
-    go None None is e = rw is (plain_met c waiting word h free g)
-    go None (Some flags) is e =
-        let zeroed : HeldValues (record h { skip = 0 }) = record { rows = g.rows; pending = g.pending; skip = refl } in
-        let met : bundle c flags h ≡ (record h { skip = 0 }, plain) = rw g.skip (flags_plain c again (length flags) flags (record h { skip = 0 }) only (rw (is, g.skip) at e)) in
-        rw (is, met) (plain_met c waiting word (record h { skip = 0 }) free zeroed)
-
--- help is no subcommand that a walk goes on with
-abbrev pub RefusesHelp : Shape → Names → Type 0
-RefusesHelp s names = (s.disable_help_subcommand ≡ false) ⊎ (names ≡ [])
-
-no_help : (s : Shape) (names : Names) (waiting : Waiting) (word name : Text) (h : Held) → RefusesHelp s names → subcommand_met names waiting word ≡ Some name
-    → other_fault s (Some name) word h ≡ [] → IsNoHelp name
-no_help s names waiting word name h (inr none) met e = absurd (go waiting (rw none at met))
-  where
-    go : (w : Waiting) → subcommand_met [] w word ≡ Some name → ⊥
-    go idle m = cc
-    go (option id) m = cc
-    go positional m = cc
-no_help s names waiting word name h (inl off) met e = go (bytes_eq name (codes "help")) refl
-  where
-    go : (t : Bool) → bytes_eq name (codes "help") ≡ t → IsNoHelp name
-    go false t = t
-    go true t = let bad = rw (t, off) at e in cc
-
-word_is_met : (s : Shape) (names : Names) (is_trailing : Bool) (waiting : Waiting) (position : ℕ) (word : Text) (h : Held) → OnlyHelpFlags s.rules
-    → RefusesHelp s names → NoOption waiting → HeldValues h → word_fault s names is_trailing waiting word h ≡ []
-    → IsMet (word_met s.rules names is_trailing waiting position word h)
-word_is_met s names true waiting position word h only help free g e = record { held = g; step = tt }
-word_is_met s names false waiting position word h only help free g e = go (subcommand_met names waiting word) refl e
-  where
-    at : (t : Bool) → bytes_eq word (45 ∷ 45 ∷ []) ≡ t → other_fault s None word h ≡ [] → IsMet (subcommand_or_other s.rules None waiting position word h)
-    at true t e = rw t (record { held = g; step = tt })
-    at false t e = rw t (flag_met s.rules s.args_override_self waiting word h only free g (rw t at e))
-
-    go : (o : Option Text) → subcommand_met names waiting word ≡ o → other_fault s o word h ≡ [] → IsMet (subcommand_or_other s.rules o waiting position word h)
-    go (Some name) is e = record { held = g; step = no_help s names waiting word name h help is e }
-    go None is e = at (bytes_eq word (45 ∷ 45 ∷ [])) refl e
 
 abbrev pub StoppedWell : Option (Text × List Text) → Type 0
 StoppedWell None = ⊤
 StoppedWell (Some p) = IsNoHelp p.0
 
--- what holds of a walk whose words are no fault so far
-pub record IsWalked (w : Walk) : Type 0 where
-  pub held : HeldValues w.held
-  pub waiting : NoOption w.waiting
-  pub stopped : StoppedWell w.stopped
+-- a step of the walk enters no `help`
+abbrev pub PlainStep : Step → Type 0
+PlainStep (next w) = ⊤
+PlainStep (trailing p) = ⊤
+PlainStep (subcommand name) = IsNoHelp name
+PlainStep value = ⊤
 
-value_walked : (c : List Rule) (o : Option Rule) (word : Text) (w : Walk) (h : Held) → IsWalked w → HeldValues h → IsWalked (to_positional c o word w h)
-value_walked c None word w h g held = record { held = held; waiting = g.waiting; stopped = g.stopped }
-value_walked c (Some a) word w h g held = record {
-  held = pushed_values a.id word _ (now (is_pending a h.pending && takes_several a));
-  waiting = after (is_multiple a);
-  stopped = tt;
-}
+-- help is no subcommand that a walk goes on with
+abbrev pub RefusesHelp : Shape → Names → Type 0
+RefusesHelp s names = (s.disable_help_subcommand ≡ false) ⊎ (names ≡ [])
+
+-- the argument asks for help
+abbrev pub AsksForHelp : Rule → Type 0
+AsksForHelp a = action_of a ≡ Help
+
+-- a use of the argument has a value at least
+abbrev pub WantsValue : Rule → Type 0
+WantsValue a = nat_lt 0 (unwrap_or_range a.range).start_inclusive ≡ true
+
+-- P says which values an id may have
+module _ (P : Text → Text → Type 0) where
+  abbrev pub EachMay : Text → List Text → Type 0
+  EachMay id [] = ⊤
+  EachMay id (v ∷ vs) = P id v × EachMay id vs
+
+  -- each row has a value, and only such as its id may have
+  abbrev pub Good : List Row → Type 0
+  Good [] = ⊤
+  Good (r ∷ rs) = (0 < length r.values) × EachMay r.id r.values × Good rs
+
+  -- the argument asks for help, or wants a value, and its parser takes only such as its id may have
+  abbrev pub Fits : Rule → Type 0
+  Fits a = AsksForHelp a ⊎ (WantsValue a
+      × ((v : Text) → value_kinds a.ignore_case (parser_of_value a.parser) v ≡ [] → P a.id v))
+
+  abbrev pub EachFits : List Rule → Type 0
+  EachFits [] = ⊤
+  EachFits (a ∷ rest) = Fits a × EachFits rest
+
+  found_fits : (p : Rule → Bool) (c : List Rule) (a : Rule) → EachFits c → find p c ≡ Some a → Fits a
+  found_fits p [] a h is = cc
+  found_fits p (x ∷ xs) a h is = go (p x) refl (λ rest. found_fits p xs a h.1 rest)
+    where
+      go : (t : Bool) → p x ≡ t → (find p xs ≡ Some a → Fits a) → Fits a
+      go true t rest =
+          let same : Some x ≡ Some a = rw t at is in
+          let one : x ≡ a = cc in
+          subst Fits one h.0
+      go false t rest = rest (rw t at is)
+
+  more_may : (id : Text) (xs ys : List Text) → EachMay id xs → EachMay id ys → EachMay id (xs ++ ys)
+  more_may id [] ys h g = g
+  more_may id (x ∷ xs) ys h g = (h.0, more_may id xs ys h.1 g)
+
+  more_good : (xs ys : List Row) → Good xs → Good ys → Good (xs ++ ys)
+  more_good [] ys h g = g
+  more_good (x ∷ xs) ys h g = (h.0, h.1, more_good xs ys h.2 g)
+
+  without_good : (id : Text) (rows : List Row) → Good rows → Good (without id rows)
+  without_good id [] h = tt
+  without_good id (r ∷ rs) h = go (bytes_eq r.id id) (without_good id rs h.2)
+    where
+      go : (t : Bool) → Good (without id rs) → Good (if t then [] ++ rs else r ∷ without id rs)
+      go true rest = h.2
+      go false rest = (h.0, h.1, rest)
+
+  with_values_good : (id : Text) (how : Reading) (source : ValueSource) (v : Text) (vs : List Text) (rows : List Row)
+      → EachMay id (v ∷ vs) → Good rows → Good (with_values id how source (v ∷ vs) rows)
+  with_values_good id how source v vs [] may h = (omega arith, may, tt)
+  with_values_good id how source v vs (r ∷ rs) may h = go (bytes_eq r.id id) refl (with_values_good id how source v vs rs may h.2)
+    where
+      go : (t : Bool) → bytes_eq r.id id ≡ t → Good (with_values id how source (v ∷ vs) rs)
+          → Good (if t then more_values source (v ∷ vs) r ++ rs else r ∷ with_values id how source (v ∷ vs) rs)
+      go true t rest =
+          let own : EachMay r.id (v ∷ vs) = subst (λ x. EachMay x (v ∷ vs)) (sym (same_id r.id id t)) may in
+          let longer : 0 < length (r.values ++ v ∷ vs) = rw (length-append r.values (v ∷ vs)) (omega arith) in
+          (longer, more_may r.id r.values (v ∷ vs) h.1 own, h.2)
+      go false t rest = (h.0, h.1, rest)
+
+  -- values that the parser takes are such as the id may have
+  taken_may : (a : Rule) → ((v : Text) → value_kinds a.ignore_case (parser_of_value a.parser) v ≡ [] → P a.id v)
+      → (vs : List Text) → values_fault a vs ≡ [] → EachMay a.id vs
+  taken_may a takes [] e = tt
+  taken_may a takes (v ∷ vs) e =
+      let first = value_kinds a.ignore_case (parser_of_value a.parser) v in
+      (takes v (first_empty first _ e), taken_may a takes vs (second_empty first _ e))
+
+  used_good : (again : Bool) (a : Rule) (values : List Text) (rows : List Row) → Fits a → Good rows
+      → use_fault again a values rows ≡ [] → Good (used a values rows)
+  used_good again a values rows (inl help) g e =
+      let act = second_empty (range_kinds (unwrap_or_range a.range).start_inclusive (most_values a) (length values)) _ e in
+      let bad : action_fault Help again a (values_or_missing a values) rows ≡ [] = rw help at act in
+      cc
+  used_good again a [] rows (inr fits) g e =
+      let range = first_empty (range_kinds (unwrap_or_range a.range).start_inclusive (most_values a) 0) _ e in
+      let bad = rw fits.0 at range in
+      cc
+  used_good again a (v ∷ vs) rows (inr fits) g e =
+      go (action_of a) (second_empty (range_kinds (unwrap_or_range a.range).start_inclusive (most_values a) (length (v ∷ vs))) _ e)
+    where
+      may : values_fault a (v ∷ vs) ≡ [] → EachMay a.id (v ∷ vs)
+      may f = taken_may a fits.1 (v ∷ vs) f
+
+      anew : values_fault a (v ∷ vs) ≡ [] → Good (with_values a.id (reading_by a) CommandLine (v ∷ vs) (without a.id rows))
+      anew f = with_values_good a.id (reading_by a) CommandLine v vs (without a.id rows) (may f) (without_good a.id rows g)
+
+      go : (act : ArgAction) → action_fault act again a (v ∷ vs) rows ≡ [] → Good (used_as act a.id (reading_by a) (v ∷ vs) rows)
+      go Set f = anew (second_empty (repeat_fault again a.id rows) _ f)
+      go SetTrue f = anew (second_empty (repeat_fault again a.id rows) _ f)
+      go SetFalse f = anew (second_empty (repeat_fault again a.id rows) _ f)
+      go Append f = with_values_good a.id (reading_by a) CommandLine v vs rows (may f) g
+      go Count f = anew f
+      go Help f = g
+      go HelpShort f = g
+      go HelpLong f = g
+      go Version f = g
+
+  settled_good : (c : List Rule) (again : Bool) (h : Held) → EachFits c → Good h.rows → settle_fault c again h ≡ [] → Good (settled c h).rows
+  settled_good c again h each g e = go h.pending refl e
+    where
+      at : (p : Text × List Text) (a : Option Rule) → arg_by_id c p.0 ≡ a
+          → settle_fault c again (record h { pending = Some p }) ≡ [] → Good (used_by_id a p.1 h.rows)
+      at p None is f = g
+      at p (Some a) is f = used_good again a p.1 h.rows (found_fits _ c a each is) g (rw is at f)
+
+      go : (p : Option (Text × List Text)) → h.pending ≡ p → settle_fault c again (record h { pending = p }) ≡ [] → Good (settled_rows c p h.rows)
+      go None is f = g
+      go (Some p) is f = at p (arg_by_id c p.0) refl f
+
+  reacted_good : (c : List Rule) (again : Bool) (a : Rule) (values : List Text) (h : Held) → EachFits c → Fits a → Good h.rows
+      → react_fault c again a values h ≡ [] → Good (reacted c a values h).rows
+  reacted_good c again a values h each fits g e =
+      used_good again a values (settled c h).rows fits (settled_good c again h each g (first_empty _ _ e)) (second_empty (settle_fault c again h) _ e)
+
+  option_good : (c : List Rule) (again : Bool) (a : Rule) (v : Option Text) (h : Held) → EachFits c → Fits a → Good h.rows
+      → option_fault c again a v h ≡ [] → Good (option_met c a v h).0.rows
+  option_good c again a None h each fits g e = settled_good c again h each g e
+  option_good c again a (Some v) h each fits g e = reacted_good c again a (v ∷ []) h each fits g e
+
+  long_good : (c : List Rule) (again : Bool) (a : Option Rule) (name : Text) (v : Option Text) (h : Held) → EachFits c
+      → arg_by_long c name ≡ a → Good h.rows → long_fault c again a v h ≡ [] → Good (long_met c a v h).0.rows
+  long_good c again None name v h each is g e = g
+  long_good c again (Some a) name v h each is g e = go (takes_values a) v e
+    where
+      fits : Fits a
+      fits = found_fits _ c a each is
+
+      go : (t : Bool) (v : Option Text)
+          → (if t then option_fault c again a v h else (if is_some v then TooManyValues ∷ [] else react_fault c again a [] h)) ≡ []
+          → Good (if t then option_met c a v h else flag_met c a v h).0.rows
+      go true v e = option_good c again a v h each fits g e
+      go false None e = reacted_good c again a [] h each fits g e
+      go false (Some v) e = g
+
+  -- the rest of a word of short flags leaves the rows good
+  abbrev RestGood : List Rule → Bool → ℕ → Type 0
+  RestGood c again k = (flags : Text) (skip : ℕ) (so_far : Outcome) (h : Held) → Good h.rows
+      → flags_fault c again k flags skip h ≡ [] → Good (bundle_met c k flags skip so_far h).0.rows
+
+  short_good : (c : List Rule) (again : Bool) (k : ℕ) (a : Option Rule) (x : ℕ) (rest : Text) (h : Held) → EachFits c → RestGood c again k
+      → arg_by_short c x ≡ a → Good h.rows → short_fault c again a rest h (flags_fault c again k rest 0) ≡ []
+      → Good (short_met c a rest h (bundle_met c k rest 0 done)).0.rows
+  short_good c again k None x rest h each below is g e = g
+  short_good c again k (Some a) x rest h each below is g e = go (takes_values a) e
+    where
+      fits : Fits a
+      fits = found_fits _ c a each is
+
+      go : (t : Bool)
+          → (if t then option_fault c again a (attached_value rest) h
+          else or_else (react_fault c again a [] h) (flags_fault c again k rest 0 (reacted c a [] h))) ≡ []
+          → Good (if t then option_met c a (attached_value rest) h else bundle_met c k rest 0 done (reacted c a [] h)).0.rows
+      go true e = option_good c again a (attached_value rest) h each fits g e
+      go false e =
+          below rest 0 done (reacted c a [] h) (reacted_good c again a [] h each fits g (first_empty _ _ e))
+          (second_empty (react_fault c again a [] h) _ e)
+
+  flags_good : (c : List Rule) (again : Bool) (k : ℕ) → EachFits c → RestGood c again k
+  unfolding flags_fault bundle_met
+  flags_good c again zero each flags skip so_far h g e = g
+  flags_good c again (suc k) each flags skip so_far h g e = go (slice_get (chars flags) 0) skip (flags_good c again k each) e
+    where
+      go : (o : Option ℕ) (skip : ℕ) → RestGood c again k → bundle_step_fault c again o flags skip h (flags_fault c again k) ≡ []
+          → Good (bundle_step c o flags skip so_far h (bundle_met c k)).0.rows
+      go None skip below e = g
+      go (Some x) zero below e = short_good c again k (arg_by_short c x) x (drop (length (encode_utf8 x)) flags) h each below refl g e
+      go (Some x) (suc skip) below e = below (drop (length (encode_utf8 x)) flags) skip so_far h g e
+
+  -- the rows are good, and the walk goes on without help
+  pub record IsMet (met : Held × Step) : Type 0 where
+    pub rows : Good met.0.rows
+    pub step : PlainStep met.1
+
+  plain_met : (c : List Rule) (waiting : Waiting) (word : Text) (h : Held) → Good h.rows → IsMet (plain_word c waiting word h)
+  plain_met c idle word h g = record { rows = g; step = tt }
+  plain_met c (option id) word h g = go (arg_by_id c id)
+    where
+      go : (a : Option Rule) → IsMet ((option_word a id word h).0, next (option_word a id word h).1)
+      go None = record { rows = g; step = tt }
+      go (Some a) = record { rows = g; step = tt }
+  plain_met c positional word h g = record { rows = g; step = tt }
+
+  after_flag_met : (c : List Rule) (waiting : Waiting) (word : Text) (h : Held) (o : Outcome) → Good h.rows → IsMet (after_flag c waiting word h o)
+  after_flag_met c waiting word h done g = record { rows = g; step = tt }
+  after_flag_met c waiting word h (waits id) g = record { rows = g; step = tt }
+  after_flag_met c waiting word h plain g = plain_met c waiting word h g
+  after_flag_met c waiting word h refused g = plain_met c waiting word h g
+
+  flag_is_met : (c : List Rule) (again : Bool) (waiting : Waiting) (word : Text) (h : Held) → EachFits c → Good h.rows
+      → flag_word_fault c again (long_of word) word h ≡ [] → IsMet (long_or_other c waiting word (long_of word) h)
+  flag_is_met c again waiting word h each g e = go (long_of word) e
+    where
+      shorts : (s : Option Text) → option_map_or (λ flags. bundle_fault c again flags h) s [] ≡ [] → IsMet (short_or_plain c waiting word s h)
+      shorts None e = plain_met c waiting word h g
+      shorts (Some flags) e =
+          after_flag_met c waiting word _ (bundle c flags h).1
+          (flags_good c again (length flags) each flags h.skip plain (record h { skip = 0 }) g e)
+
+      go : (l : Option (Text × Option Text)) → flag_word_fault c again l word h ≡ [] → IsMet (long_or_other c waiting word l h)
+      go (Some p) e =
+          after_flag_met c waiting word _ (long_met c (arg_by_long c p.0) p.1 h).1
+          (long_good c again (arg_by_long c p.0) p.0 p.1 h each refl g e)
+      go None e = shorts (short_of word) e
+
+  no_help : (s : Shape) (names : Names) (waiting : Waiting) (word name : Text) (h : Held) → RefusesHelp s names
+      → subcommand_met names waiting word ≡ Some name → other_fault s (Some name) word h ≡ [] → IsNoHelp name
+  no_help s names waiting word name h (inr none) met e = absurd (go waiting (rw none at met))
+    where
+      go : (w : Waiting) → subcommand_met [] w word ≡ Some name → ⊥
+      go idle m = cc
+      go (option id) m = cc
+      go positional m = cc
+  no_help s names waiting word name h (inl off) met e = go (bytes_eq name (codes "help")) refl
+    where
+      go : (t : Bool) → bytes_eq name (codes "help") ≡ t → IsNoHelp name
+      go false t = t
+      go true t = let bad = rw (t, off) at e in cc
+
+  word_is_met : (s : Shape) (names : Names) (is_trailing : Bool) (waiting : Waiting) (position : ℕ) (word : Text) (h : Held) → EachFits s.rules
+      → RefusesHelp s names → Good h.rows → word_fault s names is_trailing waiting word h ≡ []
+      → IsMet (word_met s.rules names is_trailing waiting position word h)
+  word_is_met s names true waiting position word h each help g e = record { rows = g; step = tt }
+  word_is_met s names false waiting position word h each help g e = go (subcommand_met names waiting word) refl e
+    where
+      at : (t : Bool) → bytes_eq word (45 ∷ 45 ∷ []) ≡ t → other_fault s None word h ≡ []
+          → IsMet (subcommand_or_other s.rules None waiting position word h)
+      at true t e = rw t (record { rows = g; step = tt })
+      at false t e = rw t (flag_is_met s.rules s.args_override_self waiting word h each g (rw t at e))
+
+      go : (o : Option Text) → subcommand_met names waiting word ≡ o → other_fault s o word h ≡ []
+          → IsMet (subcommand_or_other s.rules o waiting position word h)
+      go (Some name) is e = record { rows = g; step = no_help s names waiting word name h help is e }
+      go None is e = at (bytes_eq word (45 ∷ 45 ∷ [])) refl e
+
+  -- what holds of a walk whose words are no fault so far
+  pub record IsWalked (w : Walk) : Type 0 where
+    pub rows : Good w.held.rows
+    pub stopped : StoppedWell w.stopped
+
+  value_walked : (s : Shape) (o : Option Rule) (word : Text) (w : Walk) (h : Held) → EachFits s.rules → IsWalked w → Good h.rows
+      → option_map_or (λ a. positional_fault s.rules s.args_override_self a h) o (stray_fault s) ≡ []
+      → IsWalked (to_positional s.rules o word w h)
+  value_walked s None word w h each walked g e = record { rows = g; stopped = walked.stopped }
+  value_walked s (Some a) word w h each walked g e = record { rows = go (is_pending a h.pending && takes_several a) e; stopped = tt }
+    where
+      go : (t : Bool) → (if t then [] else settle_fault s.rules s.args_override_self h) ≡ [] → Good (if t then h else settled s.rules h).rows
+      go true e = g
+      go false e = settled_good s.rules s.args_override_self h each g e
+
+  step_walked : (s : Shape) (word : Text) (w : Walk) (h : Held) (step : Step) → EachFits s.rules → IsWalked w → Good h.rows → PlainStep step
+      → step_fault s w.position h step ≡ [] → IsWalked (after_step s.rules word w h step)
+  step_walked s word w h (next waiting) each walked g ok e = record { rows = g; stopped = walked.stopped }
+  step_walked s word w h (trailing position) each walked g ok e = record { rows = g; stopped = walked.stopped }
+  step_walked s word w h (subcommand name) each walked g ok e = record { rows = g; stopped = ok }
+  step_walked s word w h value each walked g ok e = value_walked s (arg_by_index s.rules w.position) word w h each walked g e
+
+  turn_walked : (s : Shape) (names : Names) (w : Walk) (word : Text) → EachFits s.rules → RefusesHelp s names → IsWalked w
+      → turn_fault s names w word ≡ [] → IsWalked (walked s.rules names w word)
+  unfolding walked
+  turn_walked s names w word each help walked e = go w.stopped refl
+    where
+      go : (o : Option (Text × List Text)) → w.stopped ≡ o → IsWalked (walked_from s.rules names o w word)
+      go (Some p) is = record { rows = walked.rows; stopped = rw is at walked.stopped }
+      go None is =
+          let faults = rw is at e in
+          let words = word_fault s names w.is_trailing w.waiting word w.held in
+          let met = word_is_met s names w.is_trailing w.waiting w.position word w.held each help walked.rows (first_empty words _ faults) in
+          step_walked s word w _ _ each walked met.rows met.step (second_empty words _ faults)
+
+  walk_walked : (s : Shape) (names : Names) (w : Walk) (words : List Text) → EachFits s.rules → RefusesHelp s names → IsWalked w
+      → walk_fault s names w words ≡ [] → IsWalked (fold (walked s.rules names) w words)
+  unfolding walk_fault
+  walk_walked s names w [] each help walked e = walked
+  walk_walked s names w (word ∷ rest) each help so_far e =
+      let turned = turn_walked s names w word each help so_far (first_empty _ _ e) in
+      walk_walked s names (walked s.rules names w word) rest each help turned (second_empty _ _ e)
+
+  -- a walk over all the words, where none is a fault
+  pub is_walked : (s : Shape) (names : Names) (words : List Text) → EachFits s.rules → RefusesHelp s names
+      → walk_fault s names (walk_from nothing_held) words ≡ [] → IsWalked (walk s.rules names nothing_held words)
+  is_walked s names words each help e = walk_walked s names (walk_from nothing_held) words each help (record { rows = tt; stopped = tt }) e
+
+  -- a default is looked at where the argument has no row
+  default_good : (rows : List Row) (a : Rule) → Fits a → Good rows → default_fault rows a ≡ [] → Good (with_default rows a)
+  default_good rows a fits g e = go (has_row a.id rows) e
+    where
+      at : (vs : List Text) → (if is_empty vs then [] else given_default_fault a vs) ≡ [] → Fits a → Good (default_rows a.id (reading_by a) vs rows)
+      at [] e fits = g
+      at (v ∷ vs) e fits = some (rw (some_not_empty v vs) at e) fits
+        where
+          some : given_default_fault a (v ∷ vs) ≡ [] → Fits a → Good (default_rows a.id (reading_by a) (v ∷ vs) rows)
+          some e (inl help) =
+              let asks : request_kinds (action_of a) ≡ [] = first_empty (request_kinds (action_of a)) _ e in
+              let bad : request_kinds Help ≡ [] = rw help at asks in
+              let none : ⊥ = cc in
+              absurd none
+          some e (inr fits) =
+              let may = taken_may a fits.1 (v ∷ vs) (second_empty (request_kinds (action_of a)) _ e) in
+              with_values_good a.id (reading_by a) DefaultValue v vs rows may g
+
+      go : (t : Bool) → (if t || is_empty a.defaults then [] else given_default_fault a a.defaults) ≡ []
+          → Good (if t then rows else default_rows a.id (reading_by a) a.defaults rows)
+      go true e = g
+      go false e = at a.defaults e fits
+
+  defaults_good : (rows : List Row) (c : List Rule) → EachFits c → Good rows → defaults_fault rows c ≡ [] → Good (fold with_default rows c)
+  unfolding defaults_fault
+  defaults_good rows [] each g e = g
+  defaults_good rows (a ∷ rest) each g e =
+      defaults_good (with_default rows a) rest each.1 (default_good rows a each.0 g (first_empty _ _ e)) (second_empty (default_fault rows a) _ e)
+
+  -- and the rows that it ends with are good
+  pub finished_good : (c : List Rule) (again : Bool) (h : Held) → EachFits c → Good h.rows → settle_fault c again h ≡ []
+      → defaults_fault (settled c h).rows c ≡ [] → Good (finished c h)
+  finished_good c again h each g settles defaults = defaults_good (settled c h).rows c each (settled_good c again h each g settles) defaults
+
+  -- what has a row has a first value, such as it may have
+  pub row_value : (id : Text) (rows : List Row) → Good rows → has_row id rows ≡ true → (value : Text) × (first_of id rows ≡ Some value) × P id value
+  row_value id [] h has = cc
+  row_value id (r ∷ rs) h has = go (bytes_eq r.id id) refl (λ rest. row_value id rs h.2 rest)
+    where
+      at : (values : List Text) → 0 < length values → EachMay r.id values → (value : Text) × (slice_get values 0 ≡ Some value) × P r.id value
+      at [] lt may = absurd (omega arith)
+      at (v ∷ vs) lt may = (v, refl, may.0)
+
+      go : (t : Bool) → bytes_eq r.id id ≡ t → (has_row id rs ≡ true → (value : Text) × (first_of id rs ≡ Some value) × P id value)
+          → (value : Text) × (first_of id (r ∷ rs) ≡ Some value) × P id value
+      go true t rest =
+          let first = at r.values h.0 h.1 in
+          (first.0, rw t first.1, subst (λ x. P x first.0) (same_id r.id id t) first.2)
+      go false t rest =
+          let more : has_row id rs ≡ true = rw t at has in
+          let found = rest more in
+          (found.0, rw t found.1, found.2)
+
+-- what was given has a row
+pub given_row : (id : Text) (rows : List Row) → is_given id rows ≡ true → has_row id rows ≡ true
+given_row id [] given = cc
+given_row id (r ∷ rs) given = go (bytes_eq r.id id) refl (given_row id rs)
   where
-    now : (t : Bool) → HeldValues (if t then h else settled c h)
-    now true = held
-    now false = settled_values c h held
+    go : (t : Bool) → bytes_eq r.id id ≡ t → (is_given id rs ≡ true → has_row id rs ≡ true) → t || has_row id rs ≡ true
+    go true t rest = refl
+    go false t rest = rest (rw t at given)
 
-    after : (t : Bool) → NoOption (if t then positional else idle)
-    after true = tt
-    after false = tt
-
-step_walked : (c : List Rule) (word : Text) (w : Walk) (h : Held) (step : Step) → IsWalked w → HeldValues h → PlainStep step → IsWalked (after_step c word w h step)
-step_walked c word w h (next waiting) g held ok = absurd ok
-step_walked c word w h (trailing position) g held ok = record { held = held; waiting = g.waiting; stopped = g.stopped }
-step_walked c word w h (subcommand name) g held ok = record { held = held; waiting = g.waiting; stopped = ok }
-step_walked c word w h value g held ok = value_walked c (arg_by_index c w.position) word w h g held
-
-turn_walked : (s : Shape) (names : Names) (w : Walk) (word : Text) → OnlyHelpFlags s.rules → RefusesHelp s names → IsWalked w
-    → turn_fault s names w word ≡ [] → IsWalked (walked s.rules names w word)
-unfolding walked
-turn_walked s names w word only help g e = go w.stopped refl
+-- more values for an id leave it a row, and each other
+with_values_row : (id : Text) (how : Reading) (source : ValueSource) (vs : List Text) (rows : List Row)
+    → has_row id (with_values id how source vs rows) ≡ true
+with_values_row id how source vs [] = rw ((bytes_eq-Decides id id).1 refl) refl
+with_values_row id how source vs (r ∷ rs) = go (bytes_eq r.id id) refl (with_values_row id how source vs rs)
   where
-    go : (o : Option (Text × List Text)) → w.stopped ≡ o → IsWalked (walked_from s.rules names o w word)
-    go (Some p) is = record { held = g.held; waiting = g.waiting; stopped = rw is at g.stopped }
-    go None is =
-        let met = word_is_met s names w.is_trailing w.waiting w.position word w.held only help g.waiting g.held (first_empty _ _ (rw is at e)) in
-        step_walked s.rules word w _ _ g met.held met.step
+    go : (t : Bool) → bytes_eq r.id id ≡ t → has_row id (with_values id how source vs rs) ≡ true
+        → has_row id (if t then more_values source vs r ++ rs else r ∷ with_values id how source vs rs) ≡ true
+    go true t rest = rw t refl
+    go false t rest = rw t rest
 
-walk_walked : (s : Shape) (names : Names) (w : Walk) (words : List Text) → OnlyHelpFlags s.rules → RefusesHelp s names → IsWalked w
-    → walk_fault s names w words ≡ [] → IsWalked (fold (walked s.rules names) w words)
-unfolding walk_fault
-walk_walked s names w [] only help g e = g
-walk_walked s names w (word ∷ rest) only help g e =
-    walk_walked s names (walked s.rules names w word) rest only help (turn_walked s names w word only help g (first_empty _ _ e)) (second_empty _ _ e)
-
--- a walk over all the words, where none is a fault
-pub is_walked : (s : Shape) (names : Names) (words : List Text) → OnlyHelpFlags s.rules → RefusesHelp s names
-    → walk_fault s names (walk_from nothing_held) words ≡ [] → IsWalked (walk s.rules names nothing_held words)
-is_walked s names words only help e =
-    walk_walked s names (walk_from nothing_held) words only help
-    (record { held = record { rows = tt; pending = tt; skip = refl }; waiting = tt; stopped = tt }) e
-
-default_values : (rows : List Row) (a : Rule) → HasValues rows → HasValues (with_default rows a)
-default_values rows a g = go (has_row a.id rows)
+others_stay : (id other : Text) (how : Reading) (source : ValueSource) (vs : List Text) (rows : List Row) → has_row id rows ≡ true
+    → has_row id (with_values other how source vs rows) ≡ true
+others_stay id other how source vs [] has = cc
+others_stay id other how source vs (r ∷ rs) has = go (bytes_eq r.id other) (at (bytes_eq r.id id) has (others_stay id other how source vs rs))
   where
-    at : (vs : List Text) → HasValues (default_rows a.id (reading_by a) vs rows)
-    at [] = g
-    at (v ∷ vs) = with_values_values a.id (reading_by a) DefaultValue v vs rows g
+    at : (t : Bool) → t || has_row id rs ≡ true → (has_row id rs ≡ true → has_row id (with_values other how source vs rs) ≡ true)
+        → t || has_row id (with_values other how source vs rs) ≡ true
+    at true h rest = refl
+    at false h rest = rest h
 
-    go : (t : Bool) → HasValues (if t then rows else default_rows a.id (reading_by a) a.defaults rows)
-    go true = g
+    go : (t : Bool) → has_row id (r ∷ with_values other how source vs rs) ≡ true
+        → has_row id (if t then more_values source vs r ++ rs else r ∷ with_values other how source vs rs) ≡ true
+    go true below = has
+    go false below = below
+
+default_stays : (id : Text) (rows : List Row) (a : Rule) → has_row id rows ≡ true → has_row id (with_default rows a) ≡ true
+default_stays id rows a has = go (has_row a.id rows)
+  where
+    at : (vs : List Text) → has_row id (default_rows a.id (reading_by a) vs rows) ≡ true
+    at [] = has
+    at (v ∷ vs) = others_stay id a.id (reading_by a) DefaultValue (v ∷ vs) rows has
+
+    go : (t : Bool) → has_row id (if t then rows else default_rows a.id (reading_by a) a.defaults rows) ≡ true
+    go true = has
     go false = at a.defaults
 
-defaults_values : (rows : List Row) (c : List Rule) → HasValues rows → HasValues (fold with_default rows c)
-defaults_values rows [] g = g
-defaults_values rows (a ∷ rest) g = defaults_values (with_default rows a) rest (default_values rows a g)
+defaults_stay : (id : Text) (rows : List Row) (c : List Rule) → has_row id rows ≡ true → has_row id (fold with_default rows c) ≡ true
+defaults_stay id rows [] has = has
+defaults_stay id rows (a ∷ rest) has = defaults_stay id (with_default rows a) rest (default_stays id rows a has)
 
--- and the rows that it ends with have values
-pub finished_values : (c : List Rule) (h : Held) → HeldValues h → HasValues (finished c h)
-finished_values c h g = defaults_values (settled c h).rows c (settled_values c h g).rows
-
--- an argument that was given has a first value
-pub given_value : (id : Text) (rows : List Row) → HasValues rows → is_given id rows ≡ true → (value : Text) × (first_of id rows ≡ Some value)
-given_value id [] h given = cc
-given_value id (r ∷ rs) h given = go (bytes_eq r.id id) refl (λ rest. given_value id rs h.1 rest)
+default_row : (rows : List Row) (a : Rule) → is_empty a.defaults ≡ false → has_row a.id (with_default rows a) ≡ true
+default_row rows a some = go (has_row a.id rows) refl
   where
-    at : (values : List Text) → 0 < length values → (value : Text) × (slice_get values 0 ≡ Some value)
-    at [] lt = absurd (omega arith)
-    at (v ∷ vs) lt = (v, refl)
+    at : (vs : List Text) → is_empty vs ≡ false → has_row a.id (default_rows a.id (reading_by a) vs rows) ≡ true
+    at [] e = cc
+    at (v ∷ vs) e = with_values_row a.id (reading_by a) DefaultValue (v ∷ vs) rows
 
-    go : (t : Bool) → bytes_eq r.id id ≡ t → (is_given id rs ≡ true → (value : Text) × (first_of id rs ≡ Some value))
-        → (value : Text) × (first_of id (r ∷ rs) ≡ Some value)
-    go true t rest = rw t (at r.values h.0)
-    go false t rest = rw t (rest (rw t at given))
+    go : (t : Bool) → has_row a.id rows ≡ t → has_row a.id (if t then rows else default_rows a.id (reading_by a) a.defaults rows) ≡ true
+    go true t = t
+    go false t = at a.defaults some
+
+-- one of the arguments has this id, and a default
+abbrev pub HasDefault : Text → List Rule → Type 0
+HasDefault id [] = ⊥
+HasDefault id (a ∷ rest) = ((a.id ≡ id) × (is_empty a.defaults ≡ false)) ⊎ HasDefault id rest
+
+-- so it has a row in the end
+pub defaulted_row : (id : Text) (rows : List Row) (c : List Rule) → HasDefault id c → has_row id (fold with_default rows c) ≡ true
+defaulted_row id rows [] h = absurd h
+defaulted_row id rows (a ∷ rest) (inl h) =
+    defaults_stay id (with_default rows a) rest (subst (λ x. has_row x (with_default rows a) ≡ true) h.0 (default_row rows a h.1))
+defaulted_row id rows (a ∷ rest) (inr h) = defaulted_row id (with_default rows a) rest h

@@ -1,18 +1,87 @@
--- How the program ends behind a run.
-use Rattle.std.proofs.Common.{List, Result, Ok, Err}
+-- How the program ends after a run.
+use Rattle.std.proofs.Common.{ℕ, List, Result, Ok, Err, Option}
 use Rattle.std.specs.Prelude.{IfOk, IfErr}
 use Rattle.clap.specs.Words.{Text}
+use Rattle.twp_acres.specs.PlatAnswers.{IsPlatAnswer}
+use Rattle.twp_acres.specs.AcresAnswers.{IsAcresAnswer}
+use Rattle.twp_acres.specs.Runs.{IsRun, Reads, RunsOnPlat, Use}
 use Rattle.twp_acres.specs.declared.verdict.Verdict.{Verdict}
-use Rattle.twp_cmd.specs.Endings.{EndsAs, FailsOn, IsVerdictOf}
-use Rattle.twp_cmd.specs.Statuses.{ending_of}
-use Rattle.twp_cmd.specs.Tasks.{IsTaskOf}
+use Rattle.twp_acres.specs.declared.verdict.RunFault.{RunFault}
+use Rattle.twp_acres.specs.declared.verdict.RunFault.TheVariants.{Read, Write, Memory}
+use Rattle.twp_cmd.specs.Endings.{AnswerTo, EndsAs, EndsRun, FailsOn, IsJoinedVerdict, IsRunFailure}
+use Rattle.twp_cmd.specs.Endings.{IsVerdictOf, RunsOnNotes}
+use Rattle.twp_cmd.specs.Joined.{joined_description, joined_notes}
+use Rattle.twp_cmd.specs.Statuses.{ending_of, ending_of_fault, failing}
+use Rattle.twp_cmd.specs.Tasks.{IsFaultOf, IsTaskOf}
 use Rattle.twp_cmd.specs.declared.ending.Failure.{Failure}
 use Rattle.twp_cmd.specs.declared.ending.Failure.TheVariants.{Open, Run}
 use Rattle.twp_cmd.specs.declared.task.Task.{Task}
+use Rattle.twp_cmd.specs.declared.task.Task.TheVariants.{Plat}
+use Rattle.twp_cmd.specs.declared.task.TaskFault.{TaskFault}
+use Rattle.twp_cmd.specs.declared.task.TaskFault.TheVariants as fault
 
 -- what the run of a task gave is how the program ends by the words that ask for it
 pub ends_as : (words : List Text) (task : Task) (r : Result Verdict Failure) → IsTaskOf words task
     → IfOk r (IsVerdictOf task) → IfErr r (FailsOn task) → EndsAs words (ending_of r)
 ends_as words task (Ok verdict) asked answers fails = (task, asked, answers)
 ends_as words task (Err (Open name)) asked answers fails = (task, asked, fails)
-ends_as words task (Err (Run fault)) asked answers fails = tt
+ends_as words task (Err (Run Read)) asked answers fails = (task, asked)
+ends_as words task (Err (Run Write)) asked answers fails = (task, asked)
+ends_as words task (Err (Run Memory)) asked answers fails = tt
+
+-- words that give no task end the program as their fault
+pub ends_as_fault : (words : List Text) (f : TaskFault) → IsFaultOf words f
+    → EndsAs words (ending_of_fault f)
+ends_as_fault words (fault.Usage text) is = is
+ends_as_fault words (fault.Help text) is = is
+ends_as_fault words fault.Memory is = tt
+
+-- a run on two files answers its task
+pub task_answers : (task : Task) (most : ℕ) (notes second out : Use) (unread : Type 0)
+    (r : Result Verdict Failure)
+    → EndsRun (RunsOnPlat (AnswerTo task) most notes second out unread) r
+    → IfOk r (IsVerdictOf task)
+task_answers task most notes second out unread r (Ok verdict, promise, is) =
+    let ran = promise.ran in
+    rw is (record {
+      first = ran.first_bytes;
+      second = ran.second_bytes;
+      answer = ran.holds.answer;
+      answers = ran.holds.answers;
+    })
+task_answers task most notes second out unread r (Err fault, promise, is) = rw is tt
+
+-- and where it fails, that is the task's failure
+pub task_fails : (task : Task) (Promise : Result Verdict RunFault → Type 0)
+    (r : Result Verdict Failure) → EndsRun Promise r → IfErr r (FailsOn task)
+task_fails task Promise r (Ok verdict, promise, is) = rw is tt
+task_fails task Promise r (Err fault, promise, is) = rw is tt
+
+-- a run on notes alone answers the plat's task
+pub plat_answers : (name : Text) (notes out : Use) (r : Result Verdict Failure)
+    → EndsRun (RunsOnNotes IsPlatAnswer notes out) r → IfOk r (IsVerdictOf (Plat name))
+plat_answers name notes out r (Ok verdict, promise, is) =
+    let ran = promise.ran in
+    rw is (record {
+      first = ran.bytes;
+      second = ran.bytes;
+      answer = ran.holds.answer;
+      answers = ran.holds.answers;
+    })
+plat_answers name notes out r (Err fault, promise, is) = rw is tt
+
+-- what the run of joined input gave is a verdict on it, or a fault of the run
+pub joined_answers : (told old new : Option (List ℕ)) (ran : Result Verdict RunFault)
+    → Reads told (λ bytes.
+    IsRun (IsAcresAnswer (joined_notes bytes) (joined_description bytes)) old new ran)
+    → IfOk (failing ran) IsJoinedVerdict
+joined_answers told old new (Ok verdict) read = record {
+  bytes = read.bytes;
+  answer = read.holds.answer;
+  answers = read.holds.answers;
+}
+joined_answers told old new (Err fault) read = tt
+
+pub joined_fails : (ran : Result Verdict RunFault) → IfErr (failing ran) IsRunFailure
+joined_fails (Ok verdict) = tt
+joined_fails (Err fault) = tt

@@ -12,7 +12,7 @@ use Rattle.clap.specs.declared.error.kind.ErrorKind.TheVariants.{DisplayHelp, Ou
 use Rattle.clap.specs.declared.parser.matches.ArgMatches.{ArgMatches}
 use Rattle.clap.specs.declared.parser.matches.ArgMatches.TheViews.{out-ArgMatches, out-SubCommand}
 use Rattle.twp_cmd.specs.Commands.{IsTownship, township}
-use Rattle.twp_cmd.specs.Parses.{HasValue, IsOfLand, IsWhole, ShowsAs}
+use Rattle.twp_cmd.specs.Parses.{HasAccount, HasValue, IsWhole, ShowsAs}
 use Rattle.twp_cmd.specs.Tasks.{IsFaultOf, IsTaskIn, IsTaskOf}
 use Rattle.twp_cmd.specs.declared.task.Task.{Task}
 use Rattle.twp_cmd.specs.declared.task.TaskFault.{TaskFault}
@@ -28,10 +28,10 @@ module _ {Z : Type 0} where
 pub entered_name : (m : ArgMatches) → option_map (λ p. p.0) (subcommand_rows_of m) ≡ subcommand_name_of m
 entered_name m = entered_names (out-ArgMatches m).subcommand
 
--- what is neither `plat` nor `report` is `acres` or `normal`, and has a value for its description
+-- what is neither `plat` nor `report` has a value for its description
 pub land_words : (entered : Option (Text × List Row)) (name : Text) (rows : List Row) → IsWhole entered
     → option_map (λ p. p.0) entered ≡ Some name → option_map (λ p. p.1) entered ≡ Some rows
-    → (name ≡ codes "plat" → ⊥) → (name ≡ codes "report" → ⊥) → IsOfLand name × HasValue (codes "DESCRIPTION") rows
+    → (name ≡ codes "plat" → ⊥) → (name ≡ codes "report" → ⊥) → HasValue (codes "DESCRIPTION") rows
 land_words None name rows whole named found no_plat no_report = absurd whole
 land_words (Some e) name rows whole named found no_plat no_report =
     let same : e.0 ≡ name = cc in
@@ -39,25 +39,38 @@ land_words (Some e) name rows whole named found no_plat no_report =
     elim whole.1 [
       | inl is ↦ absurd (no_plat (sym same ∙ is))
       | inr (inl is) ↦ absurd (no_report (sym same ∙ is.0))
-      | inr (inr is) ↦ (subst IsOfLand same is.0, subst (HasValue (codes "DESCRIPTION")) those is.1)
+      | inr (inr (inl is)) ↦ subst (HasValue (codes "DESCRIPTION")) those is.1
+      | inr (inr (inr is)) ↦ subst (HasValue (codes "DESCRIPTION")) those is.1
     ]
 
-simple : is_simple township ≡ true
-simple = refl
+-- what is `acres` has an account
+pub acres_words : (entered : Option (Text × List Row)) (rows : List Row) → IsWhole entered
+    → option_map (λ p. p.0) entered ≡ Some (codes "acres") → option_map (λ p. p.1) entered ≡ Some rows → HasAccount rows
+acres_words None rows whole named found = absurd whole
+acres_words (Some e) rows whole named found =
+    let name : e.0 ≡ codes "acres" = cc in
+    let those : e.1 ≡ rows = cc in
+    elim whole.1 [
+      | inl is ↦ absurd (let bad : codes "acres" ≡ codes "plat" = sym name ∙ is in cc bad)
+      | inr (inl is) ↦ absurd (let bad : codes "acres" ≡ codes "report" = sym name ∙ is.0 in cc bad)
+      | inr (inr (inl is)) ↦ absurd (let bad : codes "acres" ≡ codes "normal" = sym name ∙ is.0 in cc bad)
+      | inr (inr (inr is)) ↦ subst HasAccount those is.2
+    ]
 
-simple_and_free : is_simple_and_free township ≡ true
-simple_and_free = refl
+simple : (app : App) → IsTownship app → is_simple app ≡ true
+simple app is = rw is.2 refl
+
+simple_and_free : (app : App) → IsTownship app → is_simple_and_free app ≡ true
+simple_and_free app is = rw is.2 refl
 
 -- what a parse that succeeds entered has all its values
 pub parse_whole : (app : App) (words : List Text) (rows : List Row) (entered : Option (Text × List Row)) → IsTownship app
     → (is_simple_and_free app ≡ true → fault_of app words ≡ [])
     → (is_simple app ≡ true → (rows ≡ matches_of app words) × (entered ≡ subcommand_of app words)) → IsWhole entered
 parse_whole app words rows entered is taken matches =
-    let free : is_simple_and_free app ≡ true = rw is simple_and_free in
-    let plain : is_simple app ≡ true = rw is simple in
-    let none : fault_of township words ≡ [] = subst (λ a. fault_of a words ≡ []) is (taken free) in
-    let same : entered ≡ subcommand_of township words = (matches plain).1 ∙ ap (λ a. subcommand_of a words) is in
-    rw same (township_whole words none)
+    let none : fault_of (township is.0) words ≡ [] = subst (λ a. fault_of a words ≡ []) is.2 (taken (simple_and_free app is)) in
+    let same : entered ≡ subcommand_of (township is.0) words = (matches (simple app is)).1 ∙ ap (λ a. subcommand_of a words) is.2 in
+    rw same (township_whole is.0 words is.1 none)
 
 -- and its task is what the words ask for
 pub parse_task : (app : App) (words : List Text) (rows : List Row) (entered : Option (Text × List Row)) (task : Task) → IsTownship app
@@ -67,15 +80,15 @@ pub parse_task : (app : App) (words : List Text) (rows : List Row) (entered : Op
 parse_task app words rows entered task is taken matches asks = record {
   app = app;
   is_township = is;
-  taken = taken (rw is simple_and_free);
-  entered = subst (λ e. IsTaskIn e task) (matches (rw is simple)).1 asks;
+  taken = taken (simple_and_free app is);
+  entered = subst (λ e. IsTaskIn e task) (matches (simple app is)).1 asks;
 }
 
 -- the error of a parse shows the fault of the words
 pub parse_fault : (app : App) (words : List Text) (kind : ErrorKind) (fault : TaskFault) → IsTownship app
     → (is_simple_and_free app ≡ true → (kind ≡ OutOfMemory) ⊎ IsAmong kind (fault_of app words))
     → ShowsAs kind fault → IsFaultOf words fault
-parse_fault app words kind fault is fails shows = go fault shows (fails (rw is simple_and_free))
+parse_fault app words kind fault is fails shows = go fault shows (fails (simple_and_free app is))
   where
     go : (f : TaskFault) → ShowsAs kind f → (kind ≡ OutOfMemory) ⊎ IsAmong kind (fault_of app words) → IsFaultOf words f
     go (Usage text) h (inl none) = absurd (h.1 none)

@@ -1,14 +1,17 @@
--- Where clap's rule takes the words of the command line, the subcommand that they name has all its values.
-use Rattle.std.proofs.Common.{◌≡◌, ◌&&◌, ◌||◌, Bool, true, false, not, List, [], ◌∷◌, Option, Some}
-use Rattle.std.proofs.Common.{None, is_some, refl, inl, inr}
+-- Where clap's rule takes the words of the command line, the subcommand that they name has all its values, and its
+-- option an account's name.
+use Rattle.std.proofs.Common.{◌≡◌, ◌∙◌, ◌&&◌, ◌||◌, ap, Bool, true, false, not, List, [], ◌∷◌, Option}
+use Rattle.std.proofs.Common.{Some, None, is_some, refl, inl, inr, sym}
 use Rattle.std.specs.Prelude.{⊤, option_map, codes, find, if◌then◌else◌}
 use Rattle.std.specs.List.{list_any}
 use Rattle.std.specs.Option.{option_map_or}
 use Rattle.std.specs.Str.{bytes_eq}
+use Rattle.std.specs.Borrow.{Bor}
 use Rattle.std.proofs.lemmas.Slice.Eq.{bytes_eq-Decides}
-use Rattle.clap.specs.Words.{Row, Rule, Shape, Text, built, fault_of, subcommand_of}
-use Rattle.clap.specs.Kinds.{Kinds, check_kinds, or_else}
-use Rattle.clap.specs.Walk.{Names, answers_to, finished, nothing_held, rows_after, settled, walk}
+use Rattle.clap.specs.Words.{Row, Rule, Shape, Text, built, fault_of, same_text, subcommand_of}
+use Rattle.clap.specs.Kinds.{Kinds, check_kinds, or_else, value_kinds}
+use Rattle.clap.specs.Values.{refused_kind}
+use Rattle.clap.specs.Walk.{Names, answers_to, finished, nothing_held, rows_after, settled, texts, walk}
 use Rattle.clap.specs.Walk.{walk_from}
 use Rattle.clap.specs.Facts.{explicit_source}
 use Rattle.clap.specs.Simple.{argument_words, built_leaf, entered, help_shape, inherited, label_of}
@@ -16,10 +19,15 @@ use Rattle.clap.specs.Simple.{marked_built, names_of, rows_at, with_leaf_noted}
 use Rattle.clap.specs.Takes.{is_given}
 use Rattle.clap.specs.Faults.{check_fault, defaults_fault, entered_fault, level_fault, settle_fault}
 use Rattle.clap.specs.Faults.{walk_fault}
-use Rattle.twp_cmd.specs.Commands.{described, plat, report, township}
-use Rattle.twp_cmd.specs.Parses.{HasValue, IsOfLand, IsWhole}
-use Rattle.twp_cmd.proofs.CommandWalk.{HasValues, IsNoHelp, OnlyHelpFlags, StoppedWell}
-use Rattle.twp_cmd.proofs.CommandWalk.{finished_values, first_empty, given_value, is_walked}
+use Rattle.clap.specs.declared.builder.value_parser.ValueParser.{ValueParser}
+use Rattle.clap.specs.declared.builder.value_parser.ValueParser.TheVariants as vp
+use Rattle.twp_acres.specs.declared.account.Account.{Account}
+use Rattle.twp_acres.specs.declared.account.Account.TheVariants as account
+use Rattle.twp_cmd.specs.Commands.{TakesAccounts, account_name, acres, normal, plat, report, township}
+use Rattle.twp_cmd.specs.Commands.{township_with}
+use Rattle.twp_cmd.specs.Parses.{HasAccount, HasValue, IsWhole}
+use Rattle.twp_cmd.proofs.CommandWalk.{EachFits, Good, IsNoHelp, StoppedWell, defaulted_row}
+use Rattle.twp_cmd.proofs.CommandWalk.{finished_good, first_empty, given_row, is_walked, row_value}
 use Rattle.twp_cmd.proofs.CommandWalk.{second_empty}
 
 nothing_wanted : (help subcommand argument : Bool) → check_kinds help subcommand argument ≡ [] → (subcommand ≡ false) × (argument ≡ false)
@@ -35,6 +43,8 @@ is_missing rows a = a.required && not (is_given a.id rows)
 record LevelPasses (s : Shape) (names : Names) (words : List Text) (has_subcommand : Bool) (below : Kinds) : Type 0 where
   pub walks : walk_fault s names (walk_from nothing_held) words ≡ []
   pub enters : below ≡ []
+  pub settles : settle_fault s.rules s.args_override_self (walk s.rules names nothing_held words).held ≡ []
+  pub defaults : defaults_fault (settled s.rules (walk s.rules names nothing_held words).held).rows s.rules ≡ []
   pub subcommand : not has_subcommand && s.subcommand_required ≡ false
   pub arguments : not (s.subcommand_negates_reqs && has_subcommand) && list_any (is_missing (rows_after s.rules names words)) s.rules ≡ false
 
@@ -47,7 +57,9 @@ level_passes s names words has_subcommand below e =
     let defaults = defaults_fault (settled s.rules end).rows s.rules in
     let check = check_fault s (finished s.rules end) has_subcommand in
     let after = second_empty walks (or_else below (or_else settles (or_else defaults check))) e in
-    let last = second_empty defaults check (second_empty settles (or_else defaults check) (second_empty below (or_else settles (or_else defaults check)) after)) in
+    let ended = second_empty below (or_else settles (or_else defaults check)) after in
+    let checked = second_empty settles (or_else defaults check) ended in
+    let last = second_empty defaults check checked in
     let wanted = nothing_wanted
     (not has_subcommand && (s.arg_required_else_help && not (list_any (λ r. explicit_source r.source) (finished s.rules end))))
     (not has_subcommand && s.subcommand_required)
@@ -55,22 +67,67 @@ level_passes s names words has_subcommand below e =
     record {
       walks = first_empty walks (or_else below (or_else settles (or_else defaults check))) e;
       enters = first_empty below (or_else settles (or_else defaults check)) after;
+      settles = first_empty settles (or_else defaults check) ended;
+      defaults = first_empty defaults check checked;
       subcommand = wanted.0;
       arguments = wanted.1;
     }
 
--- the rows of a subcommand have values, and none that is required is missing
-leaf_given : (s : Shape) (words : List Text) → OnlyHelpFlags s.rules → s.subcommand_negates_reqs ≡ false
-    → level_fault s [] nothing_held words false [] ≡ []
-    → HasValues (rows_after s.rules [] words) × (list_any (is_missing (rows_after s.rules [] words)) s.rules ≡ false)
-leaf_given s words only negates e =
+-- the option has accounts' names for values
+abbrev MayHave : Text → Text → Type 0
+MayHave id value = bytes_eq id (codes "ACCOUNT") ≡ true → (account : Account) × (value ≡ account_name account)
+
+no_option : (id value : Text) → bytes_eq id (codes "ACCOUNT") ≡ false → MayHave id value
+no_option id value other is = let bad : false ≡ true = sym other ∙ is in absurd (cc bad)
+
+same_texts : (names : List (Bor Text)) (value : Text)
+    → list_any (λ name. same_text false name.now value) names ≡ list_any (λ text. bytes_eq text value) (texts names)
+same_texts [] value = refl
+same_texts (name ∷ names) value = rw (same_texts names value) refl
+
+account_of_name : (value : Text) → list_any (λ text. bytes_eq text value) (codes "exact" ∷ codes "plat" ∷ []) ≡ true
+    → (account : Account) × (value ≡ account_name account)
+account_of_name value e = go (bytes_eq (codes "exact") value) (bytes_eq (codes "plat") value) refl refl e
+  where
+    go : (exact plat : Bool) → bytes_eq (codes "exact") value ≡ exact → bytes_eq (codes "plat") value ≡ plat → exact || (plat || false) ≡ true
+        → (account : Account) × (value ≡ account_name account)
+    go true plat t p e = (account.Exact, sym ((bytes_eq-Decides (codes "exact") value).0 t))
+    go false true t p e = (account.Plat, sym ((bytes_eq-Decides (codes "plat") value).0 p))
+    go false false t p e = cc
+
+-- what the option's parser takes is an account's name
+option_takes : (parser : ValueParser) (value : Text) → TakesAccounts parser → value_kinds false parser value ≡ [] → MayHave (codes "ACCOUNT") value
+option_takes (vp.Names names) value takes e is = account_of_name value (rw takes at (rw (same_texts names.now value) at passed))
+  where
+    passes : (t : Bool) → (if t then [] else refused_kind (vp.Names names) ∷ []) ≡ [] → t ≡ true
+    passes true e = refl
+    passes false e = cc
+
+    passed : list_any (λ name. same_text false name.now value) names.now ≡ true
+    passed = passes (list_any (λ name. same_text false name.now value) names.now) e
+option_takes other value takes e is = absurd takes
+
+-- what the words give a subcommand: rows as they may be, and none that is required is missing
+record IsGiven (s : Shape) (words : List Text) : Type 0 where
+  pub rows : Good MayHave (rows_after s.rules [] words)
+  pub required : list_any (is_missing (rows_after s.rules [] words)) s.rules ≡ false
+
+leaf_given : (s : Shape) (words : List Text) → EachFits MayHave s.rules → s.subcommand_negates_reqs ≡ false
+    → level_fault s [] nothing_held words false [] ≡ [] → IsGiven s words
+leaf_given s words each negates e =
     let level = level_passes s [] words false [] e in
-    let walked = is_walked s [] words only (inr refl) level.walks in
-    (finished_values s.rules (walk s.rules [] nothing_held words).held walked.held, rw negates at level.arguments)
+    let walked = is_walked MayHave s [] words each (inr refl) level.walks in
+    let held = (walk s.rules [] nothing_held words).held in
+    record {
+      rows = finished_good MayHave s.rules s.args_override_self held each walked.rows level.settles level.defaults;
+      required = rw negates at level.arguments;
+    }
 
 -- what isn't missing has a value
-has_value : (id : Text) (rows : List Row) (rest : Bool) → HasValues rows → not (is_given id rows) || rest ≡ false → HasValue id rows
-has_value id rows rest h e = given_value id rows h (go (is_given id rows) e)
+has_value : (id : Text) (rows : List Row) (rest : Bool) → Good MayHave rows → not (is_given id rows) || rest ≡ false → HasValue id rows
+has_value id rows rest good e =
+    let found = row_value MayHave id rows good (given_row id rows (go (is_given id rows) e)) in
+    (found.0, found.1)
   where
     go : (t : Bool) → not t || rest ≡ false → t ≡ true
     go true e = refl
@@ -82,7 +139,7 @@ rest_of false y e = e
 
 -- the subcommands as they are built
 abbrev leaf : Shape → Shape
-leaf s = built_leaf (inherited (with_leaf_noted (marked_built township.top)) s)
+leaf s = built_leaf (inherited (with_leaf_noted (marked_built (township_with []).top)) s)
 
 abbrev help : Shape
 help = built_leaf help_shape
@@ -96,21 +153,49 @@ GivesWhole words s = leaf_fault s words ≡ [] → IsWhole (Some (rows_at s word
 
 plat_whole : (words : List Text) → GivesWhole words (leaf plat)
 plat_whole words e =
-    let given = leaf_given (leaf plat) words (inl refl, (inr (refl, refl), tt)) refl e in
-    (has_value (codes "NOTES") (rows_after (leaf plat).rules [] words) _ given.0 given.1, inl refl)
+    let given = leaf_given (leaf plat) words (inr (refl, λ v f. no_option (codes "NOTES") v refl), (inl refl, tt)) refl e in
+    (has_value (codes "NOTES") (rows_after (leaf plat).rules [] words) _ given.rows given.required, inl refl)
 
-land_whole : (name : Text) (words : List Text) → IsOfLand name → GivesWhole words (leaf (described name))
-land_whole name words of_land e =
-    let s = leaf (described name) in
-    let given = leaf_given s words (inl refl, (inl refl, (inr (refl, refl), tt))) refl e in
+acres_whole : (parser : ValueParser) (words : List Text) → TakesAccounts parser → GivesWhole words (leaf (acres parser))
+acres_whole parser words takes e =
+    let s = leaf (acres parser) in
+    let given = leaf_given s words (
+      inr (refl, λ v f. no_option (codes "NOTES") v refl),
+      (
+        inr (refl, λ v f. no_option (codes "DESCRIPTION") v refl),
+        (inr (refl, λ v f. option_takes parser v takes f), (inl refl, tt)),
+      ),
+    ) refl e in
     let rows = rows_after s.rules [] words in
-    (has_value (codes "NOTES") rows _ given.0 given.1, inr (inr (of_land, has_value (codes "DESCRIPTION") rows _ given.0 (rest_of _ _ given.1))))
+    let walked = (settled s.rules (walk s.rules [] nothing_held words).held).rows in
+    let named = row_value MayHave (codes "ACCOUNT") rows given.rows (defaulted_row (codes "ACCOUNT") walked s.rules (inr (inr (inl (refl, refl))))) in
+    let is = named.2 refl in
+    let account : HasAccount rows = (is.0, named.1 ∙ ap (λ (value : Text). Some value) is.1) in (
+      has_value (codes "NOTES") rows _ given.rows given.required,
+      inr (inr (inr (refl, has_value (codes "DESCRIPTION") rows _ given.rows (rest_of _ _ given.required), account))),
+    )
+
+normal_whole : (words : List Text) → GivesWhole words (leaf normal)
+normal_whole words e =
+    let given = leaf_given (leaf normal) words (
+      inr (refl, λ v f. no_option (codes "NOTES") v refl),
+      (inr (refl, λ v f. no_option (codes "DESCRIPTION") v refl), (inl refl, tt)),
+    ) refl e in
+    let rows = rows_after (leaf normal).rules [] words in (
+      has_value (codes "NOTES") rows _ given.rows given.required,
+      inr (inr (inl (refl, has_value (codes "DESCRIPTION") rows _ given.rows (rest_of _ _ given.required)))),
+    )
 
 report_whole : (words : List Text) → GivesWhole words (leaf report)
 report_whole words e =
-    let given = leaf_given (leaf report) words (inl refl, (inl refl, (inr (refl, refl), tt))) refl e in
-    let rows = rows_after (leaf report).rules [] words in
-    (has_value (codes "NOTES") rows _ given.0 given.1, inr (inl (refl, has_value (codes "TRACTS") rows _ given.0 (rest_of _ _ given.1))))
+    let given = leaf_given (leaf report) words (
+      inr (refl, λ v f. no_option (codes "NOTES") v refl),
+      (inr (refl, λ v f. no_option (codes "TRACTS") v refl), (inl refl, tt)),
+    ) refl e in
+    let rows = rows_after (leaf report).rules [] words in (
+      has_value (codes "NOTES") rows _ given.rows given.required,
+      inr (inl (refl, has_value (codes "TRACTS") rows _ given.rows (rest_of _ _ given.required))),
+    )
 
 abbrev named : List Shape → Text → Option Shape
 named subs name = find (λ s. answers_to name (label_of s)) subs
@@ -147,18 +232,16 @@ no_answer name free answers = go (bytes_eq (codes "help") name) refl
         let bad : bytes_eq (codes "help") (codes "help") ≡ false = rw (← same) at free in
         cc
 
-entered_whole : (stop : Option (Text × List Text)) → StoppedWell stop → entered_fault (built township) stop ≡ []
-    → is_some (entered (built township) stop) ≡ true → IsWhole (entered (built township) stop)
-entered_whole None well e some = cc
-entered_whole (Some p) well e some =
-    one_of (leaf plat ∷ leaf (described (codes "acres")) ∷ leaf (described (codes "normal")) ∷ leaf report ∷ help ∷ []) p.0 p.1 (
+entered_whole : (parser : ValueParser) (stop : Option (Text × List Text)) → TakesAccounts parser → StoppedWell stop
+    → entered_fault (built (township parser)) stop ≡ [] → is_some (entered (built (township parser)) stop) ≡ true
+    → IsWhole (entered (built (township parser)) stop)
+entered_whole parser None takes well e some = cc
+entered_whole parser (Some p) takes well e some =
+    one_of (leaf plat ∷ leaf (acres parser) ∷ leaf normal ∷ leaf report ∷ help ∷ []) p.0 p.1 (
       λ _. plat_whole p.1,
       (
-        λ _. land_whole (codes "acres") p.1 (inl refl),
-        (
-          λ _. land_whole (codes "normal") p.1 (inr refl),
-          (λ _. report_whole p.1, (λ answers. absurd (no_answer p.0 well answers), tt)),
-        ),
+        λ _. acres_whole parser p.1 takes,
+        (λ _. normal_whole p.1, (λ _. report_whole p.1, (λ answers. absurd (no_answer p.0 well answers), tt))),
       ),
     ) e some
 
@@ -166,12 +249,14 @@ was_entered : (b : Bool) → not b && true ≡ false → b ≡ true
 was_entered true e = refl
 was_entered false e = cc
 
-pub township_whole : (words : List Text) → fault_of township words ≡ [] → IsWhole (subcommand_of township words)
-township_whole words e =
-    let top = (built township).top in
-    let names = names_of (built township) in
-    let after = argument_words township words in
+pub township_whole : (parser : ValueParser) (words : List Text) → TakesAccounts parser → fault_of (township parser) words ≡ []
+    → IsWhole (subcommand_of (township parser) words)
+township_whole parser words takes e =
+    let command = built (township parser) in
+    let top = command.top in
+    let names = names_of command in
+    let after = argument_words (township parser) words in
     let stop = (walk top.rules names nothing_held after).stopped in
-    let level = level_passes top names after (is_some (entered (built township) stop)) (entered_fault (built township) stop) e in
-    let walked = is_walked top names after (inr (refl, refl), tt) (inl refl) level.walks in
-    entered_whole stop walked.stopped level.enters (was_entered (is_some (entered (built township) stop)) level.subcommand)
+    let level = level_passes top names after (is_some (entered command stop)) (entered_fault command stop) e in
+    let walked = is_walked MayHave top names after (inl refl, tt) (inl refl) level.walks in
+    entered_whole parser stop takes walked.stopped level.enters (was_entered (is_some (entered command stop)) level.subcommand)

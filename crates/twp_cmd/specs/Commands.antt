@@ -1,15 +1,24 @@
 -- The command line, in the words of clap's own rule.
-use Rattle.std.specs.Prelude.{◌≡◌, true, false, List, [], ◌∷◌, map, codes}
+use Rattle.std.specs.Prelude.{◌≡◌, true, false, List, [], ◌∷◌, Some, map, codes}
+use Rattle.clap.specs.Walk.{texts}
 use Rattle.clap.specs.Words.{App, Rule, Shape, Text, new_rule}
 use Rattle.clap.specs.Simple.{new_shape}
+use Rattle.clap.specs.declared.builder.value_parser.ValueParser.{ValueParser}
+use Rattle.clap.specs.declared.builder.value_parser.ValueParser.TheVariants.{Names}
+use Rattle.twp_acres.specs.declared.account.Account.{Account}
+use Rattle.twp_acres.specs.declared.account.Account.TheVariants.{Exact, Plat}
 
 -- a word that a subcommand requires
 abbrev pub required_word : Text → Rule
 required_word id = record (new_rule id) { required = true }
 
+-- a subcommand with these words and options
+abbrev pub subcommand_of_rules : Text → List Rule → Shape
+subcommand_of_rules name rules = record (new_shape name) { rules = rules }
+
 -- a subcommand, with the words that it requires in their order
 abbrev pub subcommand_with : Text → List Text → Shape
-subcommand_with name ids = record (new_shape name) { rules = map required_word ids }
+subcommand_with name ids = subcommand_of_rules name (map required_word ids)
 
 -- the command `township`, which requires one of these subcommands
 abbrev pub township_with : List Shape → App
@@ -22,19 +31,60 @@ township_with subcommands = record {
 abbrev pub plat : Shape
 plat = subcommand_with (codes "plat") (codes "NOTES" ∷ [])
 
--- a subcommand that speaks of a description of land on a plat
-abbrev pub described : Text → Shape
-described name = subcommand_with name (codes "NOTES" ∷ codes "DESCRIPTION" ∷ [])
+-- the account, as the command line names it
+abbrev pub account_name : Account → Text
+account_name Exact = codes "exact"
+account_name Plat = codes "plat"
+
+-- the parser takes these values, and no other
+abbrev pub TakesOnly : List Text → ValueParser → Type 0
+TakesOnly values (Names names) = texts names.now ≡ values
+TakesOnly values other = ⊥
+
+-- the parser takes the names of accounts
+abbrev pub TakesAccounts : ValueParser → Type 0
+TakesAccounts = TakesOnly (map account_name (Exact ∷ Plat ∷ []))
+
+-- the option that names an account, the exact one where it isn't given
+abbrev pub account_option : ValueParser → Rule
+account_option parser = record (new_rule (codes "ACCOUNT")) {
+  long = Some (codes "account");
+  parser = Some parser;
+  defaults = account_name Exact ∷ [];
+}
+
+-- the subcommand that writes acres, by an account
+abbrev pub acres : ValueParser → Shape
+acres parser = subcommand_of_rules (codes "acres")
+    (required_word (codes "NOTES") ∷ required_word (codes "DESCRIPTION")
+    ∷ account_option parser ∷ [])
+
+-- the subcommand that speaks of a description of land on a plat
+abbrev pub normal : Shape
+normal = subcommand_with (codes "normal") (codes "NOTES" ∷ codes "DESCRIPTION" ∷ [])
 
 -- the subcommand that speaks of a list of tracts on a plat
 abbrev pub report : Shape
 report = subcommand_with (codes "report") (codes "NOTES" ∷ codes "TRACTS" ∷ [])
 
--- the command `township`, with its subcommands in their order
-abbrev pub township : App
-township = township_with
-    (plat ∷ described (codes "acres") ∷ described (codes "normal") ∷ report ∷ [])
+-- the command `township`, whose option takes what the parser does
+abbrev pub township : ValueParser → App
+township parser = township_with (plat ∷ acres parser ∷ normal ∷ report ∷ [])
 
--- the program's command
+-- the option of one of the accounts
+abbrev pub IsAccountOption : Rule → Type 0
+IsAccountOption rule =
+    (parser : ValueParser) × TakesAccounts parser × (rule ≡ account_option parser)
+
+-- the subcommand that writes acres by one of the accounts
+abbrev pub IsAcres : Shape → Type 0
+IsAcres shape = (parser : ValueParser) × TakesAccounts parser × (shape ≡ acres parser)
+
+-- the command of the subcommands `plat`, `acres` and these others, in their order
+abbrev pub IsTownshipWith : List Shape → App → Type 0
+IsTownshipWith others app = (parser : ValueParser) × TakesAccounts parser
+    × (app ≡ township_with (plat ∷ acres parser ∷ others))
+
+-- the program's command, with its subcommands in their order
 abbrev pub IsTownship : App → Type 0
-IsTownship app = app ≡ township
+IsTownship = IsTownshipWith (normal ∷ report ∷ [])

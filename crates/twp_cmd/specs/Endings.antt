@@ -1,18 +1,25 @@
 -- How the program ends, by the words of its command line.
-use Rattle.std.specs.Prelude.{◌≡◌, ◌⊎◌, ℕ, ◌<◌, List, length, ⊤}
+use Rattle.std.specs.Prelude.{◌≡◌, ◌≢◌, ◌⊎◌, ◌↔◌, ℕ, ◌+◌, ◌<◌, Bool, true, false, List, length, ⊤}
+use Rattle.std.specs.Prelude.{Option, Some, Result, Err, IsErrOf, IsOkUnless}
 use Rattle.clap.specs.Words.{Text}
 use Rattle.clap.specs.declared.error.kind.ErrorKind.TheVariants.{DisplayHelp}
-use Rattle.twp_acres.specs.Runs.{AnswerRelation}
+use Rattle.twp_grid.specs.Devices.{TakesAtMost}
+use Rattle.twp_notes.specs.FieldNotes.{NOTES_MOST}
+use Rattle.twp_notes.specs.ReadBytes.{TakesFirst}
+use Rattle.twp_acres.specs.Runs.{AnswerRelation, IsRun, Reads, Use}
 use Rattle.twp_acres.specs.PlatAnswers.{IsPlatAnswer}
 use Rattle.twp_acres.specs.AcresAnswers.{IsAcresAnswer}
+use Rattle.twp_acres.specs.AccountAnswers.{IsAcresAnswerBy}
 use Rattle.twp_acres.specs.NormalAnswers.{IsNormalAnswer}
 use Rattle.twp_acres.specs.ReportAnswers.{IsReportAnswer}
 use Rattle.twp_acres.specs.declared.verdict.Verdict.{Verdict}
+use Rattle.twp_acres.specs.declared.verdict.RunFault.{RunFault}
+use Rattle.twp_acres.specs.declared.verdict.RunFault.TheVariants.{Read, Write, Memory}
 use Rattle.twp_cmd.specs.Joined.{joined_description, joined_notes}
-use Rattle.twp_cmd.specs.Statuses.{status_of}
+use Rattle.twp_cmd.specs.Statuses.{IsStatusOf, failing}
 use Rattle.twp_cmd.specs.Tasks.{HasKindAt, IsFaultOf, IsTaskOf}
 use Rattle.twp_cmd.specs.declared.ending.Ending.{Ending}
-use Rattle.twp_cmd.specs.declared.ending.Ending.TheVariants.{Answered, Helped, Misused, Failed}
+use Rattle.twp_cmd.specs.declared.ending.Ending.TheVariants.{Answered, Helps, Misused, Failed}
 use Rattle.twp_cmd.specs.declared.ending.Failure.{Failure}
 use Rattle.twp_cmd.specs.declared.ending.Failure.TheVariants.{Open, Run}
 use Rattle.twp_cmd.specs.declared.task.Task.{Task}
@@ -22,14 +29,14 @@ use Rattle.twp_cmd.specs.declared.task.TaskFault.TheVariants.{Usage}
 -- the task is given this file
 abbrev pub IsFileOf : Task → Text → Type 0
 IsFileOf (Plat notes) name = name ≡ notes
-IsFileOf (Acres notes description) name = (name ≡ notes) ⊎ (name ≡ description)
+IsFileOf (Acres notes description account) name = (name ≡ notes) ⊎ (name ≡ description)
 IsFileOf (Normal notes description) name = (name ≡ notes) ⊎ (name ≡ description)
 IsFileOf (Report notes tracts) name = (name ≡ notes) ⊎ (name ≡ tracts)
 
 -- the answer of the task to the bytes of its files, of which a plat has only the first
 abbrev pub AnswerTo : Task → List ℕ → List ℕ → AnswerRelation
 AnswerTo (Plat notes) first second = IsPlatAnswer first
-AnswerTo (Acres notes description) first second = IsAcresAnswer first second
+AnswerTo (Acres notes description account) first second = IsAcresAnswerBy account first second
 AnswerTo (Normal notes description) first second = IsNormalAnswer first second
 AnswerTo (Report notes tracts) first second = IsReportAnswer first second
 
@@ -45,20 +52,52 @@ abbrev pub FailsOn : Task → Failure → Type 0
 FailsOn task (Open name) = IsFileOf task name
 FailsOn task (Run fault) = ⊤
 
+-- What a run promises of field notes alone, which writes an answer to them.
+pub record RunsOnNotes (Answers : List ℕ → AnswerRelation) (notes out : Use)
+    (result : Result Verdict RunFault) : Type 0 where
+  pub told : (n : List ℕ) → notes.old ≡ Some n → IsRun (Answers n) out.old out.new result
+  pub answers : notes.has_failed ≡ false → out.has_failed ≡ false → IsOkUnless result Memory
+  pub ran : Reads notes.old (λ n. IsRun (Answers n) out.old out.new result)
+  pub read : IsErrOf result Read ↔ (notes.has_failed ≡ true)
+  pub write : IsErrOf result Write ↔ (out.has_failed ≡ true)
+  pub most : TakesAtMost notes.old notes.new (NOTES_MOST + 1)
+  pub exact : notes.has_failed ≡ false → result ≢ Err Memory
+      → TakesFirst notes.old notes.new (NOTES_MOST + 1)
+
+-- The outcome is that of a run which keeps this promise.
+abbrev pub EndsRun : (Result Verdict RunFault → Type 0) → Result Verdict Failure → Type 0
+EndsRun Promise result = (ran : Result Verdict RunFault) × Promise ran × (result ≡ failing ran)
+
+-- the words ask for some task
+abbrev pub AskForTask : List Text → Type 0
+AskForTask words = (task : Task) × IsTaskOf words task
+
+-- Where there are words, a device fails only in a task that they ask for. Memory may be refused
+-- anywhere.
+abbrev pub MayFail : List Text → RunFault → Type 0
+MayFail words Read = AskForTask words
+MayFail words Write = AskForTask words
+MayFail words Memory = ⊤
+
 -- An answer comes only where the words ask for a task, and its verdict is the task's; help only
 -- where they ask for help, and usage only where they misuse the command.
 abbrev pub EndsAs : List Text → Ending → Type 0
 EndsAs words (Answered verdict) = (task : Task) × IsTaskOf words task × IsVerdictOf task verdict
-EndsAs words Helped = HasKindAt words DisplayHelp
+EndsAs words (Helps text) = HasKindAt words DisplayHelp
 EndsAs words (Misused text) = IsFaultOf words (Usage text)
 EndsAs words (Failed (Open name)) = (task : Task) × IsTaskOf words task × IsFileOf task name
-EndsAs words (Failed (Run fault)) = ⊤
+EndsAs words (Failed (Run fault)) = MayFail words fault
 
 -- the verdict is that on some joined input, since standard input doesn't tell what it gave
 pub record IsJoinedVerdict (verdict : Verdict) : Type 0 where
   pub bytes : List ℕ
   pub answer : List ℕ
   pub answers : IsAcresAnswer (joined_notes bytes) (joined_description bytes) answer verdict
+
+-- the words can't be had for want of memory, or because they can't be read
+abbrev pub IsWordsFault : RunFault → Type 0
+IsWordsFault Write = ⊥
+IsWordsFault fault = ⊤
 
 -- no file is opened without a word
 abbrev pub IsRunFailure : Failure → Type 0
@@ -80,4 +119,4 @@ EndsProgram ending =
 pub record IsProgramStatus (status : ℕ) : Type 0 where
   pub ending : Ending
   pub ends : EndsProgram ending
-  pub status_is : status ≡ status_of ending
+  pub status_is : IsStatusOf ending status

@@ -3,6 +3,8 @@ use Rattle.std.specs.Prelude.{◌≡◌, ◌≢◌, ◌⊎◌, List, Option, Som
 use Rattle.clap.specs.Words.{Row, Text, first_of}
 use Rattle.clap.specs.declared.error.kind.ErrorKind.{ErrorKind}
 use Rattle.clap.specs.declared.error.kind.ErrorKind.TheVariants.{DisplayHelp, OutOfMemory}
+use Rattle.twp_acres.specs.declared.account.Account.{Account}
+use Rattle.twp_cmd.specs.Commands.{account_name}
 use Rattle.twp_cmd.specs.declared.task.TaskFault.{TaskFault}
 use Rattle.twp_cmd.specs.declared.task.TaskFault.TheVariants.{Usage, Help, Memory}
 
@@ -10,17 +12,21 @@ use Rattle.twp_cmd.specs.declared.task.TaskFault.TheVariants.{Usage, Help, Memor
 abbrev pub HasValue : Text → List Row → Type 0
 HasValue word rows = (value : Text) × (first_of word rows ≡ Some value)
 
--- the subcommand speaks of one description
-abbrev pub IsOfLand : Text → Type 0
-IsOfLand name = (name ≡ codes "acres") ⊎ (name ≡ codes "normal")
+-- the option has an account's name for its value
+abbrev pub HasAccount : List Row → Type 0
+HasAccount rows =
+    (account : Account) × (first_of (codes "ACCOUNT") rows ≡ Some (account_name account))
 
--- the subcommand that a parse entered is one of the command's, and its words have values
+-- the subcommand that a parse entered is one of the command's, and its words and its option have
+-- values
 abbrev pub IsWhole : Option (Text × List Row) → Type 0
 IsWhole None = ⊥
 IsWhole (Some entered) = HasValue (codes "NOTES") entered.1
     × ((entered.0 ≡ codes "plat")
     ⊎ ((entered.0 ≡ codes "report") × HasValue (codes "TRACTS") entered.1)
-    ⊎ (IsOfLand entered.0 × HasValue (codes "DESCRIPTION") entered.1))
+    ⊎ ((entered.0 ≡ codes "normal") × HasValue (codes "DESCRIPTION") entered.1)
+    ⊎ ((entered.0 ≡ codes "acres") × HasValue (codes "DESCRIPTION") entered.1
+    × HasAccount entered.1))
 
 -- an error of this kind shows as the fault: want of memory as that alone, the others so or so
 abbrev pub ShowsAs : ErrorKind → TaskFault → Type 0

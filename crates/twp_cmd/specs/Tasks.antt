@@ -3,18 +3,19 @@ use Rattle.std.specs.Prelude.{◌≡◌, ◌≢◌, List, [], ◌∷◌, Option,
 use Rattle.clap.specs.Words.{App, IsAmong, Row, Text, fault_of, first_of, subcommand_of}
 use Rattle.clap.specs.declared.error.kind.ErrorKind.{ErrorKind}
 use Rattle.clap.specs.declared.error.kind.ErrorKind.TheVariants.{DisplayHelp}
-use Rattle.twp_cmd.specs.Commands.{IsTownship}
+use Rattle.twp_acres.specs.declared.account.Account.{Account}
+use Rattle.twp_cmd.specs.Commands.{IsTownship, account_name}
 use Rattle.twp_cmd.specs.declared.task.Task.{Task}
 use Rattle.twp_cmd.specs.declared.task.Task.TheVariants.{Plat, Acres, Normal, Report}
 use Rattle.twp_cmd.specs.declared.task.TaskFault.{TaskFault}
 use Rattle.twp_cmd.specs.declared.task.TaskFault.TheVariants.{Usage, Help, Memory}
 
--- a required word of a subcommand, with the value that it has
+-- a word or an option of a subcommand, with the value that it has
 pub record Given : Type 0 where
   pub word : Text
   pub value : Text
 
--- the words have these values among the rows of a parse
+-- they have these values among the rows of a parse
 abbrev pub HaveValues : List Row → List Given → Type 0
 HaveValues rows [] = ⊤
 HaveValues rows (given ∷ more) =
@@ -29,17 +30,22 @@ given_description name = record { word = codes "DESCRIPTION"; value = name }
 abbrev pub given_tracts : Text → Given
 given_tracts name = record { word = codes "TRACTS"; value = name }
 
+-- the value that the words give the option, or its default where they don't name it
+abbrev pub given_account : Account → Given
+given_account account = record { word = codes "ACCOUNT"; value = account_name account }
+
 -- the subcommand that a task is asked for by
 abbrev pub subcommand_name : Task → Text
 subcommand_name (Plat notes) = codes "plat"
-subcommand_name (Acres notes description) = codes "acres"
+subcommand_name (Acres notes description account) = codes "acres"
 subcommand_name (Normal notes description) = codes "normal"
 subcommand_name (Report notes tracts) = codes "report"
 
--- the words that it requires, with the task's files
+-- the words and the option that it has, with the task's files and its account
 abbrev pub given_of : Task → List Given
 given_of (Plat notes) = given_notes notes ∷ []
-given_of (Acres notes description) = given_notes notes ∷ given_description description ∷ []
+given_of (Acres notes description account) =
+    given_notes notes ∷ given_description description ∷ given_account account ∷ []
 given_of (Normal notes description) = given_notes notes ∷ given_description description ∷ []
 given_of (Report notes tracts) = given_notes notes ∷ given_tracts tracts ∷ []
 

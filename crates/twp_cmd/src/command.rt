@@ -1,14 +1,19 @@
 ghost use Rattle.std.specs.Prelude.{◌≡◌, ◌∷◌, [], IfOk, false, codes};
 ghost use Rattle.clap.specs.Words.{app_of, rule_of, shape_of};
 ghost use Rattle.clap.specs.declared.builder.command.Command.TheViews.{out-Command as fields_of};
-ghost use Rattle.twp_cmd.specs.Commands.{IsTownship, described, required_word, township_with};
-ghost use Rattle.twp_cmd.specs.Commands.{plat as the_plat, report as the_report};
+ghost use Rattle.twp_cmd.specs.Commands.{IsAccountOption, IsAcres, IsTownship, IsTownshipWith};
+ghost use Rattle.twp_cmd.specs.Commands.{required_word};
+ghost use Rattle.twp_cmd.specs.Commands.{normal as the_normal, plat as the_plat};
+ghost use Rattle.twp_cmd.specs.Commands.{report as the_report};
 
 use clap::{Arg, Command};
 use std::alloc::{AllocError, Global};
 
 /// The program's name in help and usage, whatever file it was called by.
 const NAME: &str = "township";
+
+/// The accounts, as the command line names them.
+static ACCOUNTS: [&str; 2] = ["exact", "plat"];
 
 /// The command line of the program: one of its subcommands, with its files.
 pub(crate) fn township<'a>(alloc: Global) -> Result<Command<'a>, AllocError>
@@ -19,16 +24,14 @@ pub(crate) fn township<'a>(alloc: Global) -> Result<Command<'a>, AllocError>
 
 /// The command line but for `report`.
 fn without_report<'a>(alloc: Global) -> Result<Command<'a>, AllocError>
-    ensures { IfOk result (λ command. app_of command
-        ≡ township_with (the_plat ∷ described (codes "acres") ∷ described (codes "normal") ∷ [])) }
+    ensures { IfOk result (λ command. IsTownshipWith (the_normal ∷ []) (app_of command)) }
 {
     measures(alloc)?.subcommand(normal(alloc)?)
 }
 
 /// The command line with the subcommands that write acres of the plat or of one land.
 fn measures<'a>(alloc: Global) -> Result<Command<'a>, AllocError>
-    ensures { IfOk result (λ command. app_of command
-        ≡ township_with (the_plat ∷ described (codes "acres") ∷ [])) }
+    ensures { IfOk result (λ command. IsTownshipWith [] (app_of command)) }
 {
     Command::new(alloc, NAME)
         .about(
@@ -51,23 +54,23 @@ fn plat<'a>(alloc: Global) -> Result<Command<'a>, AllocError>
         .arg(notes(alloc))
 }
 
-/// `acres NOTES DESCRIPTION`
+/// `acres [--account ACCOUNT] NOTES DESCRIPTION`
 fn acres<'a>(alloc: Global) -> Result<Command<'a>, AllocError>
     ensures local { IfOk result (λ command. (fields_of command).has_globals ≡ false) }
-    ensures shape { IfOk result (λ command. shape_of command
-        ≡ described (codes "acres")) }
+    ensures shape { IfOk result (λ command. IsAcres (shape_of command)) }
 {
     Command::new(alloc, "acres")
         .about("Writes the acres of the land that a description names")
         .arg(notes(alloc))?
-        .arg(description(alloc))
+        .arg(description(alloc))?
+        .arg(account(alloc))
 }
 
 /// `normal NOTES DESCRIPTION`
 fn normal<'a>(alloc: Global) -> Result<Command<'a>, AllocError>
     ensures local { IfOk result (λ command. (fields_of command).has_globals ≡ false) }
     ensures shape { IfOk result (λ command. shape_of command
-        ≡ described (codes "normal")) }
+        ≡ the_normal) }
 {
     Command::new(alloc, "normal")
         .about("Writes the one canonical spelling of the land that a description names")
@@ -115,4 +118,16 @@ fn tracts<'a>(alloc: Global) -> Arg<'a>
     Arg::new(alloc, "TRACTS").required(true).help(
         "list of tracts, CSV: a name and a description in each record",
     )
+}
+
+/// The option that names an account.
+fn account<'a>(alloc: Global) -> Arg<'a>
+    ensures local { result.global ≡ false }
+    ensures rule { IsAccountOption (rule_of result) }
+{
+    Arg::new(alloc, "ACCOUNT")
+        .long("account")
+        .value_parser(ACCOUNTS.as_slice())
+        .default_value("exact")
+        .help("how each whole lot counts: by its exact area, or by the acres that the plat prints")
 }

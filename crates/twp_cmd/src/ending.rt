@@ -1,7 +1,8 @@
 ghost use Rattle.std.specs.Prelude.{◌≡◌};
-ghost use Rattle.twp_cmd.specs.Statuses.{ending_of, status_of};
+ghost use Rattle.twp_cmd.specs.Statuses.{ending_of, ending_of_fault, failing, status_of};
 
 use crate::name::Name;
+use crate::task::TaskFault;
 use thiserror::Error;
 use twp_acres::{RunFault, Verdict};
 
@@ -10,8 +11,8 @@ use twp_acres::{RunFault, Verdict};
 pub(crate) enum Ending {
     /// A run answered, and wrote its answer.
     Answered(Verdict),
-    /// Help was asked for, and was written.
-    Helped,
+    /// Help was asked for, which the text gives.
+    Helps { text: String },
     /// The command line was misused, as the text says.
     Misused { text: String },
     /// There is no answer.
@@ -29,16 +30,18 @@ pub(crate) enum Failure {
     Run(RunFault),
 }
 
-impl From<RunFault> for Failure {
-    ghost use Rattle.std.specs.Prelude.{◌≡◌};
-    ghost use Rattle.twp_cmd.specs.declared.ending.Failure.TheVariants.{Run};
-
-    ghost from_gives = { λ fault failure. failure ≡ Run fault };
-
-    fn from(fault: RunFault) -> Failure {
-        Failure::Run(fault)
+/// What a run gave, as the program's.
+pub(crate) fn outcome_of(ran: Result<Verdict, RunFault>) -> Result<Verdict, Failure>
+    ensures { result ≡ failing ran }
+{
+    match ran {
+        Ok(verdict) => Ok(verdict),
+        Err(fault) => Err(Failure::Run(fault)),
     }
 }
+
+/// The status where there is no answer.
+pub(crate) const NO_ANSWER: u8 = 3;
 
 impl Ending {
     /// How the program ends after a run.
@@ -51,6 +54,17 @@ impl Ending {
         }
     }
 
+    /// How the program ends where the words of its command line give no task.
+    pub(crate) fn after_fault(fault: TaskFault) -> Ending
+        ensures { result ≡ ending_of_fault fault }
+    {
+        match fault {
+            TaskFault::Usage { text } => Ending::Misused { text },
+            TaskFault::Help { text } => Ending::Helps { text },
+            TaskFault::Memory => Ending::Failed(Failure::Run(RunFault::Memory)),
+        }
+    }
+
     /// The status that the program ends with: 0 where the input was accepted or help was asked for,
     /// 1 where the input was refused, 2 where the command line was misused, and 3 where there is no
     /// answer.
@@ -58,10 +72,10 @@ impl Ending {
         ensures { result ≡ status_of self.now }
     {
         match self {
-            Ending::Answered(Verdict::Accepted) | Ending::Helped => 0,
+            Ending::Answered(Verdict::Accepted) | Ending::Helps { .. } => 0,
             Ending::Answered(Verdict::Refused(_) | Verdict::TractRefused { .. }) => 1,
             Ending::Misused { .. } => 2,
-            Ending::Failed(_) => 3,
+            Ending::Failed(_) => NO_ANSWER,
         }
     }
 }

@@ -1,7 +1,8 @@
-ghost use Rattle.std.specs.Prelude.{◌≡◌, ◌==◌, ◌≤◌, ◌↔◌, ℕ, List, length, Some, true, false};
+ghost use Rattle.std.specs.Prelude.{◌≡◌, ◌≢◌, ◌==◌, ◌≤◌, ◌↔◌, ℕ, List, length, Some, true, false};
 ghost use Rattle.std.specs.Prelude.{IsErrOf, IsOkUnless};
 ghost use Rattle.std.specs.List.{before_first, after_first, position_or_len};
 ghost use Rattle.twp_grid.specs.Devices.{TakesAtMost};
+ghost use Rattle.twp_notes.specs.ReadBytes.{TakesFirst};
 ghost use Rattle.twp_acres.specs.AcresAnswers.{IsAcresAnswer};
 ghost use Rattle.twp_cmd.specs.Joined.{JOINED_MOST, joined_notes, joined_description};
 ghost use Rattle.twp_acres.specs.Runs.{IsRun, Reads};
@@ -36,6 +37,11 @@ pub fn run_joined<R: Source, W: Sink>(
 
     // Reading ends with the last byte that is used, if not before.
     ensures most { TakesAtMost (R.remaining input.old) (R.remaining input.new) JOINED_MOST }
+
+    // It ends just there or at the end of the input, where the reader doesn't fail and no memory is
+    // refused.
+    ensures exact { R.has_failed input.new ≡ false → result ≢ Err RunFault.Memory
+        → TakesFirst (R.remaining input.old) (R.remaining input.new) JOINED_MOST }
 
     // What was written is the answer to what was read, whatever the devices tell of it.
     ensures ran { Reads (R.remaining input.old) (λ bytes.

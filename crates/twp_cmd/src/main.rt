@@ -8,9 +8,11 @@ use std::process::ExitCode;
 
 mod command;
 mod ending;
+mod files;
 mod joined;
 mod name;
 mod program;
+mod subcommand;
 mod task;
 
 pub use joined::run_joined;

@@ -1,19 +1,18 @@
 //! The program over the host's capabilities, which `main` gives it.
-ghost use Rattle.std.specs.Prelude.{◌≡◌, ◌≢◌, ◌⊎◌, false, map, string_bytes, IfErr, IfOk};
-ghost use Rattle.twp_grid.specs.Devices.{device_failed};
-ghost use Rattle.twp_cmd.specs.Endings.{EndsAs, EndsProgram, FailsOn, IsJoinedVerdict};
-ghost use Rattle.twp_cmd.specs.Endings.{IsProgramStatus, IsRunFailure, IsVerdictOf};
-ghost use Rattle.twp_cmd.specs.Statuses.{status_of};
+ghost use Rattle.std.specs.Prelude.{◌≡◌, map, string_bytes, IfErr, IfOk};
+ghost use Rattle.twp_cmd.specs.Endings.{EndsAs, EndsProgram, IsJoinedVerdict, IsProgramStatus};
+ghost use Rattle.twp_cmd.specs.Endings.{IsRunFailure, IsWordsFault};
+ghost use Rattle.twp_cmd.specs.Statuses.{IsStatusOf, words_fault};
 
-use crate::ending::{Ending, Failure};
+use crate::ending::{Ending, Failure, NO_ANSWER, outcome_of};
 use crate::joined::run_joined;
-use crate::name::Name;
-use crate::task::{Task, TaskFault, read_task};
+use crate::subcommand::run_task;
+use crate::task::read_task;
 use std::env::Env;
 use std::io::ErrorKind;
 use std::rt::Files;
-use std::{env, fs, io};
-use twp_acres::{RunFault, Verdict, run_acres, run_normal, run_plat, run_report};
+use std::{env, io};
+use twp_acres::{RunFault, Verdict};
 use twp_grid::Device;
 
 /// Runs the program, tells on standard error why there is no answer, and gives the status.
@@ -37,99 +36,77 @@ fn carry_out<R: Env + Files + Input + Print + AllocGlobal>(rt: &R) -> Ending
 /// The words of the command line, the first of which is the program's name. What isn't text can't
 /// be read.
 fn words_of<R: Env + AllocGlobal>(rt: &R) -> Result<Vec<String>, RunFault>
-    ensures { IfErr result (λ fault. fault ≢ RunFault.Write) }
+    ensures { IfErr result IsWordsFault }
 {
     match env::args(rt) {
-        Ok(words) => Ok(words.collect(rt.alloc())?),
-        Err(error) if error.kind() == ErrorKind::OutOfMemory => Err(RunFault::Memory),
-        Err(_) => Err(RunFault::Read),
+        Ok(words) => {
+            // One by one: `collect` would go on where the room for all of them is refused.
+            let mut all = Vec::new(rt.alloc());
+            for word in words {
+                all.push(word)?;
+            }
+            Ok(all)
+        }
+        Err(error) => Err(fault_of_words(error.kind())),
+    }
+}
+
+/// Why the words can't be had, by what the host says of it.
+fn fault_of_words(kind: ErrorKind) -> RunFault
+    ensures { result ≡ words_fault kind }
+{
+    match kind {
+        ErrorKind::OutOfMemory => RunFault::Memory,
+        _ => RunFault::Read,
     }
 }
 
 /// Answers the joined input on standard input.
+#[inline(never)]
 fn run_standard_input<R: Input + Print + AllocGlobal>(rt: &R) -> Result<Verdict, Failure>
     ensures answers { IfOk result IsJoinedVerdict }
     ensures fails { IfErr result IsRunFailure }
 {
     let mut input = Device::new(rt.reader());
     let mut out = Device::new(io::writer(rt));
-    Ok(run_joined(rt.alloc(), &mut input, &mut out)?)
+    outcome_of(run_joined(rt.alloc(), &mut input, &mut out))
 }
 
 /// Does what the words of a command line ask for.
+#[inline(never)]
 fn run_words<R: Files + Print + AllocGlobal>(rt: &R, words: Vec<String>) -> Ending
     ensures { EndsAs (map string_bytes words.items) result }
 {
     match read_task(rt.alloc(), words) {
         Ok(task) => Ending::after(run_task(rt, task)),
-        Err(TaskFault::Help { text }) => show_help(rt, text),
-        Err(TaskFault::Usage { text }) => Ending::Misused { text },
-        Err(TaskFault::Memory) => Ending::Failed(Failure::Run(RunFault::Memory)),
+        Err(fault) => Ending::after_fault(fault),
     }
 }
 
-/// Writes the help that was asked for.
-fn show_help<R: Print>(rt: &R, text: String) -> Ending
-    ensures { (result ≡ Ending.Helped) ⊎ (result ≡ Ending.Failed (Failure.Run RunFault.Write)) }
-{
-    match rt.print(text) {
-        Ok(()) => Ending::Helped,
-        Err(_) => Ending::Failed(Failure::Run(RunFault::Write)),
-    }
-}
-
-/// Opens the files of a task, in their order, and runs it.
-fn run_task<R: Files + Print + AllocGlobal>(rt: &R, task: Task) -> Result<Verdict, Failure>
-    ensures answers { IfOk result (IsVerdictOf task) }
-    ensures fails { IfErr result (FailsOn task) }
-{
-    let mut out = Device::new(io::writer(rt));
-    match task {
-        Task::Plat { notes } => {
-            let mut notes = open(rt, notes)?;
-            Ok(run_plat(rt.alloc(), &mut notes, &mut out)?)
-        }
-        Task::Acres { notes, description } => {
-            let mut notes = open(rt, notes)?;
-            let mut description = open(rt, description)?;
-            Ok(run_acres(rt.alloc(), &mut notes, &mut description, &mut out)?)
-        }
-        Task::Normal { notes, description } => {
-            let mut notes = open(rt, notes)?;
-            let mut description = open(rt, description)?;
-            Ok(run_normal(rt.alloc(), &mut notes, &mut description, &mut out)?)
-        }
-        Task::Report { notes, tracts } => {
-            let mut notes = open(rt, notes)?;
-            let mut tracts = open(rt, tracts)?;
-            Ok(run_report(rt.alloc(), &mut notes, &mut tracts, &mut out)?)
-        }
-    }
-}
-
-/// Opens a file to read it.
-fn open<R: Files>(rt: &R, name: Name) -> Result<Device<R::File>, Failure>
-    ensures open { IfOk result (λ file. device_failed file ≡ false) }
-    ensures names { IfErr result (λ failure. failure ≡ Failure.Open name) }
-{
-    match fs::open(rt, name.text()) {
-        Ok(file) => Ok(Device::new(file)),
-        Err(_) => Err(Failure::Open { name }),
-    }
-}
-
-/// Tells on standard error why there is no answer, and gives the status.
-fn conclude<R: Eprint>(rt: &R, ending: &Ending) -> u8
-    ensures { result ≡ status_of ending.now }
+/// Tells what is to be told, and gives the status: help on standard output, and on standard error
+/// how the command line was misused, or why there is no answer.
+fn conclude<R: Print + Eprint>(rt: &R, ending: &Ending) -> u8
+    ensures { IsStatusOf ending.now result }
 {
     match ending {
-        Ending::Answered(_) | Ending::Helped => {}
+        Ending::Answered(_) => {}
+        Ending::Helps { text } => {
+            if print!(rt; "{text}").is_err() {
+                return conclude_failure(rt, &Failure::Run(RunFault::Write));
+            }
+        }
         Ending::Misused { text } => {
             let _ = eprint!(rt; "{text}");
         }
-        Ending::Failed(failure) => {
-            let _ = eprintln!(rt; "township: {failure}");
-        }
+        Ending::Failed(failure) => return conclude_failure(rt, failure),
     }
     ending.status()
+}
+
+/// Tells why there is no answer, and gives the status of it.
+fn conclude_failure<R: Eprint>(rt: &R, failure: &Failure) -> u8
+    ensures { result ≡ 3 }
+{
+    let _ = eprintln!(rt; "township: {failure}");
+    NO_ANSWER
 }

@@ -1,6 +1,8 @@
 ghost use Rattle.std.specs.Prelude.{◌≡◌, IfErr, IfOk, Some, map, option_map, string_bytes};
+ghost use Rattle.std.specs.Prelude.{codes};
 ghost use Rattle.clap.specs.Words.{first_of, found_of, kind_of, rows_of, subcommand_rows_of};
-ghost use Rattle.twp_cmd.specs.Parses.{HasValue, IsWhole, ShowsAs};
+ghost use Rattle.twp_cmd.specs.Commands.{account_name};
+ghost use Rattle.twp_cmd.specs.Parses.{HasAccount, HasValue, IsWhole, ShowsAs};
 ghost use Rattle.twp_cmd.specs.Tasks.{IsFaultOf, IsTaskIn, IsTaskOf};
 
 use crate::command::township;
@@ -9,6 +11,7 @@ use clap::error::ErrorKind;
 use clap::{ArgMatches, Error as ParseError};
 use std::alloc::{AllocError, AllocFailed, Global};
 use thiserror::Error;
+use twp_acres::Account;
 
 /// What the program is asked to do.
 #[derive(Debug, Drop)]
@@ -24,6 +27,8 @@ pub enum Task {
         notes: Name,
         /// The file of the description.
         description: Name,
+        /// How each whole lot counts.
+        account: Account,
     },
     /// Write the canonical spelling of a description of land on the plat of field notes.
     Normal {
@@ -56,6 +61,7 @@ pub enum TaskFault {
 }
 
 /// Reads the words of a command line, of which the first is the program's name.
+#[inline(never)]
 pub fn read_task(alloc: Global, words: Vec<String>) -> Result<Task, TaskFault>
     ensures task { IfOk result (IsTaskOf (map string_bytes words.items)) }
     ensures fault { IfErr result (IsFaultOf (map string_bytes words.items)) }
@@ -93,7 +99,12 @@ fn task_of(alloc: Global, matches: &ArgMatches<'_>) -> Result<Task, AllocError>
     }
     let description = name_of(alloc, found, "DESCRIPTION")?;
     if name == "acres" {
-        return Ok(Task::Acres { notes, description });
+        let account = account_of(found);
+        return Ok(Task::Acres {
+            notes,
+            description,
+            account,
+        });
     }
     Ok(Task::Normal { notes, description })
 }
@@ -108,6 +119,19 @@ fn name_of(alloc: Global, found: &ArgMatches<'_>, word: &str) -> Result<Name, Al
         unreachable!()
     };
     Name::new(alloc, text)
+}
+
+/// The account that the option names.
+fn account_of(found: &ArgMatches<'_>) -> Account
+    requires { HasAccount (rows_of (found_of found.now)) }
+    ensures { first_of (codes "ACCOUNT") (rows_of (found_of found.now))
+        ≡ Some (account_name result) }
+{
+    if value_of(found, "ACCOUNT") == Some("plat") {
+        Account::Plat
+    } else {
+        Account::Exact
+    }
 }
 
 /// The value of a word, where it has one.

@@ -16,7 +16,7 @@ use Rattle.twp_grid.proofs.LotFacts.{each, each_of_three, either, a_section}
 use Rattle.twp_grid.proofs.TotalFacts.{total-ext, total-all_zero}
 
 -- a position has places, and four positions are a side
-position_has_places : (g : ℕ) → POSITIONS_ACROSS ≤ places_across g → (0 < places_to_position g) × (places_across g ≡ 4 * places_to_position g)
+pub position_has_places : (g : ℕ) → POSITIONS_ACROSS ≤ places_across g → (0 < places_to_position g) × (places_across g ≡ 4 * places_to_position g)
 position_has_places zero fits = absurd (omega arith)
 position_has_places (suc zero) fits = absurd (omega arith)
 position_has_places (suc (suc g)) fits =

@@ -1,5 +1,5 @@
 -- What a reading took of the bytes that a source tells.
-use Rattle.std.specs.Prelude.{◌≡◌, ℕ, List, length, Option}
+use Rattle.std.specs.Prelude.{◌≡◌, ℕ, List, length, take, Option, IfSome}
 use Rattle.std.specs.Io.KnownBytes.{Consumes, IsAtEnd}
 
 -- just so many bytes were taken
@@ -9,3 +9,7 @@ TakesJust old new count = (taken : List ℕ) × Consumes old new taken × (lengt
 -- these bytes were taken, and none is left
 abbrev pub TakesAll : Option (List ℕ) → Option (List ℕ) → List ℕ → Type 0
 TakesAll old new taken = Consumes old new taken × IsAtEnd new
+
+-- of the bytes that are told, just the first so many were taken: all, where there are no more
+abbrev pub TakesFirst : Option (List ℕ) → Option (List ℕ) → ℕ → Type 0
+TakesFirst old new count = IfSome old (λ bytes. Consumes old new (take count bytes))

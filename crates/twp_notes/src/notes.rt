@@ -1,9 +1,10 @@
-ghost use Rattle.std.specs.Prelude.{◌≡◌, ◌+◌, ◌↔◌, ℕ, List, Some, true, false, OnOk, OnErr};
-ghost use Rattle.std.specs.Prelude.{IsErrOf};
+ghost use Rattle.std.specs.Prelude.{◌≡◌, ◌≢◌, ◌+◌, ◌↔◌, ℕ, List, Some, true, false};
+ghost use Rattle.std.specs.Prelude.{OnOk, OnErr, IsErrOf};
 ghost use Rattle.twp_grid.specs.Devices.{Tells, TakesAtMost};
 ghost use Rattle.twp_notes.specs.FieldNotes.{FieldNotes, NOTES_MOST, returned_of};
 ghost use Rattle.twp_notes.specs.NotesFaults.{AnswersNotes};
 ghost use Rattle.twp_notes.specs.NotesTexts.{AppendsNotes};
+ghost use Rattle.twp_notes.specs.ReadBytes.{TakesFirst};
 
 use crate::fault::{MOST_BYTES, NotesFault};
 use crate::parsing::parse;
@@ -45,6 +46,8 @@ impl Notes {
         ensures failed { IsErrOf result NotesFault.Read ↔ (R.has_failed source.new ≡ true) }
         ensures most { TakesAtMost (R.remaining source.old)
             (R.remaining source.new) (NOTES_MOST + 1) }
+        ensures exact { R.has_failed source.new ≡ false → result ≢ Err NotesFault.Memory
+            → TakesFirst (R.remaining source.old) (R.remaining source.new) (NOTES_MOST + 1) }
         ensures answer { (bytes : List ℕ)
             × Tells (R.remaining source.old) bytes × AnswersNotes bytes result }
         ensures told { (bytes : List ℕ)

@@ -1,8 +1,8 @@
 ghost use Rattle.std.specs.Prelude.{◌≡◌, ℕ, ◌+◌, ◌^◌, ◌≤◌, ◌<◌, ◌↔◌, Bool, true, false, List};
-ghost use Rattle.std.specs.Prelude.{length, take, IfOk, IsErrOf, MatchOption};
+ghost use Rattle.std.specs.Prelude.{length, take, IfOk, OnOk, IsErrOf, MatchOption};
 ghost use Rattle.std.specs.Io.KnownBytes.{Consumes, IsAtEnd};
 ghost use Rattle.twp_grid.specs.Devices.{Tells, TakesAtMost};
-ghost use Rattle.twp_notes.specs.ReadBytes.{TakesJust, TakesAll};
+ghost use Rattle.twp_notes.specs.ReadBytes.{TakesJust, TakesAll, TakesFirst};
 
 use std::alloc::{AllocError, Global};
 use thiserror::Error;
@@ -56,6 +56,8 @@ pub fn read_whole<S: Source>(
     requires room { limit + 1 < 2 ^ 32 }
     ensures failed { IsErrOf result ReadFault.Read ↔ (S.has_failed source.new ≡ true) }
     ensures most { TakesAtMost (S.remaining source.old) (S.remaining source.new) (limit + 1) }
+    ensures exact { OnOk result
+        (TakesFirst (S.remaining source.old) (S.remaining source.new) (limit + 1)) }
     ensures left { IfOk result (λ read. MatchOption read
         (TakesJust (S.remaining source.old) (S.remaining source.new) (limit + 1))
         (λ v. TakesAll (S.remaining source.old) (S.remaining source.new) v.items)) }
@@ -82,6 +84,8 @@ pub fn read_up_to<S: Source>(
     requires room { most < 2 ^ 32 }
     ensures failed { IsErrOf result ReadFault.Read ↔ (S.has_failed source.new ≡ true) }
     ensures most { TakesAtMost (S.remaining source.old) (S.remaining source.new) most }
+    ensures exact { OnOk result
+        (TakesFirst (S.remaining source.old) (S.remaining source.new) most) }
     ensures taken { IfOk result (λ read.
         Consumes (S.remaining source.old) (S.remaining source.new) read.items) }
     ensures end { IfOk result (λ read.

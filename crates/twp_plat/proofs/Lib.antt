@@ -6,6 +6,7 @@ pub mod SideFacts
 pub mod PieceFacts
 pub mod FaultFacts
 pub mod OneAnswer
+pub mod FigureFacts
 pub mod PlatPieces
 mod WorkedPieces
 pub mod SectionPieces

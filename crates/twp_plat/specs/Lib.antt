@@ -6,4 +6,5 @@ pub mod Ratios
 pub mod Pieces
 pub mod Formula
 pub mod PlatAreas
+pub mod LotFigures
 pub mod Laws

@@ -6,10 +6,9 @@ mod area;
 mod closing;
 mod fault;
 pub mod laws;
+mod lot_figure;
 mod piece;
 mod plat;
-#[cfg(test)]
-mod sample;
 
 pub use fault::{HalfMile, PlatFault};
 pub use plat::Plat;

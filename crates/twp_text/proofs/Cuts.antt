@@ -24,7 +24,7 @@ letter_no_digit byte h = grind (arith, nat_tests)
 letter_no_space : (byte : ℕ) → is_ascii_alphabetic byte ≡ true → is_white byte ≡ false
 letter_no_space byte h = grind (arith, nat_tests)
 
-digit_no_space : (byte : ℕ) → is_ascii_digit byte ≡ true → is_white byte ≡ false
+pub digit_no_space : (byte : ℕ) → is_ascii_digit byte ≡ true → is_white byte ≡ false
 digit_no_space byte h = grind (arith, nat_tests)
 
 both : (x y : Bool) → (x && y) ≡ true → (x ≡ true) × (y ≡ true)
@@ -116,6 +116,10 @@ cut_letters byte bytes h = rw h refl
 cut_a_digit : (byte : ℕ) (bytes : List ℕ) → is_ascii_digit byte ≡ true → cut (byte ∷ bytes) ≡ cut_digits (byte ∷ bytes)
 unfolding cut
 cut_a_digit byte bytes h = rw (letter_no_digit byte h, h) refl
+
+pub cut_of_digit : (bytes : List ℕ) → is_ascii_digit (slice_index bytes 0) ≡ true → cut bytes ≡ cut_digits bytes
+cut_of_digit [] h = cc h
+cut_of_digit (byte ∷ bytes) h = cut_a_digit byte bytes h
 
 cut_other : (byte : ℕ) (bytes : List ℕ) → is_ascii_alphabetic byte ≡ false → is_ascii_digit byte ≡ false → cut (byte ∷ bytes) ≡ cut_mark byte (slice_index bytes 0)
 unfolding cut

@@ -1,6 +1,6 @@
 -- What may follow a token by a grammar is a grammar again, its derivative by the token's class. Trees of the
 -- derivative give trees of the grammar.
-use Rattle.std.proofs.Common.{◌≡◌, ◌==◌, ℕ, Bool, true, false, cond, ◌&&◌, List, [], ◌∷◌, ◌++◌, get_or, refl, sym, ap, subst, ◌∙◌, inl, inr, append_assoc}
+use Rattle.std.proofs.Common.{◌≡◌, ◌==◌, ℕ, Bool, true, false, not, cond, ◌&&◌, List, [], ◌∷◌, ◌++◌, get_or, refl, sym, ap, subst, ◌∙◌, inl, inr, append_assoc}
 use Rattle.std.proofs.lemmas.Bool.{eqb-true}
 use Rattle.twp_text.specs.declared.kind.Kind.{Kind}
 use Rattle.twp_text.specs.declared.kind.Kind.TheVariants.{Sec, Lot, All, And, To, Inclusive, Of, The, T, R, NorthSouth, EastWest, Corner, Half, Quarter, Number, Comma, Semicolon, Colon, Stop, Other, BadNumber, BadByte}
@@ -143,6 +143,15 @@ is_nullable (g ⨾ h) = is_nullable g && is_nullable h
 is_nullable (g ∣ h) = cond (is_nullable g) true (is_nullable h)
 is_nullable (many g) = true
 
+-- no tokens at all are derived in one way at most, here and in each part
+abbrev pub has_one_empty : Ebnf → Bool
+has_one_empty never = true
+has_one_empty nothing = true
+has_one_empty (one c) = true
+has_one_empty (g ⨾ h) = has_one_empty g && has_one_empty h
+has_one_empty (g ∣ h) = has_one_empty g && (has_one_empty h && not (is_nullable g && is_nullable h))
+has_one_empty (many g) = has_one_empty g && not (is_nullable g)
+
 -- one after the other, and the one or the other, with what is empty left out
 abbrev pub seq : Ebnf → Ebnf → Ebnf
 seq never k = never
@@ -166,7 +175,7 @@ after c (g ⨾ h) = cond (is_nullable g) (alt (seq (after c g) h) (after c h)) (
 after c (g ∣ h) = alt (after c g) (after c h)
 after c (many g) = seq (after c g) (many g)
 
-both : (x y : Bool) → (x && y) ≡ true → (x ≡ true) × (y ≡ true)
+pub both : (x y : Bool) → (x && y) ≡ true → (x ≡ true) × (y ≡ true)
 both true y h = (refl, h)
 both false y h = cc h
 

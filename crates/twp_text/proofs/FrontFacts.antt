@@ -12,14 +12,15 @@ use Rattle.twp_text.specs.declared.item.Item.{Item}
 use Rattle.twp_text.specs.declared.item.Item.TheVariants.{Sections}
 use Rattle.twp_text.specs.declared.item.Numeral.{Numeral}
 use Rattle.twp_text.specs.declared.kind.Kind.{Kind}
-use Rattle.twp_text.specs.declared.kind.Kind.TheVariants.{T, R, NorthSouth, EastWest, Sec, Stop, Comma, Colon, Number}
+use Rattle.twp_text.specs.declared.kind.Kind.TheVariants.{T, R, NorthSouth, EastWest, Sec, Lot, Stop, Comma, Colon, Number}
 use Rattle.twp_text.specs.declared.state.State.{State}
 use Rattle.twp_text.specs.declared.state.State.TheVariants as past
 use Rattle.twp_text.specs.Cutting.{IsFirstIn}
 use Rattle.twp_text.specs.Tokens.{Token, StartsWith, begins_with, is_white, kind_of_word}
 use Rattle.twp_text.specs.Tokens.IsToken.{good}
 use Rattle.twp_text.specs.Tokens.IsGoodToken.{a_word, a_stop, a_colon}
-use Rattle.twp_text.specs.Grammar.{class_of, sec, stop, comma, number}
+use Rattle.std.specs.Option.{is_some}
+use Rattle.twp_text.specs.Grammar.{class_of, sec, lot, stop, comma, number}
 use Rattle.twp_text.specs.Machine.{next, take_token, take_township, take_number, before_parts, with_newest}
 use Rattle.twp_text.specs.Passing.{Leads, IsNumberBehind}
 use Rattle.twp_text.proofs.PassingFacts.{IsMark, the_comma, mark_leads, made, leads_token, leads_space, leads_then, left_behind, white_leads}
@@ -201,6 +202,34 @@ number_leads text from token it end first kind_is at_is ends state behind its is
     let within : end ≤ length text = subst (λ (n : ℕ). n ≤ length text) ends first.within in
     subst (λ (js : List Item). Leads text from state its end behind js) grown_is
     (leads_token text from state its token end behind starts ends within step_is)
+
+-- where a part may begin, the word of lots does
+lots_begin : (state : State) → true ≡ is_some (next state lot) → next state lot ≡ Some past.Lot
+lots_begin past.SectionNumber h = refl
+lots_begin past.SectionComma h = refl
+lots_begin past.LotComma h = refl
+lots_begin past.LotLastComma h = refl
+lots_begin past.LotAnd h = refl
+lots_begin past.BeforePart h = refl
+lots_begin past.PartComma h = refl
+lots_begin _ h = cc h
+
+one_lots : IsWord (codes "lots") Lot
+one_lots = record { some = omega arith; all = AllPass-from_list_all is_ascii_alphabetic (codes "lots") refl; is = refl }
+
+-- `lots `, behind white space
+pub lots_leads : (text : List ℕ) (from at : ℕ) (state : State) (its : List Item) → true ≡ is_some (next state lot) → at ≡ from + prefix_len is_white (drop from text) → drop at text ≡ codes "lots " ++ drop (at + 5) text → at + 5 ≤ length text → Leads text from state its (at + 5) past.Lot (before_parts state its)
+lots_leads text from at state its begins here spelt within =
+    let more : List ℕ = drop (at + 5) text in
+    let begun : List Item = before_parts state its in
+    let space : drop (at + 4) text ≡ codes " " ++ more = left_behind text at 4 (codes "lots " ++ more) spelt in
+    let end : (at + 4) + 1 ≡ at + 5 = omega arith in
+    leads_then text from state its at state its (at + 5) past.Lot begun
+    (white_leads text from at state its here (omega arith))
+    (leads_then text at state its (at + 4) past.Lot begun (at + 5) past.Lot begun
+    (word_leads text at at (at + 4) [] (codes "lots") (codes " " ++ more) Lot state past.Lot its no_space one_lots refl spelt space (omega arith) refl (omega arith) (lots_begin state begins))
+    (subst (λ (n : ℕ). Leads text (at + 4) past.Lot begun n past.Lot begun) end
+    (leads_space text (at + 4) past.Lot begun (rw end space) (omega arith))))
 
 -- the number behind a section's word is its own
 pub section_taken : (state : State) (it : Numeral) (its : List Item) → next state number ≡ Some past.SectionNumber → take_number state it its ≡ Sections it it true ∷ its

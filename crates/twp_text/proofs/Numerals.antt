@@ -1,14 +1,16 @@
 -- Digits and the numbers that they spell.
-use Rattle.std.proofs.Common.{◌≡◌, ℕ, ◌+◌, ◌-◌, ◌*◌, ◌^◌, ◌<◌, ◌≤◌, Bool, true, false, cond, one-add, le-leb, inl, inr, List, [], ◌∷◌, length, take, slice_index, get_or, refl, ap, sym, ◌∙◌, arith, add-one}
+use Rattle.std.proofs.Common.{◌≡◌, ℕ, ◌+◌, ◌-◌, ◌*◌, ◌^◌, ◌<◌, ◌≤◌, ◌==◌, ◌&&◌, Bool, true, false, cond, one-add, le-leb, inl, inr, List, [], ◌∷◌, length, take, slice_index, get_or, refl, ap, sym, ◌∙◌, arith, add-one, subst}
 use Rattle.std.specs.Char.{is_ascii_digit, digit_value}
 use Rattle.std.specs.Int.{IsInRange}
 use Rattle.std.specs.Str.{all_ascii_digits}
 use Rattle.std.specs.List.{list_all, prefix_len}
 use Rattle.twp_text.specs.declared.kind.Kind.TheVariants.{Number, BadNumber}
-use Rattle.twp_text.specs.Cutting.{lexeme, numeral_of, cut_number}
+use Rattle.twp_text.specs.declared.lexeme.Lexeme.{Lexeme}
+use Rattle.twp_text.specs.Cutting.{lexeme, numeral_of, cut_number, cut_digits}
 use Rattle.std.specs.Str.Parse.{AllDigits, digits_value}
 use Rattle.std.proofs.Math.Nat.{pow-suc}
 use Rattle.std.proofs.Math.Dec.{leb}
+use Rattle.std.proofs.lemmas.Bool.{ne_eqb}
 use Rattle.std.proofs.lemmas.Bool.Decides.{leb_tells}
 use Rattle.std.proofs.lemmas.List.{take_more}
 use Rattle.std.proofs.lemmas.Str.{digit_value_digit}
@@ -88,6 +90,43 @@ its_value (x ∷ bytes) h =
 pub one_digit : (bytes : List ℕ) → is_ascii_digit (slice_index bytes 0) ≡ true → is_ascii_digit (slice_index bytes 1) ≡ false → lexeme (Number (slice_index bytes 0 - 48)) 1 ≡ cut_number bytes
 one_digit bytes h k =
     ap (λ v. lexeme (Number v) 1) (sym (its_value bytes h)) ∙ few_digits bytes 1 (one_in_bytes bytes h k) (omega arith)
+
+-- two digits in front of something else
+two_in_bytes : (bytes : List ℕ) → is_ascii_digit (slice_index bytes 0) ≡ true → is_ascii_digit (slice_index bytes 1) ≡ true → is_ascii_digit (slice_index bytes 2) ≡ false → 2 ≡ prefix_len is_ascii_digit bytes
+two_in_bytes [] h k l = cc h
+two_in_bytes (x ∷ []) h k l = cc k
+two_in_bytes (x ∷ y ∷ []) h k l = rw (h, k) refl
+two_in_bytes (x ∷ y ∷ z ∷ bytes) h k l = rw (h, k, l) refl
+
+two_in_value : (bytes : List ℕ) → is_ascii_digit (slice_index bytes 0) ≡ true → is_ascii_digit (slice_index bytes 1) ≡ true → digits_value 10 (take 2 bytes) ≡ 10 * (slice_index bytes 0 - 48) + (slice_index bytes 1 - 48)
+two_in_value [] h k = cc h
+two_in_value (x ∷ []) h k = cc k
+two_in_value (x ∷ y ∷ bytes) h k =
+    let all : AllDigits 10 (x ∷ y ∷ []) = digits_tested (x ∷ y ∷ []) (rw (h, k) refl) in
+    let first : digits_value 10 (x ∷ []) ≡ x - 48 = its_value (x ∷ []) h in
+    let small : x - 48 < 10 = omega (arith, (one_more_digit (x ∷ y ∷ []) 0 0 all (omega arith) refl (omega arith)).bound) in
+    let more : OneMoreDigit (x ∷ y ∷ []) 1 (x - 48) = one_more_digit (x ∷ y ∷ []) 1 (x - 48) all (omega arith) (sym first) small in
+    sym more.value
+
+pub two_digits : (bytes : List ℕ) (first second : ℕ) → first ≡ slice_index bytes 0 → second ≡ slice_index bytes 1 → is_ascii_digit first ≡ true → is_ascii_digit second ≡ true → is_ascii_digit (slice_index bytes 2) ≡ false → lexeme (Number (10 * (first - 48) + (second - 48))) 2 ≡ cut_number bytes
+two_digits bytes first second e f h k l =
+    let h' : is_ascii_digit (slice_index bytes 0) ≡ true = ap is_ascii_digit (sym e) ∙ h in
+    let k' : is_ascii_digit (slice_index bytes 1) ≡ true = ap is_ascii_digit (sym f) ∙ k in
+    rw (e, f) (ap (λ v. lexeme (Number v) 2) (sym (two_in_value bytes h' k')) ∙ few_digits bytes 2 (two_in_bytes bytes h' k' l) (omega arith))
+
+-- digits of which the second is one too are no half and no quarter
+no_slash : (byte : ℕ) → is_ascii_digit byte ≡ true → (byte == 47) ≡ false
+no_slash byte h = ne_eqb byte 47 (λ (e : byte ≡ 47). let g : is_ascii_digit 47 ≡ true = subst (λ n. is_ascii_digit n ≡ true) e h in cc g)
+
+no_fraction : (a b c d : Bool) (l m n : Lexeme) → b ≡ false → n ≡ cond (a && b && c) l (cond (a && b && d) m n)
+no_fraction true b c d l m n h = rw h refl
+no_fraction false b c d l m n h = refl
+
+pub two_or_more : (bytes : List ℕ) → is_ascii_digit (slice_index bytes 1) ≡ true → cut_number bytes ≡ cut_digits bytes
+unfolding cut_digits
+two_or_more bytes h = no_fraction (slice_index bytes 0 == 49) _ (slice_index bytes 2 == 50) (slice_index bytes 2 == 52) _ _ _ (no_slash (slice_index bytes 1) h)
+
+pub ruleset digits_alone = (one_digit, two_or_more)
 
 -- what digits in front of a text are
 pub ruleset numbers = (digits_in_front, few_digits, many_digits)

@@ -4,7 +4,7 @@ use Rattle.std.proofs.lemmas.Bool.{cases_lt}
 use Rattle.std.proofs.lemmas.List.{take-append-drop}
 use Rattle.twp_text.specs.declared.item.Item.{Item}
 use Rattle.twp_text.specs.declared.kind.Kind.{Kind}
-use Rattle.twp_text.specs.declared.kind.Kind.TheVariants.{BadByte, BadNumber}
+use Rattle.twp_text.specs.declared.kind.Kind.TheVariants.{Other, BadByte, BadNumber}
 use Rattle.twp_text.specs.declared.state.State.TheVariants.{Start}
 use Rattle.twp_text.specs.declared.state.State.{State}
 use Rattle.twp_text.specs.declared.fault.TextFault.{TextFault}
@@ -13,6 +13,7 @@ use Rattle.twp_grid.specs.declared.refusal.Refusal.{Refusal}
 use Rattle.twp_text.specs.Tokens.{Token}
 use Rattle.twp_text.specs.Grammar.{class_of}
 use Rattle.twp_text.specs.Sentences.{HasItems, IsSentence, IsFault}
+use Rattle.twp_text.specs.Laws.{IsStray, NoStrayInSentence}
 use Rattle.twp_text.specs.Machine.{next, take_token, run}
 use Rattle.twp_text.specs.TextFaults.{TEXT_LIMIT, IsReadAs, refusal, refusal_of, number_of_bad, NoneBad, IsFirstBad, place_of, IsFirstTextFault, too_large, bad_token, syntax}
 use Rattle.twp_text.proofs.TokenFacts.{one_token_list}
@@ -62,19 +63,26 @@ found_behind (first ∷ before) after token n none is = ap (λ o. pick o first (
 found : (ts : List Token) (token : Token) (n : ℕ) → IsFirstBad ts token → number_of_bad token.kind ≡ Some n → first_bad_of ts ≡ Some token
 found ts token n first is = ap first_bad_of first.is ∙ found_behind first.before first.after token n first.none_before is
 
--- a sentence has no bad token
-stuck : (kind : Kind) (n : ℕ) (s : State) → number_of_bad kind ≡ Some n → next s (class_of kind) ≡ None
-stuck BadByte n s is = table.takes_no_bad_byte s
-stuck BadNumber n s is = table.takes_no_bad_number s
-stuck _ n s is = cc is
+-- a sentence has no token of the kinds that belong to none
+stuck : (kind : Kind) (s : State) → IsStray kind → next s (class_of kind) ≡ None
+stuck Other s is = table.takes_no_other s
+stuck BadNumber s is = table.takes_no_bad_number s
+stuck BadByte s is = table.takes_no_bad_byte s
+stuck _ s is = absurd is
 
-no_bad_in_sentence : (before after : List Token) (token : Token) (n : ℕ) → number_of_bad token.kind ≡ Some n → ¬ IsSentence (before ++ token ∷ after)
-no_bad_in_sentence before after token n is =
+pub no_stray_in_sentence : NoStrayInSentence
+no_stray_in_sentence before after token is =
     reading.not_stuck (before ++ token ∷ after) (reading.run-append (Some Start) [] before (token ∷ after) ∙ goes_no_further (run (Some Start) [] before))
   where
     goes_no_further : (o : reading.Outcome) → reading.go_on o (token ∷ after) ≡ None
     goes_no_further None = refl
-    goes_no_further (Some (s, its)) = ap (λ o. run o (take_token s token.kind token.at its) after) (stuck token.kind n s is)
+    goes_no_further (Some (s, its)) = ap (λ o. run o (take_token s token.kind token.at its) after) (stuck token.kind s is)
+
+-- a bad token is one of them
+bad_is_stray : (kind : Kind) (n : ℕ) → number_of_bad kind ≡ Some n → IsStray kind
+bad_is_stray BadByte n is = tt
+bad_is_stray BadNumber n is = tt
+bad_is_stray _ n is = cc is
 
 -- a text is read in one way
 pub one_reading : (text : List ℕ) (is is' : List Item) → IsReadAs text is → IsReadAs text is' → is ≡ is'
@@ -90,7 +98,7 @@ pub no_fault : (text : List ℕ) (is : List Item) (r : Refusal) → IsReadAs tex
 no_fault text is r read (too_large large e) = let small : length text ≤ TEXT_LIMIT = read.within in absurd (omega arith)
 no_fault text is r read (bad_token small b) =
     let same : read.tokens ≡ b.tokens = one_token_list 0 text read.tokens b.tokens read.cut b.cut in
-    no_bad_in_sentence b.first.before b.first.after b.token r.number b.number (subst IsSentence (same ∙ b.first.is) (sentence_of text is read))
+    no_stray_in_sentence b.first.before b.first.after b.token (bad_is_stray b.token.kind r.number b.number) (subst IsSentence (same ∙ b.first.is) (sentence_of text is read))
 no_fault text is r read (syntax small f) =
     let same : read.tokens ≡ f.tokens = one_token_list 0 text read.tokens f.tokens read.cut f.cut in
     let whole : IsSentence f.tokens = subst IsSentence same (sentence_of text is read) in

@@ -520,13 +520,6 @@ step_within text at it size s =
     let fits : (at + s.letters_size) + s.fraction_size ≤ length text = s.fraction.within in
     rw s.size_is (omega arith)
 
--- eight spaces are white space
-pub eight_further : (text : List ℕ) (at end : ℕ) → drop at text ≡ codes "        " ++ drop (at + 8) text → at + prefix_len is_white (drop at text) ≡ end → (at + 8) + prefix_len is_white (drop (at + 8) text) ≡ end
-eight_further text at end spelt is =
-    let left : ℕ = prefix_len is_white (drop (at + 8) text) in
-    let run : prefix_len is_white (drop at text) ≡ 1 + (1 + (1 + (1 + (1 + (1 + (1 + (1 + left))))))) = ap (λ b. prefix_len is_white b) spelt in
-    omega arith
-
 -- what a test of the bytes at a place says
 pub begins_there : (text : List ℕ) (at : ℕ) (bytes left : List ℕ) (found : Bool) → left ≡ drop at text → found ≡ starts_with ◌==◌ left bytes → found ≡ true → drop at text ≡ bytes ++ drop (at + length bytes) text
 begins_there text at bytes left found left_is value is_true =

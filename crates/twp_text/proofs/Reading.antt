@@ -3,7 +3,7 @@ use Rattle.std.proofs.Common.{◌≡◌, ◌+◌, true, false, List, [], ◌∷�
 use Rattle.std.specs.List.{list_any}
 use Rattle.std.specs.Option.{is_some}
 use Rattle.std.proofs.lemmas.Bool.{cases_Bool}
-use Rattle.std.proofs.lemmas.List.{append-nil, length-map, take_all}
+use Rattle.std.proofs.lemmas.List.{append-nil, length-map, map-append, take_all}
 use Rattle.std.proofs.Math.Seq.{take-append_seam, take-append-add}
 use Rattle.twp_text.specs.declared.item.Item.{Item}
 use Rattle.twp_text.specs.declared.state.State.{State}
@@ -15,6 +15,7 @@ use Rattle.twp_text.specs.Tokens.{Token}
 use Rattle.twp_text.specs.Grammar.{Class, sec, lot, all, and, to, inclusive, of, the, t, r, north_south, east_west, corner, half, quarter, number, comma, semicolon, colon, stop, other, bad_number, bad_byte, Value, class_of, kind_of, description}
 use Rattle.twp_text.specs.Items.{tokens, items}
 use Rattle.twp_text.specs.Sentences.{HasItems, IsSentence, IsFront, IsFault, MayFollow}
+use Rattle.twp_text.specs.Laws.{classes_of, ClassesDecide}
 use Rattle.twp_text.specs.Machine.{next, is_final, take_token, run}
 use Rattle.twp_text.specs.Expected.{told, named, expected_of, IsNamed}
 use Rattle.twp_text.proofs.Derivatives.{same_class, same_class_tells, Derives, derives_none, takes_token}
@@ -264,3 +265,45 @@ what_is_told before s its h c is = follows (next s c) refl (table.told_follows s
           of_class = class_of_any c;
           sentence = subst (λ ts. IsSentence ts) (append_assoc before (token ∷ []) goes_on.0) goes_on.2;
         }
+
+-- where a run of the machine leads depends on the classes of the tokens alone
+record LeadsTo (o : Option State) (its : List Item) (ts : List Token) (s : State) : Type 0 where
+  newest : List Item
+  read : run o its ts ≡ ended s newest
+
+abbrev first_class : Class → List Class → Class
+first_class c [] = c
+first_class c (d ∷ ds) = d
+
+abbrev later_classes : List Class → List Class
+later_classes [] = []
+later_classes (c ∷ cs) = cs
+
+led_alike : (o : Option State) (ts us : List Token) (its its' : List Item) (s : State) → classes_of ts ≡ classes_of us → LeadsTo o its ts s → LeadsTo o its' us s
+led_alike None ts us its its' s same leads = let none : None ≡ ended s leads.newest = leads.read in cc none
+led_alike (Some from) [] [] its its' s same leads =
+    record { newest = its'; read = ap (λ x. ended x its') (ap state_of leads.read) }
+led_alike (Some from) [] (token' ∷ us) its its' s same leads = cc same
+led_alike (Some from) (token ∷ ts) [] its its' s same leads = cc same
+led_alike (Some from) (token ∷ ts) (token' ∷ us) its its' s same leads =
+    let its_class : class_of token.kind ≡ class_of token'.kind = ap (first_class (class_of token.kind)) same in
+    let now : List Item = take_token from token.kind token.at its in
+    let now' : List Item = take_token from token'.kind token'.at its' in
+    let more = led_alike (next from (class_of token.kind)) ts us now now' s (ap later_classes same) (record { newest = leads.newest; read = leads.read }) in
+    record { newest = more.newest; read = ap (λ c. run (next from c) now' us) (sym its_class) ∙ more.read }
+
+sentence_alike : (ts us : List Token) → classes_of ts ≡ classes_of us → IsSentence ts → IsSentence us
+sentence_alike ts us same is =
+    let read : IsRead ts (items is.tree) = read_sentence ts is in
+    let led : LeadsTo (Some Start) [] us read.end = led_alike (Some Start) ts us [] [] read.end same (record { newest = newest_first (items is.tree) []; read = read.read }) in
+    let has : HasItems us (newest_first led.newest []) = accepted us read.end led.newest led.read read.final in
+    record { tree = has.tree; spelt = has.spelt }
+
+front_alike : (ts us : List Token) → classes_of ts ≡ classes_of us → IsFront ts → IsFront us
+front_alike ts us same (more, few, is) =
+    (more, few, sentence_alike (ts ++ more) (us ++ more) (map-append (λ token. class_of token.kind) ts more ∙ ap (λ cs. cs ++ classes_of more) same ∙ sym (map-append (λ token. class_of token.kind) us more)) is)
+
+-- whether tokens are a sentence, or begin one, depends on their classes alone
+pub classes_decide : ClassesDecide
+classes_decide ts us same =
+    ((sentence_alike ts us same, sentence_alike us ts (sym same)), (front_alike ts us same, front_alike us ts (sym same)))

@@ -7,7 +7,7 @@ use Rattle.twp_text.specs.declared.state.State.TheVariants as past
 use Rattle.twp_text.specs.Grammar.{Class, sec, lot, all, and, to, inclusive, of, the, t, r, north_south, east_west, corner, half, quarter, number, comma, semicolon, colon, stop, other, bad_number, bad_byte, Ebnf, never, nothing, one, ◌⨾◌, ◌∣◌, many, description}
 use Rattle.twp_text.specs.Machine.{next, is_final}
 use Rattle.twp_text.specs.Expected.{told, named, expected_of, IsNamed}
-use Rattle.twp_text.proofs.Derivatives.{classes, place_of_class, class_at_place, same_class, same_class_tells, is_nullable, after}
+use Rattle.twp_text.proofs.Derivatives.{classes, place_of_class, class_at_place, same_class, same_class_tells, is_nullable, has_one_empty, both, after}
 
 -- the state behind some classes, read from Start
 after_all : Ebnf → List Class → Ebnf
@@ -123,9 +123,9 @@ same (g ∣ h) (k ∣ l) = same g k && same h l
 same (many g) (many k) = same g k
 same _ _ = false
 
--- a token of the class leads to a state that has just what is left to be read
+-- a token of the class leads to a state that has just what is left to be read, or it can't stand there
 abbrev is_edge : State → Class → Option State → Bool
-is_edge s c None = true
+is_edge s c None = same (after c (rest s)) never
 is_edge s c (Some s') = same (after c (rest s)) (rest s')
 
 -- a final state has nothing left that must be read
@@ -147,63 +147,61 @@ is_among c (Some s) cs = list_any (λ d. same_class c d) cs
 record Row (s : State) : Type 0 where
   edges : list_all (λ c. is_edge s c (next s c)) classes ≡ true
   end : is_end s (is_final s) ≡ true
+  empty : has_one_empty (rest s) ≡ true
   out : leads_out (Some s) (way_out s) ≡ true
   few : length (way_out s) ≤ 7
   no_byte : next s bad_byte ≡ None
   no_number : next s bad_number ≡ None
+  no_word : next s other ≡ None
   names_all : list_all (λ c. is_among c (next s c) (named (expected_of s))) classes ≡ true
   tells_all : list_all (λ c. is_some (next s c)) (told (expected_of s)) ≡ true
 
 row : (s : State) → Row s
 unfolding rest after_all
-row past.Start = record { edges = refl; end = refl; out = refl; few = omega arith; no_byte = refl; no_number = refl; names_all = refl; tells_all = refl }
-row past.Township = record { edges = refl; end = refl; out = refl; few = omega arith; no_byte = refl; no_number = refl; names_all = refl; tells_all = refl }
-row past.TownshipStop = record { edges = refl; end = refl; out = refl; few = omega arith; no_byte = refl; no_number = refl; names_all = refl; tells_all = refl }
-row past.TownshipNumber = record { edges = refl; end = refl; out = refl; few = omega arith; no_byte = refl; no_number = refl; names_all = refl; tells_all = refl }
-row past.TownshipSide = record { edges = refl; end = refl; out = refl; few = omega arith; no_byte = refl; no_number = refl; names_all = refl; tells_all = refl }
-row past.TownshipSideStop = record { edges = refl; end = refl; out = refl; few = omega arith; no_byte = refl; no_number = refl; names_all = refl; tells_all = refl }
-row past.TownshipComma = record { edges = refl; end = refl; out = refl; few = omega arith; no_byte = refl; no_number = refl; names_all = refl; tells_all = refl }
-row past.Range = record { edges = refl; end = refl; out = refl; few = omega arith; no_byte = refl; no_number = refl; names_all = refl; tells_all = refl }
-row past.RangeStop = record { edges = refl; end = refl; out = refl; few = omega arith; no_byte = refl; no_number = refl; names_all = refl; tells_all = refl }
-row past.RangeNumber = record { edges = refl; end = refl; out = refl; few = omega arith; no_byte = refl; no_number = refl; names_all = refl; tells_all = refl }
-row past.RangeSide = record { edges = refl; end = refl; out = refl; few = omega arith; no_byte = refl; no_number = refl; names_all = refl; tells_all = refl }
-row past.RangeSideStop = record { edges = refl; end = refl; out = refl; few = omega arith; no_byte = refl; no_number = refl; names_all = refl; tells_all = refl }
-row past.SectionWord = record { edges = refl; end = refl; out = refl; few = omega arith; no_byte = refl; no_number = refl; names_all = refl; tells_all = refl }
-row past.SectionStop = record { edges = refl; end = refl; out = refl; few = omega arith; no_byte = refl; no_number = refl; names_all = refl; tells_all = refl }
-row past.SectionNumber = record { edges = refl; end = refl; out = refl; few = omega arith; no_byte = refl; no_number = refl; names_all = refl; tells_all = refl }
-row past.SectionComma = record { edges = refl; end = refl; out = refl; few = omega arith; no_byte = refl; no_number = refl; names_all = refl; tells_all = refl }
-row past.Semicolon = record { edges = refl; end = refl; out = refl; few = omega arith; no_byte = refl; no_number = refl; names_all = refl; tells_all = refl }
-row past.BeforeGroup = record { edges = refl; end = refl; out = refl; few = omega arith; no_byte = refl; no_number = refl; names_all = refl; tells_all = refl }
-row past.End = record { edges = refl; end = refl; out = refl; few = omega arith; no_byte = refl; no_number = refl; names_all = refl; tells_all = refl }
-row past.ListTo = record { edges = refl; end = refl; out = refl; few = omega arith; no_byte = refl; no_number = refl; names_all = refl; tells_all = refl }
-row past.ListAnd = record { edges = refl; end = refl; out = refl; few = omega arith; no_byte = refl; no_number = refl; names_all = refl; tells_all = refl }
-row past.ListNumber = record { edges = refl; end = refl; out = refl; few = omega arith; no_byte = refl; no_number = refl; names_all = refl; tells_all = refl }
-row past.ListLast = record { edges = refl; end = refl; out = refl; few = omega arith; no_byte = refl; no_number = refl; names_all = refl; tells_all = refl }
-row past.ListInclusive = record { edges = refl; end = refl; out = refl; few = omega arith; no_byte = refl; no_number = refl; names_all = refl; tells_all = refl }
-row past.ListComma = record { edges = refl; end = refl; out = refl; few = omega arith; no_byte = refl; no_number = refl; names_all = refl; tells_all = refl }
-row past.ListLastComma = record { edges = refl; end = refl; out = refl; few = omega arith; no_byte = refl; no_number = refl; names_all = refl; tells_all = refl }
-row past.ListColon = record { edges = refl; end = refl; out = refl; few = omega arith; no_byte = refl; no_number = refl; names_all = refl; tells_all = refl }
-row past.ListAll = record { edges = refl; end = refl; out = refl; few = omega arith; no_byte = refl; no_number = refl; names_all = refl; tells_all = refl }
-row past.Lot = record { edges = refl; end = refl; out = refl; few = omega arith; no_byte = refl; no_number = refl; names_all = refl; tells_all = refl }
-row past.LotNumber = record { edges = refl; end = refl; out = refl; few = omega arith; no_byte = refl; no_number = refl; names_all = refl; tells_all = refl }
-row past.LotTo = record { edges = refl; end = refl; out = refl; few = omega arith; no_byte = refl; no_number = refl; names_all = refl; tells_all = refl }
-row past.LotLast = record { edges = refl; end = refl; out = refl; few = omega arith; no_byte = refl; no_number = refl; names_all = refl; tells_all = refl }
-row past.LotInclusive = record { edges = refl; end = refl; out = refl; few = omega arith; no_byte = refl; no_number = refl; names_all = refl; tells_all = refl }
-row past.LotComma = record { edges = refl; end = refl; out = refl; few = omega arith; no_byte = refl; no_number = refl; names_all = refl; tells_all = refl }
-row past.LotLastComma = record { edges = refl; end = refl; out = refl; few = omega arith; no_byte = refl; no_number = refl; names_all = refl; tells_all = refl }
-row past.LotAnd = record { edges = refl; end = refl; out = refl; few = omega arith; no_byte = refl; no_number = refl; names_all = refl; tells_all = refl }
-row past.BeforePart = record { edges = refl; end = refl; out = refl; few = omega arith; no_byte = refl; no_number = refl; names_all = refl; tells_all = refl }
-row past.Side = record { edges = refl; end = refl; out = refl; few = omega arith; no_byte = refl; no_number = refl; names_all = refl; tells_all = refl }
-row past.Corner = record { edges = refl; end = refl; out = refl; few = omega arith; no_byte = refl; no_number = refl; names_all = refl; tells_all = refl }
-row past.All = record { edges = refl; end = refl; out = refl; few = omega arith; no_byte = refl; no_number = refl; names_all = refl; tells_all = refl }
-row past.PartComma = record { edges = refl; end = refl; out = refl; few = omega arith; no_byte = refl; no_number = refl; names_all = refl; tells_all = refl }
-row past.Step = record { edges = refl; end = refl; out = refl; few = omega arith; no_byte = refl; no_number = refl; names_all = refl; tells_all = refl }
-row past.Of = record { edges = refl; end = refl; out = refl; few = omega arith; no_byte = refl; no_number = refl; names_all = refl; tells_all = refl }
-row past.OfThe = record { edges = refl; end = refl; out = refl; few = omega arith; no_byte = refl; no_number = refl; names_all = refl; tells_all = refl }
-
-both : (x y : Bool) → (x && y) ≡ true → (x ≡ true) × (y ≡ true)
-both true y h = (refl, h)
-both false y h = cc h
+row past.Start = record { edges = refl; end = refl; empty = refl; out = refl; few = omega arith; no_byte = refl; no_number = refl; no_word = refl; names_all = refl; tells_all = refl }
+row past.Township = record { edges = refl; end = refl; empty = refl; out = refl; few = omega arith; no_byte = refl; no_number = refl; no_word = refl; names_all = refl; tells_all = refl }
+row past.TownshipStop = record { edges = refl; end = refl; empty = refl; out = refl; few = omega arith; no_byte = refl; no_number = refl; no_word = refl; names_all = refl; tells_all = refl }
+row past.TownshipNumber = record { edges = refl; end = refl; empty = refl; out = refl; few = omega arith; no_byte = refl; no_number = refl; no_word = refl; names_all = refl; tells_all = refl }
+row past.TownshipSide = record { edges = refl; end = refl; empty = refl; out = refl; few = omega arith; no_byte = refl; no_number = refl; no_word = refl; names_all = refl; tells_all = refl }
+row past.TownshipSideStop = record { edges = refl; end = refl; empty = refl; out = refl; few = omega arith; no_byte = refl; no_number = refl; no_word = refl; names_all = refl; tells_all = refl }
+row past.TownshipComma = record { edges = refl; end = refl; empty = refl; out = refl; few = omega arith; no_byte = refl; no_number = refl; no_word = refl; names_all = refl; tells_all = refl }
+row past.Range = record { edges = refl; end = refl; empty = refl; out = refl; few = omega arith; no_byte = refl; no_number = refl; no_word = refl; names_all = refl; tells_all = refl }
+row past.RangeStop = record { edges = refl; end = refl; empty = refl; out = refl; few = omega arith; no_byte = refl; no_number = refl; no_word = refl; names_all = refl; tells_all = refl }
+row past.RangeNumber = record { edges = refl; end = refl; empty = refl; out = refl; few = omega arith; no_byte = refl; no_number = refl; no_word = refl; names_all = refl; tells_all = refl }
+row past.RangeSide = record { edges = refl; end = refl; empty = refl; out = refl; few = omega arith; no_byte = refl; no_number = refl; no_word = refl; names_all = refl; tells_all = refl }
+row past.RangeSideStop = record { edges = refl; end = refl; empty = refl; out = refl; few = omega arith; no_byte = refl; no_number = refl; no_word = refl; names_all = refl; tells_all = refl }
+row past.SectionWord = record { edges = refl; end = refl; empty = refl; out = refl; few = omega arith; no_byte = refl; no_number = refl; no_word = refl; names_all = refl; tells_all = refl }
+row past.SectionStop = record { edges = refl; end = refl; empty = refl; out = refl; few = omega arith; no_byte = refl; no_number = refl; no_word = refl; names_all = refl; tells_all = refl }
+row past.SectionNumber = record { edges = refl; end = refl; empty = refl; out = refl; few = omega arith; no_byte = refl; no_number = refl; no_word = refl; names_all = refl; tells_all = refl }
+row past.SectionComma = record { edges = refl; end = refl; empty = refl; out = refl; few = omega arith; no_byte = refl; no_number = refl; no_word = refl; names_all = refl; tells_all = refl }
+row past.Semicolon = record { edges = refl; end = refl; empty = refl; out = refl; few = omega arith; no_byte = refl; no_number = refl; no_word = refl; names_all = refl; tells_all = refl }
+row past.BeforeGroup = record { edges = refl; end = refl; empty = refl; out = refl; few = omega arith; no_byte = refl; no_number = refl; no_word = refl; names_all = refl; tells_all = refl }
+row past.End = record { edges = refl; end = refl; empty = refl; out = refl; few = omega arith; no_byte = refl; no_number = refl; no_word = refl; names_all = refl; tells_all = refl }
+row past.ListTo = record { edges = refl; end = refl; empty = refl; out = refl; few = omega arith; no_byte = refl; no_number = refl; no_word = refl; names_all = refl; tells_all = refl }
+row past.ListAnd = record { edges = refl; end = refl; empty = refl; out = refl; few = omega arith; no_byte = refl; no_number = refl; no_word = refl; names_all = refl; tells_all = refl }
+row past.ListNumber = record { edges = refl; end = refl; empty = refl; out = refl; few = omega arith; no_byte = refl; no_number = refl; no_word = refl; names_all = refl; tells_all = refl }
+row past.ListLast = record { edges = refl; end = refl; empty = refl; out = refl; few = omega arith; no_byte = refl; no_number = refl; no_word = refl; names_all = refl; tells_all = refl }
+row past.ListInclusive = record { edges = refl; end = refl; empty = refl; out = refl; few = omega arith; no_byte = refl; no_number = refl; no_word = refl; names_all = refl; tells_all = refl }
+row past.ListComma = record { edges = refl; end = refl; empty = refl; out = refl; few = omega arith; no_byte = refl; no_number = refl; no_word = refl; names_all = refl; tells_all = refl }
+row past.ListLastComma = record { edges = refl; end = refl; empty = refl; out = refl; few = omega arith; no_byte = refl; no_number = refl; no_word = refl; names_all = refl; tells_all = refl }
+row past.ListColon = record { edges = refl; end = refl; empty = refl; out = refl; few = omega arith; no_byte = refl; no_number = refl; no_word = refl; names_all = refl; tells_all = refl }
+row past.ListAll = record { edges = refl; end = refl; empty = refl; out = refl; few = omega arith; no_byte = refl; no_number = refl; no_word = refl; names_all = refl; tells_all = refl }
+row past.Lot = record { edges = refl; end = refl; empty = refl; out = refl; few = omega arith; no_byte = refl; no_number = refl; no_word = refl; names_all = refl; tells_all = refl }
+row past.LotNumber = record { edges = refl; end = refl; empty = refl; out = refl; few = omega arith; no_byte = refl; no_number = refl; no_word = refl; names_all = refl; tells_all = refl }
+row past.LotTo = record { edges = refl; end = refl; empty = refl; out = refl; few = omega arith; no_byte = refl; no_number = refl; no_word = refl; names_all = refl; tells_all = refl }
+row past.LotLast = record { edges = refl; end = refl; empty = refl; out = refl; few = omega arith; no_byte = refl; no_number = refl; no_word = refl; names_all = refl; tells_all = refl }
+row past.LotInclusive = record { edges = refl; end = refl; empty = refl; out = refl; few = omega arith; no_byte = refl; no_number = refl; no_word = refl; names_all = refl; tells_all = refl }
+row past.LotComma = record { edges = refl; end = refl; empty = refl; out = refl; few = omega arith; no_byte = refl; no_number = refl; no_word = refl; names_all = refl; tells_all = refl }
+row past.LotLastComma = record { edges = refl; end = refl; empty = refl; out = refl; few = omega arith; no_byte = refl; no_number = refl; no_word = refl; names_all = refl; tells_all = refl }
+row past.LotAnd = record { edges = refl; end = refl; empty = refl; out = refl; few = omega arith; no_byte = refl; no_number = refl; no_word = refl; names_all = refl; tells_all = refl }
+row past.BeforePart = record { edges = refl; end = refl; empty = refl; out = refl; few = omega arith; no_byte = refl; no_number = refl; no_word = refl; names_all = refl; tells_all = refl }
+row past.Side = record { edges = refl; end = refl; empty = refl; out = refl; few = omega arith; no_byte = refl; no_number = refl; no_word = refl; names_all = refl; tells_all = refl }
+row past.Corner = record { edges = refl; end = refl; empty = refl; out = refl; few = omega arith; no_byte = refl; no_number = refl; no_word = refl; names_all = refl; tells_all = refl }
+row past.All = record { edges = refl; end = refl; empty = refl; out = refl; few = omega arith; no_byte = refl; no_number = refl; no_word = refl; names_all = refl; tells_all = refl }
+row past.PartComma = record { edges = refl; end = refl; empty = refl; out = refl; few = omega arith; no_byte = refl; no_number = refl; no_word = refl; names_all = refl; tells_all = refl }
+row past.Step = record { edges = refl; end = refl; empty = refl; out = refl; few = omega arith; no_byte = refl; no_number = refl; no_word = refl; names_all = refl; tells_all = refl }
+row past.Of = record { edges = refl; end = refl; empty = refl; out = refl; few = omega arith; no_byte = refl; no_number = refl; no_word = refl; names_all = refl; tells_all = refl }
+row past.OfThe = record { edges = refl; end = refl; empty = refl; out = refl; few = omega arith; no_byte = refl; no_number = refl; no_word = refl; names_all = refl; tells_all = refl }
 
 same_tells : (g h : Ebnf) → same g h ≡ true → g ≡ h
 same_tells never never e = refl
@@ -262,6 +260,15 @@ edge s s' c e =
     let found : is_edge s c (next s c) ≡ true = of_class (λ d. is_edge s d (next s d)) c (row s).edges in
     same_tells (after c (rest s)) (rest s') (subst (λ (o : Option State). is_edge s c o ≡ true) e found)
 
+-- nor does the grammar derive one that it doesn't take
+pub no_edge : (s : State) (c : Class) → next s c ≡ None → after c (rest s) ≡ never
+no_edge s c e =
+    let found : is_edge s c (next s c) ≡ true = of_class (λ d. is_edge s d (next s d)) c (row s).edges in
+    same_tells (after c (rest s)) never (subst (λ (o : Option State). is_edge s c o ≡ true) e found)
+
+pub one_empty : (s : State) → has_one_empty (rest s) ≡ true
+one_empty s = (row s).empty
+
 pub end : (s : State) → is_final s ≡ true → is_nullable (rest s) ≡ true
 end s e = subst (λ (x : Bool). is_end s x ≡ true) e (row s).end
 
@@ -281,6 +288,10 @@ takes_no_bad_byte s = (row s).no_byte
 
 pub takes_no_bad_number : (s : State) → next s bad_number ≡ None
 takes_no_bad_number s = (row s).no_number
+
+-- no state takes an unknown word
+pub takes_no_other : (s : State) → next s other ≡ None
+takes_no_other s = (row s).no_word
 
 -- what may follow in a state is named there
 pub follows_named : (s s' : State) (c : Class) → next s c ≡ Some s' → list_any (λ d. same_class c d) (named (expected_of s)) ≡ true

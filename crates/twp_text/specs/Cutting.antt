@@ -1,7 +1,7 @@
 -- How the reader cuts the first token off bytes that begin with no white space. No public promise
 -- speaks of it; proofs/Cuts shows that it is the one token that the bytes begin with. Past the end
 -- a byte is read as 0.
-use Rattle.std.specs.Prelude.{◌==◌, ◌&&◌, ℕ, Bool, ◌+◌, ◌<◌, ◌≤◌, nat_le, List, length, take, drop}
+use Rattle.std.specs.Prelude.{◌==◌, ◌&&◌, ℕ, Bool, not, ◌+◌, ◌<◌, ◌≤◌, nat_le, List, length, take, drop}
 use Rattle.std.specs.Prelude.{Option, Some, None, slice_index, if◌then◌else◌}
 use Rattle.std.specs.Char.{is_ascii_alphabetic, is_ascii_digit, to_ascii_lowercase}
 use Rattle.std.specs.List.{prefix_len, AllPass}
@@ -20,6 +20,10 @@ lexeme kind size = record { kind = kind; size = size }
 -- a letter as a small one
 abbrev pub small_letter : ℕ → Option ℕ
 small_letter byte = if is_ascii_alphabetic byte then Some (to_ascii_lowercase byte) else None
+
+-- a byte that is no white space
+abbrev pub is_dark : ℕ → Bool
+is_dark byte = not (is_white byte)
 
 -- how many letters bytes begin with
 abbrev pub letters_in_front : List ℕ → ℕ

@@ -1,8 +1,10 @@
 -- Laws over the definitions.
-use Rattle.std.specs.Prelude.{◌≡◌, ℕ, ◌↔◌, Bool, List, [], ◌∷◌, ◌++◌, Result}
+use Rattle.std.specs.Prelude.{◌≡◌, ℕ, ◌↔◌, Bool, List, [], ◌∷◌, ◌++◌, map, Result}
+use Rattle.twp_text.specs.declared.kind.Kind.{Kind}
+use Rattle.twp_text.specs.declared.kind.Kind.TheVariants.{Other, BadNumber, BadByte}
 use Rattle.twp_text.specs.declared.item.Item.{Item}
 use Rattle.twp_text.specs.Tokens.{Token, HasTokens}
-use Rattle.twp_text.specs.Grammar.{entries, several, number}
+use Rattle.twp_text.specs.Grammar.{Class, class_of, entries, several, number, description}
 use Rattle.twp_text.specs.Items.{Leaf, Tree, token_of, tokens}
 use Rattle.twp_grid.specs.declared.refusal.Refusal.{Refusal}
 use Rattle.twp_text.specs.Sentences.{HasItems, IsSentence, IsFront}
@@ -26,6 +28,36 @@ abbrev pub OneItemList : Type 0
 OneItemList =
     (tokens : List Token) (items items' : List Item)
     → HasItems tokens items → HasItems tokens items' → items ≡ items'
+
+-- a sentence has one derivation: those of the same tokens are the same tree
+abbrev pub OneDerivation : Type 0
+OneDerivation =
+    (tree tree' : Tree description)
+    → tokens description tree ≡ tokens description tree' → tree ≡ tree'
+
+-- an unknown word, a number of too many digits, or a byte that begins no token
+abbrev pub IsStray : Kind → Type 0
+IsStray Other = Unit {0}
+IsStray BadNumber = Unit {0}
+IsStray BadByte = Unit {0}
+IsStray _ = ⊥
+
+-- none of these stands in a sentence
+abbrev pub NoStrayInSentence : Type 0
+NoStrayInSentence =
+    (before after : List Token) (token : Token)
+    → IsStray token.kind → ¬ IsSentence (before ++ token ∷ after)
+
+-- the classes of tokens, in turn
+abbrev pub classes_of : List Token → List Class
+classes_of tokens = map (λ token. class_of token.kind) tokens
+
+-- Tokens of the same classes are sentences together, and begin sentences together: which number or
+-- which side one is, how it is written and where it stands doesn't matter.
+abbrev pub ClassesDecide : Type 0
+ClassesDecide =
+    (tokens tokens' : List Token) → classes_of tokens ≡ classes_of tokens'
+    → (IsSentence tokens ↔ IsSentence tokens') × (IsFront tokens ↔ IsFront tokens')
 
 -- whatever a sentence goes on with, a few tokens would do
 abbrev pub ShortCompletion : Type 0

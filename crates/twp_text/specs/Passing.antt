@@ -1,19 +1,25 @@
 -- What the reader takes as a whole, though it is several tokens. No public promise speaks of it.
-use Rattle.std.specs.Prelude.{◌≡◌, ◌⊎◌, ◌≤◌, ◌<◌, ℕ, ◌+◌, List, [], ◌∷◌, ◌++◌, Some, length, drop}
+use Rattle.std.specs.Prelude.{◌≡◌, ◌⊎◌, ◌≤◌, ◌<◌, ℕ, ◌+◌, true, List, [], ◌∷◌, ◌++◌, Option, Some, None, length}
+use Rattle.std.specs.Prelude.{drop, codes}
+use Rattle.std.specs.List.{prefix_len}
 use Rattle.twp_grid.specs.declared.block.Side.TheVariants as side
 use Rattle.twp_grid.specs.declared.township.NorthSouth.TheVariants as ns
 use Rattle.twp_grid.specs.declared.township.EastWest.TheVariants as ew
 use Rattle.twp_text.specs.declared.item.Item.{Item}
+use Rattle.twp_text.specs.declared.item.Item.TheVariants.{Lots, Sections}
 use Rattle.twp_text.specs.declared.item.Step.{Step}
 use Rattle.twp_text.specs.declared.item.Step.TheVariants as step
 use Rattle.twp_text.specs.declared.kind.Kind.{Kind}
 use Rattle.twp_text.specs.declared.kind.Kind.TheVariants.{NorthSouth, EastWest, Corner, Half}
 use Rattle.twp_text.specs.declared.kind.Kind.TheVariants.{Quarter}
+use Rattle.twp_text.specs.declared.numbers.Listed.{Listed}
+use Rattle.twp_text.specs.declared.numbers.Listed.TheVariants as listed
 use Rattle.twp_text.specs.declared.state.State.{State}
-use Rattle.twp_text.specs.Tokens.{Token, StartsWith, HasTokens, kind_among, words}
+use Rattle.twp_text.specs.declared.state.State.TheVariants as past
+use Rattle.twp_text.specs.Tokens.{Token, StartsWith, HasTokens, is_white, kind_among, words}
 use Rattle.twp_text.specs.Cutting.{small_letter}
 use Rattle.twp_text.specs.declared.item.Numeral.{Numeral}
-use Rattle.twp_text.specs.Grammar.{number}
+use Rattle.twp_text.specs.Grammar.{comma, number}
 use Rattle.twp_text.specs.Machine.{next, run, take_number}
 
 -- The tokens of a text between two places lead the machine from a state and items to others.
@@ -90,3 +96,37 @@ abbrev pub IsNumberBehind : List ℕ → ℕ → Numeral → ℕ → Type 0
 IsNumberBehind text from it end =
     (state behind : State) (items : List Item) → next state number ≡ Some behind
     → Leads text from state items end behind (take_number state it items)
+
+-- a comma stands there, behind white space that begins at another place
+pub record IsCommaBehind (text : List ℕ) (from at : ℕ) : Type 0 where
+  pub place : at ≡ from + prefix_len is_white (drop from text)
+  pub spelt : drop at text ≡ codes "," ++ drop (at + 1) text
+  pub within : at + 1 ≤ length text
+
+-- a comma and then a number are the next tokens of a text from a place on, and end at another
+abbrev pub AreCommaAndNumber : List ℕ → ℕ → Numeral → ℕ → Type 0
+AreCommaAndNumber text from it end =
+    (state between behind : State) (items : List Item)
+    → next state comma ≡ Some between → next between number ≡ Some behind
+    → Leads text from state items end behind (take_number between it items)
+
+-- the item of a number in a list
+abbrev pub entry_of : Listed → Numeral → Item
+entry_of listed.Lots it = Lots it it
+entry_of listed.Sections it = Sections it it true
+
+-- the state behind a number in a list
+abbrev pub state_behind : Listed → State
+state_behind listed.Lots = past.LotNumber
+state_behind listed.Sections = past.ListNumber
+
+-- what a list is of that goes on in a state by a comma and a number
+abbrev pub listed_in : State → Option Listed
+listed_in past.LotNumber = Some listed.Lots
+listed_in past.LotLast = Some listed.Lots
+listed_in past.LotInclusive = Some listed.Lots
+listed_in past.SectionNumber = Some listed.Sections
+listed_in past.ListNumber = Some listed.Sections
+listed_in past.ListLast = Some listed.Sections
+listed_in past.ListInclusive = Some listed.Sections
+listed_in _ = None

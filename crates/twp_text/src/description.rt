@@ -66,9 +66,9 @@ impl Description {
         ensures helps { IfErr result (Helps text.now) }
     {
         let mut items = Items::with_room(alloc, text.len() / BYTES_TO_ITEM)?;
-        let mut reached = items.take_front(text)?;
+        let mut reached = items.take_heading(text)?;
         'tokens: loop {
-            reached = items.take_parts(alloc, text, reached)?;
+            reached = items.take_usual(alloc, text, reached)?;
             let Some(token) = Token::first(text, reached.at) else {
                 break;
             };

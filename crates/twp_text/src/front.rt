@@ -1,18 +1,19 @@
-//! The front of a description in its usual spelling: its heading and its first section.
+//! The front of a description in its usual spelling, its heading, and the front of what it says of a
+//! section.
 ghost use Rattle.std.specs.Prelude.{◌≡◌, ◌≤◌, ◌∷◌, ◌+◌, List, Some, length, IfOk, IfSome};
 ghost use Rattle.twp_text.specs.declared.item.Item.{Item as TakenItem};
 ghost use Rattle.twp_text.specs.declared.change.Change.TheVariants.{TownshipSide, RangeSide};
 ghost use Rattle.twp_text.specs.Grammar.{number};
-ghost use Rattle.twp_text.specs.Machine.{next, with_newest};
-ghost use Rattle.twp_text.specs.Passing.{Leads, IsNumberBehind};
+ghost use Rattle.twp_text.specs.Machine.{next, with_newest, before_parts};
+ghost use Rattle.twp_text.specs.Passing.{Leads};
 ghost use Rattle.twp_text.specs.TextFaults.{TEXT_LIMIT};
 
-use crate::item::{Item, Numeral};
+use crate::item::Item;
 use crate::items::Items;
-use crate::kind::Kind;
+use crate::numbers::{Listed, number_behind};
 use crate::passing::{Reached, goes_on};
 use crate::state::State;
-use crate::token::{Token, behind_white};
+use crate::white::behind_white;
 use std::alloc::AllocError;
 use twp_grid::{EastWest, NorthSouth};
 
@@ -31,6 +32,9 @@ const SEC: usize = 5;
 /// How many bytes `Section ` has.
 const SECTION: usize = 8;
 
+/// How many bytes `lots ` has.
+const LOTS: usize = 5;
+
 /// How many bytes a colon has.
 const COLON: usize = 1;
 
@@ -44,27 +48,10 @@ struct UsualHeading {
     end: usize,
 }
 
-/// A number, and the place behind it.
-#[derive(Clone, Copy)]
-struct UsualNumber {
-    numeral: Numeral,
-    end: usize,
-}
-
 impl Items {
-    /// Takes the heading and the first section, as far as they are spelled as is usual.
-    #[inline(never)]
-    pub(crate) fn take_front(&mut self, text: &[u8]) -> Result<Reached, AllocError>
-        requires { length text.now ≤ TEXT_LIMIT }
-        ensures { IfOk result
-            (λ to. Leads text.now 0 State.Start self.old to.at to.state self.new) }
-    {
-        let heading = self.take_heading(text)?;
-        self.take_section(text, heading)
-    }
-
     /// Takes a heading as `T. 2 N., R. 3 W.,`.
-    fn take_heading(&mut self, text: &[u8]) -> Result<Reached, AllocError>
+    #[inline(never)]
+    pub(crate) fn take_heading(&mut self, text: &[u8]) -> Result<Reached, AllocError>
         requires { length text.now ≤ TEXT_LIMIT }
         ensures { IfOk result
             (λ to. Leads text.now 0 State.Start self.old to.at to.state self.new) }
@@ -89,7 +76,8 @@ impl Items {
     }
 
     /// Takes a section as `sec. 5`, and the colon behind it.
-    fn take_section(&mut self, text: &[u8], from: Reached) -> Result<Reached, AllocError>
+    #[inline(always)]
+    pub(crate) fn take_section(&mut self, text: &[u8], from: Reached) -> Result<Reached, AllocError>
         requires place { from.at ≤ length text.now }
         requires limit { length text.now ≤ TEXT_LIMIT }
         ensures { IfOk result
@@ -118,6 +106,49 @@ impl Items {
             state: State::BeforePart,
         })
     }
+}
+
+impl Items {
+    /// Takes the first of several lots as `lots 1`.
+    #[inline(always)]
+    pub(crate) fn take_lots(&mut self, text: &[u8], from: Reached) -> Result<Reached, AllocError>
+        requires place { from.at ≤ length text.now }
+        requires limit { length text.now ≤ TEXT_LIMIT }
+        ensures { IfOk result
+            (λ to. Leads text.now from.at from.state self.old to.at to.state self.new) }
+    {
+        let Some(word) = behind_lots(text, from) else {
+            return Ok(from);
+        };
+        let Some(number) = number_behind(text, word) else {
+            return Ok(from);
+        };
+        self.before_parts(from.state)?;
+        self.push(Listed::Lots.entry(number.numeral))?;
+        Ok(Reached {
+            at: number.end,
+            state: State::LotNumber,
+        })
+    }
+}
+
+/// The place behind the word that several lots begin with, if it is spelled as `lots `.
+#[inline(always)]
+fn behind_lots(text: &[u8], from: Reached) -> Option<usize>
+    requires { from.at ≤ length text.now }
+    ensures leads { IfSome result (λ word. (items : List TakenItem)
+        → Leads text.now from.at from.state items word State.Lot
+        (before_parts from.state items)) }
+    ensures within { IfSome result (λ word. word ≤ length text.now) }
+{
+    if !from.state.begins_part() {
+        return None;
+    }
+    let at = behind_white(text, from.at);
+    if !goes_on(text, at, b"lots ") {
+        return None;
+    }
+    Some(at + LOTS)
 }
 
 /// The heading that a text begins with, if it is spelled as is usual.
@@ -204,25 +235,4 @@ fn behind_sec(text: &[u8], from: Reached) -> Option<Reached>
         });
     }
     None
-}
-
-/// The number that is the next token of a text from a place on.
-#[inline(always)]
-fn number_behind(text: &[u8], from: usize) -> Option<UsualNumber>
-    requires place { from ≤ length text.now }
-    requires limit { length text.now ≤ TEXT_LIMIT }
-    ensures number { IfSome result (λ it. IsNumberBehind text.now from it.numeral it.end) }
-    ensures within { IfSome result (λ it. it.end ≤ length text.now) }
-{
-    let token = Token::first(text, from)?;
-    let Kind::Number(value) = token.kind else {
-        return None;
-    };
-    Some(UsualNumber {
-        numeral: Numeral {
-            value,
-            at: token.at as u32,
-        },
-        end: token.at + token.text.len(),
-    })
 }

@@ -7,6 +7,7 @@ ghost use Rattle.twp_text.specs.TextFaults.{TEXT_LIMIT};
 use crate::change::Change;
 use crate::item::{Item, Numeral, Step, Steps};
 use crate::kind::Kind;
+use crate::numbers::{Listed, number_behind_comma};
 use crate::passing::{Reached, UsualStep, ahead_of_part, behind_and, behind_step, step_at};
 use crate::state::State;
 use std::alloc::{AllocError, Global};
@@ -169,11 +170,53 @@ impl Items {
         }
     }
 
-    /// Takes what stands next of a chain, and the parts behind it, as long as each step is spelled
-    /// as is usual: as they stand, and not token by token. Gives the place that is reached so, and
-    /// the state there.
+    /// Takes what stands next, as long as it is spelled as is usual: as it stands, and not token by
+    /// token. Gives the place that is reached so, and the state there.
     #[inline(always)]
-    pub fn take_parts(
+    pub fn take_usual(
+        &mut self,
+        alloc: Global,
+        text: &[u8],
+        from: Reached,
+    ) -> Result<Reached, AllocError>
+        requires place { from.at ≤ length text.now }
+        requires limit { length text.now ≤ TEXT_LIMIT }
+        ensures { IfOk result
+            (λ to. Leads text.now from.at from.state self.old to.at to.state self.new) }
+    {
+        let section = self.take_section(text, from)?;
+        let lots = self.take_lots(text, section)?;
+        let list = self.take_list(text, lots)?;
+        self.take_parts(alloc, text, list)
+    }
+
+    /// Takes the numbers that a list of lots or of sections goes on with, as long as each stands
+    /// behind a comma.
+    #[inline(always)]
+    fn take_list(&mut self, text: &[u8], from: Reached) -> Result<Reached, AllocError>
+        requires place { from.at ≤ length text.now }
+        requires limit { length text.now ≤ TEXT_LIMIT }
+        ensures { IfOk result
+            (λ to. Leads text.now from.at from.state self.old to.at to.state self.new) }
+    {
+        let Some(list) = Listed::in_state(from.state) else {
+            return Ok(from);
+        };
+        let mut reached = from;
+        'numbers: while let Some(number) = number_behind_comma(text, reached.at) {
+            self.push(list.entry(number.numeral))?;
+            reached = Reached {
+                at: number.end,
+                state: list.state(),
+            };
+        }
+        Ok(reached)
+    }
+
+    /// Takes what stands next of a chain, and the parts behind it, as long as each step is spelled
+    /// as is usual.
+    #[inline(always)]
+    fn take_parts(
         &mut self,
         alloc: Global,
         text: &[u8],

@@ -1,6 +1,7 @@
 //! What holds of descriptions as they are defined: each law is a contract, and its function has
 //! nothing to do.
-ghost use Rattle.twp_text.specs.Laws.{HasTokenList, OneTokenList, OneItemList, ShortCompletion};
+ghost use Rattle.twp_text.specs.Laws.{HasTokenList, OneTokenList, OneItemList, OneDerivation};
+ghost use Rattle.twp_text.specs.Laws.{NoStrayInSentence, ClassesDecide, ShortCompletion};
 ghost use Rattle.twp_text.specs.Laws.{SeveralAreEntries, OneReading, ReadHasNoFault, OneTextFault};
 ghost use Rattle.twp_text.specs.Laws.{OnPlatHasNoFault, OnePlaceAnswer};
 ghost use Rattle.twp_text.specs.SpellingLaws.{OneListOfParts, WrittenPartsAreApart};
@@ -24,6 +25,23 @@ pub fn one_token_list()
 /// A list of tokens is read as one list of items.
 pub fn one_item_list()
     ensures { OneItemList }
+{}
+
+/// A sentence of the grammar has one derivation.
+pub fn one_derivation()
+    ensures { OneDerivation }
+{}
+
+/// No sentence holds an unknown word, a number of more than four digits, or a byte that begins no
+/// token.
+pub fn no_stray_in_sentence()
+    ensures { NoStrayInSentence }
+{}
+
+/// Whether tokens are a sentence, or begin one, depends on what kinds they are alone, and not on
+/// their numbers, their sides, their letters or their places.
+pub fn classes_decide()
+    ensures { ClassesDecide }
 {}
 
 /// What a beginning of a sentence lacks is at most seven tokens, whatever they are.

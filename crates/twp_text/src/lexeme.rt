@@ -1,12 +1,13 @@
-ghost use Rattle.std.specs.Prelude.{◌≡◌, ◌+◌, ◌<◌, ◌≤◌, true, Some, IfSome, length, take, drop};
+ghost use Rattle.std.specs.Prelude.{◌≡◌, ◌+◌, ◌-◌, ◌<◌, ◌≤◌, true, Some, IfSome, length, take, drop};
 ghost use Rattle.std.specs.Prelude.{slice_index};
 ghost use Rattle.std.specs.Char.{is_ascii_alphabetic, is_ascii_digit};
 ghost use Rattle.std.specs.List.{prefix_len};
 ghost use Rattle.std.specs.Str.Parse.{AllDigits, digits_value};
 ghost use Rattle.std.specs.Str.{str_to_ascii_lowercase};
 ghost use Rattle.twp_text.specs.Tokens.{kind_among, long_words};
-ghost use Rattle.twp_text.specs.Cutting.{small_letter, cut_word, cut_number, cut_digits, cut_mark};
-ghost use Rattle.twp_text.specs.Cutting.{cut};
+ghost use Rattle.twp_text.specs.declared.kind.Kind.TheVariants.{Number};
+ghost use Rattle.twp_text.specs.Cutting.{lexeme, small_letter, cut_word, cut_number, cut_digits};
+ghost use Rattle.twp_text.specs.Cutting.{cut_mark, cut};
 
 use crate::kind::Kind;
 use crate::word::{self, one_letter, three_letters, two_letters};
@@ -40,7 +41,7 @@ impl Lexeme {
 /// The byte that stands so many bytes ahead of a place, or 0 past the end.
 #[inline(always)]
 #[tactic(auto, using(crate::proofs::PlaceFacts::byte_ahead, crate::proofs::PlaceFacts::past_end))]
-fn byte_at(text: &[u8], at: usize, ahead: usize) -> u8
+pub fn byte_at(text: &[u8], at: usize, ahead: usize) -> u8
     requires { at + ahead ≤ length text.now }
     ensures value { result ≡ slice_index (drop at text.now) ahead }
     ensures inside { 0 < result → at + ahead < length text.now }
@@ -165,52 +166,81 @@ fn count_digits(text: &[u8], at: usize) -> usize
         .count()
 }
 
-/// A half, a quarter or a number.
+/// A half, a quarter or a number. Mostly there is one digit alone.
 #[inline(always)]
-#[tactic(auto, unfolding(crate::specs::Cutting::cut_digits))]
-fn digits(text: &[u8], at: usize) -> Lexeme
+#[tactic(auto, using(crate::proofs::Numerals::digits_alone), unfolding(crate::specs::Cutting::cut_digits))]
+pub fn digits(text: &[u8], at: usize) -> Lexeme
     requires place { at < length text.now }
     requires digit { is_ascii_digit (slice_index (drop at text.now) 0) ≡ true }
     ensures { result ≡ cut_digits (drop at text.now) }
 {
-    if byte_at(text, at, 0) == b'1' && byte_at(text, at, 1) == b'/' {
-        match byte_at(text, at, 2) {
-            b'2' => {
-                return Lexeme {
-                    kind: Kind::Half,
-                    size: 3,
-                };
-            }
-            b'4' => {
-                return Lexeme {
-                    kind: Kind::Quarter,
-                    size: 3,
-                };
-            }
-            _ => {}
-        }
+    let first = byte_at(text, at, 0);
+    let second = byte_at(text, at, 1);
+    if second.is_ascii_digit() {
+        return number(text, at, first, second);
     }
-    number(text, at)
+    if second == b'/' {
+        return before_slash(text, at, first);
+    }
+    one_digit(first)
 }
 
-/// Digits: a number, or too many. Mostly there is one digit.
-#[inline(always)]
-#[tactic(auto, using(crate::proofs::Numerals::one_digit))]
-fn number(text: &[u8], at: usize) -> Lexeme
-    requires place { at < length text.now }
-    requires digit { is_ascii_digit (slice_index (drop at text.now) 0) ≡ true }
-    ensures { result ≡ cut_number (drop at text.now) }
+/// A half or a quarter, or a digit with a slash behind it that makes it none.
+#[tactic(auto, using(crate::proofs::Numerals::digits_alone), unfolding(crate::specs::Cutting::cut_digits))]
+fn before_slash(text: &[u8], at: usize, first: u8) -> Lexeme
+    requires place { at + 1 < length text.now }
+    requires first { first ≡ slice_index (drop at text.now) 0 }
+    requires digit { is_ascii_digit first ≡ true }
+    requires slash { slice_index (drop at text.now) 1 ≡ 47 }
+    ensures { result ≡ cut_digits (drop at text.now) }
 {
-    if byte_at(text, at, 1).is_ascii_digit() {
-        return long_number(text, at);
+    match (first, byte_at(text, at, 2)) {
+        (b'1', b'2') => Lexeme {
+            kind: Kind::Half,
+            size: 3,
+        },
+        (b'1', b'4') => Lexeme {
+            kind: Kind::Quarter,
+            size: 3,
+        },
+        _ => one_digit(first),
     }
+}
+
+/// The number of one digit.
+#[inline(always)]
+fn one_digit(digit: u8) -> Lexeme
+    requires { is_ascii_digit digit ≡ true }
+    ensures { result ≡ lexeme (Number (digit - 48)) 1 }
+{
     Lexeme {
-        kind: Kind::Number(u16::from(byte_at(text, at, 0) - b'0')),
+        kind: Kind::Number(u16::from(digit - b'0')),
         size: 1,
     }
 }
 
-/// Two digits or more: a number, or too many.
+/// Two digits or more, of which the first two are known: a number, or too many. Mostly there are
+/// two.
+#[inline(always)]
+#[tactic(auto, using(crate::proofs::Numerals::two_digits))]
+fn number(text: &[u8], at: usize, first: u8, second: u8) -> Lexeme
+    requires place { at + 1 < length text.now }
+    requires first { first ≡ slice_index (drop at text.now) 0 }
+    requires digit { is_ascii_digit first ≡ true }
+    requires second { second ≡ slice_index (drop at text.now) 1 }
+    requires second_digit { is_ascii_digit second ≡ true }
+    ensures { result ≡ cut_number (drop at text.now) }
+{
+    if byte_at(text, at, 2).is_ascii_digit() {
+        return long_number(text, at);
+    }
+    Lexeme {
+        kind: Kind::Number(10 * u16::from(first - b'0') + u16::from(second - b'0')),
+        size: 2,
+    }
+}
+
+/// Digits of any count: a number, or too many.
 #[tactic(auto, using(crate::proofs::Numerals::numbers))]
 fn long_number(text: &[u8], at: usize) -> Lexeme
     requires { at ≤ length text.now }

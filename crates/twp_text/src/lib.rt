@@ -16,6 +16,7 @@ mod items;
 mod kind;
 pub mod laws;
 mod lexeme;
+mod numbers;
 mod part_text;
 mod passing;
 mod path;
@@ -29,6 +30,7 @@ mod state;
 mod taking;
 mod token;
 mod transition;
+mod white;
 mod word;
 mod written_parts;
 

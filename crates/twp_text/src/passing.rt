@@ -10,7 +10,7 @@ ghost use Rattle.twp_text.specs.Passing.{letters_of};
 
 use crate::item::Step;
 use crate::state::State;
-use crate::token::behind_white;
+use crate::white::behind_white;
 use twp_grid::{Corner, Side};
 
 /// How many bytes a half or a quarter has.

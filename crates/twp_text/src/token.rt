@@ -1,16 +1,11 @@
-ghost use Rattle.std.specs.Prelude.{◌≡◌, ◌≤◌, ◌+◌, ◌++◌, drop, length, codes, IsTrue};
-ghost use Rattle.twp_text.specs.Tokens.{is_white};
+ghost use Rattle.std.specs.Prelude.{◌≡◌, ◌≤◌, length};
 ghost use Rattle.twp_text.specs.Cutting.{GivesFirst};
 ghost use Rattle.std.specs.Iterator.{at_most};
-ghost use Rattle.std.specs.List.{prefix_len};
 
 use crate::kind::Kind;
 use crate::lexeme::Lexeme;
-use crate::passing::goes_on;
+use crate::white::behind_white;
 use std::marker::Model;
-
-/// Lines are often indented by many spaces.
-const EIGHT_SPACES: &[u8] = b"        ";
 
 /// A piece of a description: a word, a number, a half or a quarter, a mark, or what is none of
 /// these.
@@ -92,31 +87,6 @@ impl<'a> Iterator for Tokens<'a> {
         };
         token
     }
-}
-
-/// The first place from a place on that has no white space, or the text's length.
-#[inline(always)]
-pub(crate) fn behind_white(text: &[u8], from: usize) -> usize
-    requires { from ≤ length text.now }
-    ensures value { result ≡ from + prefix_len is_white (drop from text.now) }
-    ensures range { result ≤ length text.now }
-{
-    let mut at = from;
-    while at < text.len() && is_white(text[at]) {
-        at += 1;
-        if goes_on(text, at, EIGHT_SPACES) {
-            at += 8;
-        }
-    }
-    at
-}
-
-/// Whether a byte is a space, a tabulator, a line feed or a carriage return.
-#[inline(always)]
-fn is_white(byte: u8) -> bool
-    ensures { result ≡ is_white byte }
-{
-    matches!(byte, b' ' | b'\t' | b'\n' | b'\r')
 }
 
 #[cfg(test)]

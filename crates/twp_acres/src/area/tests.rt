@@ -1,43 +1,11 @@
 use super::*;
 use std::test::Fail;
-use twp_grid::{EastWest, NorthSouth, Side, Township};
+use twp_grid::Side;
 use twp_land::{Grid, lots_whole};
-use twp_measure::Length;
-use twp_notes::{Notes, Returned};
-
-// The corners that make the north and the west uneven, by the lines' indexes; all other lines are
-// of 40 and 80 chains. The closing quarters: 20.20 between sections 4 and 5, 20.40 between 5 and 6,
-// 20.80 west of 6, 19.20 north of 6, 19.60 between 6 and 7, 19.50 between 7 and 18.
-const UNEVEN: [(usize, &str); 6] = [
-    (4, "80.20"),
-    (5, "80.40"),
-    (6, "80.80"),
-    (47, "79.20"),
-    (53, "79.60"),
-    (59, "79.50"),
-];
-
-fn returned(corner: &str) -> Result<Returned, Fail> {
-    Ok(Returned {
-        quarter: Length::read("40.00".as_bytes())?,
-        corner: Length::read(corner.as_bytes())?,
-    })
-}
+use twp_samples::{UNEVEN, notes_of, section};
 
 fn uneven_plat() -> Result<Plat, Fail> {
-    let township = Township::new(2, NorthSouth::N, 3, EastWest::W).ok_or("a township")?;
-    let mut lines = [returned("80.00")?; 84];
-    for (index, corner) in UNEVEN {
-        if index >= 84 {
-            return Err("no line".into());
-        }
-        lines[index] = returned(corner)?;
-    }
-    Ok(Plat::protract(&Notes::new(township, lines))?)
-}
-
-fn section(number: u8) -> Result<Section, Fail> {
-    Ok(Section::new(number).ok_or("a section")?)
+    Ok(Plat::protract(&notes_of(&UNEVEN)?)?)
 }
 
 fn lot(number: u8, lot: u8) -> Result<Block, Fail> {
@@ -121,5 +89,72 @@ fn adds_lots_and_places_up_exactly(rt: HostRuntime) -> Result<(), Fail> {
         land.add(section(5)?, lot(5, number)?);
         assert_eq!(rt; area(&plat, &land)?.units(), units * over, "lot {number}");
     }
+    Ok(())
+}
+
+// The plat area of a land whose lots are whole.
+fn plat_area(plat: &Plat, land: &Grid) -> Result<Area, Fail> {
+    if !lots_whole(land) {
+        return Err("part of a lot".into());
+    }
+    Ok(plat_area_of(plat, land))
+}
+
+// The lots of a section from a first one to a last one.
+fn lots(number: u8, first: u8, last: u8) -> Result<Grid, Fail> {
+    let mut land = Grid::empty();
+    for each in 1..8u8 {
+        if first <= each && each <= last {
+            land.add(section(number)?, lot(number, each)?);
+        }
+    }
+    Ok(land)
+}
+
+#[test]
+fn adds_printed_lots_up(rt: HostRuntime) -> Result<(), Fail> {
+    let plat = uneven_plat()?;
+    for (land, printed, exact) in [
+        // 39.175, 39.125, 39.075 and 39.025 are printed as 39.18, 39.13, 39.08 and 39.03.
+        (lots(7, 1, 4)?, 15_642, 15_640),
+        // 38.7049.., 38.9029.. and 39.1009.. are printed as 38.70, 38.90 and 39.10.
+        (lots(6, 5, 7)?, 11_670, 11_671),
+        // 360 acres, and lots of 40.90, 41.10, 41.31, 39.95, 38.70, 38.90 and 39.10.
+        (sections(6, 6)?, 63_996, 63_997),
+        // 480 acres, and lots of 39.13, 39.38, 39.63 and 39.88: the western column is 19.50 chains
+        // wide in the north and 20.00 in the south, and so 19.5625, 19.6875, 19.8125 and 19.9375 in
+        // the middle of its lots.
+        (sections(18, 18)?, 63_802, 63_800),
+        // No lot, and no line is uneven.
+        (sections(14, 14)?, 64_000, 64_000),
+        // 36 * 640 = 23,040 acres; section 4 has lots of 40.05, 40.15, 40.25 and 40.35, 0.80 more,
+        // 5 of 40.45, 40.55, 40.65 and 40.75, 2.40 more, 6 has 0.04 less, 7 has 3.58 less, 18 has
+        // 1.98 less.
+        (sections(1, 36)?, 2_303_760, 2_303_757),
+    ] {
+        let acreage = plat_area(&plat, &land)?;
+        assert_eq!(rt; (acreage.units(), acreage.over()), (printed * 100_000, 1));
+        assert_eq!(rt; area(&plat, &land)?.hundredths(), exact, "beside {printed}");
+    }
+    Ok(())
+}
+
+#[test]
+fn counts_places_off_the_lots_by_their_share(rt: HostRuntime) -> Result<(), Fail> {
+    let plat = uneven_plat()?;
+    let mut land = Grid::empty();
+    assert_eq!(rt; plat_area(&plat, &land)?.units(), 0);
+    assert_eq!(rt; plat_area(&plat, &land)?.over(), 1);
+    // A place of section 7 that is in no lot, in the south-eastern corner: a sixteenth of 40 acres.
+    let mut place = Block::whole();
+    for _ in 0..4u8 {
+        place = place.half(Side::S).ok_or("a half")?;
+        place = place.half(Side::E).ok_or("a half")?;
+    }
+    land.add(section(7)?, place);
+    assert_eq!(rt; plat_area(&plat, &land)?.units(), 25_000_000);
+    // And lot 4, which is printed as 39.03 acres.
+    land.add(section(7)?, lot(7, 4)?);
+    assert_eq!(rt; plat_area(&plat, &land)?.units(), 415_300_000);
     Ok(())
 }

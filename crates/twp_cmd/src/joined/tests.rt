@@ -1,47 +1,45 @@
-use super::*;
-use std::io;
-use std::io::{Error, ErrorKind, Read};
-use std::test::Fail;
-use twp_grid::{Device, DeviceFault, EastWest, LINES, NorthSouth, Refusal, Township};
-use twp_measure::Length;
-use twp_notes::{Notes, Returned};
+ghost use Rattle.std.specs.Prelude.{◌≡◌, false};
 
-/// A description and the field notes of T. 2 N., R. 3 W. behind it. All lines are of 40 and 80
-/// chains, but section 5 ends at 80.20 chains in the east and at 80.40 in the west.
-fn joined_text(alloc: Global, description: &str) -> Result<Vec<u8>, Fail> {
-    let township = Township::new(2, NorthSouth::N, 3, EastWest::W).ok_or("numbers to 99")?;
-    let mut lines = [returned("80")?; LINES];
-    lines[4] = returned("80.20")?;
-    lines[5] = returned("80.40")?;
-    let mut text = Vec::from_slice(alloc, description.as_bytes())?;
-    text.push(b'\n')?;
-    Notes::new(township, lines).write(&mut text)?;
+use super::*;
+use std::io::ErrorKind;
+use std::test::Fail;
+use twp_devices::{Reader, Writer};
+use twp_grid::{Device, Refusal};
+use twp_samples::{even, uneven};
+
+/// A description and the field notes of the uneven township.
+fn lot_text(alloc: Global) -> Result<Vec<u8>, Fail> {
+    let mut text = Vec::from_slice(alloc, b"sec. 5, lot 1.\n")?;
+    text.extend_from_slice(&uneven(alloc)?)?;
     Ok(text)
 }
 
-/// A line with its quarter corner at 40 chains.
-fn returned(corner: &str) -> Result<Returned, Fail> {
-    Ok(Returned {
-        quarter: Length::read(b"40")?,
-        corner: Length::read(corner.as_bytes())?,
-    })
+/// Its answer: 20 chains by the mean of 20.20 and 20.25 chains, which is 404.5 square chains.
+const LOT_ANSWER: &[u8] = b"40.45 acres\n";
+
+/// The kinds of errors: the one that others may try again after, and another.
+const KINDS: [ErrorKind; 2] = [ErrorKind::Interrupted, ErrorKind::BrokenPipe];
+
+fn refused(number: u8, at: u32) -> Verdict {
+    Verdict::Refused(Refusal { number, at })
+}
+
+/// What the run answers over a writer, and what that took.
+fn ran<R: Source>(
+    alloc: Global,
+    input: &mut R,
+    writer: Writer,
+) -> Result<(Result<Verdict, RunFault>, Vec<u8>), Fail>
+    requires { R.has_failed input.old ≡ false }
+{
+    let mut out = Device::new(writer);
+    let outcome = run_joined(alloc, input, &mut out);
+    Ok((outcome, Vec::from_slice(alloc, out.get().taken())?))
 }
 
 fn answer_to(alloc: Global, input: &[u8]) -> Result<(Vec<u8>, Verdict), Fail> {
-    let mut out = Device::new(Vec::new(alloc));
-    let verdict = run_joined(alloc, &mut Bytes::new(input), &mut out)?;
-    Ok((out.get().clone()?, verdict))
-}
-
-#[test]
-fn answers_a_description_and_notes(rt: HostRuntime) -> Result<(), Fail> {
-    let alloc = rt.alloc();
-    let joined = joined_text(alloc, "sec. 5, lot 1.")?;
-    let (text, verdict) = answer_to(alloc, joined.as_slice())?;
-    assert_eq!(rt; verdict, Verdict::Accepted);
-    // 20 chains by the mean of 20.20 and 20.25 chains.
-    assert_eq!(rt; text.as_slice(), "40.45 acres\n".as_bytes());
-    Ok(())
+    let (outcome, text) = ran(alloc, &mut Bytes::new(input), Writer::new(alloc))?;
+    Ok((text, outcome?))
 }
 
 #[test]
@@ -58,107 +56,100 @@ fn answers_any_bytes(rt: HostRuntime) -> Result<(), Fail> {
     ] {
         let (text, verdict) = answer_to(alloc, input)?;
         assert_eq!(rt; text.as_slice(), answer.as_bytes());
-        assert_eq!(rt; verdict, Verdict::Refused(Refusal { number, at }));
+        assert_eq!(rt; verdict, refused(number, at));
     }
     Ok(())
-}
-
-// Gives spaces without end, and counts them.
-#[derive(Drop)]
-struct Endless {
-    given: u64,
-}
-
-impl Source for Endless {
-    ghost use Rattle.std.specs.Prelude.{false};
-
-    ghost has_failed = { λ _. false };
-
-    fn fill(&mut self, buffer: &mut [u8]) -> Result<usize, DeviceFault> {
-        buffer.fill(b' ');
-        self.given = self.given.saturating_add(buffer.len() as u64);
-        Ok(buffer.len())
-    }
-
-    fn failed(&self) -> bool {
-        false
-    }
 }
 
 #[test]
 fn reads_not_more_than_it_uses(rt: HostRuntime) -> Result<(), Fail> {
     let alloc = rt.alloc();
-    let mut out = Device::new(Vec::new(alloc));
-    let mut endless = Endless { given: 0 };
-    // Without a line feed all is a description, and there are no notes.
-    let no_notes = Verdict::Refused(Refusal { number: 2, at: 1 });
-    assert_eq!(rt; run_joined(alloc, &mut endless, &mut out), Ok(no_notes));
-    assert_eq!(rt; endless.given, 131_074);
-    Ok(())
-}
-
-// Gives so many bytes a call at most, and fails at one of its calls.
-#[derive(Drop)]
-struct Pieces<'a> {
-    left: &'a [u8],
-    most: usize,
-    calls_left: u32,
-}
-
-impl Read for Pieces<'_> {
-    fn read(&mut self, buf: &mut [u8]) -> io::Result<usize> {
-        if self.calls_left == 0 {
-            return Err(Error::from(ErrorKind::BrokenPipe));
-        }
-        self.calls_left -= 1;
-        let count = buf.len().min(self.most).min(self.left.len());
-        let (front, rest) = self.left.split_at(count);
-        buf[..count].copy_from_slice(front);
-        self.left = rest;
-        Ok(count)
+    let mut long = Vec::new(alloc);
+    long.resize(65_537, b' ')?;
+    long.push(b'\n')?;
+    long.extend_from_slice(&even(alloc)?)?;
+    for (reader, answer, number, at, given) in [
+        // Without a line feed all is a description, and there are no notes.
+        (Reader::endless(b' '), "refused 2 at 1\n", 2, 1, 131_074),
+        // The line feed and the notes' 1,638 bytes are read too.
+        (
+            Reader::new(&long),
+            "refused 41 at 65536\n",
+            41,
+            65_536,
+            67_176,
+        ),
+    ] {
+        let mut input = Device::new(reader);
+        let (outcome, text) = ran(alloc, &mut input, Writer::new(alloc))?;
+        assert_eq!(rt; outcome, Ok(refused(number, at)));
+        assert_eq!(rt; text.as_slice(), answer.as_bytes());
+        assert_eq!(rt; input.get().given(), given);
     }
+    Ok(())
 }
 
 #[test]
 fn reads_pieces_of_any_size(rt: HostRuntime) -> Result<(), Fail> {
     let alloc = rt.alloc();
-    let joined = joined_text(alloc, "sec. 5, lot 1.")?;
-    for most in [1, 2, 3, 7, 1_000] {
-        let mut out = Device::new(Vec::new(alloc));
-        let mut input = Device::new(Pieces {
-            left: joined.as_slice(),
-            most,
-            calls_left: u32::MAX,
-        });
-        assert_eq!(rt;
-            run_joined(alloc, &mut input, &mut out),
-            Ok(Verdict::Accepted)
-        );
-        assert_eq!(rt;
-            out.get().as_slice(),
-            "40.45 acres\n".as_bytes(),
-            "pieces of {most}"
-        );
+    let joined = lot_text(alloc)?;
+    for most in [1, 2, 3, 7, 1_000, usize::MAX] {
+        let mut input = Device::new(Reader::new(&joined).at_most(most));
+        let (outcome, text) = ran(alloc, &mut input, Writer::new(alloc))?;
+        assert_eq!(rt; outcome, Ok(Verdict::Accepted), "pieces of {most}");
+        assert_eq!(rt; text.as_slice(), LOT_ANSWER, "pieces of {most}");
     }
     Ok(())
 }
 
 #[test]
-fn tells_that_the_reader_failed(rt: HostRuntime) -> Result<(), Fail> {
+fn writes_nothing_where_the_reader_fails(rt: HostRuntime) -> Result<(), Fail> {
     let alloc = rt.alloc();
-    let joined = joined_text(alloc, "sec. 5, lot 1.")?;
-    // Four calls of 500 bytes, and one more for the end.
-    for calls_left in 0..8u32 {
-        let mut out = Device::new(Vec::new(alloc));
-        let mut input = Device::new(Pieces {
-            left: joined.as_slice(),
-            most: 500,
-            calls_left,
-        });
-        let outcome = run_joined(alloc, &mut input, &mut out);
-        assert_eq!(rt; outcome.is_ok(), calls_left >= 5);
-        assert_eq!(rt; outcome == Err(RunFault::Read), calls_left < 5);
-        assert_eq!(rt; out.get().is_empty(), calls_left < 5);
+    let joined = lot_text(alloc)?;
+    for kind in KINDS {
+        // 15 bytes of the description and 1,638 of the notes are four calls of 500, and the fifth
+        // finds their end.
+        for call in 1..7u32 {
+            let reader = Reader::new(&joined).at_most(500).failing_at(call, kind);
+            let mut input = Device::new(reader);
+            let (outcome, text) = ran(alloc, &mut input, Writer::new(alloc))?;
+            if call == 6 {
+                assert_eq!(rt; outcome, Ok(Verdict::Accepted));
+                assert_eq!(rt; text.as_slice(), LOT_ANSWER);
+            } else {
+                assert_eq!(rt; outcome, Err(RunFault::Read), "at {call}");
+                assert!(rt; text.is_empty());
+                assert_eq!(rt; input.get().calls(), call);
+            }
+        }
     }
+    Ok(())
+}
+
+#[test]
+fn leaves_a_front_where_the_writer_fails(rt: HostRuntime) -> Result<(), Fail> {
+    let alloc = rt.alloc();
+    let joined = lot_text(alloc)?;
+    let unwritten = Err(RunFault::Write);
+    for kind in KINDS {
+        for room in 0..LOT_ANSWER.len() {
+            let short = Writer::new(alloc).with_room(room).failing(kind);
+            let (outcome, taken) = ran(alloc, &mut Bytes::new(&joined), short)?;
+            assert_eq!(rt; outcome, unwritten, "room for {room}");
+            assert_eq!(rt; taken.as_slice(), LOT_ANSWER.split_at(room).0);
+        }
+        let unflushed = Writer::new(alloc).failing_flush(kind);
+        let (outcome, taken) = ran(alloc, &mut Bytes::new(&joined), unflushed)?;
+        assert_eq!(rt; outcome, unwritten);
+        assert_eq!(rt; taken.as_slice(), LOT_ANSWER);
+    }
+    let idle = Writer::new(alloc).with_room(0);
+    let (outcome, taken) = ran(alloc, &mut Bytes::new(&joined), idle)?;
+    assert_eq!(rt; outcome, unwritten);
+    assert!(rt; taken.is_empty());
+    let slow = Writer::new(alloc).at_most(1);
+    let (outcome, taken) = ran(alloc, &mut Bytes::new(&joined), slow)?;
+    assert_eq!(rt; outcome, Ok(Verdict::Accepted));
+    assert_eq!(rt; taken.as_slice(), LOT_ANSWER);
     Ok(())
 }

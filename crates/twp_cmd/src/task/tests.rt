@@ -1,6 +1,7 @@
 use super::{Task, TaskFault, read_task};
 use std::alloc::Global;
 use std::test::Fail;
+use twp_acres::Account;
 
 /// What `township --help` says.
 const PROGRAM_HELP: &str =
@@ -34,14 +35,16 @@ Options:
 /// What `township acres --help` says.
 const ACRES_HELP: &str = "Writes the acres of the land that a description names
 
-Usage: township acres <NOTES> <DESCRIPTION>
+Usage: township acres [OPTIONS] <NOTES> <DESCRIPTION>
 
 Arguments:
   <NOTES>        field notes of the township's 84 section lines, CSV
   <DESCRIPTION>  description of land, as: sec. 5, lot 1.
 
 Options:
-  -h, --help  Print help
+      --account <ACCOUNT>  how each whole lot counts: by its exact area, or by the acres that the \
+plat prints [default: exact] [possible values: exact, plat]
+  -h, --help               Print help
 ";
 
 /// What `township normal --help` says.
@@ -78,12 +81,26 @@ const USAGE: &str = "\nUsage: township <COMMAND>\n\nFor more information, try '-
 const PLAT_USAGE: &str = "\nUsage: township plat <NOTES>\n\nFor more information, try '--help'.\n";
 
 /// The same in `acres`.
-const ACRES_USAGE: &str =
+const ACRES_USAGE: &str = "
+Usage: township acres [OPTIONS] <NOTES> <DESCRIPTION>
+
+For more information, try '--help'.
+";
+
+/// The same in `acres`, where words are missing.
+const ACRES_WORDS: &str =
     "\nUsage: township acres <NOTES> <DESCRIPTION>\n\nFor more information, try '--help'.\n";
+
+/// The same in `normal`.
+const NORMAL_USAGE: &str =
+    "\nUsage: township normal <NOTES> <DESCRIPTION>\n\nFor more information, try '--help'.\n";
 
 /// The same in `report`.
 const REPORT_USAGE: &str =
     "\nUsage: township report <NOTES> <TRACTS>\n\nFor more information, try '--help'.\n";
+
+/// What a text on a value ends with: it shows no usage.
+const VALUES: &str = "  [possible values: exact, plat]\n\nFor more information, try '--help'.\n";
 
 /// Reads a command line.
 fn read(alloc: Global, line: &[&str]) -> Result<Result<Task, TaskFault>, Fail> {
@@ -92,6 +109,17 @@ fn read(alloc: Global, line: &[&str]) -> Result<Result<Task, TaskFault>, Fail> {
         words.push(String::from_str(alloc, word)?)?;
     }
     Ok(read_task(alloc, words))
+}
+
+/// Reads a command line of `acres`, by the words behind it.
+fn read_acres(alloc: Global, behind: &[&str]) -> Result<Result<Task, TaskFault>, Fail> {
+    let mut line = Vec::new(alloc);
+    line.push("township")?;
+    line.push("acres")?;
+    for word in behind {
+        line.push(*word)?;
+    }
+    read(alloc, line.as_slice())
 }
 
 /// The text of a fault, behind its kind.
@@ -157,7 +185,13 @@ fn a_task_is_a_subcommand_with_its_files(rt: HostRuntime) -> Result<(), Fail> {
     for (line, wanted_notes, wanted_other) in lines {
         let (notes, other) = match read(rt.alloc(), line)? {
             Ok(Task::Plat { notes }) => (notes, None),
-            Ok(Task::Acres { notes, description }) => (notes, Some(description)),
+            Ok(
+                Task::Acres {
+                    notes,
+                    description,
+                    ..
+                },
+            ) => (notes, Some(description)),
             Ok(Task::Normal { notes, description }) => (notes, Some(description)),
             Ok(Task::Report { notes, tracts }) => (notes, Some(tracts)),
             Err(fault) => {
@@ -185,6 +219,171 @@ fn a_task_is_of_its_subcommand(rt: HostRuntime) -> Result<(), Fail> {
     assert!(rt; matches!(normal, Ok(Task::Normal { .. })));
     let report = read(alloc, &["township", "report", "n.csv", "t.csv"])?;
     assert!(rt; matches!(report, Ok(Task::Report { .. })));
+    Ok(())
+}
+
+#[test]
+fn acres_are_by_the_account_that_is_named(rt: HostRuntime) -> Result<(), Fail> {
+    // The words behind `acres`, and NOTES; DESCRIPTION is always the same.
+    let lines: [(&[&str], &str, Account); 10] = [
+        // The exact one where none is named.
+        (&["n.csv", "d.txt"], "n.csv", Account::Exact),
+        (
+            &["--account", "exact", "n.csv", "d.txt"],
+            "n.csv",
+            Account::Exact,
+        ),
+        (
+            &["--account", "plat", "n.csv", "d.txt"],
+            "n.csv",
+            Account::Plat,
+        ),
+        (
+            &["--account=plat", "n.csv", "d.txt"],
+            "n.csv",
+            Account::Plat,
+        ),
+        (
+            &["--account=exact", "n.csv", "d.txt"],
+            "n.csv",
+            Account::Exact,
+        ),
+        // Between the files and behind them.
+        (
+            &["n.csv", "--account", "plat", "d.txt"],
+            "n.csv",
+            Account::Plat,
+        ),
+        (
+            &["n.csv", "--account=plat", "d.txt"],
+            "n.csv",
+            Account::Plat,
+        ),
+        (
+            &["n.csv", "d.txt", "--account", "plat"],
+            "n.csv",
+            Account::Plat,
+        ),
+        (
+            &["--account=plat", "--", "n.csv", "d.txt"],
+            "n.csv",
+            Account::Plat,
+        ),
+        // Behind `--` it is a name like any other.
+        (
+            &["--", "--account=plat", "d.txt"],
+            "--account=plat",
+            Account::Exact,
+        ),
+    ];
+    for (line, wanted_notes, wanted) in lines {
+        match read_acres(rt.alloc(), line)? {
+            Ok(
+                Task::Acres {
+                    notes,
+                    description,
+                    account,
+                },
+            ) => {
+                assert!(rt; account == wanted, "{line:?}: {account:?}");
+                assert!(rt; notes.text() == wanted_notes, "{line:?}: {notes}");
+                assert!(rt; description.text() == "d.txt", "{line:?}: {description}");
+            }
+            other => assert!(rt; false, "{line:?}: {other:?}"),
+        }
+    }
+    Ok(())
+}
+
+#[test]
+fn an_account_is_named_once_and_as_it_is_called(rt: HostRuntime) -> Result<(), Fail> {
+    let none = "error: a value is required for '--account <ACCOUNT>' but none was supplied\n";
+    let elsewhere = "error: unexpected argument '--account' found
+
+  tip: to pass '--account' as a value, use '-- --account'
+";
+    let lines: [(&[&str], &str, &str); 12] = [
+        (
+            &[
+                "tw",
+                "acres",
+                "--account=plat",
+                "--account=plat",
+                "n.csv",
+                "d.txt",
+            ],
+            "error: the argument '--account <ACCOUNT>' cannot be used multiple times\n",
+            ACRES_USAGE,
+        ),
+        (
+            &[
+                "tw",
+                "acres",
+                "--account=exact",
+                "n.csv",
+                "d.txt",
+                "--account=plat",
+            ],
+            "error: the argument '--account <ACCOUNT>' cannot be used multiple times\n",
+            ACRES_USAGE,
+        ),
+        (
+            &["township", "acres", "n.csv", "d.txt", "--account"],
+            none,
+            VALUES,
+        ),
+        (
+            &["township", "acres", "--account=", "n.csv", "d.txt"],
+            none,
+            VALUES,
+        ),
+        (
+            &["township", "acres", "--account", "", "n.csv", "d.txt"],
+            none,
+            VALUES,
+        ),
+        (
+            &["tw", "acres", "--account", "printed", "n.csv", "d.txt"],
+            "error: invalid value 'printed' for '--account <ACCOUNT>'\n",
+            VALUES,
+        ),
+        (
+            &["township", "acres", "--account=PLAT", "n.csv", "d.txt"],
+            "error: invalid value 'PLAT' for '--account <ACCOUNT>'\n",
+            VALUES,
+        ),
+        // The option takes the word behind it, whatever it is: here the notes.
+        (
+            &["township", "acres", "--account", "n.csv", "d.txt"],
+            "error: invalid value 'n.csv' for '--account <ACCOUNT>'\n",
+            VALUES,
+        ),
+        (
+            &["township", "--account", "plat", "acres", "n.csv", "d.txt"],
+            "error: unexpected argument '--account' found\n\n  tip: 'acres --account' exists\n",
+            USAGE,
+        ),
+        (
+            &["township", "plat", "--account", "plat", "n.csv"],
+            elsewhere,
+            PLAT_USAGE,
+        ),
+        (
+            &["township", "normal", "n.csv", "d.txt", "--account=plat"],
+            elsewhere,
+            NORMAL_USAGE,
+        ),
+        (
+            &["township", "report", "n.csv", "--account=plat", "t.csv"],
+            elsewhere,
+            REPORT_USAGE,
+        ),
+    ];
+    for (line, wrong, usage) in lines {
+        let fault = fault_text(rt.alloc(), line)?;
+        let wanted = format!(in rt.alloc(); "usage: {wrong}{usage}")?;
+        assert!(rt; fault == wanted, "{line:?}: {fault}");
+    }
     Ok(())
 }
 
@@ -269,12 +468,12 @@ fn usage_says_what_was_wrong(rt: HostRuntime) -> Result<(), Fail> {
         (
             &["township", "acres"],
             "error: the following required arguments were not provided:\n  <NOTES>\n  <DESCRIPTION>\n",
-            ACRES_USAGE,
+            ACRES_WORDS,
         ),
         (
             &["township", "acres", "n.csv"],
             "error: the following required arguments were not provided:\n  <DESCRIPTION>\n",
-            ACRES_USAGE,
+            ACRES_WORDS,
         ),
         (
             &["township", "acres", "n.csv", "d.txt", "t.csv"],

@@ -244,6 +244,22 @@ fn answers_the_first_fault(rt: HostRuntime) -> Result<(), Fail> {
     Ok(())
 }
 
+// Notes of many lengths up to the limit, each filled up with empty lines, which are no records: none
+// wants more memory than there is.
+#[test]
+fn reads_long_notes(rt: HostRuntime) -> Result<(), Fail> {
+    let alloc = rt.alloc();
+    let notes = uneven_notes()?;
+    let mut text = text_of(alloc, &notes)?;
+    for step in 0..136 {
+        // The last one has 60,000 + 41 * 135 = 65,535 bytes.
+        let length = 60_000 + 41 * step;
+        text.resize(length, b'\n')?;
+        assert_eq!(rt; read(alloc, text.as_slice())?, notes, "{length}");
+    }
+    Ok(())
+}
+
 // 65,536 bytes are looked at, and one more is refused whatever the bytes are.
 #[test]
 fn refuses_too_many_bytes(rt: HostRuntime) -> Result<(), Fail> {

@@ -2,80 +2,10 @@ use super::*;
 use crate::fault::NotesFault;
 use crate::notes::Notes;
 use crate::sample::{text_of, uneven_notes};
-use std::io;
-use std::io::{Error, ErrorKind, Read};
+use std::io::ErrorKind;
 use std::test::Fail;
+use twp_devices::Reader;
 use twp_grid::{Bytes, Device};
-
-// Gives its bytes, at most so many a call, then spaces where it is endless, and counts what it is
-// asked for. It tells none of its bytes.
-#[derive(Drop)]
-struct Counted<'a> {
-    left: &'a [u8],
-    most: usize,
-    endless: bool,
-    calls: u32,
-    asked: u64,
-}
-
-impl<'a> Counted<'a> {
-    fn new(left: &'a [u8], most: usize, endless: bool) -> Counted<'a> {
-        Counted {
-            left,
-            most,
-            endless,
-            calls: 0,
-            asked: 0,
-        }
-    }
-}
-
-impl Source for Counted<'_> {
-    ghost use Rattle.std.specs.Prelude.{false};
-
-    ghost has_failed = { λ _. false };
-
-    fn fill(&mut self, buffer: &mut [u8]) -> Result<usize, DeviceFault> {
-        self.calls = self.calls.saturating_add(1);
-        self.asked = self.asked.saturating_add(buffer.len() as u64);
-        if self.left.is_empty() && self.endless {
-            let count = buffer.len().min(self.most);
-            buffer[..count].fill(b' ');
-            return Ok(count);
-        }
-        let count = buffer.len().min(self.most).min(self.left.len());
-        let (front, rest) = self.left.split_at(count);
-        buffer[..count].copy_from_slice(front);
-        self.left = rest;
-        Ok(count)
-    }
-
-    fn failed(&self) -> bool {
-        false
-    }
-}
-
-// Gives at most 500 bytes a call, and fails behind so many calls.
-#[derive(Drop)]
-struct FailsAt<'a> {
-    left: &'a [u8],
-    calls_left: u32,
-    kind: ErrorKind,
-}
-
-impl Read for FailsAt<'_> {
-    fn read(&mut self, buf: &mut [u8]) -> io::Result<usize> {
-        if self.calls_left == 0 {
-            return Err(Error::from(self.kind));
-        }
-        self.calls_left -= 1;
-        let count = buf.len().min(500).min(self.left.len());
-        let (front, rest) = self.left.split_at(count);
-        buf[..count].copy_from_slice(front);
-        self.left = rest;
-        Ok(count)
-    }
-}
 
 #[test]
 fn reads_pieces_of_any_size(rt: HostRuntime) -> Result<(), Fail> {
@@ -83,27 +13,28 @@ fn reads_pieces_of_any_size(rt: HostRuntime) -> Result<(), Fail> {
     let notes = uneven_notes()?;
     let text = text_of(alloc, &notes)?;
     for most in [1, 2, 3, 7, 1_000] {
-        let mut source = Counted::new(text.as_slice(), most, false);
+        let mut source = Device::new(Reader::new(&text).at_most(most));
         assert_eq!(rt; Notes::read(alloc, &mut source)?, notes, "pieces of {most}");
     }
     Ok(())
 }
 
 #[test]
-fn asks_for_no_byte_past_the_limit(rt: HostRuntime) -> Result<(), Fail> {
+fn reads_one_byte_past_the_limit(rt: HostRuntime) -> Result<(), Fail> {
     let alloc = rt.alloc();
     // 64 pieces of 1,024 bytes are 65,536, and one byte more makes 65 calls.
-    let mut endless = Counted::new(b"", usize::MAX, true);
+    let mut endless = Device::new(Reader::endless(b' '));
     assert_eq!(rt; Notes::read(alloc, &mut endless), Err(NotesFault::TooLarge));
-    assert_eq!(rt; (endless.calls, endless.asked), (65, 65_537));
+    let reader = endless.get();
+    assert_eq!(rt; (reader.calls(), reader.given()), (65, 65_537));
     // A byte a call: as many calls as bytes.
-    let mut slow = Counted::new(b"", 1, true);
+    let mut slow = Device::new(Reader::endless(b' ').at_most(1));
     assert_eq!(rt; Notes::read(alloc, &mut slow), Err(NotesFault::TooLarge));
-    assert_eq!(rt; slow.calls, 65_537);
+    assert_eq!(rt; slow.get().calls(), 65_537);
     // Behind the last byte the end is asked for once.
-    let mut short = Counted::new(b"line", 1_000, false);
+    let mut short = Device::new(Reader::new(b"line"));
     assert_eq!(rt; Notes::read(alloc, &mut short), Err(NotesFault::Heading));
-    assert_eq!(rt; (short.calls, short.asked), (2, 2_048));
+    assert_eq!(rt; short.get().calls(), 2);
     Ok(())
 }
 
@@ -118,7 +49,7 @@ fn reads_to_a_limit(rt: HostRuntime) -> Result<(), Fail> {
         }
     }
     for (most, front) in [(0, ""), (3, "acr"), (6, "acres\n"), (9, "acres\n")] {
-        let mut source = Counted::new(b"acres\n", usize::MAX, false);
+        let mut source = Device::new(Reader::new(b"acres\n"));
         let read = read_up_to(alloc, &mut source, most)?;
         assert_eq!(rt; read.as_slice(), front.as_bytes());
     }
@@ -134,20 +65,13 @@ fn tells_that_a_reader_failed(rt: HostRuntime) -> Result<(), Fail> {
     // They are given by 4 calls, and the 5th finds the end.
     assert_eq!(rt; text.len(), 1_638);
     for kind in [ErrorKind::Interrupted, ErrorKind::BrokenPipe] {
-        for calls_left in 0..6u32 {
-            let mut source = Device::new(FailsAt {
-                left: text.as_slice(),
-                calls_left,
-                kind,
-            });
+        for call in 1..7u32 {
+            let reader = Reader::new(&text).at_most(500).failing_at(call, kind);
+            let mut source = Device::new(reader);
             let read = Notes::read(alloc, &mut source);
-            assert_eq!(rt;
-                read == Err(NotesFault::Read),
-                calls_left < 5,
-                "at {calls_left}"
-            );
-            assert_eq!(rt; read.is_ok(), calls_left >= 5);
-            assert_eq!(rt; source.failed(), calls_left < 5);
+            assert_eq!(rt; read == Err(NotesFault::Read), call < 6, "at {call}");
+            assert_eq!(rt; read.is_ok(), call == 6);
+            assert_eq!(rt; source.failed(), call < 6);
         }
     }
     Ok(())

@@ -1,10 +1,10 @@
 use super::*;
-use crate::sample::{UNEVEN, notes, section};
 use std::test::Fail;
+use twp_samples::{UNEVEN, notes_of, section};
 
 #[test]
 fn adds_sections_up(rt: HostRuntime) -> Result<(), Fail> {
-    let plat = Plat::protract(&notes(&UNEVEN)?)?;
+    let plat = Plat::protract(&notes_of(&UNEVEN)?)?;
     for (number, hundredths) in [
         // 80 chains by 80: no line is uneven.
         (14, 64_000),
@@ -31,11 +31,11 @@ fn adds_sections_up(rt: HostRuntime) -> Result<(), Fail> {
 
 #[test]
 fn adds_the_township_up(rt: HostRuntime) -> Result<(), Fail> {
-    let even = Plat::protract(&notes(&[])?)?;
+    let even = Plat::protract(&notes_of(&[])?)?;
     assert_eq!(rt; even.township_area().hundredths(), 36 * 64_000);
     // 31 sections of 640 acres, and 640.80, 642.40, 639.96775, 636.40 and 638.00: 23,037.56775
     // acres.
-    let uneven = Plat::protract(&notes(&UNEVEN)?)?;
+    let uneven = Plat::protract(&notes_of(&UNEVEN)?)?;
     assert_eq!(rt; uneven.township_area().hundredths(), 2_303_757);
     Ok(())
 }

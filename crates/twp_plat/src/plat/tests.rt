@@ -1,8 +1,8 @@
 use super::*;
 use crate::fault::HalfMile;
-use crate::sample::{UNEVEN, notes, section};
 use std::test::Fail;
 use twp_grid::Refusal;
+use twp_samples::{UNEVEN, notes_of, section};
 
 #[test]
 fn keeps_lines_to_their_limits(rt: HostRuntime) -> Result<(), Fail> {
@@ -52,7 +52,7 @@ fn keeps_lines_to_their_limits(rt: HostRuntime) -> Result<(), Fail> {
         (4, "41.00", "40.00", first(4)),
         (58, "41.00", "40.00", first(58)),
     ] {
-        let plat = Plat::protract(&notes(&[(index, quarter, corner)])?);
+        let plat = Plat::protract(&notes_of(&[(index, quarter, corner)])?);
         assert_eq!(rt; plat.err(), fault, "line {index}: {quarter} {corner}");
     }
     Ok(())
@@ -60,7 +60,7 @@ fn keeps_lines_to_their_limits(rt: HostRuntime) -> Result<(), Fail> {
 
 #[test]
 fn answers_the_first_fault(rt: HostRuntime) -> Result<(), Fail> {
-    let faulty = notes(&[
+    let faulty = notes_of(&[
         (58, "40.00", "80.251"),
         (53, "40.00", "85.01"),
         (47, "40.251", "90.00"),
@@ -113,7 +113,7 @@ fn numbers_and_tells_faults(rt: HostRuntime) -> Result<(), Fail> {
 
 #[test]
 fn has_the_notes_township(rt: HostRuntime) -> Result<(), Fail> {
-    let notes = notes(&[])?;
+    let notes = notes_of(&[])?;
     assert_eq!(rt; Plat::protract(&notes)?.township(), notes.township());
     Ok(())
 }
@@ -129,7 +129,7 @@ fn hundredths(plat: &Plat, number: u8, column: u8, row: u8) -> Result<u64, Fail>
 #[test]
 fn measures_regular_positions(rt: HostRuntime) -> Result<(), Fail> {
     // 20 by 20 chains are 40 acres, in whatever section.
-    let plat = Plat::protract(&notes(&UNEVEN)?)?;
+    let plat = Plat::protract(&notes_of(&UNEVEN)?)?;
     for number in 1..37u8 {
         assert_eq!(rt; hundredths(&plat, number, 0, 0)?, 4_000, "section {number}");
     }
@@ -138,7 +138,7 @@ fn measures_regular_positions(rt: HostRuntime) -> Result<(), Fail> {
 
 #[test]
 fn measures_lots(rt: HostRuntime) -> Result<(), Fail> {
-    let plat = Plat::protract(&notes(&UNEVEN)?)?;
+    let plat = Plat::protract(&notes_of(&UNEVEN)?)?;
     for (number, column, row, acres) in [
         // Section 5's northern row is 20.20, 20.25, 20.30, 20.35 and 20.40 chains high at its five
         // ends: 20 times the means 20.225, 20.275, 20.325, 20.375, over 10.
@@ -179,14 +179,14 @@ fn measures_lots(rt: HostRuntime) -> Result<(), Fail> {
 fn takes_the_first_half_as_it_was_returned(rt: HostRuntime) -> Result<(), Fail> {
     // 80.20 - 40.10 - 20 = 20.10 chains in the east of section 5: (20.10 + 20.075) / 2 = 20.0875,
     // and 20 times that over 10 is 40.175 acres.
-    let plat = Plat::protract(&notes(&[(4, "40.10", "80.20")])?)?;
+    let plat = Plat::protract(&notes_of(&[(4, "40.10", "80.20")])?)?;
     assert_eq!(rt; hundredths(&plat, 5, 0, 3)?, 4_018);
     Ok(())
 }
 
 #[test]
 fn brings_areas_to_one_denominator(rt: HostRuntime) -> Result<(), Fail> {
-    let plat = Plat::protract(&notes(&UNEVEN)?)?;
+    let plat = Plat::protract(&notes_of(&UNEVEN)?)?;
     // 4 * 79,200 * 80,800, section 6's north line times its west line.
     assert_eq!(rt; plat.over(), 25_597_440_000);
     // Section 6, the north-western position: widths 19.303.. and 19.20, heights 20.703.. and 20.80,
@@ -261,7 +261,7 @@ fn interpolated(lines: [u8; 4], column: u8, row: u8) -> Option<(i128, i128)> {
 
 #[test]
 fn interpolates_all_positions(rt: HostRuntime) -> Result<(), Fail> {
-    let plat = Plat::protract(&notes(&UNEVEN)?)?;
+    let plat = Plat::protract(&notes_of(&UNEVEN)?)?;
     for tier in 0..6u8 {
         for range in 0..6u8 {
             let section = Section::at(tier, range);

@@ -171,6 +171,54 @@ fn refuses_too_large_texts_before_all(rt: HostRuntime) -> Result<(), Fail> {
     Ok(())
 }
 
+/// A front, and more behind it again and again, beyond the limit.
+fn repeated(alloc: Global, front: &[u8], more: &[u8]) -> Result<Vec<u8>, Fail> {
+    let mut text = Vec::from_slice(alloc, front)?;
+    for _ in 0..TEXT_LIMIT {
+        text.extend_from_slice(more)?;
+    }
+    Ok(text)
+}
+
+/// How many items the first bytes of a text are read as.
+fn count_items(alloc: Global, text: &[u8], length: usize) -> Result<usize, Fail> {
+    let front = text.get(..length).ok_or("so many bytes")?;
+    Ok(Description::read(alloc, front)?.items().len())
+}
+
+/// No text wants more memory than there is: white space up to each length near the limit.
+#[test]
+fn reads_each_length_near_the_limit(rt: HostRuntime) -> Result<(), Fail> {
+    let text = repeated(rt.alloc(), b"sec. 14", b" ")?;
+    for length in 65_000..TEXT_LIMIT + 1 {
+        assert_eq!(rt; count_items(rt.alloc(), &text, length)?, 1, "{length}");
+    }
+    Ok(())
+}
+
+/// Nor do white space and a long list up to each power of two and its neighbors. Shorter texts are
+/// read above.
+#[test]
+fn reads_powers_of_two(rt: HostRuntime) -> Result<(), Fail> {
+    let alloc = rt.alloc();
+    let blank = repeated(alloc, b"sec. 14", b" ")?;
+    // `sec 1` has 5 bytes, and each section behind it 2: a list of odd length has
+    // (length - 5) / 2 + 1 sections, and one of even length begins with a space.
+    let odd = repeated(alloc, b"sec 1", b",1")?;
+    let even = repeated(alloc, b" sec 1", b",1")?;
+    for power in [
+        8usize, 16, 32, 64, 128, 256, 512, 1_024, 2_048, 4_096, 8_192, 16_384, 32_768, 65_536,
+    ] {
+        for length in power.saturating_sub(1)..power.saturating_add(2).min(TEXT_LIMIT + 1) {
+            let list = if length % 2 == 1 { &odd } else { &even };
+            let sections = length.saturating_sub(3) / 2;
+            assert_eq!(rt; count_items(alloc, &blank, length)?, 1, "{length}");
+            assert_eq!(rt; count_items(alloc, list, length)?, sections, "{length}");
+        }
+    }
+    Ok(())
+}
+
 /// The items of `T. 2 N., R. 3 W., sec. 6, lots 1 thru 3, S1/2 of the NE1/4; secs. 7, 8 all`. Of
 /// the places, `sec` begins at 18, its number at 23, `lots` at 26, the lots at 31 and 38, the chain
 /// at 41, `secs` at 60, its numbers at 66 and 69.

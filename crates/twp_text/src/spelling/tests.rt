@@ -89,6 +89,24 @@ fn spells_several_sections(rt: HostRuntime) -> Result<(), Fail> {
     check_several_sections::<Lanes>(rt.alloc(), &rt)
 }
 
+/// Each section alone is `all`, with lots or without.
+fn check_each_section<L: Land>(alloc: Global, rt: &impl Abort) -> Result<(), Fail> {
+    for number in 1..SECTIONS + 1 {
+        let mut land = L::empty();
+        land.add(Section::new(number).ok_or("a section")?, Block::whole());
+        let text = spell(alloc, &land, township()?)?;
+        let line = format!(in alloc; "T. 2 N., R. 3 W.,\nsec. {number}, all.\n")?;
+        assert_eq!(rt; text[..], line.as_bytes()[..]);
+    }
+    Ok(())
+}
+
+#[test]
+fn spells_each_section(rt: HostRuntime) -> Result<(), Fail> {
+    check_each_section::<Grid>(rt.alloc(), &rt)?;
+    check_each_section::<Lanes>(rt.alloc(), &rt)
+}
+
 /// Whether a land holds each of 16 positions of a section, from the south-east one on, as the bits
 /// of a number say, and nothing else of it.
 fn holds_positions<L: Land>(land: &L, section: Section, bits: u32) -> Result<bool, Fail> {

@@ -6,11 +6,12 @@ pub returns-in-Err-Refused-clause-answer : goal.returns-in-Err-Refused-clause-an
 returns-in-Err-Refused-clause-answer g c =
     let settled = c.in-Err-Refused.ensures.land in
     let refusal = rw c.in-Err-Refused.field-0-is at settled.holds in
+    let answered = rw c.in-Err-Refused.field-0-is at c.refuse.ensures.answer in
     record {
       first_bytes = settled.first_bytes;
       second_bytes = settled.second_bytes;
       first_tells = settled.first_tells;
       second_tells = settled.second_tells;
-      holds = if_ok c.refuse.result _ _ c.refuse.ensures.answer (λ answer is. rw is.1 (refusal, is.0));
+      holds = if_ok c.refuse.result _ _ answered (λ answer is. rw is.1 (refusal, is.0));
       order = settled.order;
     }

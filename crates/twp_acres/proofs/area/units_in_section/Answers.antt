@@ -1,9 +1,9 @@
 -- Lot by lot, what is held is taken off the count and its piece is added; what is left lies off the lots.
 use Rattle.std.proofs.Common.{◌≡◌, ℕ, ◌+◌, ◌-◌, ◌≤◌, sym, arith}
 use Rattle.twp_land.proofs.LotFacts.{few_lots}
-use Rattle.twp_plat.specs.Pieces.{over_of}
+use Rattle.twp_acres.specs.Accounts.{over_by}
 use Rattle.twp_acres.proofs.SectionSums.{places_where, piece_where, places_held, places_not_held, piece_held, piece_not_held, of_lots-none, of_lots-next, lots_within, few_places, sum_of_section}
-use Rattle.twp_plat.proofs.SectionPieces.{piece_at}
+use Rattle.twp_acres.proofs.PieceFacts.{regular_by}
 use Rattle.twp_acres.proofs.AreaFacts.{lot_at_is, grows, bounded}
 use Rattle.twp_acres.proofs.area.units_in_section.Goals as goal
 use Rattle.twp_acres.proofs.area.units_in_section.Goals.{then-holds, else-holds}
@@ -48,14 +48,14 @@ loop-lot-preserved g c =
       | then-holds w ↦
           let there = places_held held column row c.holds.result c.holds.ensures w.if-holds.true in
           let within = lots_within c.args.section (c.loop-lot.lot + 1) held range (λ lot. c.requires.whole c.args.section lot range) in
-          let added = w.units-units.ensures.value in
+          let added = w.lot_units-units.ensures in
           record {
             taken = omega (arith, so_far.taken, w.off_lots-is);
             gained = λ pieces are.
-                let piece = piece_at c.args.plat.now pieces c.args.section column row w.piece_area.result are range at.within w.piece_area.ensures.piece w.piece_area.ensures.over in
+                let piece = added.units pieces column row are at.position in
                 let there = piece_held held (pieces c.args.section) column row c.holds.result c.holds.ensures w.if-holds.true in
                 omega (arith, so_far.gained pieces are, pieces_next pieces, w.units-is);
-            most = rw w.units-is (grows c.loop-lot.lot _ c.loop-lot.units w.units-units.result so_far.first so_far.most (rw (added, ← w.piece_area.ensures.over) w.piece_area.ensures.most));
+            most = rw w.units-is (grows c.loop-lot.lot _ c.loop-lot.units w.lot_units-units.result so_far.first so_far.most added.most);
             first = omega arith;
           }
       | else-holds w ↦
@@ -79,8 +79,8 @@ regular_units-requires-clause-places g c = let few = few_places (g.L.Land.places
 pub returns-clause-sum : goal.returns-clause-sum
 returns-clause-sum g c = λ pieces are.
     rw (c.regular_units.ensures, c.over-over.ensures.value)
-    (sum_of_section c.args.plat.now c.args.section c.loop-lot.lot c.loop-lot.off_lots c.loop-lot.units (g.L.Land.places c.args.land.now c.args.section) pieces c.over-over.ensures.plat are
-    c.lot_count-lot-end.ensures.section (λ lot. c.requires.whole c.args.section lot c.lot_count-lot-end.ensures.section) (omega arith) c.loop-lot.invariant.taken (c.loop-lot.invariant.gained pieces are))
+    (sum_of_section (over_by c.args.account c.args.plat.now) c.args.section c.loop-lot.lot c.loop-lot.off_lots c.loop-lot.units (g.L.Land.places c.args.land.now c.args.section) (pieces c.args.section)
+    (regular_by c.args.account c.args.plat.now pieces c.args.section c.over-over.ensures.plat are c.lot_count-lot-end.ensures.section) c.lot_count-lot-end.ensures.section (λ lot. c.requires.whole c.args.section lot c.lot_count-lot-end.ensures.section) (omega arith) c.loop-lot.invariant.taken (c.loop-lot.invariant.gained pieces are))
 
 pub returns-clause-most : goal.returns-clause-most
 returns-clause-most g c =
@@ -88,4 +88,4 @@ returns-clause-most g c =
     let few' = few_lots c.args.section c.lot_count-lot-end.ensures.section in
     let places : c.loop-lot.off_lots ≤ 256 = omega (arith, c.loop-lot.invariant.taken) in
     let regular = rw c.over-over.ensures.value at c.regular_units.ensures in
-    bounded (c.loop-lot.lot - 1) c.loop-lot.units c.loop-lot.off_lots (over_of c.args.plat.now) c.regular_units.result (omega arith) places c.loop-lot.invariant.most regular
+    bounded (c.loop-lot.lot - 1) c.loop-lot.units c.loop-lot.off_lots (over_by c.args.account c.args.plat.now) c.regular_units.result (omega arith) places c.loop-lot.invariant.most regular

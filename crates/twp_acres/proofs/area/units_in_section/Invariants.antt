@@ -3,9 +3,8 @@ use Rattle.twp_grid.specs.Places.{PLACE_DIGITS}
 use Rattle.twp_grid.specs.Spans.{whole_block}
 use Rattle.twp_land.specs.Lands.{count_held}
 use Rattle.twp_plat.specs.Closing.{CLOSING_MOST}
-use Rattle.twp_plat.specs.Pieces.{over_of}
-use Rattle.twp_plat.specs.PlatAreas.{ArePieces}
 use Rattle.twp_grid.specs.Totals.{over_positions}
+use Rattle.twp_acres.specs.Accounts.{over_by, AreUnitsBy}
 use Rattle.twp_acres.proofs.SectionSums.{of_lots, places_where, piece_where}
 use Rattle.twp_acres.proofs.area.units_in_section.Given as goal
 
@@ -15,8 +14,8 @@ invariant-loop-lot g l =
     let held = g.L.Land.places l.land l.section in
     record {
       taken : l.off_lots + over_positions (of_lots l.section l.lot (places_where held)) ≡ count_held held (whole_block PLACE_DIGITS);
-      gained : (pieces : ℕ → ℕ → ℕ → ℕ) → ArePieces l.plat pieces
+      gained : (pieces : ℕ → ℕ → ℕ → ℕ) → AreUnitsBy l.account l.plat pieces
           → l.units ≡ over_positions (of_lots l.section l.lot (piece_where held (pieces l.section)));
-      most : l.units ≤ (l.lot - 1) * (CLOSING_MOST * CLOSING_MOST * over_of l.plat);
+      most : l.units ≤ (l.lot - 1) * (CLOSING_MOST * CLOSING_MOST * over_by l.account l.plat);
       first : 1 ≤ l.lot;
     }

@@ -1,7 +1,7 @@
 -- Where the notes make no plat the list is as it was.
 use Rattle.std.proofs.Common.{[], inl, inr, refl}
 use Rattle.std.specs.Prelude.{unwrap_or}
-use Rattle.twp_acres.proofs.RunFacts.{some_bytes, if_ok}
+use Rattle.twp_acres.proofs.RunFacts.{some_bytes, if_ok, none_platted}
 use Rattle.twp_acres.proofs.report_answer.answer_of.Goals as goal
 
 pub returns-in-Err-Refused-clause-answer : goal.returns-in-Err-Refused-clause-answer
@@ -30,3 +30,8 @@ returns-in-Err-Failed-clause-answer g c =
       holds = tt;
       order = inr refl;
     }
+
+pub returns-in-Err-Refused-clause-tracts_exact : goal.returns-in-Err-Refused-clause-tracts_exact
+returns-in-Err-Refused-clause-tracts_exact g c n told makes _ _ _ =
+    let notes = rw c.in-Err-Refused.field-0-is at c.in-Err-Refused.ensures.plat in
+    absurd (none_platted _ n c.in-Err-Refused.refusal notes told makes)

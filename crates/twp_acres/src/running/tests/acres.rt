@@ -1,7 +1,8 @@
 //! Acres of lots, of aliquot parts and of sections.
 use super::Said::Acres;
-use super::{answer_to, even, expected, notes_of, uneven};
+use super::{answer_to, expected};
 use std::test::Fail;
+use twp_samples::{even, text_of, uneven};
 
 #[test]
 fn measures_the_even_township(rt: HostRuntime) -> Result<(), Fail> {
@@ -73,7 +74,7 @@ fn measures_the_uneven_township(rt: HostRuntime) -> Result<(), Fail> {
     }
     // A closing quarter of 80.20 - 40.10 - 20 = 20.10 chains beside one of 20: the mean height of
     // lot 1 is 20.0875 chains, so its area is 40.175 acres, a tie.
-    let late = notes_of(alloc, &[(4, "40.10", "80.20")])?;
+    let late = text_of(alloc, &[(4, "40.10", "80.20")])?;
     let answer = answer_to(alloc, late.as_slice(), b"sec. 5, lot 1.")?;
     assert_eq!(rt; answer, expected(alloc, Acres("40.18"))?);
     Ok(())

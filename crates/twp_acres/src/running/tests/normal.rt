@@ -1,11 +1,12 @@
 //! Canonical texts of lands.
 use super::Said::Refused;
-use super::{even, expected};
+use super::expected;
 use crate::running::run_normal;
 use crate::verdict::Verdict;
 use std::alloc::Global;
 use std::test::Fail;
 use twp_grid::{Bytes, Device};
+use twp_samples::even;
 
 fn normal_of(alloc: Global, notes: &[u8], description: &[u8]) -> Result<(Vec<u8>, Verdict), Fail> {
     let mut out = Device::new(Vec::new(alloc));

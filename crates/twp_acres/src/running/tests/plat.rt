@@ -1,11 +1,12 @@
 //! The printed plat.
 use super::Said::Refused;
-use super::{even, expected, notes_of, uneven};
+use super::expected;
 use crate::running::run_plat;
 use crate::verdict::Verdict;
 use std::alloc::Global;
 use std::test::Fail;
 use twp_grid::{Bytes, Device};
+use twp_samples::{even, text_of, uneven};
 
 /// The uneven township. Section 4's heights at 0, 20, 40, 60 and 80 chains are 20.00, 20.05, 20.10,
 /// 20.15 and 20.20, so its lots are 20 chains by 20.025, 20.075, 20.125 and 20.175: 40.05, 40.15,
@@ -13,7 +14,7 @@ use twp_grid::{Bytes, Device};
 /// north are 19.50, 19.625, 19.75, 19.875 and 20.00, so its lots are 39.125, 39.375, 39.625 and
 /// 39.875 acres, each a tie, and 158 in full. The others are worked out where their acres are
 /// tested.
-const UNEVEN_PLAT: &str = "\
+pub const UNEVEN_PLAT: &str = "\
 sec. 1: lot 1 40.00, lot 2 40.00, lot 3 40.00, lot 4 40.00, total 640.00\n\
 sec. 2: lot 1 40.00, lot 2 40.00, lot 3 40.00, lot 4 40.00, total 640.00\n\
 sec. 3: lot 1 40.00, lot 2 40.00, lot 3 40.00, lot 4 40.00, total 640.00\n\
@@ -82,7 +83,7 @@ fn refuses_what_makes_no_plat(rt: HostRuntime) -> Result<(), Fail> {
         plat_of(alloc, shorter.as_slice())?,
         expected(alloc, Refused(11, 53))?
     );
-    let short = notes_of(alloc, &[(47, "40", "64.99")])?;
+    let short = text_of(alloc, &[(47, "40", "64.99")])?;
     assert_eq!(rt;
         plat_of(alloc, short.as_slice())?,
         expected(alloc, Refused(22, 47))?

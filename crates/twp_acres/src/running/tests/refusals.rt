@@ -1,41 +1,29 @@
 //! Refusals of each stage, at their places.
 use super::Said::{Acres, Refused};
-use super::{answer_to, even, expected, notes_of};
-use std::alloc::Global;
+use super::{Said, answer_to, expected};
 use std::test::Fail;
+use twp_samples::{even, text_of, with_record};
 
-/// Notes with another record, by its number.
-fn with_record(alloc: Global, notes: &[u8], number: usize, record: &[u8]) -> Result<Vec<u8>, Fail> {
-    let mut text = Vec::new(alloc);
-    let mut at = 0usize;
-    for line in notes.split_inclusive(|byte| *byte == b'\n') {
-        at = at.saturating_add(1);
-        text.extend_from_slice(if at == number { record } else { line })?;
-    }
-    Ok(text)
-}
+/// Records of the even township's notes, by their numbers, in another form, and what is refused.
+pub const DAMAGED: [(usize, &[u8], Said); 10] = [
+    (1, b"Line,between,and,quarter,corner\n", Refused(3, 1)),
+    (2, b"T,0,N,3,W\n", Refused(5, 2)),
+    (3, b"N,1,,40.00\n", Refused(4, 3)),
+    (3, b"X,1,,40.00,80.00\n", Refused(6, 3)),
+    (3, b"N,37,,40.00,80.00\n", Refused(7, 3)),
+    (3, b"N,1,3,40.00,80.00\n", Refused(8, 3)),
+    (3, b"N,1,1,40.00,80.00\n", Refused(8, 3)),
+    (3, b"N,1,,40.0000,80.00\n", Refused(9, 3)),
+    (4, b"N,1,,40.00,80.00\n", Refused(10, 4)),
+    // Without the line between sections 6 and 7.
+    (56, b"", Refused(11, 53)),
+];
 
 #[test]
 fn refuses_notes(rt: HostRuntime) -> Result<(), Fail> {
     let alloc = rt.alloc();
     let notes = even(alloc)?;
-    for (number, record, said) in [
-        (
-            1,
-            b"Line,between,and,quarter,corner\n".as_slice(),
-            Refused(3, 1),
-        ),
-        (2, b"T,0,N,3,W\n", Refused(5, 2)),
-        (3, b"N,1,,40.00\n", Refused(4, 3)),
-        (3, b"X,1,,40.00,80.00\n", Refused(6, 3)),
-        (3, b"N,37,,40.00,80.00\n", Refused(7, 3)),
-        (3, b"N,1,3,40.00,80.00\n", Refused(8, 3)),
-        (3, b"N,1,1,40.00,80.00\n", Refused(8, 3)),
-        (3, b"N,1,,40.0000,80.00\n", Refused(9, 3)),
-        (4, b"N,1,,40.00,80.00\n", Refused(10, 4)),
-        // Without the line between sections 6 and 7.
-        (56, b"", Refused(11, 53)),
-    ] {
+    for (number, record, said) in DAMAGED {
         let damaged = with_record(alloc, notes.as_slice(), number, record)?;
         let answer = answer_to(alloc, damaged.as_slice(), b"sec. 14.")?;
         assert_eq!(rt; answer, expected(alloc, said)?);
@@ -66,7 +54,7 @@ fn refuses_notes_that_make_no_plat(rt: HostRuntime) -> Result<(), Fail> {
         ((47, "40", "64.99"), Refused(22, 47)),
         ((47, "40", "65"), Acres("640.00")),
     ] {
-        let notes = notes_of(alloc, &[change])?;
+        let notes = text_of(alloc, &[change])?;
         let answer = answer_to(alloc, notes.as_slice(), b"sec. 14.")?;
         assert_eq!(rt; answer, expected(alloc, said)?);
     }

@@ -1,14 +1,20 @@
 //! The account of tracts.
-use super::{even, notes_of, uneven};
+use super::Said::{Refused, TractRefused};
+use super::{Said, expected};
 use crate::running::run_report;
 use crate::verdict::Verdict;
 use std::alloc::Global;
 use std::test::Fail;
 use twp_grid::{Bytes, Device, Refusal};
+use twp_samples::{even, uneven};
 
 /// Lots of section 7 of the uneven township: 39.175 and 39.025 acres, each a tie, and 78.2
 /// together.
-const LIST: &str = "name,description\nA,\"sec. 7, lot 1.\"\nB,\"sec. 7, lot 4.\"\n";
+pub const LIST: &str = "name,description\nA,\"sec. 7, lot 1.\"\nB,\"sec. 7, lot 4.\"\n";
+
+/// Their account. The uneven township has 23,037.56775.. acres, so 22,959.36775.. are left.
+pub const ACCOUNT: &str = "tract A: 39.18 acres\ntract B: 39.03 acres\n\
+    total: 78.20 acres\nremaining: 22959.37 acres\n";
 
 /// What a run of notes and a list of tracts writes, and its verdict.
 fn report_of(alloc: Global, notes: &[u8], list: &[u8]) -> Result<(Vec<u8>, Verdict), Fail> {
@@ -29,13 +35,9 @@ fn refused(number: u8, at: u32) -> Verdict {
 
 #[test]
 fn adds_tracts_up(rt: HostRuntime) -> Result<(), Fail> {
-    // The uneven township has 23,037.56775.. acres, so 22,959.36775.. are left.
     let notes = uneven(rt.alloc())?;
     let (text, verdict) = report_of(rt.alloc(), &notes, LIST.as_bytes())?;
-    assert_eq!(&rt;
-        str::from_utf8(&text)?,
-        "tract A: 39.18 acres\ntract B: 39.03 acres\ntotal: 78.20 acres\nremaining: 22959.37 acres\n"
-    );
+    assert_eq!(&rt; str::from_utf8(&text)?, ACCOUNT);
     assert_eq!(&rt; verdict, Verdict::Accepted);
 
     // Lot 5 of section 6 has 38.70 acres: 23,037.56775.. less 38.70495.. are 22,998.86 and not
@@ -67,102 +69,109 @@ fn accepts_a_heading_alone(rt: HostRuntime) -> Result<(), Fail> {
     Ok(())
 }
 
+/// Lists that are refused in the uneven township.
+pub const REFUSED: [(&str, Said); 14] = [
+    ("", Refused(81, 1)),
+    ("name,text\n", Refused(81, 1)),
+    (
+        "name,description\nA,\"sec. 7, lot 1.\"\nB\n",
+        Refused(81, 3),
+    ),
+    ("name,description\n,\"sec. 7, lot 1.\"\n", Refused(81, 2)),
+    (
+        "name,description\nA\tB,\"sec. 7, lot 1.\"\n",
+        Refused(81, 2),
+    ),
+    (
+        "name,description\nA,\"sec. 7, lot 1.\"\nA,\"sec. 7, lot 4.\"\n",
+        Refused(82, 3),
+    ),
+    // A repeated name comes before a description that is none.
+    ("name,description\nA,sec. 1.\nA,sec.\n", Refused(82, 3)),
+    (
+        "name,description\nA,\"sec. 7, lot 1.\"\nB,\"sec. 7, lots 1 and 4.\"\n",
+        Refused(84, 3),
+    ),
+    // The overlap is with the first tract, and not with the last one.
+    (
+        "name,description\nA,sec. 14.\nB,sec. 15.\nC,\"sec. 14, N1/2.\"\n",
+        Refused(84, 4),
+    ),
+    (
+        "name,description\nA,\"sec. 14, NE1/4 and N1/2.\"\nB,\"sec. 7, lot 4.\"\n",
+        TractRefused(2, 67, 19),
+    ),
+    (
+        "name,description\nA,\"sec. 7, lot 1.\"\nB,\"sec. 7, lot 4.\"\nC,\n",
+        TractRefused(4, 44, 0),
+    ),
+    // A line end in the quotes counts as the bytes that it has: one before `NE` at 9, or two.
+    (
+        "name,description\nA,\"sec. 14,\nNE1/2.\"\n",
+        TractRefused(2, 44, 11),
+    ),
+    (
+        "name,description\nA,\"sec. 14,\r\nNE1/2.\"\n",
+        TractRefused(2, 44, 12),
+    ),
+    // Two quotes in the quotes are one of the description, at 9, which no token begins with.
+    (
+        "name,description\nA,\"sec. 14, \"\"NE1/4.\"\n",
+        TractRefused(2, 42, 9),
+    ),
+];
+
 #[test]
 fn refuses_lists(rt: HostRuntime) -> Result<(), Fail> {
-    let notes = uneven(rt.alloc())?;
-    for (list, number, at) in [
-        ("", 81, 1),
-        ("name,text\n", 81, 1),
-        ("name,description\nA,\"sec. 7, lot 1.\"\nB\n", 81, 3),
-        ("name,description\n,\"sec. 7, lot 1.\"\n", 81, 2),
-        ("name,description\nA\tB,\"sec. 7, lot 1.\"\n", 81, 2),
-        (
-            "name,description\nA,\"sec. 7, lot 1.\"\nA,\"sec. 7, lot 4.\"\n",
-            82,
-            3,
-        ),
-        // A repeated name comes before a description that is none.
-        ("name,description\nA,sec. 1.\nA,sec.\n", 82, 3),
-        (
-            "name,description\nA,\"sec. 7, lot 1.\"\nB,\"sec. 7, lots 1 and 4.\"\n",
-            84,
-            3,
-        ),
-        // The overlap is with the first tract, and not with the last one.
-        (
-            "name,description\nA,sec. 14.\nB,sec. 15.\nC,\"sec. 14, N1/2.\"\n",
-            84,
-            4,
-        ),
-    ] {
-        let (text, verdict) = report_of(rt.alloc(), &notes, list.as_bytes())?;
-        let line = format!(in rt.alloc(); "refused {number} at {at}\n")?;
-        assert_eq!(&rt; str::from_utf8(&text)?, line.as_str());
-        assert_eq!(&rt; verdict, refused(number, at));
+    let alloc = rt.alloc();
+    let notes = uneven(alloc)?;
+    for (list, said) in REFUSED {
+        let answer = report_of(alloc, &notes, list.as_bytes())?;
+        assert_eq!(rt; answer, expected(alloc, said)?, "{list}");
     }
     Ok(())
 }
 
-#[test]
-fn refuses_a_description_on_a_second_line(rt: HostRuntime) -> Result<(), Fail> {
-    let notes = uneven(rt.alloc())?;
-    for (list, at, number, offset) in [
-        (
-            "name,description\nA,\"sec. 14, NE1/4 and N1/2.\"\n",
-            2,
-            67,
-            19,
-        ),
-        (
-            "name,description\nA,\"sec. 7, lot 1.\"\nB,\"sec. 7, lot 4.\"\nC,\n",
-            4,
-            44,
-            0,
-        ),
-        // A line end in the quotes counts as the bytes that it has: one before `NE` at 9, or two.
-        ("name,description\nA,\"sec. 14,\nNE1/2.\"\n", 2, 44, 11),
-        ("name,description\nA,\"sec. 14,\r\nNE1/2.\"\n", 2, 44, 12),
-        // Two quotes in the quotes are one of the description, at 9, which no token begins with.
-        ("name,description\nA,\"sec. 14, \"\"NE1/4.\"\n", 2, 42, 9),
-    ] {
-        let (text, verdict) = report_of(rt.alloc(), &notes, list.as_bytes())?;
-        let lines = format!(in rt.alloc(); "refused 83 at {at}\nrefused {number} at {offset}\n")?;
-        assert_eq!(&rt; str::from_utf8(&text)?, lines.as_str());
-        let inner = Refusal { number, at: offset };
-        assert_eq!(&rt; verdict, Verdict::TractRefused { at, inner });
-    }
-    Ok(())
+/// The record of a tract that has one place alone, of section 8, 9, 10 or 11, and another one than
+/// those of other numbers.
+fn tract_of_one_place(alloc: Global, number: u32) -> Result<String, Fail> {
+    let quarters = ["NE", "NW", "SW", "SE"];
+    let section = number / 256 + 8;
+    let a = quarters[(number / 64 % 4) as usize];
+    let b = quarters[(number / 16 % 4) as usize];
+    let c = quarters[(number / 4 % 4) as usize];
+    let d = quarters[(number % 4) as usize];
+    Ok(format!(in alloc; "{number},\"sec. {section}, {a}1/4{b}1/4{c}1/4{d}1/4.\"\n")?)
 }
 
 #[test]
 fn counts_tracts(rt: HostRuntime) -> Result<(), Fail> {
-    // Each tract has one place of section 8, 9, 10 or 11, and another one than all others.
-    let mut list = Vec::from_slice(rt.alloc(), b"name,description\n")?;
-    let quarters = ["NE", "NW", "SW", "SE"];
-    let mut count = 0u32;
-    for section in 8..12u8 {
-        for a in quarters {
-            for b in quarters {
-                for c in quarters {
-                    for d in quarters {
-                        if count < 1_000 {
-                            count = count.wrapping_add(1);
-                            let line = format!(in rt.alloc();
-                                "{count},\"sec. {section}, {a}1/4{b}1/4{c}1/4{d}1/4.\"\n"
-                            )?;
-                            list.extend_from_slice(line.as_bytes())?;
-                        }
-                    }
-                }
-            }
-        }
-    }
     let notes = even(rt.alloc())?;
-    let (text, verdict) = report_of(rt.alloc(), &notes, &list)?;
-    assert_eq!(&rt; verdict, Verdict::Accepted);
-    // 1,000 places of 2.5 acres.
-    let end = b"total: 2500.00 acres\nremaining: 20540.00 acres\n";
-    assert!(&rt; text.ends_with(end));
+    let mut list = Vec::from_slice(rt.alloc(), b"name,description\n")?;
+    let mut count = 0;
+    // Each tract is a place of 2.5 acres, of 23,040.
+    for (next_count, total, remaining) in [
+        (990, "2475.00", "20565.00"),
+        (991, "2477.50", "20562.50"),
+        (992, "2480.00", "20560.00"),
+        (993, "2482.50", "20557.50"),
+        (994, "2485.00", "20555.00"),
+        (995, "2487.50", "20552.50"),
+        (996, "2490.00", "20550.00"),
+        (997, "2492.50", "20547.50"),
+        (998, "2495.00", "20545.00"),
+        (999, "2497.50", "20542.50"),
+        (1_000, "2500.00", "20540.00"),
+    ] {
+        for number in count..next_count {
+            list.extend_from_slice(tract_of_one_place(rt.alloc(), number)?.as_bytes())?;
+        }
+        count = next_count;
+        let (text, verdict) = report_of(rt.alloc(), &notes, &list)?;
+        let end = format!(in rt.alloc(); "total: {total} acres\nremaining: {remaining} acres\n")?;
+        assert_eq!(&rt; verdict, Verdict::Accepted);
+        assert!(&rt; text.ends_with(end.as_bytes()), "{count}");
+    }
 
     // One more is refused, whatever it is: another place of section 11, one without a name, no
     // tract.
@@ -242,21 +251,5 @@ fn reads_a_list_to_its_limit(rt: HostRuntime) -> Result<(), Fail> {
     let (text, verdict) = report_of(rt.alloc(), &notes, &list)?;
     assert_eq!(&rt; str::from_utf8(&text)?, "refused 80 at 1048576\n");
     assert_eq!(&rt; verdict, refused(80, 1_048_576));
-    Ok(())
-}
-
-#[test]
-fn leaves_the_list_unread_without_a_plat(rt: HostRuntime) -> Result<(), Fail> {
-    // No notes, and notes that make no plat: section 6 has a closing quarter of 4.99 chains on its
-    // north.
-    let short = notes_of(rt.alloc(), &[(47, "40", "64.99")])?;
-    for (notes, number, at) in [(b"".as_slice(), 2, 1), (short.as_slice(), 22, 47)] {
-        let mut list = Bytes::new(LIST.as_bytes());
-        let mut out = Device::new(Vec::new(rt.alloc()));
-        let verdict = run_report(rt.alloc(), &mut Bytes::new(notes), &mut list, &mut out)?;
-        assert_eq!(&rt; verdict, refused(number, at));
-        let mut left = [0; 64];
-        assert_eq!(&rt; twp_grid::Source::fill(&mut list, &mut left)?, LIST.len());
-    }
     Ok(())
 }

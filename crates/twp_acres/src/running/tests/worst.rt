@@ -1,8 +1,9 @@
 //! The longest descriptions.
 use super::Said::{Acres, Refused};
-use super::{answer_to, even, expected};
+use super::{answer_to, expected};
 use std::alloc::Global;
 use std::test::Fail;
+use twp_samples::even;
 
 const CORNERS: [&str; 4] = ["NE1/4", "NW1/4", "SW1/4", "SE1/4"];
 
@@ -56,19 +57,5 @@ fn names_one_place_each_time(rt: HostRuntime) -> Result<(), Fail> {
     assert_eq!(&rt; twice.len(), LIMIT);
     let answer = answer_to(alloc, notes.as_slice(), twice.as_slice())?;
     assert_eq!(&rt; answer, expected(alloc, Refused(67, last as u32))?);
-    Ok(())
-}
-
-#[test]
-fn keeps_to_the_limit(rt: HostRuntime) -> Result<(), Fail> {
-    let alloc = rt.alloc();
-    let notes = even(alloc)?;
-    let mut spaces = Vec::new(alloc);
-    spaces.resize(LIMIT, b' ')?;
-    let answer = answer_to(alloc, notes.as_slice(), spaces.as_slice())?;
-    assert_eq!(rt; answer, expected(alloc, Refused(44, 65_536))?);
-    spaces.push(b' ')?;
-    let answer = answer_to(alloc, notes.as_slice(), spaces.as_slice())?;
-    assert_eq!(rt; answer, expected(alloc, Refused(41, 65_536))?);
     Ok(())
 }

@@ -1,10 +1,10 @@
 -- The two parts of the joined bytes are the notes and the description.
-use Rattle.std.proofs.Common.{◌==◌, ℕ, List, [], Some, ap, ◌∙◌}
+use Rattle.std.proofs.Common.{◌==◌, ℕ, List, [], Some, ap, refl, ◌∙◌}
 use Rattle.std.specs.Prelude.{unwrap_or}
 use Rattle.std.specs.List.{before_first, after_first}
 use Rattle.std.proofs.lemmas.Result.{err_from_is_err_and}
 use Rattle.twp_cmd.specs.Joined.{joined_bytes, joined_notes, joined_description}
-use Rattle.twp_acres.proofs.RunFacts.{some_bytes, told_one, keeps_nothing}
+use Rattle.twp_acres.proofs.RunFacts.{some_bytes, told_one, keeps_nothing, none_failed_of}
 use Rattle.twp_cmd.proofs.joined.run_joined.Goals as goal
 
 pub returns-in_err-bytes-clause-ran : goal.returns-in_err-bytes-clause-ran
@@ -29,3 +29,13 @@ returns-clause-ran g c =
 
 pub returns-clause-told : goal.returns-clause-told
 returns-clause-told g c bytes is = told_one _ bytes _ (returns-clause-ran g c) is
+
+-- the bytes that were read are devices that never fail
+pub returns-clause-read : goal.returns-clause-read
+returns-clause-read g c = (
+  (λ is. absurd (none_failed_of _ _ refl refl (c.run_acres.ensures.run.read.0 is))),
+  (λ failed. cc (c.in_ok-bytes.ensures.failed.1 failed)),
+)
+
+pub returns-clause-answers : goal.returns-clause-answers
+returns-clause-answers g c _ out_open = c.run_acres.ensures.run.answers refl refl out_open

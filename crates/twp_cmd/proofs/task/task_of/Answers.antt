@@ -13,4 +13,4 @@ name_of-requires-2 c =
     let found : option_map (λ p. p.1) entered ≡ Some rows = search rules in
     let no_plat : c.in-Some.name.now ≡ codes "plat" → ⊥ = λ is. let bad : false ≡ true = rw is at c.if-eq.ensures in cc in
     let no_report : c.in-Some.name.now ≡ codes "report" → ⊥ = λ is. let bad : false ≡ true = rw is at c.if-eq-2.ensures in cc in
-    record { value = (land_words entered c.in-Some.name.now rows c.requires.whole named found no_plat no_report).1 }
+    record { value = land_words entered c.in-Some.name.now rows c.requires.whole named found no_plat no_report }

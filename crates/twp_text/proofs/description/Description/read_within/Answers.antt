@@ -14,7 +14,7 @@ pub fault_of-requires-clause-wrong : goal.fault_of-requires-clause-wrong
 fault_of-requires-clause-wrong c =
     let text : List ℕ = c.args.text.now in
     let reached : Reached = c.in_ok-reached-2.reached in
-    let its : List Item = c.take_parts.new.self in
+    let its : List Item = c.take_usual.new.self in
     let end : ℕ = c.in-Some.token.at + length c.in-Some.token.text.now in
     let here : Front text reached.at (drop reached.at text) reached.state its =
     goes_further text c.tokens.reached.at c.tokens.reached.state c.tokens.items reached.at reached.state its c.tokens.invariant c.in_ok-reached-2.ensures in
@@ -24,7 +24,7 @@ pub tokens-preserved : goal.tokens-preserved
 tokens-preserved c =
     let text : List ℕ = c.args.text.now in
     let reached : Reached = c.in_ok-reached-2.reached in
-    let its : List Item = c.take_parts.new.self in
+    let its : List Item = c.take_usual.new.self in
     let end : ℕ = c.in-Some.token.at + length c.in-Some.token.text.now in
     let behind : State = c.in-Some-next.behind in
     let passed : Reached = c.behind_fraction-reached.result in
@@ -49,7 +49,7 @@ pub fault_of-requires-then-not-is_final-clause-wrong : goal.fault_of-requires-th
 fault_of-requires-then-not-is_final-clause-wrong c =
     let text : List ℕ = c.args.text.now in
     let reached : Reached = c.in_ok-reached-2.reached in
-    let its : List Item = c.take_parts.new.self in
+    let its : List Item = c.take_usual.new.self in
     let here : Front text reached.at (drop reached.at text) reached.state its =
     goes_further text c.tokens.reached.at c.tokens.reached.state c.tokens.items reached.at reached.state its c.tokens.invariant c.in_ok-reached-2.ensures in
     rw c.expected-then-not-is_final.ensures
@@ -59,7 +59,7 @@ pub invariant_of-result : goal.invariant_of-result
 invariant_of-result c =
     let text : List ℕ = c.args.text.now in
     let reached : Reached = c.in_ok-reached-2.reached in
-    let its : List Item = c.take_parts.new.self in
+    let its : List Item = c.take_usual.new.self in
     let here : Front text reached.at (drop reached.at text) reached.state its =
     goes_further text c.tokens.reached.at c.tokens.reached.state c.tokens.items reached.at reached.state its c.tokens.invariant c.in_ok-reached-2.ensures in
     let read : IsReadAs text (reverse its) = read_whole text reached.at (drop reached.at text) reached.state its here c.in_default.ensures (sym c.if-not-is_final.ensures) c.requires in
@@ -69,7 +69,7 @@ pub returns-clause-read : goal.returns-clause-read
 returns-clause-read c =
     let text : List ℕ = c.args.text.now in
     let reached : Reached = c.in_ok-reached-2.reached in
-    let its : List Item = c.take_parts.new.self in
+    let its : List Item = c.take_usual.new.self in
     let here : Front text reached.at (drop reached.at text) reached.state its =
     goes_further text c.tokens.reached.at c.tokens.reached.state c.tokens.items reached.at reached.state its c.tokens.invariant c.in_ok-reached-2.ensures in
     rw c.into_vec.ensures (read_whole text reached.at (drop reached.at text) reached.state its here c.in_default.ensures (sym c.if-not-is_final.ensures) c.requires)

@@ -1,0 +1,26 @@
+-- The run stopped, or had the answer and wrote it.
+use Rattle.std.proofs.lemmas.Result.{err_from_is_err_and}
+use Rattle.twp_acres.specs.NormalAnswers.{IsNormalAnswer}
+use Rattle.twp_text.specs.TextFaults.{TEXT_LIMIT}
+use Rattle.twp_acres.proofs.RunFacts.{run_on_plat, run_stopped}
+use Rattle.twp_acres.proofs.running.run_normal.Goals as goal
+
+pub returns-in_err-answer : goal.returns-in_err-answer
+returns-in_err-answer g c =
+    let stopped = c.in_err-answer.ensures in
+    let gone = err_from_is_err_and c.from_residual.result c.from_residual.ensures.1 in
+    record {
+      run = rw (gone.1, gone.2) (run_stopped IsNormalAnswer TEXT_LIMIT _ _ _ _ _ c.in_err-answer.field-0.0 _ stopped.answer
+          stopped.read stopped.unread_after_fault stopped.no_write c.requires.out stopped.notes_most stopped.description_most
+          stopped.notes_exact stopped.description_exact);
+    }
+
+pub returns : goal.returns
+returns g c =
+    let answer = c.in_ok-answer.ensures in
+    let wrote = c.write_answer.ensures in
+    record {
+      run = run_on_plat c.in_ok-answer.answer IsNormalAnswer TEXT_LIMIT _ _ _ _ _ _ c.write_answer.result answer.answer
+          (λ failed. cc (answer.read.1 failed)) answer.unread_after_fault answer.notes_most answer.description_most
+          answer.notes_exact answer.description_exact wrote.verdict wrote.whole wrote.front wrote.write wrote.failed;
+    }

@@ -1,0 +1,187 @@
+//! The subcommands. Each runs on its opened files, whatever devices they are, and so does the
+//! program without words; what opens the files only hands them on.
+ghost use Rattle.std.specs.Prelude.{◌≡◌, IfErr, IfOk, false};
+ghost use Rattle.twp_text.specs.TextFaults.{TEXT_LIMIT};
+ghost use Rattle.twp_acres.specs.AccountAnswers.{IsAcresAnswerBy};
+ghost use Rattle.twp_acres.specs.NormalAnswers.{IsNormalAnswer};
+ghost use Rattle.twp_acres.specs.PlatAnswers.{IsPlatAnswer};
+ghost use Rattle.twp_acres.specs.ReportAnswers.{IsReportAnswer};
+ghost use Rattle.twp_acres.specs.Runs.{RunsOnPlat, used};
+ghost use Rattle.twp_acres.specs.Tracts.{TRACTS_LIMIT};
+ghost use Rattle.twp_cmd.specs.Endings.{EndsRun, FailsOn, IsVerdictOf, RunsOnNotes};
+
+use crate::ending::{Failure, outcome_of};
+use crate::files::{OpenedNotes, OpenedText, open_notes, open_text};
+use crate::name::Name;
+use crate::task::Task;
+use std::alloc::Global;
+use std::io;
+use std::rt::Files;
+use twp_acres::{Account, Verdict, run_acres_as, run_normal, run_plat, run_report};
+use twp_grid::{Device, Sink, Source};
+
+/// Opens the files of a task, in their order, and runs it.
+pub(crate) fn run_task<R: Files + Print + AllocGlobal>(
+    rt: &R,
+    task: Task,
+) -> Result<Verdict, Failure>
+    ensures answers { IfOk result (IsVerdictOf task) }
+    ensures fails { IfErr result (FailsOn task) }
+{
+    match task {
+        Task::Plat { notes } => open_plat(rt, notes),
+        Task::Acres {
+            notes,
+            description,
+            account,
+        } => open_acres(rt, notes, description, account),
+        Task::Normal { notes, description } => open_normal(rt, notes, description),
+        Task::Report { notes, tracts } => open_report(rt, notes, tracts),
+    }
+}
+
+/// `plat NOTES`
+#[inline(never)]
+fn open_plat<R: Files + Print + AllocGlobal>(rt: &R, notes: Name) -> Result<Verdict, Failure>
+    ensures answers { IfOk result (IsVerdictOf (Task.Plat notes)) }
+    ensures fails { IfErr result (FailsOn (Task.Plat notes)) }
+{
+    let mut notes = open_notes(rt, notes)?;
+    let mut out = Device::new(io::writer(rt));
+    plat(rt.alloc(), &mut notes, &mut out)
+}
+
+/// `acres [--account ACCOUNT] NOTES DESCRIPTION`
+#[inline(never)]
+fn open_acres<R: Files + Print + AllocGlobal>(
+    rt: &R,
+    notes: Name,
+    description: Name,
+    account: Account,
+) -> Result<Verdict, Failure>
+    ensures answers { IfOk result (IsVerdictOf (Task.Acres notes description account)) }
+    ensures fails { IfErr result (FailsOn (Task.Acres notes description account)) }
+{
+    let mut notes = open_notes(rt, notes)?;
+    let mut description = open_text(rt, description)?;
+    let mut out = Device::new(io::writer(rt));
+    acres(rt.alloc(), &mut notes, &mut description, &mut out, account)
+}
+
+/// `normal NOTES DESCRIPTION`
+#[inline(never)]
+fn open_normal<R: Files + Print + AllocGlobal>(
+    rt: &R,
+    notes: Name,
+    description: Name,
+) -> Result<Verdict, Failure>
+    ensures answers { IfOk result (IsVerdictOf (Task.Normal notes description)) }
+    ensures fails { IfErr result (FailsOn (Task.Normal notes description)) }
+{
+    let mut notes = open_notes(rt, notes)?;
+    let mut description = open_text(rt, description)?;
+    let mut out = Device::new(io::writer(rt));
+    normal(rt.alloc(), &mut notes, &mut description, &mut out)
+}
+
+/// `report NOTES TRACTS`
+#[inline(never)]
+fn open_report<R: Files + Print + AllocGlobal>(
+    rt: &R,
+    notes: Name,
+    tracts: Name,
+) -> Result<Verdict, Failure>
+    ensures answers { IfOk result (IsVerdictOf (Task.Report notes tracts)) }
+    ensures fails { IfErr result (FailsOn (Task.Report notes tracts)) }
+{
+    let mut notes = open_notes(rt, notes)?;
+    let mut tracts = open_text(rt, tracts)?;
+    let mut out = Device::new(io::writer(rt));
+    report(rt.alloc(), &mut notes, &mut tracts, &mut out)
+}
+
+/// Writes the plat of opened notes.
+fn plat<N: Source, W: Sink>(
+    alloc: Global,
+    notes: &mut OpenedNotes<N>,
+    out: &mut W,
+) -> Result<Verdict, Failure>
+    requires notes { N.has_failed notes.old.source ≡ false }
+    requires out { W.has_failed out.old ≡ false }
+    ensures { EndsRun (RunsOnNotes IsPlatAnswer
+        (used (N.remaining notes.old.source) (N.remaining notes.new.source)
+        (N.has_failed notes.new.source))
+        (used (W.contents out.old) (W.contents out.new) (W.has_failed out.new))) result }
+{
+    outcome_of(run_plat(alloc, &mut notes.source, out))
+}
+
+/// Writes the acres of an opened description on the plat of opened notes, by an account.
+fn acres<N: Source, D: Source, W: Sink>(
+    alloc: Global,
+    notes: &mut OpenedNotes<N>,
+    description: &mut OpenedText<D>,
+    out: &mut W,
+    account: Account,
+) -> Result<Verdict, Failure>
+    requires notes { N.has_failed notes.old.source ≡ false }
+    requires description { D.has_failed description.old.source ≡ false }
+    requires out { W.has_failed out.old ≡ false }
+    ensures { EndsRun (RunsOnPlat (IsAcresAnswerBy account) TEXT_LIMIT
+        (used (N.remaining notes.old.source) (N.remaining notes.new.source)
+        (N.has_failed notes.new.source))
+        (used (D.remaining description.old.source) (D.remaining description.new.source)
+        (D.has_failed description.new.source))
+        (used (W.contents out.old) (W.contents out.new) (W.has_failed out.new))
+        (description.new.source ≡ description.old.source)) result }
+{
+    outcome_of(run_acres_as(
+        alloc,
+        &mut notes.source,
+        &mut description.source,
+        out,
+        account,
+    ))
+}
+
+/// Writes the canonical spelling of an opened description on the plat of opened notes.
+fn normal<N: Source, D: Source, W: Sink>(
+    alloc: Global,
+    notes: &mut OpenedNotes<N>,
+    description: &mut OpenedText<D>,
+    out: &mut W,
+) -> Result<Verdict, Failure>
+    requires notes { N.has_failed notes.old.source ≡ false }
+    requires description { D.has_failed description.old.source ≡ false }
+    requires out { W.has_failed out.old ≡ false }
+    ensures { EndsRun (RunsOnPlat IsNormalAnswer TEXT_LIMIT
+        (used (N.remaining notes.old.source) (N.remaining notes.new.source)
+        (N.has_failed notes.new.source))
+        (used (D.remaining description.old.source) (D.remaining description.new.source)
+        (D.has_failed description.new.source))
+        (used (W.contents out.old) (W.contents out.new) (W.has_failed out.new))
+        (description.new.source ≡ description.old.source)) result }
+{
+    outcome_of(run_normal(alloc, &mut notes.source, &mut description.source, out))
+}
+
+/// Writes the account of an opened list of tracts on the plat of opened notes.
+fn report<N: Source, T: Source, W: Sink>(
+    alloc: Global,
+    notes: &mut OpenedNotes<N>,
+    tracts: &mut OpenedText<T>,
+    out: &mut W,
+) -> Result<Verdict, Failure>
+    requires notes { N.has_failed notes.old.source ≡ false }
+    requires tracts { T.has_failed tracts.old.source ≡ false }
+    requires out { W.has_failed out.old ≡ false }
+    ensures { EndsRun (RunsOnPlat IsReportAnswer TRACTS_LIMIT
+        (used (N.remaining notes.old.source) (N.remaining notes.new.source)
+        (N.has_failed notes.new.source))
+        (used (T.remaining tracts.old.source) (T.remaining tracts.new.source)
+        (T.has_failed tracts.new.source))
+        (used (W.contents out.old) (W.contents out.new) (W.has_failed out.new))
+        (tracts.new.source ≡ tracts.old.source)) result }
+{
+    outcome_of(run_report(alloc, &mut notes.source, &mut tracts.source, out))
+}

@@ -1,0 +1,80 @@
+//! Field notes for tests: those of an even and of an uneven township, others like them, and
+//! damaged ones.
+#![tactic(auto)]
+
+use std::alloc::Global;
+use std::test::Fail;
+use twp_grid::{EastWest, LINES, Line, NorthSouth, Section, Township};
+use twp_measure::Length;
+use twp_notes::{Notes, Returned};
+
+/// A line's index, and the distances to its quarter corner and to its end.
+pub type Change = (u8, &'static str, &'static str);
+
+/// What differs in the uneven township from lines of 40 and 80 chains: closing quarters of 20.20
+/// chains between sections 4 and 5, 20.40 between 5 and 6, 20.80 west of 6, 19.20 north of 6, 19.60
+/// between 6 and 7, and 19.50 between 7 and 18.
+pub const UNEVEN: [Change; 6] = [
+    (4, "40", "80.20"),
+    (5, "40", "80.40"),
+    (6, "40", "80.80"),
+    (47, "40", "79.20"),
+    (53, "40", "79.60"),
+    (59, "40", "79.50"),
+];
+
+fn returned(quarter: &str, corner: &str) -> Result<Returned, Fail> {
+    Ok(Returned {
+        quarter: Length::read(quarter.as_bytes())?,
+        corner: Length::read(corner.as_bytes())?,
+    })
+}
+
+/// The notes of T. 2 N., R. 3 W., with all lines of 40 and 80 chains but for the changes.
+pub fn notes_of(changes: &[Change]) -> Result<Notes, Fail> {
+    let township = Township::new(2, NorthSouth::N, 3, EastWest::W).ok_or("numbers to 99")?;
+    let mut lines = [returned("40", "80")?; LINES];
+    for (index, quarter, corner) in changes {
+        let line = Line::at_index(*index).ok_or("a line's index")?;
+        lines[usize::from(line.index())] = returned(quarter, corner)?;
+    }
+    Ok(Notes::new(township, lines))
+}
+
+/// The text of such notes.
+pub fn text_of(alloc: Global, changes: &[Change]) -> Result<Vec<u8>, Fail> {
+    let mut text = Vec::new(alloc);
+    notes_of(changes)?.write(&mut text)?;
+    Ok(text)
+}
+
+/// The even township's notes: each section has 640 acres.
+pub fn even(alloc: Global) -> Result<Vec<u8>, Fail> {
+    text_of(alloc, &[])
+}
+
+/// The uneven township's notes.
+pub fn uneven(alloc: Global) -> Result<Vec<u8>, Fail> {
+    text_of(alloc, &UNEVEN)
+}
+
+/// Notes with another record, by its number.
+pub fn with_record(
+    alloc: Global,
+    notes: &[u8],
+    number: usize,
+    record: &[u8],
+) -> Result<Vec<u8>, Fail> {
+    let mut text = Vec::new(alloc);
+    let mut at = 0usize;
+    for line in notes.split_inclusive(|byte| *byte == b'\n') {
+        at = at.saturating_add(1);
+        text.extend_from_slice(if at == number { record } else { line })?;
+    }
+    Ok(text)
+}
+
+/// The section of a number.
+pub fn section(number: u8) -> Result<Section, Fail> {
+    Ok(Section::new(number).ok_or("a section")?)
+}

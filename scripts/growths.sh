@@ -1,0 +1,195 @@
+#!/bin/sh
+# Refuses ./township, or the program that is named, one growth of its memory after another, in each of its
+# five ways of running; and so each call that takes memory, which twp_growth, or the program that is named
+# second, makes alone. A run with a refused growth ends there, as out of memory: it has written nothing, and
+# leaves a vector as it was. The first run in which there is nothing to refuse gives the right answer. The
+# last line is 'N passed, 0 failed'.
+set -u
+ulimit -f 2000
+ulimit -t 20
+root=$(readlink -f "$(dirname "$0")/..")
+program=$(readlink -f "${1:-./township}")
+calls=$(readlink -f "${2:-$root/crates/twp_growth/out/twp_growth}")
+work=$(mktemp -d)
+trap 'rm -rf "$work"' EXIT
+cd "$work" || exit 1
+passed=0
+failed=0
+
+compiler=${CC:-cc}
+if ! command -v "$compiler" > lost; then
+    echo "skipped: refused growths, since there is no C compiler here ($compiler)"
+    echo '0 passed, 0 failed'
+    exit
+fi
+"$compiler" -O1 -shared -fPIC -o refuse_growth.so "$root/scripts/refuse_growth.c" || exit 1
+
+# The notes of two townships: in the first all lines are of 40 and 80 chains.
+cp "$root/samples/b0.csv" n.csv
+cp "$root/samples/b1.csv" uneven.csv
+cp "$root/samples/tracts.csv" t.csv
+printf 'sec. 14.' > d.txt
+printf 'sec. 14, SE1/4, NE1/4, NW1/4.' > parts
+printf 'sec. 5, lot 1.\n' | cat - uneven.csv > joined
+input=/dev/null
+
+# Whether a file is this one line.
+is_line() { { read -r line && [ "$line" = "$2" ] && ! read -r line && [ -z "$line" ]; } < "$1"; }
+
+# How a run ends that was refused memory: of the program, and of a call, which `wanted_refused` tells.
+program_is_refused() { [ "$status" = 3 ] && [ ! -s out ] && is_line err 'township: out of memory'; }
+call_is_refused() { [ "$status" = 0 ] && [ ! -s err ] && cmp -s wanted_refused out; }
+
+# How a run ends that was not: in the lines that are looked at, its output is `wanted`.
+is_answered() { [ "$status" = 0 ] && [ ! -s err ] && sed -n "$lines" out | cmp -s wanted -; }
+
+# Counts the last run, and shows it where it failed.
+pass() { passed=$((passed + 1)); }
+fail() {
+    failed=$((failed + 1))
+    echo "FAILED: $what: growth $growth refused: status $status; standard output, standard error:"
+    head -c 2000 out
+    head -c 2000 err
+}
+
+# Begins a count of the growths that are refused to a call or a run, and tells that of the one before.
+of=
+begin() {
+    [ -z "$of" ] || echo "$of: $refused growths refused"
+    of=$1 refused=0
+}
+
+# Runs a program with one growth refused after another, of those that count after so many writes. A growth
+# that was refused is the last one of its run.
+refuse_in_turn() {
+    what=$1 is_refused=$2 writes=$3
+    shift 3
+    [ "$what" = "$of" ] || begin "$what"
+    growth=0
+    while
+        growth=$((growth + 1))
+        LD_PRELOAD="$work/refuse_growth.so" REFUSED_GROWTH=$growth AFTER_WRITES=$writes \
+            "$@" < "$input" > out 2> err 9> told
+        status=$?
+        [ -s told ]
+    do
+        if is_line told refused && "$is_refused"; then
+            pass
+        else
+            fail
+            return
+        fi
+    done
+    # Only what takes no memory may have nothing to refuse.
+    if [ "$growth" -gt "$least" ] && is_answered; then pass; else fail; fi
+    refused=$((refused + growth - 1))
+}
+
+# A run of the program, its answer, and the words.
+refuse_program() {
+    what=$1
+    printf '%s\n' "$2" > wanted
+    shift 2
+    refuse_in_turn "township: $what" program_is_refused 0 "$program" "$@"
+}
+
+# A call, what is told of it where memory is refused and where none is, and the words that name it.
+refuse_call() {
+    what=$1
+    printf 'calling\nout of memory\n%s' "$2" > wanted_refused
+    printf 'calling\n%s' "$3" > wanted
+    shift 3
+    refuse_in_turn "$what" call_is_refused 1 "$calls" "$@"
+}
+
+lines=p
+least=1
+
+# What a vector has room for is written there first, so the growth may come at any byte.
+for room in 0 1 2 3 4; do
+    refuse_call 'Length::write' 'held: ' 'answered
+held: 80.00' write-length 80 $room
+    refuse_call 'Length::write' 'held: ' 'answered
+held: 19.575' write-length 19.575 $room
+    refuse_call 'Length::write' 'held: ' 'answered
+held: 0.005' write-length 0.005 $room
+done
+for room in 0 1 2 3; do
+    refuse_call 'write_acres' 'held: ' 'answered
+held: 39.05' write-acres 3905 $room
+    refuse_call 'write_acres' 'held: ' 'answered
+held: 0.05' write-acres 5 $room
+done
+notes=$(cat n.csv)
+refuse_call 'Notes::write' 'held: ' "answered
+held: $notes
+" write-notes n.csv 0
+refuse_call 'Notes::read' '' "answered
+$notes
+" read-notes n.csv
+refuse_call 'Description::read' '' 'answered
+T. 2 N., R. 3 W.,
+sec. 14, all.
+' read-description d.txt
+least=0
+refuse_call 'spell of the empty land' '' 'answered
+' spell
+least=1
+normal='T. 2 N., R. 3 W.,
+sec. 14, N1/2, SE1/4.'
+refuse_call 'spell' '' "answered
+$normal
+" spell parts
+refuse_call 'run_acres' '' 'accepted
+640.00 acres
+' run-acres n.csv d.txt
+printf 'sec. 7, lots 1 to 4, inclusive.' > lots
+refuse_call 'run_acres_as, by the plat' '' 'accepted
+156.42 acres
+' run-acres-by-plat uneven.csv lots
+refuse_call 'run_normal' '' "accepted
+$normal
+" run-normal n.csv parts
+account='tract A: 39.18 acres
+tract B: 39.03 acres
+total: 78.20 acres
+remaining: 22959.37 acres'
+refuse_call 'run_report' '' "accepted
+$account
+" run-report uneven.csv t.csv
+# A chain of more steps than have room in its item, each half a half: the fifth is too fine.
+printf 'sec. 14, N1/2N1/2N1/2N1/2N1/2N1/2N1/2N1/2N1/2N1/2.' > chain
+refuse_call 'run_acres of a long chain' '' 'refused
+refused 65 at 9
+' run-acres n.csv chain
+# Twenty tracts, a section each of 640 acres: 12,800 of 23,040.
+awk 'BEGIN { print "name,description"; for (n = 1; n <= 20; n++) printf "%s,sec. %s.\n", n, n }' > twenty
+refuse_call 'run_report of twenty tracts' '' "accepted
+$(awk 'BEGIN { for (n = 1; n <= 20; n++) printf "tract %s: 640.00 acres\n", n }')
+total: 12800.00 acres
+remaining: 10240.00 acres
+" run-report n.csv twenty
+# Of the plat's 37 lines those of sections 6, 7 and 8 and the last, and how many they are.
+plat='sec. 6: lot 1 40.90, lot 2 41.10, lot 3 41.31, lot 4 39.95, lot 5 38.70, lot 6 38.90, lot 7 39.10, total 639.97
+sec. 7: lot 1 39.18, lot 2 39.13, lot 3 39.08, lot 4 39.03, total 636.40
+sec. 8: total 640.00
+township total 23037.57'
+lines='1,2p;8,10p;39p;$='
+refuse_call 'run_plat' '' "accepted
+$plat
+39
+" run-plat uneven.csv
+lines='6,8p;37p;$='
+refuse_program 'plat' "$plat
+37" plat uneven.csv
+lines=p
+refuse_program 'acres' '640.00 acres' acres n.csv d.txt
+refuse_program 'acres by the plat' '156.42 acres' acres --account plat uneven.csv lots
+refuse_program 'normal' "$normal" normal n.csv parts
+refuse_program 'report' "$account" report uneven.csv t.csv
+input=joined
+refuse_program 'joined input' '40.45 acres'
+begin ''
+
+echo "$passed passed, $failed failed"
+[ "$failed" = 0 ]

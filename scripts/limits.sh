@@ -1,0 +1,107 @@
+#!/bin/sh
+# Runs ./township, or the program that is named, with little stack and with little memory, in each of its five
+# ways of running: on little stack it gives the right answer; and from the least memory in which the system
+# can start it up to enough, in steps of a page, it gives that answer or ends as out of memory. The last line
+# is 'N passed, 0 failed'.
+#
+# What the environment holds stands on the stack too: `env -i PATH="$PATH" sh scripts/limits.sh` tries the
+# program without any.
+set -u
+ulimit -f 2000
+ulimit -t 20
+root=$(readlink -f "$(dirname "$0")/..")
+program=$(readlink -f "${1:-./township}")
+work=$(mktemp -d)
+trap 'rm -rf "$work"' EXIT
+cd "$work" || exit 1
+passed=0
+failed=0
+# In KiB.
+page=4
+stack=96
+
+cp "$root/samples/b1.csv" n.csv
+cp "$root/samples/tracts.csv" t.csv
+printf 'sec. 5, lot 1.' > d.txt
+printf 'sec. 14, SE1/4, NE1/4, NW1/4.' > parts
+printf 'sec. 5, lot 1.\n' | cat - n.csv > joined
+input=/dev/null
+lines=p
+
+# Whether a file is this one line.
+is_line() { { read -r line && [ "$line" = "$2" ] && ! read -r line && [ -z "$line" ]; } < "$1"; }
+
+# How a run ends that has memory enough, in the lines that are looked at; and how one that hasn't.
+is_answered() { [ "$status" = 0 ] && [ ! -s err ] && sed -n "$lines" out | cmp -s wanted -; }
+is_refused() { [ "$status" = 3 ] && [ ! -s out ] && is_line err 'township: out of memory'; }
+
+# Counts the last run, and shows it where it failed.
+pass() { passed=$((passed + 1)); }
+fail() {
+    failed=$((failed + 1))
+    echo "FAILED: $1: status $status; standard output, standard error:"
+    head -c 2000 out
+    head -c 2000 err
+}
+
+# The least memory in which the program starts: in which the loader maps it and its libraries, binds their
+# names and makes the first thread's storage. So traced it then lists the libraries, and nothing is run.
+starts_in() { (ulimit -v "$1" && LD_TRACE_LOADED_OBJECTS=1 LD_BIND_NOW=1 exec "$program") > out 2> err; }
+least=1000
+until starts_in "$least" || [ "$least" -gt 100000 ]; do least=$((least + 32 * page)); done
+while starts_in $((least - page)); do least=$((least - page)); done
+
+# Runs the program in each amount of memory from the least to the first that is enough and a few more.
+more_and_more() {
+    memory=$least
+    enough=0
+    refused=0
+    while [ "$enough" -lt 8 ] && [ "$memory" -lt $((least + 20000)) ]; do
+        (ulimit -v "$memory" && exec "$program" "$@") < "$input" > out 2> err
+        status=$?
+        if is_answered; then
+            enough=$((enough + 1))
+            pass
+        elif is_refused; then
+            enough=0
+            refused=$((refused + 1))
+            pass
+        else
+            fail "$what in $memory KiB of memory"
+        fi
+        memory=$((memory + page))
+    done 2> lost
+    # Some amount starts the program and is too little for it, and some is enough.
+    if [ "$enough" = 8 ] && [ "$refused" -gt 0 ]; then pass; else fail "$what in more and more memory"; fi
+}
+
+# A way of running, its answer, and the words.
+limit() {
+    what=$1
+    printf '%s\n' "$2" > wanted
+    shift 2
+    {
+        (ulimit -s "$stack" && exec "$program" "$@") < "$input" > out 2> err
+        status=$?
+    } 2> lost
+    if is_answered; then pass; else fail "$what on $stack KiB of stack"; fi
+    more_and_more "$@"
+}
+
+limit 'acres' '40.45 acres' acres n.csv d.txt
+limit 'normal' 'T. 2 N., R. 3 W.,
+sec. 14, N1/2, SE1/4.' normal n.csv parts
+limit 'report' 'tract A: 39.18 acres
+tract B: 39.03 acres
+total: 78.20 acres
+remaining: 22959.37 acres' report n.csv t.csv
+# Of the plat's 37 lines the last, and how many they are.
+lines='37p;$='
+limit 'plat' 'township total 23037.57
+37' plat n.csv
+lines=p
+input=joined
+limit 'joined input' '40.45 acres'
+
+echo "$passed passed, $failed failed"
+[ "$failed" = 0 ]
