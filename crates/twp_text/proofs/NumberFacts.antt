@@ -5,6 +5,7 @@ use Rattle.std.specs.Char.{is_ascii_digit}
 use Rattle.std.specs.List.{prefix_len}
 use Rattle.twp_text.specs.declared.item.Item.{Item}
 use Rattle.twp_text.specs.declared.item.Numeral.{Numeral}
+use Rattle.twp_text.specs.declared.kind.Kind.{Kind}
 use Rattle.twp_text.specs.declared.kind.Kind.TheVariants.{Number, Comma}
 use Rattle.twp_text.specs.declared.lexeme.Lexeme.{Lexeme}
 use Rattle.twp_text.specs.declared.numbers.Listed.{Listed}
@@ -12,14 +13,14 @@ use Rattle.twp_text.specs.declared.numbers.Listed.TheVariants as listed
 use Rattle.twp_text.specs.declared.state.State.{State}
 use Rattle.twp_text.specs.declared.state.State.TheVariants as past
 use Rattle.twp_text.specs.Cutting.{IsFirstIn, cut_digits, cut}
-use Rattle.twp_text.specs.Tokens.{Token, is_white}
-use Rattle.twp_text.specs.Grammar.{comma, number}
-use Rattle.twp_text.specs.Machine.{next, take_number}
+use Rattle.twp_text.specs.Tokens.{Token, StartsWith, is_white}
+use Rattle.twp_text.specs.Grammar.{class_of, comma, number}
+use Rattle.twp_text.specs.Machine.{next, take_number, take_token}
 use Rattle.twp_text.specs.Passing.{Leads, IsNumberBehind, IsCommaBehind, AreCommaAndNumber, entry_of, state_behind, listed_in}
 use Rattle.twp_text.proofs.Cuts.{IsFirstToken, cut_of_digit, digit_no_space}
 use Rattle.twp_text.proofs.TokenFacts.{first_at, first_in}
 use Rattle.twp_text.proofs.FrontFacts.{number_leads}
-use Rattle.twp_text.proofs.PassingFacts.{the_comma, mark_leads, leads_then, white_leads}
+use Rattle.twp_text.proofs.PassingFacts.{the_comma, mark_leads, leads_token, leads_then, white_leads}
 
 -- what is said of a number that begins at a place, behind white space
 pub record BeginsHere (text : List ℕ) (from : ℕ) (it : Numeral) (end : ℕ) : Type 0 where
@@ -31,20 +32,64 @@ some_here : (bytes : List ℕ) → is_ascii_digit (slice_index bytes 0) ≡ true
 some_here [] h = cc h
 some_here (x ∷ xs) h = omega arith
 
-pub begins_here : (text : List ℕ) (from at value : ℕ) (l : Lexeme) → at ≡ from + prefix_len is_white (drop from text) → is_ascii_digit (slice_index (drop at text) 0) ≡ true → l ≡ cut_digits (drop at text) → l.kind ≡ Number value → BeginsHere text from (record { value = value; at = at }) (at + l.size)
+-- the token that is cut at a place behind white space
+record IsCutHere (text : List ℕ) (from : ℕ) (token : Token) (end : ℕ) : Type 0 where
+  first : IsFirstIn text from token
+  ends : token.at + length token.text ≡ end
+
+abbrev token_of : List ℕ → ℕ → Lexeme → Token
+token_of text at l = record { kind = l.kind; text = take l.size (drop at text); at = at }
+
+cut_here : (text : List ℕ) (from at : ℕ) (l : Lexeme)
+    → at ≡ from + prefix_len is_white (drop from text) → at < length text → l ≡ cut (drop at text)
+    → IsCutHere text from (token_of text at l) (at + l.size)
+cut_here text from at l here below is =
+    let whole : IsFirstToken (drop at text) l =
+    subst (λ (m : Lexeme). IsFirstToken (drop at text) m) (sym is) (first_at text from at here below) in
+    record {
+      first = first_in text from at l (take l.size (drop at text)) here below is refl;
+      ends = ap (λ n. at + n) (length-take-le l.size (drop at text) whole.fits);
+    }
+
+pub begins_here : (text : List ℕ) (from at value : ℕ) (l : Lexeme)
+    → at ≡ from + prefix_len is_white (drop from text)
+    → is_ascii_digit (slice_index (drop at text) 0) ≡ true
+    → l ≡ cut_digits (drop at text) → l.kind ≡ Number value
+    → BeginsHere text from (record { value = value; at = at }) (at + l.size)
 begins_here text from at value l here digit is kind =
     let some : 0 < length text - at = rw (length-drop at text) at (some_here (drop at text) digit) in
-    let below : at < length text = omega arith in
     let l_is : l ≡ cut (drop at text) = is ∙ sym (cut_of_digit (drop at text) digit) in
-    let token : Token = record { kind = l.kind; text = take l.size (drop at text); at = at } in
-    let first : IsFirstIn text from token = first_in text from at l (take l.size (drop at text)) here below l_is refl in
-    let whole : IsFirstToken (drop at text) l = subst (λ (m : Lexeme). IsFirstToken (drop at text) m) (sym l_is) (first_at text from at here below) in
-    let end : at + length (take l.size (drop at text)) ≡ at + l.size = ap (λ n. at + n) (length-take-le l.size (drop at text) whole.fits) in
+    let it : IsCutHere text from (token_of text at l) (at + l.size) =
+    cut_here text from at l here (omega arith) l_is in
     record {
-      leads = number_leads text from token (record { value = value; at = at }) (at + l.size) first kind refl end;
-      further = subst (λ (n : ℕ). from < n) end first.further;
-      within = subst (λ (n : ℕ). n ≤ length text) end first.within;
+      leads = number_leads text from (token_of text at l) (record { value = value; at = at }) (at + l.size)
+          it.first kind refl it.ends;
+      further = subst (λ (n : ℕ). from < n) it.ends it.first.further;
+      within = subst (λ (n : ℕ). n ≤ length text) it.ends it.first.within;
     }
+
+pub word_within : (text : List ℕ) (from at : ℕ) (l : Lexeme)
+    → at ≡ from + prefix_len is_white (drop from text) → at < length text → l ≡ cut (drop at text)
+    → at + l.size ≤ length text
+word_within text from at l here below is =
+    let it : IsCutHere text from (token_of text at l) (at + l.size) = cut_here text from at l here below is in
+    subst (λ (n : ℕ). n ≤ length text) it.ends it.first.within
+
+-- a token that says nothing of the items
+pub word_leads : (text : List ℕ) (from at : ℕ) (l : Lexeme) (kind : Kind) (state behind : State)
+    → at ≡ from + prefix_len is_white (drop from text) → at < length text → l ≡ cut (drop at text)
+    → l.kind ≡ kind → next state (class_of kind) ≡ Some behind
+    → ((place : ℕ) (items : List Item) → take_token state kind place items ≡ items)
+    → (items : List Item) → Leads text from state items (at + l.size) behind items
+word_leads text from at l kind state behind here below is kind_is step kept items =
+    let it : IsCutHere text from (token_of text at l) (at + l.size) = cut_here text from at l here below is in
+    let same : take_token state l.kind at items ≡ items =
+    ap (λ k. take_token state k at items) kind_is ∙ kept at items in
+    subst (λ (js : List Item). Leads text from state items (at + l.size) behind js) same
+    (leads_token text from state items (token_of text at l) (at + l.size) behind
+    (subst (λ (n : ℕ). StartsWith from (drop from text) (token_of text at l) (drop n text)) it.ends it.first.starts)
+    it.ends (subst (λ (n : ℕ). n ≤ length text) it.ends it.first.within)
+    (ap (λ k. next state (class_of k)) kind_is ∙ step))
 
 -- a digit and a comma are no white space
 no_white_digit : (bytes : List ℕ) → is_ascii_digit (slice_index bytes 0) ≡ true → prefix_len is_white bytes ≡ 0
@@ -60,13 +105,19 @@ comma_here text from spelt =
     rw none (omega arith)
 
 -- behind a comma, with white space before it
+pub comma_leads : (text : List ℕ) (from at : ℕ) (state behind : State) (items : List Item)
+    → IsCommaBehind text from at → next state comma ≡ Some behind
+    → Leads text from state items (at + 1) behind items
+comma_leads text from at state behind items mark is =
+    let within : at + 1 ≤ length text = mark.within in
+    leads_then text from state items at state items (at + 1) behind items
+    (white_leads text from at state items mark.place (omega arith))
+    (mark_leads text at 44 Comma state behind items the_comma is mark.spelt within)
+
 pub comma_and_number : (text : List ℕ) (from at : ℕ) (it : Numeral) (end : ℕ) → IsCommaBehind text from at → IsNumberBehind text (at + 1) it end → AreCommaAndNumber text from it end
 comma_and_number text from at it end mark leads state between behind items comma_is number_is =
-    let within : at + 1 ≤ length text = mark.within in
     leads_then text from state items (at + 1) between items end behind (take_number between it items)
-    (leads_then text from state items at state items (at + 1) between items
-    (white_leads text from at state items mark.place (omega arith))
-    (mark_leads text at 44 Comma state between items the_comma comma_is mark.spelt within))
+    (comma_leads text from at state between items mark comma_is)
     (leads between behind items number_is)
 
 -- how a list goes on behind a state

@@ -1,5 +1,5 @@
 -- What the reader knows between two tokens, and what follows from it where it ends.
-use Rattle.std.proofs.Common.{◌≡◌, ◌<◌, ℕ, ◌+◌, ◌≤◌, Bool, true, false, List, [], ◌∷◌, ◌++◌, Option, Some, None, IsSomeAnd, length, map, reverse, refl, sym, ap, subst, ◌∙◌, inl, inr, append_assoc, arith, length-append}
+use Rattle.std.proofs.Common.{◌≡◌, ◌<◌, ℕ, ◌+◌, ◌≤◌, Bool, true, false, List, [], ◌∷◌, ◌++◌, Option, Some, None, IsSomeAnd, length, map, reverse, refl, sym, ap, subst, ◌∙◌, inl, inr, append_assoc, arith, drop, length-append, length-drop}
 use Rattle.std.specs.List.{AllPass, flat_map}
 use Rattle.std.proofs.lemmas.List.{append-nil, reverse-append, take_all}
 use Rattle.std.proofs.Math.Seq.{take-append_seam}
@@ -9,7 +9,7 @@ use Rattle.twp_text.specs.declared.state.State.{State}
 use Rattle.twp_text.specs.declared.state.State.TheVariants.{Start}
 use Rattle.twp_grid.specs.declared.refusal.Refusal.{Refusal}
 use Rattle.twp_text.specs.Tokens.{Token, StartsWith, HasTokens, is_white}
-use Rattle.twp_text.specs.Grammar.{class_of, heading, description}
+use Rattle.twp_text.specs.Grammar.{Class, class_of, bad_byte, bad_number, heading, description}
 use Rattle.twp_text.specs.declared.item.Numeral.{Numeral}
 use Rattle.twp_text.specs.Items.{Tree, ◌&◌, behind, items, numeral, end_of, range_of, whole_sections_item, parts_items, group_items, heading_item, BeginWithSections}
 use Rattle.twp_text.specs.Sentences.{IsSentence, HasItems, MayFollow}
@@ -21,6 +21,8 @@ use Rattle.twp_text.specs.declared.fault.TextFault.TheVariants as faults
 use Rattle.twp_text.specs.declared.expected.Expected.{Expected}
 use Rattle.twp_text.specs.Expected.{expected_of}
 use Rattle.twp_text.specs.TextFaults.{refusal_of, fault_of_bad, TEXT_LIMIT, IsReadAs, refusal, number_of_bad, NoneBad, place_of, IsBadToken, IsSyntaxFault, GoesWrong, Helps, HasNoneBad}
+use Rattle.twp_text.specs.Passing.{HasNoneBadBefore}
+use Rattle.twp_text.proofs.Table.{takes_no_bad_byte, takes_no_bad_number}
 use Rattle.twp_text.proofs.TokenFacts.{one_token_list, has_token_list}
 use Rattle.twp_text.proofs.Walk.{newest_first}
 use Rattle.twp_text.proofs.Reading.{ended, go_on, run-append, accepted, fault_here, fault_at_end, what_follows, what_is_told}
@@ -144,8 +146,44 @@ pub record Search (text : List ℕ) (at : ℕ) (bytes : List ℕ) : Type 0 where
   pub none_bad : NoneBad tokens
   pub within : at + length bytes ≤ length text
 
-pub search_start : (text : List ℕ) → Search text 0 text
-search_start text = record { tokens = []; before = at_front text; none_bad = tt; within = omega arith }
+-- what the machine takes is no bad token
+not_taken : (state behind : State) (class : Class) → next state class ≡ None → next state class ≡ Some behind → ⊥
+not_taken state behind class none is =
+    let both : ◌≡◌ {A = Option State} None (Some behind) = sym none ∙ is in
+    cc both
+
+taken_is_good : (state : State) (kind : Kind) (behind : State) → next state (class_of kind) ≡ Some behind → number_of_bad kind ≡ None
+taken_is_good state BadByte behind is = absurd (not_taken state behind bad_byte (takes_no_bad_byte state) is)
+taken_is_good state BadNumber behind is = absurd (not_taken state behind bad_number (takes_no_bad_number state) is)
+taken_is_good state _ behind is = refl
+
+one_more_taken : (token : Token) (tokens : List Token) (state : State) (its : List Item) (last : State) (grown : List Item) (o : Option State)
+    → ((behind : State) → run (Some behind) its tokens ≡ Some (last, grown) → NoneBad tokens)
+    → next state (class_of token.kind) ≡ o → run o its tokens ≡ Some (last, grown) → NoneBad (token ∷ tokens)
+one_more_taken token tokens state its last grown None more is walked = cc walked
+one_more_taken token tokens state its last grown (Some behind) more is walked =
+    (taken_is_good state token.kind behind is, more behind walked)
+
+taken_are_good : (tokens : List Token) (state : State) (its : List Item) (last : State) (grown : List Item) → run (Some state) its tokens ≡ Some (last, grown) → NoneBad tokens
+taken_are_good [] state its last grown walked = tt
+taken_are_good (token ∷ tokens) state its last grown walked =
+    let taken : List Item = take_token state token.kind token.at its in
+    one_more_taken token tokens state taken last grown (next state (class_of token.kind))
+    (λ behind more. taken_are_good tokens behind taken last grown more) refl walked
+
+pub none_bad_before : (text : List ℕ) (at : ℕ) (state : State) (its : List Item) → at ≤ length text → Front text at (drop at text) state its → HasNoneBadBefore text at
+none_bad_before text at state its within f =
+    record { tokens = f.tokens; joins = f.before.joins; none_bad = taken_are_good f.tokens Start [] state its f.walked; within = within }
+
+pub search_start : (text : List ℕ) (at : ℕ) → HasNoneBadBefore text at → Search text at (drop at text)
+search_start text at g =
+    let within : at ≤ length text = g.within in
+    record {
+      tokens = g.tokens;
+      before = record { joins = g.joins };
+      none_bad = g.none_bad;
+      within = rw (length-drop at text) (omega arith);
+    }
 
 one_more_good : (tokens : List Token) (token : Token) → NoneBad tokens → number_of_bad token.kind ≡ None → NoneBad (tokens ++ token ∷ [])
 one_more_good [] token none_bad is = (is, tt)

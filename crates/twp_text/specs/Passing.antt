@@ -21,6 +21,7 @@ use Rattle.twp_text.specs.Cutting.{small_letter}
 use Rattle.twp_text.specs.declared.item.Numeral.{Numeral}
 use Rattle.twp_text.specs.Grammar.{comma, number}
 use Rattle.twp_text.specs.Machine.{next, run, take_number}
+use Rattle.twp_text.specs.TextFaults.{NoneBad}
 
 -- The tokens of a text between two places lead the machine from a state and items to others.
 pub record Leads (text : List ℕ) (at : ℕ) (state : State) (items : List Item)
@@ -130,3 +131,10 @@ listed_in past.ListNumber = Some listed.Sections
 listed_in past.ListLast = Some listed.Sections
 listed_in past.ListInclusive = Some listed.Sections
 listed_in _ = None
+
+-- no bad token stands in a text before this place, behind which its other tokens stand
+pub record HasNoneBadBefore (text : List ℕ) (at : ℕ) : Type 0 where
+  pub tokens : List Token
+  pub joins : (left : List Token) → HasTokens at (drop at text) left → HasTokens 0 text (tokens ++ left)
+  pub none_bad : NoneBad tokens
+  pub within : at ≤ length text

@@ -1,13 +1,13 @@
-ghost use Rattle.std.specs.Prelude.{◌≡◌, ◌≤◌, ◌∷◌, ◌+◌, [], length, IfOk, OnOk};
+ghost use Rattle.std.specs.Prelude.{◌≡◌, ◌≤◌, ◌∷◌, ◌+◌, [], Some, length, IfOk, OnOk};
 ghost use Rattle.twp_text.specs.Items.{north_or_south, east_or_west};
-ghost use Rattle.twp_text.specs.Passing.{Leads, IsStepAt};
+ghost use Rattle.twp_text.specs.Passing.{Leads, IsStepAt, listed_in};
 ghost use Rattle.twp_text.specs.declared.item.Item.{Item};
 ghost use Rattle.twp_text.specs.TextFaults.{TEXT_LIMIT};
 
 use crate::change::Change;
 use crate::item::{Item, Numeral, Step, Steps};
 use crate::kind::Kind;
-use crate::numbers::{Listed, number_behind_comma};
+use crate::numbers::{Listed, behind_joint, number_behind, number_behind_comma};
 use crate::passing::{Reached, UsualStep, ahead_of_part, behind_and, behind_step, step_at};
 use crate::state::State;
 use std::alloc::{AllocError, Global};
@@ -190,8 +190,7 @@ impl Items {
         self.take_parts(alloc, text, list)
     }
 
-    /// Takes the numbers that a list of lots or of sections goes on with, as long as each stands
-    /// behind a comma.
+    /// Takes the numbers that a list of lots or of sections goes on with, and the words between them.
     #[inline(always)]
     fn take_list(&mut self, text: &[u8], from: Reached) -> Result<Reached, AllocError>
         requires place { from.at ≤ length text.now }
@@ -199,9 +198,41 @@ impl Items {
         ensures { IfOk result
             (λ to. Leads text.now from.at from.state self.old to.at to.state self.new) }
     {
-        let Some(list) = Listed::in_state(from.state) else {
-            return Ok(from);
-        };
+        let mut reached = from;
+        'lists: while let Some(list) = Listed::in_state(reached.state) {
+            let numbers = self.take_numbers(list, text, reached)?;
+            let Some(joint) = behind_joint(text, numbers) else {
+                return Ok(numbers);
+            };
+            let Some(number) = number_behind(text, joint.at) else {
+                return Ok(joint);
+            };
+            let Some(state) = joint.state.next(Kind::Number(number.numeral.value)) else {
+                return Ok(joint);
+            };
+            self.take_number(joint.state, number.numeral)?;
+            reached = Reached {
+                at: number.end,
+                state,
+            };
+        }
+        Ok(reached)
+    }
+
+    /// Takes the numbers that a list goes on with, as long as each stands behind a comma.
+    #[inline(always)]
+    fn take_numbers(
+        &mut self,
+        list: Listed,
+        text: &[u8],
+        from: Reached,
+    ) -> Result<Reached, AllocError>
+        requires place { from.at ≤ length text.now }
+        requires limit { length text.now ≤ TEXT_LIMIT }
+        requires list { listed_in from.state ≡ Some list }
+        ensures { IfOk result
+            (λ to. Leads text.now from.at from.state self.old to.at to.state self.new) }
+    {
         let mut reached = from;
         'numbers: while let Some(number) = number_behind_comma(text, reached.at) {
             self.push(list.entry(number.numeral))?;

@@ -1,16 +1,18 @@
 //! Numbers, and how a list of lots or of sections goes on with them.
-ghost use Rattle.std.specs.Prelude.{◌≡◌, ◌≤◌, ◌<◌, ◌+◌, true, length, drop, slice_index, IfSome};
+ghost use Rattle.std.specs.Prelude.{◌≡◌, ◌≤◌, ◌<◌, ◌+◌, true, List, length, drop, slice_index};
+ghost use Rattle.std.specs.Prelude.{IfSome, IsTrue};
 ghost use Rattle.std.specs.Char.{is_ascii_digit};
 ghost use Rattle.std.specs.List.{prefix_len};
 ghost use Rattle.twp_text.specs.Tokens.{is_white};
 ghost use Rattle.twp_text.specs.Passing.{IsNumberBehind, IsCommaBehind, AreCommaAndNumber};
-ghost use Rattle.twp_text.specs.Passing.{entry_of, state_behind, listed_in};
+ghost use Rattle.twp_text.specs.Passing.{Leads, entry_of, state_behind, listed_in};
+ghost use Rattle.twp_text.specs.declared.item.Item.{Item as TakenItem};
 ghost use Rattle.twp_text.specs.TextFaults.{TEXT_LIMIT};
 
 use crate::item::{Item, Numeral};
 use crate::kind::Kind;
-use crate::lexeme::{byte_at, digits};
-use crate::passing::goes_on;
+use crate::lexeme::{Lexeme, byte_at, digits};
+use crate::passing::{Reached, goes_on};
 use crate::state::State;
 use crate::white::behind_white;
 
@@ -146,4 +148,67 @@ fn comma_behind(text: &[u8], from: usize) -> Option<usize>
         return Some(at);
     }
     None
+}
+
+/// The place behind the words that join two numbers of a list: `and`, with or without a comma before
+/// it, or what the last number of a range stands behind, as `to`.
+#[inline(always)]
+pub fn behind_joint(text: &[u8], from: Reached) -> Option<Reached>
+    requires { from.at ≤ length text.now }
+    ensures { IfSome result (λ joint. (items : List TakenItem)
+        → Leads text.now from.at from.state items joint.at joint.state items) }
+{
+    behind_joining_word(text, behind_list_comma(text, from))
+}
+
+/// Passes over a comma, where a list may go on by one.
+#[inline(always)]
+fn behind_list_comma(text: &[u8], from: Reached) -> Reached
+    requires { from.at ≤ length text.now }
+    ensures { (items : List TakenItem)
+        → Leads text.now from.at from.state items result.at result.state items }
+{
+    let Some(at) = comma_behind(text, from.at) else {
+        return from;
+    };
+    let Some(state) = from.state.next(Kind::Comma) else {
+        return from;
+    };
+    Reached {
+        at: at + COMMA,
+        state,
+    }
+}
+
+/// The place behind `and`, or behind `to` or a word for it, in letters of any kind.
+#[inline(always)]
+fn behind_joining_word(text: &[u8], from: Reached) -> Option<Reached>
+    requires { from.at ≤ length text.now }
+    ensures { IfSome result (λ word. (items : List TakenItem)
+        → Leads text.now from.at from.state items word.at word.state items) }
+{
+    let at = behind_white(text, from.at);
+    if !begins_joining_word(byte_at(text, at, 0)) {
+        return None;
+    }
+    let word = Lexeme::at(text, at);
+    match word.kind {
+        Kind::And => Some(Reached {
+            at: at + word.size,
+            state: from.state.next(Kind::And)?,
+        }),
+        Kind::To => Some(Reached {
+            at: at + word.size,
+            state: from.state.next(Kind::To)?,
+        }),
+        _ => None,
+    }
+}
+
+/// Whether `and`, `to`, `thru` or `through` may begin with a byte.
+#[inline(always)]
+fn begins_joining_word(byte: u8) -> bool
+    ensures { IsTrue result → 0 < byte }
+{
+    matches!(byte, b'a' | b't' | b'A' | b'T')
 }
