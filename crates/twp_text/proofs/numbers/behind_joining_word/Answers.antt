@@ -1,38 +1,77 @@
-use Rattle.std.proofs.Common.{◌+◌, ◌<◌, ◌≤◌, ◌∙◌, length, refl, sym, arith}
+-- `and` or `to` stands there, and leads on.
+use Rattle.std.proofs.Common.{◌≡◌, ◌+◌, ◌<◌, ◌≤◌, ◌∙◌, false, length, drop, slice_index, refl, sym, ap, arith}
+use Rattle.std.specs.List.{prefix_len}
+use Rattle.twp_text.specs.Tokens.{is_white}
 use Rattle.twp_text.specs.declared.kind.Kind.TheVariants.{And, To}
-use Rattle.twp_text.proofs.NumberFacts.{word_leads, word_within}
+use Rattle.twp_text.proofs.NumberFacts.{EndsWithin, right_here, word_ends, word_leads}
 use Rattle.twp_text.proofs.numbers.behind_joining_word.Goals as goal
 
 pub overflow_add-result : goal.overflow_add-result
 overflow_add-result c =
-    let below : c.behind_white-at.result + 0 < length c.args.text.now =
-    c.byte_at.ensures.inside (c.if-not-begins_joining_word.ensures refl) in
-    let within : c.behind_white-at.result + c.at-word.result.size ≤ length c.args.text.now =
-    word_within c.args.text.now c.args.from.at c.behind_white-at.result c.at-word.result
-    c.behind_white-at.ensures.value (omega arith) c.at-word.ensures in
+    let below : c.args.from.at + 0 < length c.args.text.now =
+    c.byte_at.ensures.inside (c.if-not-begins_joining_word.ensures.some refl) in
+    let dark : is_white (slice_index (drop c.args.from.at c.args.text.now) 0) ≡ false =
+    ap is_white (sym c.byte_at.ensures.value) ∙ c.if-not-begins_joining_word.ensures.dark refl in
+    let here : c.args.from.at ≡ c.args.from.at + prefix_len is_white (drop c.args.from.at c.args.text.now) =
+    right_here c.args.text.now c.args.from.at dark in
+    let end : EndsWithin c.args.text.now c.args.from.at (c.args.from.at + c.at-word.result.size) =
+    word_ends c.args.text.now c.args.from.at c.args.from.at c.at-word.result here (omega arith) c.at-word.ensures in
+    let within : c.args.from.at + c.at-word.result.size ≤ length c.args.text.now = end.within in
     omega arith
+
+pub returns-in_ok-next-in-And-clause-leads : goal.returns-in_ok-next-in-And-clause-leads
+returns-in_ok-next-in-And-clause-leads c =
+    let below : c.args.from.at + 0 < length c.args.text.now =
+    c.byte_at.ensures.inside (c.if-not-begins_joining_word.ensures.some refl) in
+    let dark : is_white (slice_index (drop c.args.from.at c.args.text.now) 0) ≡ false =
+    ap is_white (sym c.byte_at.ensures.value) ∙ c.if-not-begins_joining_word.ensures.dark refl in
+    let here : c.args.from.at ≡ c.args.from.at + prefix_len is_white (drop c.args.from.at c.args.text.now) =
+    right_here c.args.text.now c.args.from.at dark in
+    word_leads c.args.text.now c.args.from.at c.args.from.at c.at-word.result And
+    c.args.from.state c.in_ok-next-in-And.field-0 here (omega arith)
+    c.at-word.ensures c.in-And.is (sym c.next.ensures ∙ c.in_ok-next-in-And.was) (λ place items. refl)
+
+pub returns-in_ok-next-in-And-clause-forward : goal.returns-in_ok-next-in-And-clause-forward
+returns-in_ok-next-in-And-clause-forward c =
+    let below : c.args.from.at + 0 < length c.args.text.now =
+    c.byte_at.ensures.inside (c.if-not-begins_joining_word.ensures.some refl) in
+    let dark : is_white (slice_index (drop c.args.from.at c.args.text.now) 0) ≡ false =
+    ap is_white (sym c.byte_at.ensures.value) ∙ c.if-not-begins_joining_word.ensures.dark refl in
+    let here : c.args.from.at ≡ c.args.from.at + prefix_len is_white (drop c.args.from.at c.args.text.now) =
+    right_here c.args.text.now c.args.from.at dark in
+    (word_ends c.args.text.now c.args.from.at c.args.from.at c.at-word.result here (omega arith) c.at-word.ensures).further
 
 pub overflow_add-result-in-To : goal.overflow_add-result-in-To
 overflow_add-result-in-To c =
-    let below : c.behind_white-at.result + 0 < length c.args.text.now =
-    c.byte_at.ensures.inside (c.if-not-begins_joining_word.ensures refl) in
-    let within : c.behind_white-at.result + c.at-word.result.size ≤ length c.args.text.now =
-    word_within c.args.text.now c.args.from.at c.behind_white-at.result c.at-word.result
-    c.behind_white-at.ensures.value (omega arith) c.at-word.ensures in
+    let below : c.args.from.at + 0 < length c.args.text.now =
+    c.byte_at.ensures.inside (c.if-not-begins_joining_word.ensures.some refl) in
+    let dark : is_white (slice_index (drop c.args.from.at c.args.text.now) 0) ≡ false =
+    ap is_white (sym c.byte_at.ensures.value) ∙ c.if-not-begins_joining_word.ensures.dark refl in
+    let here : c.args.from.at ≡ c.args.from.at + prefix_len is_white (drop c.args.from.at c.args.text.now) =
+    right_here c.args.text.now c.args.from.at dark in
+    let end : EndsWithin c.args.text.now c.args.from.at (c.args.from.at + c.at-word.result.size) =
+    word_ends c.args.text.now c.args.from.at c.args.from.at c.at-word.result here (omega arith) c.at-word.ensures in
+    let within : c.args.from.at + c.at-word.result.size ≤ length c.args.text.now = end.within in
     omega arith
 
-pub returns-in_ok-next-in-And : goal.returns-in_ok-next-in-And
-returns-in_ok-next-in-And c =
-    let below : c.behind_white-at.result + 0 < length c.args.text.now =
-    c.byte_at.ensures.inside (c.if-not-begins_joining_word.ensures refl) in
-    word_leads c.args.text.now c.args.from.at c.behind_white-at.result c.at-word.result And
-    c.args.from.state c.in_ok-next-in-And.field-0 c.behind_white-at.ensures.value (omega arith)
-    c.at-word.ensures c.in-And.is (sym c.next.ensures ∙ c.in_ok-next-in-And.was) (λ place items. refl)
-
-pub returns-in_ok-next-in-To : goal.returns-in_ok-next-in-To
-returns-in_ok-next-in-To c =
-    let below : c.behind_white-at.result + 0 < length c.args.text.now =
-    c.byte_at.ensures.inside (c.if-not-begins_joining_word.ensures refl) in
-    word_leads c.args.text.now c.args.from.at c.behind_white-at.result c.at-word.result To
-    c.args.from.state c.in_ok-next-in-To.field-0 c.behind_white-at.ensures.value (omega arith)
+pub returns-in_ok-next-in-To-clause-leads : goal.returns-in_ok-next-in-To-clause-leads
+returns-in_ok-next-in-To-clause-leads c =
+    let below : c.args.from.at + 0 < length c.args.text.now =
+    c.byte_at.ensures.inside (c.if-not-begins_joining_word.ensures.some refl) in
+    let dark : is_white (slice_index (drop c.args.from.at c.args.text.now) 0) ≡ false =
+    ap is_white (sym c.byte_at.ensures.value) ∙ c.if-not-begins_joining_word.ensures.dark refl in
+    let here : c.args.from.at ≡ c.args.from.at + prefix_len is_white (drop c.args.from.at c.args.text.now) =
+    right_here c.args.text.now c.args.from.at dark in
+    word_leads c.args.text.now c.args.from.at c.args.from.at c.at-word.result To
+    c.args.from.state c.in_ok-next-in-To.field-0 here (omega arith)
     c.at-word.ensures c.in-To.is (sym c.next-in-To.ensures ∙ c.in_ok-next-in-To.was) (λ place items. refl)
+
+pub returns-in_ok-next-in-To-clause-forward : goal.returns-in_ok-next-in-To-clause-forward
+returns-in_ok-next-in-To-clause-forward c =
+    let below : c.args.from.at + 0 < length c.args.text.now =
+    c.byte_at.ensures.inside (c.if-not-begins_joining_word.ensures.some refl) in
+    let dark : is_white (slice_index (drop c.args.from.at c.args.text.now) 0) ≡ false =
+    ap is_white (sym c.byte_at.ensures.value) ∙ c.if-not-begins_joining_word.ensures.dark refl in
+    let here : c.args.from.at ≡ c.args.from.at + prefix_len is_white (drop c.args.from.at c.args.text.now) =
+    right_here c.args.text.now c.args.from.at dark in
+    (word_ends c.args.text.now c.args.from.at c.args.from.at c.at-word.result here (omega arith) c.at-word.ensures).further
