@@ -12,7 +12,7 @@ use Rattle.twp_plat.specs.PlatFaults as plat_faults
 use Rattle.twp_plat.specs.declared.fault.PlatFault.{PlatFault}
 use Rattle.twp_plat.proofs.OneAnswer as plats
 use Rattle.twp_text.specs.PlaceFaults as place_faults
-use Rattle.twp_text.specs.declared.place_fault.PlaceFault.{PlaceFault}
+use Rattle.twp_resolve.specs.declared.place_fault.PlaceFault.{PlaceFault}
 use Rattle.twp_text.proofs.OneAnswer as texts
 use Rattle.twp_text.proofs.PlaceAnswers as lands
 use Rattle.twp_acres.specs.Answers.{ArePlatted, Describe, IsLandOnPlat, AreRefused, IsNoDescription}

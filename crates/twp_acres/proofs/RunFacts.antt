@@ -17,8 +17,8 @@ use Rattle.twp_grid.specs.declared.refusal.Refusal.{Refusal}
 use Rattle.twp_plat.specs.Plats.{TownshipPlat}
 use Rattle.twp_text.specs.TextFaults.{IsReadAs}
 use Rattle.twp_text.specs.PlaceFaults.{IsFirstPlaceFault}
-use Rattle.twp_text.specs.declared.item.Item.{Item}
-use Rattle.twp_text.specs.declared.place_fault.PlaceFault.{PlaceFault}
+use Rattle.twp_grammar.specs.declared.item.Item.{Item}
+use Rattle.twp_resolve.specs.declared.place_fault.PlaceFault.{PlaceFault}
 use Rattle.twp_acres.specs.Answers.{ArePlatted, IsNoDescription, IsNoPlat, IsRefusal, MakePlat}
 use Rattle.twp_acres.specs.Stops.{IfRefused, IfFailed}
 use Rattle.twp_acres.specs.declared.stop.Stop.{Stop}

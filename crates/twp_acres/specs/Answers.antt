@@ -13,8 +13,8 @@ use Rattle.twp_plat.specs.PlatFaults as plat_faults
 use Rattle.twp_plat.specs.declared.fault.PlatFault.{PlatFault}
 use Rattle.twp_text.specs.TextFaults.{IsReadAs, IsFirstTextFault}
 use Rattle.twp_text.specs.PlaceFaults as place_faults
-use Rattle.twp_text.specs.declared.item.Item.{Item}
-use Rattle.twp_text.specs.declared.place_fault.PlaceFault.{PlaceFault}
+use Rattle.twp_grammar.specs.declared.item.Item.{Item}
+use Rattle.twp_resolve.specs.declared.place_fault.PlaceFault.{PlaceFault}
 
 -- the bytes are field notes that make this plat
 pub record ArePlatted (bytes : List ℕ) (plat : TownshipPlat) : Type 0 where

@@ -8,10 +8,10 @@ use Rattle.twp_notes.specs.declared.reading.ReadFault.TheVariants as reading
 use Rattle.twp_plat.specs.PlatFaults as plat_faults
 use Rattle.twp_plat.specs.declared.fault.PlatFault.{PlatFault}
 use Rattle.twp_text.specs.TextFaults as text_faults
-use Rattle.twp_text.specs.declared.fault.TextFault.{TextFault}
-use Rattle.twp_text.specs.declared.fault.TextFault.TheVariants as text_fault
+use Rattle.twp_read.specs.declared.fault.TextFault.{TextFault}
+use Rattle.twp_read.specs.declared.fault.TextFault.TheVariants as text_fault
 use Rattle.twp_text.specs.PlaceFaults as place_faults
-use Rattle.twp_text.specs.declared.place_fault.PlaceFault.{PlaceFault}
+use Rattle.twp_resolve.specs.declared.place_fault.PlaceFault.{PlaceFault}
 use Rattle.twp_acres.specs.declared.verdict.RunFault.{RunFault}
 use Rattle.twp_acres.specs.declared.verdict.RunFault.TheVariants as run
 use Rattle.twp_acres.specs.declared.stop.Stop.{Stop}

@@ -4,6 +4,7 @@ pub mod BlockLaneFacts
 pub mod LandFacts
 pub mod JoinFacts
 pub mod LaneFacts
+pub mod LotBlocks
 pub mod LotFacts
 pub mod RemovalFacts
 pub mod RowFacts

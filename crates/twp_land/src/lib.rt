@@ -5,6 +5,7 @@
 mod bits;
 mod land;
 mod lanes;
+mod lot_places;
 mod lots;
 mod plot;
 mod reach;
@@ -15,6 +16,7 @@ mod window;
 
 pub use land::Land;
 pub use lanes::{LaneRows, Lanes};
+pub use lot_places::holds_of_lot;
 pub use lots::lots_whole;
 pub use plot::Plot;
 pub use rows::{Grid, Rows};

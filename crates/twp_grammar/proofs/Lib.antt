@@ -1,0 +1,12 @@
+pub mod Derivatives
+pub mod Table
+pub mod OneDerivation
+pub mod Several
+pub mod Numerals
+pub mod Cuts
+pub mod TokenFacts
+pub mod StepFacts
+pub mod StateFacts
+pub mod CutPlaces
+pub mod Membership
+pub mod TreeFacts

@@ -1,0 +1,120 @@
+-- What could stand where a description goes wrong.
+use Rattle.std.specs.Prelude.{◌≡◌, ◌⊎◌, List, [], ◌∷◌, ◌++◌}
+use Rattle.twp_grammar.specs.declared.expected.Expected.{Expected}
+use Rattle.twp_grammar.specs.declared.expected.Expected.TheVariants as expected
+use Rattle.twp_grammar.specs.declared.state.State.{State}
+use Rattle.twp_grammar.specs.declared.state.State.TheVariants as past
+use Rattle.twp_grammar.specs.Grammar.{Class, sec, lot, all, and, to, inclusive, of, the, t, r}
+use Rattle.twp_grammar.specs.Grammar.{north_south, east_west, corner, half, quarter, number, comma}
+use Rattle.twp_grammar.specs.Grammar.{semicolon, colon, stop}
+
+-- a part: lots, an aliquot part, or all
+abbrev pub part_begins : List Class
+part_begins = lot ∷ north_south ∷ east_west ∷ corner ∷ all ∷ []
+
+-- marks behind which more of a list follows, another part, or nothing
+abbrev pub marks : List Class
+marks = comma ∷ stop ∷ []
+
+-- the classes of tokens that are told of: each of them can stand there
+abbrev pub told : Expected → List Class
+told expected.Beginning = t ∷ sec ∷ []
+told expected.TownshipNumber = number ∷ []
+told expected.TownshipSide = north_south ∷ []
+told expected.Range = r ∷ []
+told expected.RangeNumber = number ∷ []
+told expected.RangeSide = east_west ∷ []
+told expected.Sections = sec ∷ []
+told expected.SectionNumber = number ∷ []
+told expected.PartsOrSections = to ∷ and ∷ semicolon ∷ colon ∷ marks ++ part_begins
+told expected.PartOrSection = and ∷ number ∷ part_begins
+told expected.MoreSections = and ∷ all ∷ semicolon ∷ colon ∷ marks
+told expected.InclusiveOrMoreSections = inclusive ∷ and ∷ all ∷ semicolon ∷ colon ∷ marks
+told expected.LastSection = number ∷ []
+told expected.SectionOrAll = number ∷ and ∷ all ∷ []
+told expected.InclusiveSectionOrAll = inclusive ∷ number ∷ and ∷ all ∷ []
+told expected.All = all ∷ []
+told expected.GroupEnd = semicolon ∷ stop ∷ []
+told expected.LotNumber = number ∷ []
+told expected.MoreLots = and ∷ semicolon ∷ marks
+told expected.InclusiveOrMoreLots = inclusive ∷ and ∷ semicolon ∷ marks
+told expected.LastLot = number ∷ []
+told expected.LotOrPart = number ∷ part_begins
+told expected.InclusiveLotOrPart = inclusive ∷ number ∷ and ∷ part_begins
+told expected.Part = part_begins
+told expected.Half = half ∷ []
+told expected.Quarter = quarter ∷ []
+told expected.MoreStepsOrParts = of ∷ north_south ∷ east_west ∷ corner ∷ and ∷ semicolon ∷ marks
+told expected.MoreParts = and ∷ semicolon ∷ marks
+told expected.Step = north_south ∷ east_west ∷ corner ∷ []
+told expected.Nothing = []
+
+-- the marks and words that can lead to them behind some of the beginnings of which they are told
+abbrev pub leading : Expected → List Class
+leading expected.TownshipNumber = stop ∷ []
+leading expected.Range = marks
+leading expected.RangeNumber = stop ∷ []
+leading expected.Sections = and ∷ marks
+leading expected.SectionNumber = stop ∷ []
+leading expected.MoreSections = to ∷ []
+leading expected.MoreLots = to ∷ []
+leading expected.LotOrPart = and ∷ []
+leading expected.Part = and ∷ []
+leading expected.Step = the ∷ []
+leading _ = []
+
+-- what can stand there is of one of these classes
+abbrev pub named : Expected → List Class
+named e = told e ++ leading e
+
+-- the class is named
+abbrev pub IsNamed : Class → List Class → Type 0
+IsNamed class [] = ⊥
+IsNamed class (first ∷ rest) = (class ≡ first) ⊎ IsNamed class rest
+
+-- what is named in each state
+abbrev pub expected_of : State → Expected
+expected_of past.Start = expected.Beginning
+expected_of past.Township = expected.TownshipNumber
+expected_of past.TownshipStop = expected.TownshipNumber
+expected_of past.TownshipNumber = expected.TownshipSide
+expected_of past.TownshipSide = expected.Range
+expected_of past.TownshipSideStop = expected.Range
+expected_of past.TownshipComma = expected.Range
+expected_of past.Range = expected.RangeNumber
+expected_of past.RangeStop = expected.RangeNumber
+expected_of past.RangeNumber = expected.RangeSide
+expected_of past.RangeSide = expected.Sections
+expected_of past.RangeSideStop = expected.Sections
+expected_of past.BeforeGroup = expected.Sections
+expected_of past.Semicolon = expected.Sections
+expected_of past.SectionWord = expected.SectionNumber
+expected_of past.SectionStop = expected.SectionNumber
+expected_of past.SectionNumber = expected.PartsOrSections
+expected_of past.SectionComma = expected.PartOrSection
+expected_of past.ListTo = expected.LastSection
+expected_of past.ListComma = expected.SectionOrAll
+expected_of past.ListLastComma = expected.InclusiveSectionOrAll
+expected_of past.ListAnd = expected.SectionNumber
+expected_of past.ListNumber = expected.MoreSections
+expected_of past.ListLast = expected.InclusiveOrMoreSections
+expected_of past.ListInclusive = expected.MoreSections
+expected_of past.ListColon = expected.All
+expected_of past.ListAll = expected.GroupEnd
+expected_of past.Lot = expected.LotNumber
+expected_of past.LotTo = expected.LastLot
+expected_of past.LotComma = expected.LotOrPart
+expected_of past.LotLastComma = expected.InclusiveLotOrPart
+expected_of past.LotAnd = expected.LotOrPart
+expected_of past.LotNumber = expected.MoreLots
+expected_of past.LotLast = expected.InclusiveOrMoreLots
+expected_of past.LotInclusive = expected.MoreLots
+expected_of past.BeforePart = expected.Part
+expected_of past.PartComma = expected.Part
+expected_of past.Side = expected.Half
+expected_of past.Corner = expected.Quarter
+expected_of past.Step = expected.MoreStepsOrParts
+expected_of past.Of = expected.Step
+expected_of past.OfThe = expected.Step
+expected_of past.All = expected.MoreParts
+expected_of past.End = expected.Nothing

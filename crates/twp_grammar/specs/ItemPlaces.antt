@@ -1,0 +1,78 @@
+-- The places that the items of a description name. A place is one of its section's, by column from
+-- the east and row from the south; g is how many binary digits each of both has.
+use Rattle.std.specs.Prelude.{ℕ, ◌==◌, ◌&&◌, nat_le, Bool, true, false, List, [], ◌∷◌, Option, Some, None, map, ◌≡◌, ◌+◌, ◌≤◌, ◌<◌}
+use Rattle.std.specs.List.{list_any}
+use Rattle.twp_grid.specs.Places.{is_place, binary, begins}
+use Rattle.twp_grid.specs.Cuts.{Cut, rows_asked, columns_asked}
+use Rattle.twp_grid.specs.Cuts.Cut.{half, quarter}
+use Rattle.twp_land.specs.WholeLots.{lot_of_place}
+use Rattle.twp_grammar.specs.declared.item.Item.{Item}
+use Rattle.twp_grammar.specs.declared.item.Item.TheVariants.{Heading, Sections, Lots, Chain, All}
+use Rattle.twp_grammar.specs.declared.item.Step.{Step}
+use Rattle.twp_grammar.specs.declared.item.Step.TheVariants.{Half, Quarter}
+use Rattle.twp_grammar.specs.declared.item.Item.TheVariants as item
+
+-- the half or the quarter that a step of an aliquot part takes
+abbrev pub cut_of : Step → Cut
+cut_of (Half side) = half side
+cut_of (Quarter corner) = quarter corner
+
+-- An aliquot part's cuts, as it is written: the last step is taken first.
+abbrev pub cuts_of : List Step → List Cut
+cuts_of steps = map cut_of steps
+
+-- the places whose first digits are those that the aliquot part asks for
+abbrev pub in_chain : ℕ → List Step → ℕ → ℕ → Bool
+in_chain g steps column row =
+    begins (columns_asked (cuts_of steps)) (binary g column)
+    && begins (rows_asked (cuts_of steps)) (binary g row)
+
+-- a lot of these numbers
+abbrev pub is_lot_from : ℕ → ℕ → Option ℕ → Bool
+is_lot_from first last None = false
+is_lot_from first last (Some lot) = nat_le first lot && nat_le lot last
+
+-- of what an item names in its section, the places of one section
+abbrev pub in_item : ℕ → ℕ → Item → ℕ → ℕ → ℕ → Bool
+in_item g section (Heading number north_south range east_west at) other column row = false
+in_item g section (Sections first last true) other column row =
+    nat_le first.value other && nat_le other last.value
+in_item g section (Sections first last false) other column row = false
+in_item g section (Lots first last) other column row =
+    (section == other) && is_lot_from first.value last.value (lot_of_place g section column row)
+in_item g section (Chain steps at) other column row =
+    (section == other) && in_chain g steps column row
+in_item g section (All at) other column row = section == other
+
+-- an item, and the number of the section that it is of
+pub record ItemOfSection : Type 0 where
+  pub section : ℕ
+  pub item : Item
+
+-- the places that an item names
+abbrev pub item_places : ℕ → ItemOfSection → ℕ → ℕ → ℕ → Bool
+item_places g part section column row =
+    is_place g column row && in_item g part.section part.item section column row
+
+-- the section of what follows an item: lots, aliquot parts and `all` are of the section named last
+abbrev pub section_behind : ℕ → Item → ℕ
+section_behind section (Sections first last whole) = first.value
+section_behind section other = section
+
+-- each item of a list with its section, where the list stands behind this section
+abbrev pub with_sections : ℕ → List Item → List ItemOfSection
+with_sections section [] = []
+with_sections section (item ∷ items) =
+    record { section = section; item = item } ∷ with_sections (section_behind section item) items
+
+-- the items of a description, each with its section; before the first section there is none
+abbrev pub parts_of : List Item → List ItemOfSection
+parts_of items = with_sections 0 items
+
+-- the land of items: all places that one of them names
+abbrev pub land_of : ℕ → List ItemOfSection → ℕ → ℕ → ℕ → Bool
+land_of g parts section column row = list_any (λ part. item_places g part section column row) parts
+
+-- an item of a section
+abbrev pub item_of : ℕ → Item → ItemOfSection
+item_of section some = record { section = section; item = some }

@@ -1,0 +1,10 @@
+pub mod Tokens
+pub mod Grammar
+pub mod Items
+pub mod Sentences
+pub mod Expected
+pub mod ItemPlaces
+pub mod Cutting
+pub mod Machine
+pub mod Laws
+pub mod OnPlat

@@ -1,0 +1,188 @@
+ghost use Rattle.std.specs.Prelude.{◌≡◌, ℕ, ◌≤◌, ◌<◌, ◌≤◌, [], ◌∷◌, ◌++◌, length, slice_get, OnOk};
+
+use arrayvec::ArrayVec;
+use std::alloc::{AllocError, Global};
+use std::marker::Model;
+use twp_grid::{Corner, EastWest, NorthSouth, Side};
+
+/// A number as it was written, and its place in the text.
+#[derive(Clone, Copy, Debug, PartialEq, Eq, Hash)]
+pub struct Numeral {
+    /// 0 to 9999. Whether the plat has such a section or lot is not judged here.
+    pub value: u16,
+    /// The offset of its first digit.
+    pub at: u32,
+}
+
+/// A step of an aliquot part: which half, or which quarter, of what the steps after it name.
+#[derive(Clone, Copy, Debug, PartialEq, Eq, Hash)]
+pub enum Step {
+    /// The half on this side.
+    Half(Side),
+    /// The quarter in this corner.
+    Quarter(Corner),
+}
+
+/// The north half stands in places of `Steps` that aren't used yet.
+impl Default for Step {
+    fn default() -> Step {
+        Step::Half(Side::N)
+    }
+}
+
+/// The steps of an aliquot part, the smallest first, as they are written: `S1/2NE1/4` is the south
+/// half of the north-east quarter. Up to eight take no memory of their own.
+#[derive(Debug, Drop)]
+pub struct Steps {
+    first: ArrayVec<Step, 8>,
+    more: Vec<Step>,
+}
+
+impl Model for Steps {
+    ghost use Rattle.std.specs.Prelude.{◌≡◌, ◌<◌, List, [], ◌++◌, length};
+    ghost use Rattle.twp_grammar.specs.declared.item.Step.{Step};
+
+    ghost Value = { List Step };
+
+    ghost view = { λ s. s.first.items ++ s.more.items };
+
+    ghost invariant = { λ s. length s.first.items < 8 → s.more.items ≡ [] };
+}
+
+impl Steps {
+    /// No step yet.
+    #[inline(always)]
+    pub fn none(alloc: Global) -> Steps
+        ensures { result ≡ [] }
+    {
+        Steps {
+            first: ArrayVec::new(),
+            more: Vec::new(alloc),
+        }
+    }
+
+    /// How many steps there are.
+    pub fn len(&self) -> usize
+        ensures { result ≡ length self.now }
+    {
+        self.first.len() + self.more.len()
+    }
+
+    /// The first steps, which stand beside each other: all of them, or eight.
+    #[inline]
+    #[tactic(auto, using(crate::proofs::StepFacts::in_first))]
+    pub fn first(&self) -> &[Step]
+        ensures within { length result.now ≤ length self.now }
+        ensures front { (index : ℕ) → index < length result.now
+            → slice_get self.now index ≡ slice_get result.now index }
+    {
+        self.first.as_slice()
+    }
+
+    /// The step at an index, counted from the smallest. None past the last.
+    #[tactic(auto, using(crate::proofs::StepFacts::in_first, crate::proofs::StepFacts::in_more))]
+    pub fn get(&self, index: usize) -> Option<Step>
+        ensures { result ≡ slice_get self.now index }
+    {
+        let first = self.first.as_slice();
+        if index < first.len() {
+            Some(first[index])
+        } else {
+            self.more.get(index - first.len()).copied()
+        }
+    }
+
+    /// Adds the step of which the last one is a part.
+    #[inline(always)]
+    #[tactic(auto, using(crate::proofs::StepFacts::push_first, crate::proofs::StepFacts::push_more))]
+    pub fn push(&mut self, step: Step) -> Result<(), AllocError>
+        ensures { OnOk result (self.new ≡ self.old ++ step ∷ []) }
+    {
+        if self.first.len() < 8 {
+            self.first.push(step);
+            return Ok(());
+        }
+        self.push_more(step)
+    }
+
+    /// Adds a step behind the eighth.
+    #[cold]
+    #[inline(never)]
+    #[tactic(auto, using(crate::proofs::StepFacts::push_more))]
+    fn push_more(&mut self, step: Step) -> Result<(), AllocError>
+        requires { 8 ≤ length self.old }
+        ensures { OnOk result (self.new ≡ self.old ++ step ∷ []) }
+    {
+        self.more.push(step)?;
+        Ok(())
+    }
+}
+
+/// What a description names, one after another. Places are offsets in the text.
+#[derive(Debug, Drop)]
+pub enum Item {
+    /// The township that the description is of.
+    Heading {
+        /// The township's number, 0 to 9999.
+        number: u16,
+        /// The township's side of the base line.
+        north_south: NorthSouth,
+        /// The range's number, 0 to 9999.
+        range: u16,
+        /// The range's side of the principal meridian.
+        east_west: EastWest,
+        /// The place of its `T`.
+        at: u32,
+    },
+    /// The sections from `first` to `last`: whole, or the one section of which the parts that
+    /// follow are parts.
+    Sections {
+        /// The first section.
+        first: Numeral,
+        /// The last one, which may be the first.
+        last: Numeral,
+        /// Whether no parts follow.
+        whole: bool,
+    },
+    /// The section's lots from `first` to `last`.
+    Lots {
+        /// The first lot.
+        first: Numeral,
+        /// The last one, which may be the first.
+        last: Numeral,
+    },
+    /// An aliquot part of the section.
+    Chain {
+        /// Its halves and quarters.
+        steps: Steps,
+        /// The place of its first token.
+        at: u32,
+    },
+    /// The whole section.
+    All {
+        /// The place of the word.
+        at: u32,
+    },
+}
+
+#[cfg(test)]
+mod tests {
+    use super::*;
+    use std::test::Fail;
+
+    #[test]
+    fn keeps_more_than_eight_steps(rt: HostRuntime) -> Result<(), Fail> {
+        let mut steps = Steps::none(rt.alloc());
+        steps.push(Step::Half(Side::S))?;
+        for _ in 0..8 {
+            steps.push(Step::Quarter(Corner::NE))?;
+        }
+        steps.push(Step::Half(Side::W))?;
+        assert_eq!(rt; steps.len(), 10);
+        assert_eq!(rt; steps.get(0), Some(Step::Half(Side::S)));
+        assert_eq!(rt; steps.get(8), Some(Step::Quarter(Corner::NE)));
+        assert_eq!(rt; steps.get(9), Some(Step::Half(Side::W)));
+        assert_eq!(rt; steps.get(10), None);
+        Ok(())
+    }
+}

@@ -1,0 +1,13 @@
+use crate::kind::Kind;
+
+/// A piece of a description: a word, a number, a half or a quarter, a mark, or what is none of
+/// these.
+#[derive(Clone, Copy, Debug, PartialEq, Eq)]
+pub struct Token<'a> {
+    /// What the bytes are.
+    pub kind: Kind,
+    /// The bytes of the token, a slice of the text that stands at `at`.
+    pub text: &'a [u8],
+    /// The offset of its first byte in the text.
+    pub at: usize,
+}

@@ -1,0 +1,12 @@
+pub mod NewestItem
+pub mod Walk
+pub mod Reading
+pub mod WordFacts
+pub mod WhiteFacts
+pub mod ReaderFacts
+pub mod PassingFacts
+pub mod FrontFacts
+pub mod NumberFacts
+pub mod OneAnswer
+pub mod LetterFacts
+pub mod PlaceFacts

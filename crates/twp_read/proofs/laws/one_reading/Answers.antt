@@ -1,0 +1,5 @@
+use Rattle.twp_read.proofs.OneAnswer as answer
+use Rattle.twp_read.proofs.laws.one_reading.Goals as goal
+
+pub returns : goal.returns
+returns c = answer.one_reading

@@ -1,0 +1,4 @@
+pub mod TextFaults
+pub mod Passing
+pub mod Laws
+pub mod TokenSteps

@@ -1,0 +1,145 @@
+ghost use Rattle.std.specs.Prelude.{◌≡◌, ◌≤◌, List, length, IfOk, IfErr, IfSome, IsSomeAnd};
+ghost use Rattle.std.specs.Prelude.{MatchOption, MatchResult};
+ghost use Rattle.twp_read.specs.TextFaults.{refusal_of, fault_of_bad, HasNoneBad, GoesWrong, Helps};
+ghost use Rattle.twp_read.specs.TextFaults.{IsBadToken, IsFirstTextFault};
+ghost use Rattle.twp_read.specs.Passing.{HasNoneBadBefore};
+
+use crate::fault::{TEXT_LIMIT, TextFault};
+use crate::items::Items;
+use crate::passing::behind_fraction;
+use crate::token::{Tokens, first_token};
+use std::alloc::Global;
+use std::marker::Model;
+use twp_grammar::{Expected, Item, Kind};
+
+/// There is room from the start for an item for each so many bytes: fine aliquot parts take some
+/// twenty.
+const BYTES_TO_ITEM: usize = 16;
+
+/// A description of land, as the items that it names, from left to right.
+#[derive(Debug, Drop)]
+pub struct Description {
+    items: Vec<Item>,
+}
+
+impl Model for Description {
+    ghost use Rattle.std.specs.Prelude.{List};
+    ghost use Rattle.twp_grammar.specs.declared.item.Item.{Item};
+    ghost use Rattle.twp_grammar.specs.Items.{BeginWithSections};
+
+    ghost Value = { List Item };
+
+    ghost view = { λ d. d.items.items };
+
+    ghost invariant = { λ d. BeginWithSections d.items.items };
+}
+
+impl Description {
+    ghost use Rattle.twp_grammar.specs.Items.{BeginWithSections};
+    ghost use Rattle.twp_grammar.specs.Sentences.{IsReadAs};
+
+    /// Reads a description by the grammar (the form of the Specifications for Descriptions of Land;
+    /// the grammar is this project's). Nothing is judged of a plat.
+    pub fn read(alloc: Global, text: &[u8]) -> Result<Description, TextFault>
+        ensures read { IfOk result (IsReadAs text.now) }
+        ensures taken { (items : List Item) → IsReadAs text.now items
+            → MatchResult result (λ d. d ≡ items) (λ fault. fault ≡ TextFault.Memory) }
+        ensures refused { IfErr result
+            (λ fault. IfSome (refusal_of fault) (IsFirstTextFault text.now)) }
+        ensures helps { IfErr result (Helps text.now) }
+    {
+        if text.len() > TEXT_LIMIT {
+            return Err(TextFault::TooLarge);
+        }
+        Description::read_within(alloc, text)
+    }
+
+    /// Reads a description within the limit.
+    #[inline(never)]
+    fn read_within(alloc: Global, text: &[u8]) -> Result<Description, TextFault>
+        requires { length text.now ≤ TEXT_LIMIT }
+        ensures read { IfOk result (IsReadAs text.now) }
+        ensures refused { IfErr result
+            (λ fault. IfSome (refusal_of fault) (IsFirstTextFault text.now)) }
+        ensures helps { IfErr result (Helps text.now) }
+    {
+        let mut items = Items::with_room(alloc, text.len() / BYTES_TO_ITEM)?;
+        let mut reached = items.take_heading(text)?;
+        'tokens: loop {
+            reached = items.take_usual(alloc, text, reached)?;
+            let Some(token) = first_token(text, reached.at) else {
+                break;
+            };
+            let Some(behind) = reached.state.next(token.kind) else {
+                return Err(fault_of(text, reached.at, token.at, reached.state.expected()));
+            };
+            items.take(alloc, reached.state, token.kind, token.at as u32)?;
+            reached = behind_fraction(text, token.at + token.text.len(), behind);
+        }
+        if !reached.state.is_final() {
+            return Err(fault_of(text, reached.at, text.len(), reached.state.expected()));
+        }
+        Ok(Description {
+            items: items.into_vec(),
+        })
+    }
+
+    /// The items, from left to right. Sections come first, or stand behind the heading.
+    pub fn items(&self) -> &[Item]
+        ensures items { result.now ≡ self.now }
+        ensures sections_first { BeginWithSections self.now }
+    {
+        &self.items
+    }
+}
+
+/// The fault of a text that goes wrong at a place, where something else could stand: its leftmost
+/// bad token, if it has one. What was taken, up to another place, has none.
+#[cold]
+#[inline(never)]
+fn fault_of(text: &[u8], taken: usize, at: usize, expected: Expected) -> TextFault
+    requires good { HasNoneBadBefore text.now taken }
+    requires within { at ≤ length text.now }
+    requires limit { length text.now ≤ TEXT_LIMIT }
+    requires wrong { GoesWrong text.now at expected }
+    ensures refused { IsSomeAnd (refusal_of result) (IsFirstTextFault text.now) }
+    ensures helps { Helps text.now result }
+{
+    match first_bad(text, taken) {
+        Some(fault) => fault,
+        None => TextFault::Syntax {
+            at: at as u32,
+            expected,
+        },
+    }
+}
+
+/// The leftmost bad token, of which none stands before a place.
+fn first_bad(text: &[u8], taken: usize) -> Option<TextFault>
+    requires good { HasNoneBadBefore text.now taken }
+    requires limit { length text.now ≤ TEXT_LIMIT }
+    ensures { MatchOption result (HasNoneBad text.now)
+        (λ fault. IsSomeAnd (refusal_of fault) (IsBadToken text.now)) }
+{
+    let mut tokens = Tokens::behind(text, taken);
+    while let Some(token) = tokens.next() {
+        if let Some(fault) = fault_of_bad(token.kind, token.at as u32) {
+            return Some(fault);
+        }
+    }
+    None
+}
+
+/// The fault that a token is wherever it stands.
+fn fault_of_bad(kind: Kind, at: u32) -> Option<TextFault>
+    ensures { result ≡ fault_of_bad kind at }
+{
+    match kind {
+        Kind::BadByte => Some(TextFault::BadByte { at }),
+        Kind::BadNumber => Some(TextFault::BadNumber { at }),
+        _ => None,
+    }
+}
+
+#[cfg(test)]
+mod tests;

@@ -1,0 +1,22 @@
+//! The reader of descriptions: the bytes are cut into tokens, and the tokens are read as the items
+//! that a sentence of the grammar names; or it is said where a text goes wrong, and what could stand
+//! there.
+#![tactic(auto)]
+
+mod change;
+mod description;
+mod fault;
+mod front;
+mod growing;
+mod items;
+pub mod laws;
+mod lexeme;
+mod numbers;
+mod passing;
+mod token;
+mod white;
+mod word;
+
+pub use description::Description;
+pub use fault::{TEXT_LIMIT, TextFault};
+pub use token::Tokens;

@@ -1,0 +1,152 @@
+ghost use Rattle.std.specs.Prelude.{◌≡◌, ◌≤◌, drop, length};
+ghost use Rattle.twp_grammar.specs.Cutting.{GivesFirst};
+ghost use Rattle.std.specs.Iterator.{at_most};
+
+use crate::lexeme::lexeme_at;
+use crate::white::behind_white;
+use std::marker::Model;
+use twp_grammar::{Lexeme, Token};
+
+/// The first token of a text at a place or behind it.
+#[inline(always)]
+pub fn first_token(text: &[u8], from: usize) -> Option<Token<'_>>
+    requires { from ≤ length text.now }
+    ensures { GivesFirst text.now from result }
+{
+    let at = behind_white(text, from);
+    if at >= text.len() {
+        return None;
+    }
+    let Lexeme { kind, size } = lexeme_at(text, at);
+    let (_, left) = text.split_at(at);
+    let (text, _) = left.split_at(size);
+    Some(Token { kind, text, at })
+}
+
+/// The tokens of a description, from left to right. White space between them is left out. A byte
+/// that begins no token is one of kind `BadByte`, and more than four digits are one of kind
+/// `BadNumber`.
+#[derive(Debug, Drop)]
+pub struct Tokens<'a> {
+    text: &'a [u8],
+    /// Where the bytes begin that are left.
+    at: usize,
+}
+
+impl<'a> Model for Tokens<'a> {
+    ghost use Rattle.std.specs.Prelude.{◌≤◌, drop, length};
+    ghost use Rattle.twp_grammar.specs.Tokens.{Left};
+
+    ghost Value = { Left };
+
+    ghost view = { λ s. record { at = s.at; bytes = drop s.at s.text.now } };
+
+    ghost invariant = { λ s. s.at ≤ length s.text.now };
+}
+
+impl<'a> Tokens<'a> {
+    ghost use Rattle.twp_grammar.specs.Tokens.{Left};
+
+    /// The tokens of a text, which stands at 0.
+    pub fn new(text: &'a [u8]) -> Tokens<'a>
+        ensures { result ≡ record { at = 0; bytes = text.now } }
+    {
+        Tokens { text, at: 0 }
+    }
+
+    /// The tokens of a text that stand at a place or behind it.
+    pub(crate) fn behind(text: &'a [u8], at: usize) -> Tokens<'a>
+        requires { at ≤ length text.now }
+        ensures { result ≡ record { at = at; bytes = drop at text.now } }
+    {
+        Tokens { text, at }
+    }
+}
+
+impl<'a> Iterator for Tokens<'a> {
+    type Item = Token<'a>;
+
+    ghost use Rattle.std.specs.Prelude.{length};
+    ghost use Rattle.twp_grammar.specs.Tokens.{GivesToken};
+
+    ghost next_gives = { GivesToken };
+
+    ghost remaining = { λ s. at_most (length s.bytes) };
+
+    fn next(&mut self) -> Option<Token<'a>> {
+        let token = first_token(self.text, self.at);
+        self.at = match token {
+            Some(token) => token.at + token.text.len(),
+            None => self.text.len(),
+        };
+        token
+    }
+}
+
+#[cfg(test)]
+mod tests {
+    use super::*;
+    use std::test::Fail;
+    use twp_grammar::Kind;
+    use twp_grid::{Corner, NorthSouth};
+
+    #[test]
+    fn cuts_a_text_into_tokens(rt: HostRuntime) -> Result<(), Fail> {
+        let text = b"T 01/2 S\xC2\xBD,ne1/4;All:9999 12345 x\xA0.";
+        let wanted: [(Kind, &[u8], usize); 17] = [
+            (Kind::T, b"T", 0),
+            (Kind::Number(1), b"01", 2),
+            (Kind::BadByte, b"/", 4),
+            (Kind::Number(2), b"2", 5),
+            (Kind::NorthSouth(NorthSouth::S), b"S", 7),
+            (Kind::Half, b"\xC2\xBD", 8),
+            (Kind::Comma, b",", 10),
+            (Kind::Corner(Corner::NE), b"ne", 11),
+            (Kind::Quarter, b"1/4", 13),
+            (Kind::Semicolon, b";", 16),
+            (Kind::All, b"All", 17),
+            (Kind::Colon, b":", 20),
+            (Kind::Number(9999), b"9999", 21),
+            (Kind::BadNumber, b"12345", 26),
+            (Kind::Other, b"x", 32),
+            (Kind::BadByte, b"\xA0", 33),
+            (Kind::Stop, b".", 34),
+        ];
+        let mut tokens = Tokens::new(text);
+        for (kind, bytes, at) in wanted {
+            let token = tokens.next().ok_or("a token is missing")?;
+            assert_eq!(rt; token.kind, kind);
+            assert_eq!(rt; token.text, bytes);
+            assert_eq!(rt; token.at, at);
+        }
+        assert!(rt; tokens.next().is_none());
+        assert!(rt; tokens.next().is_none());
+        Ok(())
+    }
+
+    #[test]
+    fn knows_the_words(rt: HostRuntime) -> Result<(), Fail> {
+        let words = "sec SECS Section sections lot Lots to THRU through inclusive of the and all";
+        let kinds = [
+            Kind::Sec,
+            Kind::Sec,
+            Kind::Sec,
+            Kind::Sec,
+            Kind::Lot,
+            Kind::Lot,
+            Kind::To,
+            Kind::To,
+            Kind::To,
+            Kind::Inclusive,
+            Kind::Of,
+            Kind::The,
+            Kind::And,
+            Kind::All,
+        ];
+        let mut tokens = Tokens::new(words.as_bytes());
+        for kind in kinds {
+            assert_eq!(rt; tokens.next().ok_or("a word is missing")?.kind, kind);
+        }
+        Ok(())
+    }
+}

@@ -1,0 +1,87 @@
+//! White space: how far it goes from a place on.
+ghost use Rattle.std.specs.Prelude.{◌≡◌, ◌<◌, ◌≤◌, ◌+◌, length, drop, map, IsTrue};
+ghost use Rattle.std.specs.List.{prefix_len};
+ghost use Rattle.std.specs.Simd.Lanes.{mask_l};
+ghost use Rattle.twp_grammar.specs.Tokens.{begins_with, is_white};
+ghost use Rattle.twp_grammar.specs.Cutting.{is_dark};
+
+use std::simd::prelude::*;
+
+/// How many bytes are looked at together where there is much white space.
+const LANES: usize = 16;
+
+/// The first place from a place on that has no white space, or the text's length. Mostly there is
+/// one space or none.
+#[inline(always)]
+pub(crate) fn behind_white(text: &[u8], from: usize) -> usize
+    requires { from ≤ length text.now }
+    ensures value { result ≡ from + prefix_len is_white (drop from text.now) }
+    ensures range { result ≤ length text.now }
+{
+    if !is_white_at(text, from) {
+        return from;
+    }
+    if !is_white_at(text, from + 1) {
+        return from + 1;
+    }
+    behind_much_white(text, from + 1)
+}
+
+/// The same, of white space of any length and kind.
+#[inline(never)]
+fn behind_much_white(text: &[u8], from: usize) -> usize
+    requires { from ≤ length text.now }
+    ensures value { result ≡ from + prefix_len is_white (drop from text.now) }
+    ensures range { result ≤ length text.now }
+{
+    let mut at = from;
+    while text.len() - at >= LANES {
+        let dark = dark_lanes(u8x16::from_slice(&text[at..]));
+        if dark != 0 {
+            return at + dark.trailing_zeros() as usize;
+        }
+        at += LANES;
+    }
+    behind_last_white(text, at)
+}
+
+/// The same, of the last bytes of a text.
+fn behind_last_white(text: &[u8], from: usize) -> usize
+    requires { from ≤ length text.now }
+    ensures value { result ≡ from + prefix_len is_white (drop from text.now) }
+    ensures range { result ≤ length text.now }
+{
+    let mut at = from;
+    while is_white_at(text, at) {
+        at += 1;
+    }
+    at
+}
+
+/// A bit for each byte that is no white space, the lowest for the first.
+#[inline(always)]
+fn dark_lanes(bytes: u8x16) -> u64
+    ensures { result ≡ mask_l (map is_dark bytes) }
+{
+    let no_space = bytes.simd_ne(u8x16::splat(b' ')) & bytes.simd_ne(u8x16::splat(b'\t'));
+    let no_end = bytes.simd_ne(u8x16::splat(b'\n')) & bytes.simd_ne(u8x16::splat(b'\r'));
+    (no_space & no_end).to_bitmask()
+}
+
+/// Whether white space stands at a place.
+#[inline(always)]
+fn is_white_at(text: &[u8], at: usize) -> bool
+    ensures value { result ≡ begins_with is_white (drop at text.now) }
+    ensures within { IsTrue result → at < length text.now }
+{
+    at < text.len() && is_white(text[at])
+}
+
+/// Whether a byte is a space, a tabulator, a line feed or a carriage return. All that are none of
+/// the four but control characters come behind the space, so most bytes take one comparison.
+#[inline(always)]
+fn is_white(byte: u8) -> bool
+    ensures { result ≡ is_white byte }
+{
+    byte <= b' ' && matches!(byte, b' ' | b'\t' | b'\n' | b'\r')
+}

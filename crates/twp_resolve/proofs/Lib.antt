@@ -1,0 +1,9 @@
+pub mod ChainFacts
+pub mod ChainFlaws
+pub mod RangeFacts
+pub mod RangeFlaws
+pub mod ItemFlaws
+pub mod PlaceAnswers
+pub mod ResolvingFacts
+pub mod LandLots
+pub mod DescribedLand

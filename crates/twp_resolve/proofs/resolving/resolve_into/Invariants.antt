@@ -1,0 +1,12 @@
+use Rattle.std.proofs.Common.{drop}
+use Rattle.twp_grid.specs.Places.{PLACE_DIGITS}
+use Rattle.twp_resolve.specs.Taking.{number_of_section}
+use Rattle.twp_resolve.proofs.ResolvingFacts.{AreTaken, SectionKnown}
+use Rattle.twp_resolve.proofs.resolving.resolve_into.Given as goal
+
+-- the items so far are taken, and parts of a section come behind it
+abbrev pub invariant-loop-item : goal.invariant-loop-item
+invariant-loop-item g l = record {
+  taken : AreTaken PLACE_DIGITS l.township l.items l.item-index (number_of_section l.section) (g.L.Land.places l.land);
+  known : SectionKnown l.section (drop l.item-index l.items);
+}

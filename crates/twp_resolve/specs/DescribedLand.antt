@@ -1,0 +1,22 @@
+-- Laws of the land that a description names.
+use Rattle.std.specs.Prelude.{◌≢◌, ℕ, Bool, List}
+use Rattle.twp_grid.specs.Places.{PLACE_DIGITS}
+use Rattle.twp_grid.specs.Townships.{Designation}
+use Rattle.twp_land.specs.Lands.{no_places}
+use Rattle.twp_grammar.specs.declared.item.Item.{Item}
+use Rattle.twp_grammar.specs.Tokens.{Token}
+use Rattle.twp_grammar.specs.Sentences.{HasItems}
+use Rattle.twp_grammar.specs.OnPlat.{IsLandOfItems}
+use Rattle.twp_grammar.specs.OnPlat.{IsTownshipLand}
+
+-- the land of a sentence is a land of the township
+abbrev pub DescribedLandIsOfTownship : Type 0
+DescribedLandIsOfTownship = (township : Designation) (tokens : List Token) (items : List Item)
+    (places : ℕ → ℕ → ℕ → Bool) → HasItems tokens items
+    → IsLandOfItems PLACE_DIGITS township items places → IsTownshipLand PLACE_DIGITS places
+
+-- a sentence whose items lie on the plat names some place
+abbrev pub DescriptionNamesSomePlace : Type 0
+DescriptionNamesSomePlace = (township : Designation) (tokens : List Token) (items : List Item)
+    (places : ℕ → ℕ → ℕ → Bool) → HasItems tokens items
+    → IsLandOfItems PLACE_DIGITS township items places → places ≢ no_places

@@ -1,0 +1,19 @@
+-- Laws of the places that items name.
+use Rattle.std.specs.Prelude.{◌≡◌, ℕ, ◌↔◌, Bool, List, [], ◌∷◌, ◌++◌, Result}
+use Rattle.twp_grammar.specs.declared.item.Item.{Item}
+use Rattle.twp_grid.specs.Townships.{Designation}
+use Rattle.twp_resolve.specs.declared.place_fault.PlaceFault.{PlaceFault}
+use Rattle.twp_grammar.specs.OnPlat.{AreOnPlat}
+use Rattle.twp_resolve.specs.PlaceFaults.{IsFirstPlaceFault, AnswersPlaces}
+
+-- what lies on the plat without overlap has no fault
+abbrev pub OnPlatHasNoFault : Type 0
+OnPlatHasNoFault = (g : ℕ) (township : Designation) (items : List Item) (fault : PlaceFault)
+    → AreOnPlat g township items → ¬ IsFirstPlaceFault g township items fault
+
+-- items have one land, or one first fault
+abbrev pub OnePlaceAnswer : Type 0
+OnePlaceAnswer = (g : ℕ) (township : Designation) (items : List Item)
+    (answer answer' : Result (ℕ → ℕ → ℕ → Bool) PlaceFault)
+    → AnswersPlaces g township items answer → AnswersPlaces g township items answer'
+    → answer ≡ answer'

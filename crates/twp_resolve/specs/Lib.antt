@@ -1,0 +1,4 @@
+pub mod PlaceFaults
+pub mod Taking
+pub mod Laws
+pub mod DescribedLand

@@ -1,0 +1,124 @@
+ghost use Rattle.std.specs.Prelude.{◌≡◌, ◌≤◌, List, length, IfSome, IfOk, IfErr};
+ghost use Rattle.std.specs.Prelude.{MatchOption};
+ghost use Rattle.std.specs.Option.{SomeIff};
+ghost use Rattle.twp_grid.specs.Places.{PLACE_DIGITS};
+ghost use Rattle.twp_grid.specs.Cuts.{AreWithin, part_of, reached};
+ghost use Rattle.twp_grid.specs.Townships.{Designation};
+ghost use Rattle.twp_grammar.specs.ItemPlaces.{cut_of, cuts_of};
+ghost use Rattle.twp_resolve.specs.Taking.{CanCut, IsCutTo, IsTaken, IsFirstFlaw};
+ghost use Rattle.twp_grammar.specs.declared.item.Item.TheVariants.{Chain};
+ghost use Rattle.twp_grammar.specs.declared.item.Step.{Step as TakenStep};
+
+use crate::place_fault::PlaceFault;
+use crate::taking::add_block;
+use twp_grammar::{Step, Steps};
+use twp_grid::{Block, Section};
+use twp_land::{Land, holds_of_lot};
+
+/// Takes an aliquot part of a section.
+pub(crate) fn take_chain<L: Land>(
+    land: &mut L,
+    section: Section,
+    steps: &Steps,
+    at: u32,
+) -> Result<(), PlaceFault>
+    ensures taken { IfOk result (λ _. (township : Designation)
+        → IsTaken PLACE_DIGITS township section (Chain steps.now at)
+        (L.places land.old) (L.places land.new)) }
+    ensures refused { IfErr result (λ fault. (township : Designation)
+        → IsFirstFlaw PLACE_DIGITS township section (Chain steps.now at) (L.places land.old) fault) }
+{
+    if let Some(place) = place_of(steps) {
+        return take_block(land, section, place, at);
+    }
+    let Some(block) = block_of(steps) else {
+        return Err(PlaceFault::TooFine { at });
+    };
+    take_block(land, section, block, at)
+}
+
+/// Takes the block that an aliquot part's steps leave of a section.
+#[inline(always)]
+fn take_block<L: Land>(
+    land: &mut L,
+    section: Section,
+    block: Block,
+    at: u32,
+) -> Result<(), PlaceFault>
+    ensures taken { (steps : List TakenStep) → IsCutTo PLACE_DIGITS steps 0 block
+        → IfOk result (λ _. (township : Designation)
+        → IsTaken PLACE_DIGITS township section (Chain steps at)
+        (L.places land.old) (L.places land.new)) }
+    ensures refused { (steps : List TakenStep) → IsCutTo PLACE_DIGITS steps 0 block
+        → IfErr result (λ fault. (township : Designation)
+        → IsFirstFlaw PLACE_DIGITS township section (Chain steps at) (L.places land.old) fault) }
+{
+    if holds_of_lot(section, block) {
+        return Err(PlaceFault::OnLot { at });
+    }
+    add_block(land, section, block, at)
+}
+
+/// The block that an aliquot part's steps leave of a section, from the last step to the first. None
+/// where one of them would halve a side of one place.
+fn block_of(steps: &Steps) -> Option<Block>
+    ensures { SomeIff result (AreWithin PLACE_DIGITS (cuts_of steps.now))
+        (reached PLACE_DIGITS (cuts_of steps.now)) }
+{
+    let first = steps.first();
+    let mut block = block_behind(steps, first.len())?;
+    for index in (0..first.len()).rev() {
+        block = cut(block, first[index])?;
+    }
+    Some(block)
+}
+
+/// The place that four quarters leave of a section. None of other steps. Each quarter's size is
+/// known here, so that none is tested for being too fine.
+#[inline(always)]
+fn place_of(steps: &Steps) -> Option<Block>
+    ensures { IfSome result (IsCutTo PLACE_DIGITS steps.now 0) }
+{
+    let first = steps.first();
+    if first.len() != 4 || steps.len() != first.len() {
+        return None;
+    }
+    let half_mile = quarter_of(Block::whole(), first[3])?;
+    let position = quarter_of(half_mile, first[2])?;
+    let square = quarter_of(position, first[1])?;
+    quarter_of(square, first[0])
+}
+
+/// The quarter of a block that a step takes. None of a half.
+#[inline(always)]
+fn quarter_of(block: Block, step: Step) -> Option<Block>
+    ensures { IfSome result (λ part. CanCut block (cut_of step) × (part ≡ part_of block (cut_of step))) }
+{
+    match step {
+        Step::Half(_) => None,
+        Step::Quarter(corner) => block.quarter(corner),
+    }
+}
+
+/// The block that the steps from an index on leave of a section.
+fn block_behind(steps: &Steps, start: usize) -> Option<Block>
+    requires { start ≤ length steps.now }
+    ensures { MatchOption result (¬ AreWithin PLACE_DIGITS (cuts_of steps.now))
+        (IsCutTo PLACE_DIGITS steps.now start) }
+{
+    let mut block = Block::whole();
+    for index in (start..steps.len()).rev() {
+        block = cut(block, steps.get(index).unwrap())?;
+    }
+    Some(block)
+}
+
+/// The half or the quarter of a block that a step takes.
+fn cut(block: Block, step: Step) -> Option<Block>
+    ensures { SomeIff result (CanCut block (cut_of step)) (part_of block (cut_of step)) }
+{
+    match step {
+        Step::Half(side) => block.half(side),
+        Step::Quarter(corner) => block.quarter(corner),
+    }
+}

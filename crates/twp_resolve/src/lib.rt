@@ -1,0 +1,13 @@
+//! The land that the items of a description name on a township's plat, or the first fault: why they
+//! don't lie on it without overlap.
+#![tactic(auto)]
+
+mod chain;
+pub mod laws;
+mod place_fault;
+mod ranges;
+mod resolving;
+mod taking;
+
+pub use place_fault::PlaceFault;
+pub use resolving::{resolve, resolve_into};

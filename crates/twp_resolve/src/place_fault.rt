@@ -1,0 +1,104 @@
+ghost use Rattle.std.specs.Prelude.{◌≡◌};
+ghost use Rattle.twp_resolve.specs.PlaceFaults.{refusal_of};
+
+use thiserror::Error;
+use twp_grid::Refusal;
+
+/// Why a description names no land on the plat (this project's rules; lots and aliquot parts as in
+/// the Specifications for Descriptions of Land). Places are offsets in the text. The first item
+/// with a fault is answered; of one item's faults, that of the least number, and of the two numbers
+/// of a range, the first before the second.
+#[derive(Clone, Copy, Debug, PartialEq, Eq, Hash, Error)]
+pub enum PlaceFault {
+    /// 61, at the heading: it is of another township than the plat.
+    #[error("the heading at {at} is of another township than the field notes")]
+    OtherTownship { at: u32 },
+    /// 62, at the number: no section from 1 to 36.
+    #[error("the number at {at} is no section's: they are 1 to 36")]
+    NoSection { at: u32 },
+    /// 63, at the second number of a range of sections or of lots: it is less than the first.
+    #[error("the range that ends at {at} runs backward")]
+    Backward { at: u32 },
+    /// 64, at the number: the section has no such lot.
+    #[error("the number at {at} is no lot of its section")]
+    NoLot { at: u32 },
+    /// 65, at the aliquot part: one of its steps would halve a side of one place.
+    #[error("the aliquot part at {at} is too fine")]
+    TooFine { at: u32 },
+    /// 66, at the aliquot part: it holds a place of a lot.
+    #[error("the aliquot part at {at} holds land of a lot")]
+    OnLot { at: u32 },
+    /// 67, at the item's first number, its first token or its word: it names a place that an
+    /// earlier item named.
+    #[error("at {at} land is named that was named before")]
+    Overlap { at: u32 },
+}
+
+impl PlaceFault {
+    /// The number of the refusal, 61 to 67, and its place, an offset in the text.
+    pub fn refusal(&self) -> Option<Refusal>
+        ensures { result ≡ refusal_of self.now }
+    {
+        let (number, at) = match *self {
+            PlaceFault::OtherTownship { at } => (61, at),
+            PlaceFault::NoSection { at } => (62, at),
+            PlaceFault::Backward { at } => (63, at),
+            PlaceFault::NoLot { at } => (64, at),
+            PlaceFault::TooFine { at } => (65, at),
+            PlaceFault::OnLot { at } => (66, at),
+            PlaceFault::Overlap { at } => (67, at),
+        };
+        Some(Refusal { number, at })
+    }
+}
+
+#[cfg(test)]
+mod tests {
+    use super::*;
+    use std::test::Fail;
+
+    #[test]
+    fn tells_faults(rt: HostRuntime) -> Result<(), Fail> {
+        for (fault, number, text) in [
+            (
+                PlaceFault::OtherTownship { at: 0 },
+                61,
+                "the heading at 0 is of another township than the field notes",
+            ),
+            (
+                PlaceFault::NoSection { at: 5 },
+                62,
+                "the number at 5 is no section's: they are 1 to 36",
+            ),
+            (
+                PlaceFault::Backward { at: 11 },
+                63,
+                "the range that ends at 11 runs backward",
+            ),
+            (
+                PlaceFault::NoLot { at: 12 },
+                64,
+                "the number at 12 is no lot of its section",
+            ),
+            (
+                PlaceFault::TooFine { at: 9 },
+                65,
+                "the aliquot part at 9 is too fine",
+            ),
+            (
+                PlaceFault::OnLot { at: 8 },
+                66,
+                "the aliquot part at 8 holds land of a lot",
+            ),
+            (
+                PlaceFault::Overlap { at: 19 },
+                67,
+                "at 19 land is named that was named before",
+            ),
+        ] {
+            assert_eq!(rt; fault.to_string(rt.alloc())?.as_str(), text);
+            assert_eq!(rt; fault.refusal().map(|refusal| refusal.number), Some(number));
+        }
+        Ok(())
+    }
+}

@@ -1,0 +1,92 @@
+ghost use Rattle.std.specs.Prelude.{◌≡◌, ◌↔◌, ◌⊎◌, IsSome, IfOk, OnOk, IfErr, IsTrue, is_ok};
+ghost use Rattle.std.specs.Prelude.{MatchResult};
+ghost use Rattle.twp_grid.specs.Places.{PLACE_DIGITS};
+ghost use Rattle.twp_grid.specs.Townships.{Designation};
+ghost use Rattle.twp_land.specs.WholeLots.{HasWholeLots};
+ghost use Rattle.twp_grammar.specs.ItemPlaces.{section_behind};
+ghost use Rattle.twp_grammar.specs.OnPlat.{AreOnPlat, IsLandOfItems};
+ghost use Rattle.twp_resolve.specs.PlaceFaults.{IsFirstPlaceFault};
+ghost use Rattle.twp_resolve.specs.Taking.{IsTaken, IsFirstFlaw, IsBeforeParts, number_of_section};
+
+use crate::chain::take_chain;
+use crate::place_fault::PlaceFault;
+use crate::ranges::{take_lots, take_sections};
+use crate::taking::{add_block, take_heading};
+use twp_grammar::Item;
+use twp_grid::{Block, Section, Township};
+use twp_land::Land;
+use twp_read::Description;
+
+/// The land that a description names on a township's plat: all places of its items, of which none
+/// is named twice. A lot is taken whole, and an aliquot part that holds land of a lot is not on the
+/// plat (Specifications for Descriptions of Land). The first fault is the first item's that has
+/// one.
+pub fn resolve<L: Land>(description: &Description, township: Township) -> Result<L, PlaceFault>
+    ensures land { IfOk result
+        (λ land. IsLandOfItems PLACE_DIGITS township description.now (L.places land)) }
+    ensures whole_lots { IfOk result (λ land. HasWholeLots PLACE_DIGITS (L.places land)) }
+    ensures refused { IfErr result (IsFirstPlaceFault PLACE_DIGITS township description.now) }
+    ensures on_plat { IsTrue (is_ok result) ↔ AreOnPlat PLACE_DIGITS township description.now }
+{
+    let mut land = L::empty();
+    resolve_into(&mut land, description, township)?;
+    Ok(land)
+}
+
+/// Makes a land the one that `resolve` gives. What it held before is gone; after a fault it is of
+/// no use.
+pub fn resolve_into<L: Land>(
+    land: &mut L,
+    description: &Description,
+    township: Township,
+) -> Result<(), PlaceFault>
+    ensures land { OnOk result
+        (IsLandOfItems PLACE_DIGITS township description.now (L.places land.new)) }
+    ensures whole_lots { OnOk result (HasWholeLots PLACE_DIGITS (L.places land.new)) }
+    ensures refused { IfErr result (IsFirstPlaceFault PLACE_DIGITS township description.now) }
+    ensures on_plat { IsTrue (is_ok result) ↔ AreOnPlat PLACE_DIGITS township description.now }
+{
+    let items = description.items();
+    let mut section = None;
+    land.clear();
+    for item in items {
+        section = take_item(land, section, item, township)?;
+    }
+    Ok(())
+}
+
+/// Takes an item into the land of the items before it, and gives the section of what follows.
+fn take_item<L: Land>(
+    land: &mut L,
+    section: Option<Section>,
+    item: &Item,
+    township: Township,
+) -> Result<Option<Section>, PlaceFault>
+    requires { IsSome section ⊎ IsBeforeParts item.now }
+    ensures taken { IfOk result (λ behind. IsTaken PLACE_DIGITS township (number_of_section section)
+        item.now (L.places land.old) (L.places land.new)) }
+    ensures behind { IfOk result (λ behind. number_of_section behind
+        ≡ section_behind (number_of_section section) item.now) }
+    ensures refused { IfErr result (IsFirstFlaw PLACE_DIGITS township (number_of_section section)
+        item.now (L.places land.old)) }
+{
+    match item {
+        Item::Heading {
+            number,
+            north_south,
+            range,
+            east_west,
+            at,
+        } => take_heading(*number, *north_south, *range, *east_west, *at, township)?,
+        Item::Sections { first, last, whole } => {
+            return Ok(Some(take_sections(land, *first, *last, *whole)?));
+        }
+        Item::Lots { first, last } => take_lots(land, section.unwrap(), *first, *last)?,
+        Item::Chain { steps, at } => take_chain(land, section.unwrap(), steps, *at)?,
+        Item::All { at } => add_block(land, section.unwrap(), Block::whole(), *at)?,
+    }
+    Ok(section)
+}
+
+#[cfg(test)]
+mod tests;

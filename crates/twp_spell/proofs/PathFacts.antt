@@ -1,0 +1,88 @@
+-- Paths of squares: the bytes of a quarter ahead of those of its square.
+use Rattle.std.proofs.Common.{◌≡◌, ℕ, zero, suc, ◌+◌, ◌*◌, ◌<◌, ◌≤◌, List, [], ◌∷◌, ◌++◌, length, length-append, take, min, refl, sym, ap, ◌∙◌, inl, inr, arith}
+use Rattle.std.proofs.lemmas.Bool.{cases_lt}
+use Rattle.std.proofs.lemmas.List.{take-append-le, length-take}
+use Rattle.twp_grid.specs.declared.block.Corner.{Corner}
+use Rattle.twp_grid.specs.declared.block.Corner.TheVariants.{NE, NW, SW, SE}
+use Rattle.twp_grammar.specs.declared.item.Step.TheVariants.{Quarter}
+use Rattle.twp_spell.specs.CanonicalText.{step_text}
+use Rattle.twp_spell.specs.Spelling.{PATH_MOST, quarters_text}
+
+pub take_front : (n k : ℕ) (xs ys : List ℕ) → n ≡ length xs + k → take n (xs ++ ys) ≡ xs ++ take k ys
+take_front n k [] ys is = let same : n ≡ k = omega arith in ap (λ m. take m ys) same
+take_front zero k (x ∷ xs) ys is = absurd (omega arith)
+take_front (suc n) k (x ∷ xs) ys is = ap (λ l. x ∷ l) (take_front n k xs ys (omega arith))
+
+pub take_less : (n m : ℕ) (xs : List ℕ) → n ≤ m → take n (take m xs) ≡ take n xs
+take_less zero m xs less = refl
+take_less (suc n) zero xs less = absurd (omega arith)
+take_less (suc n) (suc m) [] less = refl
+take_less (suc n) (suc m) (x ∷ xs) less = ap (λ l. x ∷ l) (take_less n m xs (omega arith))
+
+take_more : (n m : ℕ) (xs : List ℕ) → m ≤ n → take n (take m xs) ≡ take m xs
+take_more zero zero xs more = refl
+take_more (suc n) zero xs more = refl
+take_more zero (suc m) xs more = absurd (omega arith)
+take_more (suc n) (suc m) [] more = refl
+take_more (suc n) (suc m) (x ∷ xs) more = ap (λ l. x ∷ l) (take_more n m xs (omega arith))
+
+pub long_quarter : (corner : Corner) → length (step_text (Quarter corner)) ≡ 5
+long_quarter NE = refl
+long_quarter NW = refl
+long_quarter SW = refl
+long_quarter SE = refl
+
+-- the bytes of a step, and behind them the first 11 of a path's 16
+pub longer : (step more rest : List ℕ) (len end : ℕ) → length step ≡ 5 → length more ≡ 16 → (len ≤ 11 → end ≡ len + 5) → (11 < len → end ≡ 16)
+    → take end (step ++ (take 11 more ++ rest)) ≡ take 16 (step ++ take len more)
+longer step more rest len end five sixteen short long = elim (cases_lt 11 len) [
+  | inl past ↦
+      let ends = long past in
+      take_front end 11 step (take 11 more ++ rest) (omega arith)
+      ∙ ap (λ l. step ++ l) (take-append-le 11 (take 11 more) rest (eleven past) ∙ take_less 11 11 more (omega arith) ∙ sym (take_less 11 len more (omega arith)))
+      ∙ sym (take_front 16 11 step (take len more) (omega arith))
+  | inr within ↦
+      let ends = short (omega arith) in
+      take_front end len step (take 11 more ++ rest) (omega arith)
+      ∙ ap (λ l. step ++ l) (take-append-le len (take 11 more) rest (enough (omega arith)) ∙ take_less len 11 more (omega arith) ∙ sym (take_more 11 len more (omega arith)))
+      ∙ sym (take_front 16 11 step (take len more) (omega arith))
+]
+  where
+    long_take : length (take 11 more) ≡ 11
+    long_take = rw (length-take 11 more, sixteen) refl
+
+    eleven : 11 < len → 11 ≤ length (take 11 more)
+    eleven past = let same = long_take in omega arith
+
+    enough : len ≤ 11 → len ≤ length (take 11 more)
+    enough less = let same = long_take in omega arith
+
+-- a path of so few quarters is whole
+pub long_path : (quarters : List Corner) → length (quarters_text quarters) ≡ 5 * length quarters
+long_path [] = refl
+long_path (corner ∷ parent) = long_both (step_text (Quarter corner)) (quarters_text parent) (length parent) (long_quarter corner) (long_path parent)
+  where
+    long_both : (step more : List ℕ) (k : ℕ) → length step ≡ 5 → length more ≡ 5 * k → length (step ++ more) ≡ 5 * suc k
+    long_both step more k a b = let all : length (step ++ more) ≡ length step + length more = length-append step more in omega arith
+
+take_all : (n : ℕ) (xs : List ℕ) → length xs ≤ n → take n xs ≡ xs
+take_all zero [] fits = refl
+take_all zero (x ∷ xs) fits = absurd (omega arith)
+take_all (suc n) [] fits = refl
+take_all (suc n) (x ∷ xs) fits = ap (λ l. x ∷ l) (take_all n xs (omega arith))
+
+pub longer_path : (corner : Corner) (front zeros mid rest text path : List ℕ) (len end : ℕ) → front ≡ step_text (Quarter corner) → mid ≡ take 11 text → length text ≡ 16
+    → take len text ≡ path → len ≤ 16 → end ≡ min 16 (len + 5) → take end (take 5 (front ++ zeros) ++ (mid ++ rest)) ≡ take PATH_MOST (step_text (Quarter corner) ++ path)
+longer_path corner front zeros mid rest text path len end front_is mid_is sixteen path_is within end_is =
+    let five = long_quarter corner in
+    let long : length front ≡ 5 = ap length front_is ∙ five in
+    ap (λ l. take end (l ++ (mid ++ rest))) (take-append-le 5 front zeros (omega arith) ∙ take_all 5 front (omega arith) ∙ front_is)
+    ∙ ap (λ m. take end (step_text (Quarter corner) ++ (m ++ rest))) mid_is
+    ∙ longer (step_text (Quarter corner)) text rest len end five sixteen (λ less. omega arith) (λ more. omega arith)
+    ∙ ap (λ p. take 16 (step_text (Quarter corner) ++ p)) path_is
+
+pub path_of_quarter : (corner : Corner) (quarters : List Corner) (path inner : List ℕ) → length quarters < 3 → path ≡ quarters_text quarters
+    → inner ≡ take PATH_MOST (step_text (Quarter corner) ++ path) → inner ≡ quarters_text (corner ∷ quarters)
+path_of_quarter corner quarters path inner less path_is inner_is =
+    inner_is ∙ ap (λ p. take 16 (step_text (Quarter corner) ++ p)) path_is
+    ∙ take_all 16 (quarters_text (corner ∷ quarters)) (let long = long_path (corner ∷ quarters) in omega arith)

@@ -1,0 +1,5 @@
+use Rattle.twp_spell.proofs.PartLaws as facts
+use Rattle.twp_spell.proofs.laws.written_parts_hold_all.Goals as goal
+
+pub returns : goal.returns
+returns c = facts.hold_all

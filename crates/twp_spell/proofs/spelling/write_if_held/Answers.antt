@@ -1,0 +1,25 @@
+-- A section of which no place is held is passed over, and another is written behind those before it.
+use Rattle.std.proofs.Common.{◌+◌, sym, ◌∙◌}
+use Rattle.std.proofs.lemmas.Bool.{false≢true}
+use Rattle.twp_grid.specs.Places.{PLACE_DIGITS}
+use Rattle.twp_spell.specs.SpellingSteps.{HasSection, AreBegun}
+use Rattle.twp_spell.proofs.HeldFacts.{some_of_meets, meets_of_some}
+use Rattle.twp_spell.proofs.SpellingFacts.{on_ok, begun_skip, begun_next}
+use Rattle.twp_spell.proofs.spelling.write_if_held.Goals as goal
+
+pub returns-then-not-meets : goal.returns-then-not-meets
+returns-then-not-meets g c = λ begun.
+    let places = g.L.Land.places c.args.land.now in
+    begun_skip PLACE_DIGITS c.args.township places c.args.section c.args.text.now.items begun
+    (λ some. false≢true (sym c.if-not-meets.true ∙ c.meets.ensures.1 (meets_of_some (places c.args.section) c.whole.result c.whole.ensures some)))
+
+pub returns : goal.returns
+returns g c = λ begun.
+    let places = g.L.Land.places c.args.land.now in
+    let new = c.write_section.new.text.items in
+    let some = some_of_meets (places c.args.section) c.whole.result c.whole.ensures (c.meets.ensures.0 c.if-not-meets.false) in
+    let range = (g.met.L.Land.within c.args.land.now c.args.section some.column some.row some.is_held).0 in
+    on_ok c.write_section.result (HasSection PLACE_DIGITS places c.args.section c.write_lead.new.text.items new)
+    (AreBegun PLACE_DIGITS c.args.township places (c.args.section + 1) new) (c.write_section.ensures some)
+    (begun_next PLACE_DIGITS c.args.township places c.args.section c.args.text.now.items c.write_lead.new.text.items new begun range some
+    c.in_ok-write_lead.ensures.first c.in_ok-write_lead.ensures.behind)

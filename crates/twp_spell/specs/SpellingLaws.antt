@@ -1,0 +1,47 @@
+-- Laws of written parts and of canonical texts.
+use Rattle.std.specs.Prelude.{◌≡◌, ◌↔◌, ℕ, suc, ◌/◌, Bool, true, List, []}
+use Rattle.std.specs.List.{Contains, AllPairs}
+use Rattle.twp_grid.specs.Places.{IsPlace}
+use Rattle.twp_grid.specs.Townships.{Designation}
+use Rattle.twp_land.specs.Lands.{no_places}
+use Rattle.twp_spell.specs.CanonicalText.{IsCanonicalText}
+use Rattle.twp_spell.specs.WrittenParts.{Part, IsInPart, AreWrittenParts}
+
+-- what is held of a section is written as one list of parts
+abbrev pub OneListOfParts : Type 0
+OneListOfParts = (g : ℕ) (held : ℕ → ℕ → Bool)
+    → (parts : List Part) × AreWrittenParts g held parts
+    × ((other : List Part) → AreWrittenParts g held other → other ≡ parts)
+
+-- no place lies in two written parts
+abbrev pub WrittenPartsAreApart : Type 0
+WrittenPartsAreApart = (g : ℕ) (held : ℕ → ℕ → Bool) (parts : List Part)
+    → AreWrittenParts g held parts
+    → AllPairs (λ part other. (column row : ℕ)
+    → IsInPart g part column row → ¬ IsInPart g other column row) parts
+
+-- a place is held exactly where a written part holds it
+abbrev pub WrittenPartsHoldAll : Type 0
+WrittenPartsHoldAll = (g : ℕ) (held : ℕ → ℕ → Bool) (parts : List Part)
+    → AreWrittenParts g held parts → (column row : ℕ) → IsPlace g column row
+    → (held column row ≡ true)
+    ↔ ((part : Part) × Contains parts part × IsInPart g part column row)
+
+-- the same land where each place is cut into four
+abbrev pub cut_in_four : (ℕ → ℕ → Bool) → ℕ → ℕ → Bool
+cut_in_four held column row = held (column / 2) (row / 2)
+
+-- where each place is cut into four, the written parts are the same
+abbrev pub FinerPlacesSameParts : Type 0
+FinerPlacesSameParts = (g : ℕ) (held : ℕ → ℕ → Bool) (parts : List Part)
+    → AreWrittenParts g held parts ↔ AreWrittenParts (suc g) (cut_in_four held) parts
+
+-- each land of a township has one canonical text
+abbrev pub OneCanonicalText : Type 0
+OneCanonicalText = (g : ℕ) (township : Designation) (places : ℕ → ℕ → ℕ → Bool)
+    → (text : List ℕ) × IsCanonicalText g township places text
+    × ((other : List ℕ) → IsCanonicalText g township places other → other ≡ text)
+
+-- the empty land's canonical text is empty
+abbrev pub EmptyLandHasEmptyText : Type 0
+EmptyLandHasEmptyText = (g : ℕ) (township : Designation) → IsCanonicalText g township no_places []

@@ -1,0 +1,41 @@
+-- How the canonical text of a land is written section by section. No public promise speaks of it;
+-- proofs/SpellingFacts shows that it ends with the whole text.
+use Rattle.std.specs.Prelude.{◌≡◌, ℕ, ◌<◌, Bool, List, [], ◌∷◌, ◌++◌, codes}
+use Rattle.std.specs.List.{flat_map, join_by, AllZip}
+use Rattle.twp_grid.specs.Townships.{Designation}
+use Rattle.twp_spell.specs.Listing.{AreListed}
+use Rattle.twp_spell.specs.CanonicalText.{lots_entry, IsLotHeld, IsSectionText, IsSectionOfLand}
+use Rattle.twp_spell.specs.CanonicalText.{heading_line, line_end}
+
+-- entries as they are written behind a section's number
+abbrev pub entries_text : List (List ℕ) → List ℕ
+entries_text entries = flat_map (λ entry. codes ", " ++ entry) entries
+
+-- the section's lots that are held were appended to a text
+pub record HasLots (g section : ℕ) (held : ℕ → ℕ → Bool) (old new : List ℕ) : Type 0 where
+  pub lots : List ℕ
+  pub are : AreListed (IsLotHeld g section held) ◌<◌ lots
+  pub text_is : new ≡ old ++ entries_text (lots_entry lots)
+
+-- the section's text was appended to a text
+pub record HasSection (g : ℕ) (places : ℕ → ℕ → ℕ → Bool) (section : ℕ) (old new : List ℕ)
+    : Type 0 where
+  pub line : List ℕ
+  pub is : IsSectionText g places section line
+  pub text_is : new ≡ old ++ line
+
+-- lines without the end of the last
+abbrev pub lines_begun : Designation → List (List ℕ) → List ℕ
+lines_begun township [] = []
+lines_begun township (text ∷ more) =
+    heading_line township ++ join_by (λ line. line) (codes ";" ++ line_end) (text ∷ more)
+
+-- the land's sections below a number were written
+pub record AreBegun (g : ℕ) (township : Designation) (places : ℕ → ℕ → ℕ → Bool) (number : ℕ)
+    (text : List ℕ) : Type 0 where
+  pub sections : List ℕ
+  pub lines : List (List ℕ)
+  pub sections_are :
+      AreListed (λ section. IsSectionOfLand g places section × (section < number)) ◌<◌ sections
+  pub lines_are : AllZip (IsSectionText g places) sections lines
+  pub text_is : text ≡ lines_begun township lines

@@ -1,0 +1,14 @@
+//! The canonical text of a land: the parts that each section's land is written as, and the one text
+//! that is written of a land, which is read back as that land.
+#![tactic(auto)]
+
+mod full_quarters;
+pub mod laws;
+mod part_text;
+mod path;
+mod pieces;
+mod position_parts;
+mod spelling;
+mod written_parts;
+
+pub use spelling::spell;

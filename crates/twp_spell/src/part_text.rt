@@ -1,0 +1,100 @@
+//! A square's written half, and its written quarter.
+ghost use Rattle.std.specs.Prelude.{◌≡◌, ◌↔◌, ◌+◌, ◌++◌, ◌≤◌, Some, length, IsTrue, OnOk};
+ghost use Rattle.std.specs.Prelude.{MatchOption, codes};
+ghost use Rattle.twp_grammar.specs.declared.item.Step.TheVariants.{Half, Quarter};
+ghost use Rattle.twp_spell.specs.WrittenParts.{IsOnSide};
+ghost use Rattle.twp_spell.specs.CanonicalText.{step_text};
+ghost use Rattle.twp_spell.specs.Spelling.{PART_MOST, PIECES_MOST, quarter_on};
+
+use crate::path::Path;
+use crate::pieces::Pieces;
+use std::alloc::AllocError;
+use twp_grid::{Corner, Side};
+
+/// The chosen half that a quarter lies in, if it does.
+#[inline(always)]
+pub(crate) fn half_at(chosen: Option<Side>, corner: Corner) -> Option<Side>
+    ensures { MatchOption result
+        ((side : Side) → chosen ≡ Some side → ¬ IsOnSide side corner)
+        (λ side. (chosen ≡ Some side) × IsOnSide side corner) }
+{
+    let Some(side) = chosen else {
+        return None;
+    };
+    if is_on_side(side, corner) {
+        return Some(side);
+    }
+    None
+}
+
+/// Adds a half, where this is the first of its quarters.
+#[inline(always)]
+pub(crate) fn push_half(side: Side, corner: Corner, path: &Path, pieces: &mut Pieces)
+    requires { length pieces.old + PART_MOST ≤ PIECES_MOST }
+    ensures first { (quarter_on side ≡ corner)
+        → (pieces.new ≡ pieces.old ++ (codes ", " ++ (step_text (Half side) ++ path.now))) }
+    ensures second { ¬ (quarter_on side ≡ corner) → (pieces.new ≡ pieces.old) }
+    ensures most { length pieces.new ≤ length pieces.old + PART_MOST }
+{
+    if first_quarter(side) == corner {
+        pieces.push_half(side, path);
+    }
+}
+
+/// Appends a half, where this is the first of its quarters.
+#[inline(never)]
+pub(crate) fn write_half(
+    side: Side,
+    corner: Corner,
+    path: &Path,
+    text: &mut Vec<u8>,
+) -> Result<(), AllocError>
+    ensures first { (quarter_on side ≡ corner) → OnOk result
+        (text.new.items ≡ text.old.items ++ (codes ", " ++ (step_text (Half side) ++ path.now))) }
+    ensures second { ¬ (quarter_on side ≡ corner) → OnOk result (text.new.items ≡ text.old.items) }
+{
+    let mut pieces = Pieces::new();
+    push_half(side, corner, path, &mut pieces);
+    pieces.append_to(text)
+}
+
+/// Appends a quarter that is full.
+#[inline(never)]
+pub(crate) fn write_full_quarter(
+    corner: Corner,
+    path: &Path,
+    text: &mut Vec<u8>,
+) -> Result<(), AllocError>
+    ensures { OnOk result (text.new.items
+        ≡ text.old.items ++ ((codes ", " ++ step_text (Quarter corner)) ++ path.now)) }
+{
+    let mut pieces = Pieces::new();
+    pieces.push_quarter(corner, path);
+    pieces.append_to(text)
+}
+
+/// Whether a square's quarter lies in its half.
+#[inline(always)]
+fn is_on_side(side: Side, corner: Corner) -> bool
+    ensures { IsTrue result ↔ IsOnSide side corner }
+{
+    match side {
+        Side::N => corner == Corner::NE || corner == Corner::NW,
+        Side::S => corner == Corner::SW || corner == Corner::SE,
+        Side::E => corner == Corner::NE || corner == Corner::SE,
+        Side::W => corner == Corner::NW || corner == Corner::SW,
+    }
+}
+
+/// The first of a half's two quarters.
+#[tactic(auto, unfolding(crate::specs::Spelling::quarter_on))]
+fn first_quarter(side: Side) -> Corner
+    ensures { result ≡ quarter_on side }
+{
+    match side {
+        Side::N => Corner::NE,
+        Side::S => Corner::SW,
+        Side::E => Corner::NE,
+        Side::W => Corner::NW,
+    }
+}

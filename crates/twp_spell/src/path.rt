@@ -1,0 +1,86 @@
+//! The path of a square, as it is written behind a smaller part.
+ghost use Rattle.std.specs.Prelude.{◌≡◌, ◌≤◌, ◌++◌, [], length, take};
+ghost use Rattle.twp_spell.specs.CanonicalText.{step_text};
+ghost use Rattle.twp_spell.specs.Spelling.{PATH_MOST};
+ghost use Rattle.twp_grammar.specs.declared.item.Step.TheVariants.{Quarter};
+
+use std::marker::Model;
+use twp_grid::Corner;
+
+/// The bytes that are kept of a path. The longest one that stands behind a part has three quarters,
+/// or 15 bytes; 16 are copied at once.
+pub(crate) const PATH_BYTES: usize = 16;
+
+/// The bytes of one quarter.
+pub(crate) const PATH_QUARTER_BYTES: usize = 5;
+
+/// The quarters that reach a square, smallest first, as `NE1/4SW1/4`. No memory is taken for them.
+#[derive(Drop)]
+pub(crate) struct Path {
+    text: [u8; PATH_BYTES],
+    len: usize,
+}
+
+impl Model for Path {
+    ghost use Rattle.std.specs.Prelude.{◌≤◌, ℕ, List, take};
+
+    ghost Value = { List ℕ };
+
+    ghost view = { λ path. take path.len path.text };
+
+    ghost invariant = { λ path. path.len ≤ 16 };
+}
+
+impl Path {
+    /// The path of the section, which no quarter reaches.
+    pub(crate) fn whole() -> Path
+        ensures { result ≡ [] }
+    {
+        Path {
+            text: [0; PATH_BYTES],
+            len: 0,
+        }
+    }
+
+    /// The path of a quarter of the square. What is longer than the bytes that are kept loses its end.
+    #[inline(always)]
+    pub(crate) fn quarter(&self, corner: Corner) -> Path
+        ensures { result ≡ take PATH_MOST (step_text (Quarter corner) ++ self.now) }
+    {
+        let mut text = [0; PATH_BYTES];
+        text[..PATH_QUARTER_BYTES].copy_from_slice(quarter_text(corner));
+        text[PATH_QUARTER_BYTES..].copy_from_slice(&self.text[..PATH_BYTES - PATH_QUARTER_BYTES]);
+        let len = PATH_BYTES.min(self.len + PATH_QUARTER_BYTES);
+        Path { text, len }
+    }
+
+    /// How many bytes the path has.
+    #[inline(always)]
+    pub(crate) fn len(&self) -> usize
+        ensures value { result ≡ length self.now }
+        ensures most { result ≤ PATH_MOST }
+    {
+        self.len
+    }
+
+    /// The path's bytes, and behind them others.
+    #[inline(always)]
+    pub(crate) fn bytes(&self) -> &[u8; PATH_BYTES]
+        ensures { take (length self.now) result.now ≡ self.now }
+    {
+        &self.text
+    }
+}
+
+/// A quarter, as it is written.
+#[inline(always)]
+pub(crate) fn quarter_text(corner: Corner) -> &'static [u8; PATH_QUARTER_BYTES]
+    ensures { result.now ≡ step_text (Quarter corner) }
+{
+    match corner {
+        Corner::NE => b"NE1/4",
+        Corner::NW => b"NW1/4",
+        Corner::SW => b"SW1/4",
+        Corner::SE => b"SE1/4",
+    }
+}

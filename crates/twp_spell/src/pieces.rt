@@ -1,0 +1,131 @@
+//! A few written parts that are appended to a text together.
+ghost use Rattle.std.specs.Prelude.{◌≡◌, ◌+◌, ◌++◌, ◌≤◌, [], length, codes, OnOk};
+ghost use Rattle.twp_spell.specs.CanonicalText.{step_text};
+ghost use Rattle.twp_spell.specs.Spelling.{PART_MOST, PIECES_MOST};
+ghost use Rattle.twp_grammar.specs.declared.item.Step.TheVariants.{Half, Quarter};
+
+use crate::path::{PATH_BYTES, PATH_QUARTER_BYTES, Path, quarter_text};
+use std::alloc::AllocError;
+use std::marker::Model;
+use twp_grid::{Corner, Side};
+
+/// The bytes of a half behind a comma.
+const HALF_BYTES: usize = 6;
+
+/// The bytes of a quarter behind a comma.
+const QUARTER_BYTES: usize = 7;
+
+/// The bytes that are kept of a place: a quarter behind a comma, the quarter that it is of, and a
+/// path.
+const PLACE_BYTES: usize = QUARTER_BYTES + PATH_QUARTER_BYTES + PATH_BYTES;
+
+/// The bytes of as many parts as a position has places.
+const PIECES_BYTES: usize = 16 * PLACE_BYTES;
+
+/// Parts as they are written, each behind a comma. No memory is taken for them.
+#[derive(Drop)]
+pub(crate) struct Pieces {
+    bytes: [u8; PIECES_BYTES],
+    len: usize,
+}
+
+impl Model for Pieces {
+    ghost use Rattle.std.specs.Prelude.{◌≤◌, ℕ, List, take};
+
+    ghost Value = { List ℕ };
+
+    ghost view = { λ pieces. take pieces.len pieces.bytes };
+
+    ghost invariant = { λ pieces. pieces.len ≤ 448 };
+}
+
+impl Pieces {
+    /// No parts yet.
+    #[inline(always)]
+    pub(crate) fn new() -> Pieces
+        ensures { result ≡ [] }
+    {
+        Pieces {
+            bytes: [0; PIECES_BYTES],
+            len: 0,
+        }
+    }
+
+    /// Adds a quarter of the square that a path reaches. All bytes that are kept of the path are
+    /// copied, since a copy of a known length is quick; the next part is written over those behind
+    /// the path's end.
+    #[inline(always)]
+    pub(crate) fn push_quarter(&mut self, corner: Corner, path: &Path)
+        requires { length self.old + PART_MOST ≤ PIECES_MOST }
+        ensures text { self.new ≡ self.old ++ ((codes ", " ++ step_text (Quarter corner)) ++ path.now) }
+        ensures most { length self.new ≤ length self.old + PART_MOST }
+    {
+        let behind = self.len + QUARTER_BYTES;
+        self.bytes[self.len..behind].copy_from_slice(quarter_step(corner));
+        self.bytes[behind..behind + PATH_BYTES].copy_from_slice(path.bytes());
+        self.len = behind + path.len();
+    }
+
+    /// Adds a half of the square that a path reaches.
+    #[inline(always)]
+    pub(crate) fn push_half(&mut self, side: Side, path: &Path)
+        requires { length self.old + PART_MOST ≤ PIECES_MOST }
+        ensures text { self.new ≡ self.old ++ ((codes ", " ++ step_text (Half side)) ++ path.now) }
+        ensures most { length self.new ≤ length self.old + PART_MOST }
+    {
+        let behind = self.len + HALF_BYTES;
+        self.bytes[self.len..behind].copy_from_slice(half_step(side));
+        self.bytes[behind..behind + PATH_BYTES].copy_from_slice(path.bytes());
+        self.len = behind + path.len();
+    }
+
+    /// Adds a quarter of a quarter of the square that a path reaches.
+    #[inline(always)]
+    pub(crate) fn push_inner(&mut self, corner: Corner, outer: Corner, path: &Path)
+        requires { length self.old + PART_MOST ≤ PIECES_MOST }
+        ensures text { self.new ≡ self.old
+            ++ ((codes ", " ++ step_text (Quarter corner)) ++ (step_text (Quarter outer) ++ path.now)) }
+        ensures most { length self.new ≤ length self.old + PART_MOST }
+    {
+        let middle = self.len + QUARTER_BYTES;
+        let behind = middle + PATH_QUARTER_BYTES;
+        self.bytes[self.len..middle].copy_from_slice(quarter_step(corner));
+        self.bytes[middle..behind].copy_from_slice(quarter_text(outer));
+        self.bytes[behind..behind + PATH_BYTES].copy_from_slice(path.bytes());
+        self.len = behind + path.len();
+    }
+
+    /// Appends the parts to a text.
+    #[inline(always)]
+    pub(crate) fn append_to(&self, text: &mut Vec<u8>) -> Result<(), AllocError>
+        ensures { OnOk result (text.new.items ≡ text.old.items ++ self.now) }
+    {
+        text.extend_from_slice(&self.bytes[..self.len])
+    }
+}
+
+/// The half towards a side, as it is written behind a comma.
+#[inline(always)]
+fn half_step(side: Side) -> &'static [u8; HALF_BYTES]
+    ensures { result.now ≡ codes ", " ++ step_text (Half side) }
+{
+    match side {
+        Side::N => b", N1/2",
+        Side::S => b", S1/2",
+        Side::E => b", E1/2",
+        Side::W => b", W1/2",
+    }
+}
+
+/// The quarter at a corner, as it is written behind a comma.
+#[inline(always)]
+fn quarter_step(corner: Corner) -> &'static [u8; QUARTER_BYTES]
+    ensures { result.now ≡ codes ", " ++ step_text (Quarter corner) }
+{
+    match corner {
+        Corner::NE => b", NE1/4",
+        Corner::NW => b", NW1/4",
+        Corner::SW => b", SW1/4",
+        Corner::SE => b", SE1/4",
+    }
+}

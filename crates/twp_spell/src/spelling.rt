@@ -1,0 +1,206 @@
+//! The canonical text of a land: its sections by rising number, each with its lots and its parts.
+ghost use Rattle.std.specs.Prelude.{◌≡◌, ◌+◌, ◌++◌, ◌<◌, [], OnOk, IfOk, codes, decimal};
+ghost use Rattle.twp_grid.specs.Places.{PLACE_DIGITS};
+ghost use Rattle.twp_spell.specs.Listing.{AreListed};
+ghost use Rattle.twp_spell.specs.CanonicalText.{lots_entry, heading_line, line_end};
+ghost use Rattle.twp_spell.specs.CanonicalText.{HoldsSome, IsLotHeld, IsCanonicalText};
+ghost use Rattle.twp_spell.specs.CanonicalText.{north_south_letter, east_west_letter};
+ghost use Rattle.twp_spell.specs.SpellingSteps.{entries_text, HasLots, HasSection, AreBegun};
+
+use crate::written_parts::write_parts;
+use itoa::Buffer;
+use std::alloc::{AllocError, Global};
+use twp_grid::{Block, EastWest, NorthSouth, SECTIONS, Section, Township, lot_count};
+use twp_land::Land;
+
+/// The canonical text of a land of a township, as of `T. 2 N., R. 3 W.,` and, on the next line,
+/// `sec. 14, N1/2, SE1/4.`: its sections by rising number, each with `all` or with the lots and the
+/// aliquot parts that are held. The empty land's is empty. A lot of which some place is held is
+/// named.
+pub fn spell<L: Land>(alloc: Global, land: &L, township: Township) -> Result<Vec<u8>, AllocError>
+    ensures text { IfOk result
+        (λ text. IsCanonicalText PLACE_DIGITS township (L.places land.now) text.items) }
+{
+    let mut text = Vec::new(alloc);
+    for number in 1..SECTIONS + 1 {
+        let section = Section::new(number).unwrap();
+        write_if_held(alloc, land, township, section, &mut text)?;
+    }
+    write_end(&mut text)?;
+    Ok(text)
+}
+
+/// Appends a section behind those before it, where some place of it is held.
+fn write_if_held<L: Land>(
+    alloc: Global,
+    land: &L,
+    township: Township,
+    section: Section,
+    text: &mut Vec<u8>,
+) -> Result<(), AllocError>
+    ensures { AreBegun PLACE_DIGITS township (L.places land.now) section text.old.items
+        → OnOk result
+        (AreBegun PLACE_DIGITS township (L.places land.now) (section + 1) text.new.items) }
+{
+    if !land.meets(section, Block::whole()) {
+        return Ok(());
+    }
+    write_lead(township, text)?;
+    write_section(alloc, land, section, text)
+}
+
+/// Appends what stands ahead of a section: the heading's line, or the end of the line before.
+fn write_lead(township: Township, text: &mut Vec<u8>) -> Result<(), AllocError>
+    ensures first { text.old.items ≡ []
+        → OnOk result (text.new.items ≡ heading_line township) }
+    ensures behind { ¬ (text.old.items ≡ [])
+        → OnOk result (text.new.items ≡ text.old.items ++ (codes ";" ++ line_end)) }
+{
+    if text.is_empty() {
+        return write_heading(township, text);
+    }
+    text.extend_from_slice(b";")?;
+    text.extend_from_slice(b"\n")
+}
+
+/// Appends the end of the last line, where there is a line.
+fn write_end(text: &mut Vec<u8>) -> Result<(), AllocError>
+    ensures none { text.old.items ≡ [] → OnOk result (text.new.items ≡ []) }
+    ensures some { ¬ (text.old.items ≡ [])
+        → OnOk result (text.new.items ≡ text.old.items ++ (codes "." ++ line_end)) }
+{
+    if text.is_empty() {
+        return Ok(());
+    }
+    text.extend_from_slice(b".")?;
+    text.extend_from_slice(b"\n")
+}
+
+/// Appends the heading's line.
+fn write_heading(township: Township, text: &mut Vec<u8>) -> Result<(), AllocError>
+    ensures { OnOk result (text.new.items ≡ text.old.items ++ heading_line township) }
+{
+    text.extend_from_slice(b"T. ")?;
+    write_number(township.number(), text)?;
+    text.extend_from_slice(b" ")?;
+    text.extend_from_slice(north_south_name(township.north_south()))?;
+    text.extend_from_slice(b"., R. ")?;
+    write_number(township.range(), text)?;
+    text.extend_from_slice(b" ")?;
+    text.extend_from_slice(east_west_name(township.east_west()))?;
+    text.extend_from_slice(b".,")?;
+    text.extend_from_slice(b"\n")
+}
+
+/// The letter of a township's direction from its base line.
+fn north_south_name(direction: NorthSouth) -> &'static [u8]
+    ensures { result.now ≡ north_south_letter direction }
+{
+    match direction {
+        NorthSouth::N => b"N",
+        NorthSouth::S => b"S",
+    }
+}
+
+/// The letter of a range's direction from its meridian.
+fn east_west_name(direction: EastWest) -> &'static [u8]
+    ensures { result.now ≡ east_west_letter direction }
+{
+    match direction {
+        EastWest::E => b"E",
+        EastWest::W => b"W",
+    }
+}
+
+/// Appends a section of which some place is held, with its list.
+fn write_section<L: Land>(
+    alloc: Global,
+    land: &L,
+    section: Section,
+    text: &mut Vec<u8>,
+) -> Result<(), AllocError>
+    ensures { HoldsSome PLACE_DIGITS (L.places land.now section) → OnOk result
+        (HasSection PLACE_DIGITS (L.places land.now) section text.old.items text.new.items) }
+{
+    text.extend_from_slice(b"sec. ")?;
+    write_number(section.number(), text)?;
+    if land.full(section, Block::whole()) {
+        return write_all(text);
+    }
+    write_held_lots(alloc, land, section, text)?;
+    write_parts(land, section, text)
+}
+
+/// Appends the list of a section that is held whole, behind a comma.
+fn write_all(text: &mut Vec<u8>) -> Result<(), AllocError>
+    ensures { OnOk result (text.new.items ≡ text.old.items ++ codes ", all") }
+{
+    text.extend_from_slice(b", all")
+}
+
+/// Appends the lots of a section that are held, as `, lot 3` or `, lots 1, 2, 4`.
+fn write_held_lots<L: Land>(
+    alloc: Global,
+    land: &L,
+    section: Section,
+    text: &mut Vec<u8>,
+) -> Result<(), AllocError>
+    ensures { OnOk result (HasLots PLACE_DIGITS section (L.places land.now section)
+        text.old.items text.new.items) }
+{
+    let lots = held_lots(alloc, land, section)?;
+    write_lots(&lots, text)
+}
+
+/// The lots of a section of which some place is held, by rising number.
+fn held_lots<L: Land>(alloc: Global, land: &L, section: Section) -> Result<Vec<u8>, AllocError>
+    ensures { IfOk result (λ lots.
+        AreListed (IsLotHeld PLACE_DIGITS section (L.places land.now section)) ◌<◌ lots.items) }
+{
+    let mut lots = Vec::new(alloc);
+    for lot in 1..lot_count(section) + 1 {
+        if land.meets(section, Block::of_lot(section, lot).unwrap()) {
+            lots.push(lot)?;
+        }
+    }
+    Ok(lots)
+}
+
+/// Appends lots as one entry behind a comma.
+fn write_lots(lots: &[u8], text: &mut Vec<u8>) -> Result<(), AllocError>
+    ensures { OnOk result
+        (text.new.items ≡ text.old.items ++ entries_text (lots_entry lots.now)) }
+{
+    if lots.is_empty() {
+        return Ok(());
+    }
+    let lead = lots_lead(lots.len());
+    text.extend_from_slice(lead)?;
+    write_number(lots[0], text)?;
+    for index in 1..lots.len() {
+        text.extend_from_slice(b", ")?;
+        write_number(lots[index], text)?;
+    }
+    Ok(())
+}
+
+/// What stands ahead of so many lots' numbers.
+fn lots_lead(count: usize) -> &'static [u8]
+    ensures one { count ≡ 1 → result.now ≡ codes ", lot " }
+    ensures several { ¬ (count ≡ 1) → result.now ≡ codes ", lots " }
+{
+    if count == 1 {
+        return b", lot ";
+    }
+    b", lots "
+}
+
+/// Appends a number in decimal.
+fn write_number(number: u8, text: &mut Vec<u8>) -> Result<(), AllocError>
+    ensures { OnOk result (text.new.items ≡ text.old.items ++ decimal number) }
+{
+    text.extend_from_slice(Buffer::new().format(number).as_bytes())
+}
+
+#[cfg(test)]
+mod tests;

@@ -1,0 +1,212 @@
+//! The written parts of a section, quarter by quarter.
+ghost use Rattle.std.specs.Prelude.{◌≡◌, ◌↔◌, ◌+◌, ◌<◌, ◌∷◌, ℕ, Bool, List, IsTrue, OnOk};
+ghost use Rattle.twp_grid.specs.Places.{PLACE_DIGITS, places_across};
+ghost use Rattle.twp_grid.specs.Blocks.{CanQuarter};
+ghost use Rattle.twp_grid.specs.declared.block.Corner.{Corner};
+ghost use Rattle.twp_spell.specs.WrittenParts.{Part, IsFull, AreWrittenParts};
+ghost use Rattle.twp_spell.specs.WrittenParts.Part.{square};
+ghost use Rattle.twp_spell.specs.CanonicalText.{off_lots, HoldsEach};
+ghost use Rattle.twp_spell.specs.Spelling.{IsBlockOf, AreOfSquare, AreOfQuarter};
+ghost use Rattle.twp_spell.specs.Spelling.{AreWritten, AreFull, quarters_text};
+
+use crate::full_quarters::FullQuarters;
+use crate::part_text::{half_at, write_full_quarter, write_half};
+use crate::path::Path;
+use crate::pieces::Pieces;
+use crate::position_parts::push_position;
+use std::alloc::AllocError;
+use twp_grid::{Block, Corner, Section, lot_at};
+use twp_land::{Land, holds_of_lot};
+
+/// How many places a side of a position has.
+const PLACES_TO_POSITION: u8 = 4;
+
+/// Appends the written parts of what a land holds of a section off its lots, each behind a comma.
+/// The section isn't held whole.
+pub(crate) fn write_parts<L: Land>(
+    land: &L,
+    section: Section,
+    text: &mut Vec<u8>,
+) -> Result<(), AllocError>
+    ensures { ¬ HoldsEach PLACE_DIGITS (L.places land.now section)
+        → OnOk result (AreWritten (AreWrittenParts PLACE_DIGITS
+        (off_lots PLACE_DIGITS section (L.places land.now section)))
+        text.old.items text.new.items) }
+{
+    write_square(land, section, Block::whole(), &Path::whole(), text)
+}
+
+/// Appends the written parts of a square that isn't full, each behind a comma.
+#[cycle(descent)]
+fn write_square<L: Land>(
+    land: &L,
+    section: Section,
+    block: Block,
+    path: &Path,
+    text: &mut Vec<u8>,
+) -> Result<(), AllocError>
+    requires { CanQuarter block }
+    ensures { (quarters : List Corner) → IsBlockOf PLACE_DIGITS (square quarters) block
+        → path.now ≡ quarters_text quarters
+        → ¬ IsFull PLACE_DIGITS (off_lots PLACE_DIGITS section (L.places land.now section))
+        (square quarters)
+        → OnOk result (AreWritten (AreOfSquare PLACE_DIGITS
+        (off_lots PLACE_DIGITS section (L.places land.now section)) quarters)
+        text.old.items text.new.items) }
+{
+    if block.width() == PLACES_TO_POSITION && block.height() == PLACES_TO_POSITION {
+        return write_position(land, section, block, path, text);
+    }
+    if !land.meets(section, block) {
+        return Ok(());
+    }
+    let full = full_quarters(land, section, block);
+    write_quarter(land, section, block, full, Corner::NE, path, text)?;
+    write_quarter(land, section, block, full, Corner::NW, path, text)?;
+    write_quarter(land, section, block, full, Corner::SW, path, text)?;
+    write_quarter(land, section, block, full, Corner::SE, path, text)
+}
+
+/// Appends the written parts that begin in a quarter of a square that isn't full.
+#[cycle(descent)]
+#[inline(always)]
+fn write_quarter<L: Land>(
+    land: &L,
+    section: Section,
+    block: Block,
+    full: FullQuarters,
+    corner: Corner,
+    path: &Path,
+    text: &mut Vec<u8>,
+) -> Result<(), AllocError>
+    requires { CanQuarter block }
+    ensures { (quarters : List Corner) → IsBlockOf PLACE_DIGITS (square quarters) block
+        → path.now ≡ quarters_text quarters
+        → ¬ IsFull PLACE_DIGITS (off_lots PLACE_DIGITS section (L.places land.now section))
+        (square quarters)
+        → AreFull PLACE_DIGITS (off_lots PLACE_DIGITS section (L.places land.now section))
+        quarters full
+        → OnOk result (AreWritten (AreOfQuarter PLACE_DIGITS
+        (off_lots PLACE_DIGITS section (L.places land.now section)) quarters corner)
+        text.old.items text.new.items) }
+{
+    if let Some(side) = half_at(full.chosen_half(), corner) {
+        return write_half(side, corner, path, text);
+    }
+    if full.at(corner) {
+        return write_full_quarter(corner, path, text);
+    }
+    let quarter = block.quarter(corner).unwrap();
+    // A place can't be cut further. None comes here, since a position is written by itself; the
+    // tests show that the descent ends without a word on positions.
+    if quarter.width() == 1 {
+        return Ok(());
+    }
+    if quarter.height() == 1 {
+        return Ok(());
+    }
+    write_square(land, section, quarter, &path.quarter(corner), text)
+}
+
+/// Appends the written parts of a position that isn't full, of which each place is asked for.
+#[inline(never)]
+fn write_position<L: Land>(
+    land: &L,
+    section: Section,
+    block: Block,
+    path: &Path,
+    text: &mut Vec<u8>,
+) -> Result<(), AllocError>
+    requires width { block.columns.len ≡ 4 }
+    requires height { block.rows.len ≡ 4 }
+    ensures { (quarters : List Corner) → IsBlockOf PLACE_DIGITS (square quarters) block
+        → path.now ≡ quarters_text quarters
+        → ¬ IsFull PLACE_DIGITS (off_lots PLACE_DIGITS section (L.places land.now section))
+        (square quarters)
+        → OnOk result (AreWritten (AreOfSquare PLACE_DIGITS
+        (off_lots PLACE_DIGITS section (L.places land.now section)) quarters)
+        text.old.items text.new.items) }
+{
+    let column = block.column();
+    let row = block.row();
+    let lot = lot_at(
+        section,
+        column / PLACES_TO_POSITION,
+        row / PLACES_TO_POSITION,
+    );
+    if lot.is_some() {
+        return Ok(());
+    }
+    let ne = held_places(land, section, column, row + 2);
+    let nw = held_places(land, section, column + 2, row + 2);
+    let sw = held_places(land, section, column + 2, row);
+    let se = held_places(land, section, column, row);
+    let full = FullQuarters {
+        ne: ne.all(),
+        nw: nw.all(),
+        sw: sw.all(),
+        se: se.all(),
+    };
+    let mut pieces = Pieces::new();
+    push_position(full, ne, nw, sw, se, path, &mut pieces);
+    pieces.append_to(text)
+}
+
+/// Which quarters of a square are full.
+#[inline(always)]
+fn full_quarters<L: Land>(land: &L, section: Section, block: Block) -> FullQuarters
+    requires { CanQuarter block }
+    ensures { (quarters : List Corner) → IsBlockOf PLACE_DIGITS (square quarters) block
+        → AreFull PLACE_DIGITS (off_lots PLACE_DIGITS section (L.places land.now section))
+        quarters result }
+{
+    FullQuarters {
+        ne: quarter_is_full(land, section, block, Corner::NE),
+        nw: quarter_is_full(land, section, block, Corner::NW),
+        sw: quarter_is_full(land, section, block, Corner::SW),
+        se: quarter_is_full(land, section, block, Corner::SE),
+    }
+}
+
+/// Which of four places are held. The south-eastern one is of this column and row.
+#[inline(always)]
+fn held_places<L: Land>(land: &L, section: Section, column: u8, row: u8) -> FullQuarters
+    requires column { column + 1 < places_across PLACE_DIGITS }
+    requires row { row + 1 < places_across PLACE_DIGITS }
+    ensures ne { result.ne ≡ L.places land.now section column (row + 1) }
+    ensures nw { result.nw ≡ L.places land.now section (column + 1) (row + 1) }
+    ensures sw { result.sw ≡ L.places land.now section (column + 1) row }
+    ensures se { result.se ≡ L.places land.now section column row }
+{
+    FullQuarters {
+        ne: land.holds(section, column, row + 1),
+        nw: land.holds(section, column + 1, row + 1),
+        sw: land.holds(section, column + 1, row),
+        se: land.holds(section, column, row),
+    }
+}
+
+/// Whether each place of a quarter of a block is held and none is of a lot.
+#[inline(always)]
+fn quarter_is_full<L: Land>(land: &L, section: Section, block: Block, corner: Corner) -> bool
+    requires { CanQuarter block }
+    ensures { (quarters : List Corner) → IsBlockOf PLACE_DIGITS (square quarters) block
+        → (IsTrue result ↔ IsFull PLACE_DIGITS
+        (off_lots PLACE_DIGITS section (L.places land.now section))
+        (square (corner ∷ quarters))) }
+{
+    is_full(land, section, block.quarter(corner).unwrap())
+}
+
+/// Whether each place of a block is held and none is of a lot.
+#[inline(always)]
+fn is_full<L: Land>(land: &L, section: Section, block: Block) -> bool
+    ensures { (part : Part) → IsBlockOf PLACE_DIGITS part block
+        → (IsTrue result ↔ IsFull PLACE_DIGITS
+        (off_lots PLACE_DIGITS section (L.places land.now section)) part) }
+{
+    land.full(section, block) && !holds_of_lot(section, block)
+}
+
+#[cfg(test)]
+mod tests;

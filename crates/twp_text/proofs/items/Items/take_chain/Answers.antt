@@ -1,5 +1,0 @@
-use Rattle.std.proofs.Common.{sym}
-use Rattle.twp_text.proofs.items.Items.take_chain.Goals as goal
-
-pub returns : goal.returns
-returns c = rw (sym c.in_ok-push_chain.ensures) (rw c.behind_step.ensures at c.take_more.ensures)

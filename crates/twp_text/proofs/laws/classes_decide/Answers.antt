@@ -1,5 +1,0 @@
-use Rattle.twp_text.proofs.Reading as reading
-use Rattle.twp_text.proofs.laws.classes_decide.Goals as goal
-
-pub returns : goal.returns
-returns c = reading.classes_decide

@@ -1,5 +1,0 @@
-use Rattle.twp_text.proofs.DescribedLand as land
-use Rattle.twp_text.proofs.laws.described_land_is_of_township.Goals as goal
-
-pub returns : goal.returns
-returns c = land.is_of_township

@@ -1,5 +1,0 @@
-use Rattle.twp_text.proofs.DescribedLand as land
-use Rattle.twp_text.proofs.laws.description_names_some_place.Goals as goal
-
-pub returns : goal.returns
-returns c = land.names_some_place

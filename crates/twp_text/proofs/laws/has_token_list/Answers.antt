@@ -1,5 +1,0 @@
-use Rattle.twp_text.proofs.TokenFacts as facts
-use Rattle.twp_text.proofs.laws.has_token_list.Goals as goal
-
-pub returns : goal.returns
-returns c = facts.has_token_list

@@ -1,5 +1,0 @@
-use Rattle.twp_text.proofs.PlaceAnswers as answers
-use Rattle.twp_text.proofs.laws.on_plat_has_no_fault.Goals as goal
-
-pub returns : goal.returns
-returns c = answers.no_fault

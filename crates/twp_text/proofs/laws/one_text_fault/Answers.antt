@@ -1,5 +1,0 @@
-use Rattle.twp_text.proofs.OneAnswer as answer
-use Rattle.twp_text.proofs.laws.one_text_fault.Goals as goal
-
-pub returns : goal.returns
-returns c = answer.one_refusal

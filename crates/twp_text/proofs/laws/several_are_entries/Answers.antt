@@ -1,5 +1,0 @@
-use Rattle.twp_text.proofs.Several as several
-use Rattle.twp_text.proofs.laws.several_are_entries.Goals as goal
-
-pub returns : goal.returns
-returns c = several.several_are_entries

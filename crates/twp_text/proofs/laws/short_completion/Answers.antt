@@ -1,5 +1,0 @@
-use Rattle.twp_text.proofs.Reading as reading
-use Rattle.twp_text.proofs.laws.short_completion.Goals as goal
-
-pub returns : goal.returns
-returns c = reading.short_completion

@@ -1,5 +1,0 @@
-use Rattle.twp_text.proofs.PartLaws as facts
-use Rattle.twp_text.proofs.laws.written_parts_are_apart.Goals as goal
-
-pub returns : goal.returns
-returns c = facts.apart

@@ -1,5 +1,0 @@
-use Rattle.twp_text.proofs.PartLaws as facts
-use Rattle.twp_text.proofs.laws.written_parts_hold_all.Goals as goal
-
-pub returns : goal.returns
-returns c = facts.hold_all
