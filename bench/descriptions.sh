@@ -4,9 +4,8 @@
 # 65,536 bytes of fine parts, the same in lowercase, half as many, and 65,536 bytes of halves of halves in
 # words.
 set -eu
-root=$(dirname "$0")/..
-(cd "$root/crates/twp_bench_text" && rt run < stdin > /dev/null)
-program=$root/crates/twp_bench_text/out/twp_bench_text
+(cd crates/twp_bench_text && rt run < stdin > /dev/null)
+program=crates/twp_bench_text/out/twp_bench_text
 count() {
     env -i PATH="$PATH" valgrind --tool=callgrind --callgrind-out-file=/dev/null "$program" \
         < "$1" 2>&1 >/dev/null | sed -n 's/.*Collected : *//p'

@@ -3,7 +3,6 @@
 # blocks, over `Grid` and over `Lanes`: what the whole process takes, less what it takes just to make the
 # same land and the same 1,000 sections and blocks. `take` is `meets` and then `add` of one block.
 set -eu
-cd "$(dirname "$0")/.."
 (cd crates/twp_bench && rt run -- lanes count 10 > /dev/null)
 program=crates/twp_bench/out/twp_bench
 count() {

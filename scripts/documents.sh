@@ -3,7 +3,7 @@
 # examples of refusals and of descriptions, the indexes and names that they give, and the README's counts.
 # What is tried is read out of the documents. The last line is 'N passed, 0 failed'.
 set -u
-ulimit -f 5000
+ulimit -f 2000
 ulimit -t 20
 root=$(readlink -f "$(dirname "$0")/..")
 program=$(readlink -f "${1:-./township}")
@@ -36,14 +36,16 @@ all_read() {
     same "$1"
 }
 
-# A run of the program: what it shows, its status, its output, and its words.
-ends() {
-    what=$1
-    printf '%s\nstatus %s\n' "$3" "$2" > wanted
-    shift 3
+# Runs the program with these words: its output and its status are `found`.
+run() {
     { "$program" "$@" 2> errors; echo "status $?"; } > found
     sed 's/^/standard error: /' errors >> found
-    same "$what"
+}
+
+# The last run: what it shows, its status, and its output.
+ended() {
+    printf '%s\nstatus %s\n' "$3" "$2" > wanted
+    same "$1"
 }
 
 # The commands of a document, each on an indented line after a dollar sign, and what they print, on the
@@ -103,6 +105,7 @@ input_of() {
         *' spaces') head -c "$count" /dev/zero | tr '\0' ' ' ;;
         *' tracts') tracts "$count" ;;
         'an empty file') ;;
+        *) echo "no input is made of: $1" ;;
     esac
 }
 
@@ -118,15 +121,13 @@ while IFS='|' read -r number first second input; do
     [ -z "$second" ] || answer="$first
 $second"
     if [ "$number" -lt 40 ]; then
-        input_of "$input" "$even" > made
-        ends "$input" 1 "$answer" acres made d.txt
+        input_of "$input" "$even" | run acres /dev/stdin d.txt
     elif [ "$number" -lt 80 ]; then
-        input_of "$input" "$even" > made
-        ends "$input" 1 "$answer" acres "$even" made
+        input_of "$input" "$even" | run acres "$even" /dev/stdin
     else
-        input_of "$input" "$root/samples/tracts.csv" > made
-        ends "$input" 1 "$answer" report "$uneven" made
+        input_of "$input" "$root/samples/tracts.csv" | run report "$uneven" /dev/stdin
     fi
+    ended "$input" 1 "$answer"
 done < examples
 
 # What it offers to write in place of a refused description: in a row's last cell, whatever begins as a
@@ -135,11 +136,8 @@ sed -n 's/^| [4-6][0-9] |.*|\([^|]*\)|$/\1/p' "$docs/REFUSALS.md" |
     tr '`' '\n' | grep -E '^(secs?|T)[.] ' > offered
 all_read 'what docs/REFUSALS.md offers' "$(wc -l < offered)" "$(wc -l < offered)"
 while read -r description; do
-    printf %s "$description" > made
-    "$program" acres "$even" made > found 2>&1
-    echo 'some acres' > wanted
-    sed -i 's/^[0-9.]* acres$/some acres/' found
-    same "offered: $description"
+    printf %s "$description" | run acres "$even" /dev/stdin
+    ended "offered: $description" 0 "$(grep -x '[0-9]*[.][0-9][0-9] acres' found)"
 done < offered
 
 # Its tables have the numbers and the names of the code, and no other.
@@ -157,14 +155,15 @@ grep '^| `' "$docs/DESCRIPTIONS.md" > rows
 sed -n 's/^| `\([^`]*\)` |.* | \([0-9.]*\) |$/\2|\1/p' rows > examples
 all_read 'the examples of docs/DESCRIPTIONS.md' "$(wc -l < rows)" "$(wc -l < examples)"
 while IFS='|' read -r acres description; do
-    printf %s "$description" > made
-    ends "$description" 0 "$acres acres" acres "$even" made
+    printf %s "$description" | run acres "$even" /dev/stdin
+    ended "$description" 0 "$acres acres"
 done < examples
 
 # The list of docs/TRACTS-FORMAT.md, and its account.
 sed -n '/^    name,description$/,/^$/s/^    //p' "$docs/TRACTS-FORMAT.md" > list
 sed -n '/^    tract /,/^$/s/^    //p' "$docs/TRACTS-FORMAT.md" > account
-ends 'the list of docs/TRACTS-FORMAT.md' 0 "$(cat account)" report "$uneven" list
+run report "$uneven" list
+ended 'the list of docs/TRACTS-FORMAT.md' 0 "$(cat account)"
 
 # The drawing of docs/NOTES-FORMAT.md, as how a record names each section line, in both orders of its
 # sections, and the line's index: a north-run line stands between two sections of a row, a west-run line
@@ -201,8 +200,8 @@ number=2
 while read -r record; do
     number=$((number + 1))
     index=$(sed -n "s/^${record%,*,*} //p" drawn)
-    sed "${number}d" "$even" > made
-    ends "without $record" 1 "refused 11 at $index" plat made
+    sed "${number}d" "$even" | run plat /dev/stdin
+    ended "without $record" 1 "refused 11 at $index"
     echo "$number $index" >> drawn_in_order
 done < records
 awk 'BEGIN { for (k = 0; k < 84; k++) print k + 3, k }' > wanted
