@@ -9,7 +9,7 @@ use Rattle.twp_grammar.specs.declared.state.State.TheVariants.{Start}
 use Rattle.twp_grid.specs.declared.refusal.Refusal.{Refusal}
 use Rattle.twp_grammar.specs.Tokens.{Token, StartsWith, HasTokens, is_white}
 use Rattle.twp_grammar.specs.Grammar.{class_of}
-use Rattle.twp_grammar.specs.Items.{◌&◌, behind, BeginWithSections}
+use Rattle.twp_grammar.specs.Items.{behind, BeginWithSections}
 use Rattle.twp_grammar.specs.Sentences.{IsSentence, HasItems, MayFollow}
 use Rattle.twp_grammar.specs.Machine.{next, is_final}
 use Rattle.twp_read.specs.TokenSteps.{take_token, run}

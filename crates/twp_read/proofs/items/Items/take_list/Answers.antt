@@ -1,7 +1,6 @@
-use Rattle.std.proofs.Common.{ℕ, List, subst, sym, ap, ◌∙◌}
-use Rattle.twp_grammar.specs.declared.item.Item.{Item}
+use Rattle.std.proofs.Common.{ℕ, List}
 use Rattle.twp_read.specs.declared.passing.Reached.{Reached}
-use Rattle.twp_read.specs.Passing.{Leads, entry_of, state_behind}
+use Rattle.twp_read.specs.Passing.{state_behind}
 use Rattle.twp_read.proofs.PassingFacts.{leads_then}
 use Rattle.twp_read.proofs.NumberFacts.{entry_leads, goes_on_behind}
 use Rattle.twp_read.proofs.items.Items.take_list.Goals as goal
