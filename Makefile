@@ -24,11 +24,10 @@ e2e: township
 check:
 	rt all check
 
-bench: township
-	@cd crates/twp_bench && rt run -- lanes count 10 > /dev/null
-	@sh bench/instructions.sh
+bench:
 	@sh bench/lands.sh
 	@sh bench/descriptions.sh
+	@sh bench/instructions.sh
 
 install: township
 	install -d $(DESTDIR)$(PREFIX)/bin

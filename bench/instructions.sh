@@ -1,17 +1,43 @@
 #!/bin/sh
-# Prints how many instructions the whole process of ./township takes, from its start to its end: of joined
-# input on the sample, on the longest that is refused and on one of fine parts; of subcommands on the sample;
-# of the spelling of fine parts and of half as many; of reports on 1,000 tracts and on 500; and of the texts
-# whose bytes are the dearest to read.
+# Prints how many instructions the whole process of township takes, from its start to its end: on standard
+# input for the sample, for the longest that is refused, and for fine parts; for the commands on the sample;
+# for the spelling of fine parts and of half as many; for reports on 1,000 tracts and on 500; and for the
+# texts whose bytes cost the most to read. Beside each count stands its ratio to the one in bench/expected,
+# or `new` if there is none. The status is 1 if a ratio is over 1.02, or if a row of bench/expected is
+# missing.
+#
+# It builds ./township and measures that. A program that is named is measured as it is.
 set -eu
+[ $# -gt 0 ] || sh scripts/build.sh
+program=${1:-./township}
 # What is counted stands on standard input, or is named by words. The environment is left out, since each
 # of its variables is counted too.
 count() {
-    env -i PATH="$PATH" valgrind --tool=callgrind --callgrind-out-file=/dev/null ./township "$@" 2>&1 >/dev/null |
-        sed -n 's/.*Collected : *//p'
+    env -i PATH="$PATH" valgrind --tool=callgrind --callgrind-out-file=/dev/null "$program" "$@" \
+        2>&1 >/dev/null | sed -n 's/.*Collected : *//p'
 }
 work=$(mktemp -d)
 trap 'rm -rf "$work"' EXIT
+too_much=0
+found=0
+# A row: its name, its count, and what else is shown of it.
+row() {
+    expected=$(awk -v name="$1" 'substr($0, index($0, " ") + 1) == name { print $1 }' bench/expected)
+    ratio=new
+    if [ -n "$expected" ]; then
+        found=$((found + 1))
+        ratio=$(awk -v count="$2" -v expected="$expected" 'BEGIN { printf "%.4f", count / expected }')
+        if [ $((100 * $2)) -gt $((102 * expected)) ]; then
+            too_much=$((too_much + 1))
+            ratio="$ratio: too much"
+        fi
+    fi
+    printf '%-72s %10s %5s  %s\n' "$1" "$2" "${3-}" "$ratio"
+}
+# The size of a file as people write it, such as 63,687.
+bytes() {
+    wc -c < "$work/$1" | tr -d ' ' | sed -e :more -e 's/^\([0-9][0-9]*\)\([0-9]\{3\}\)/\1,\2/' -e 't more'
+}
 # A description of 65,536 spaces, a line feed, and the sample's notes with line feeds up to 65,536 bytes.
 spaces() { head -c "$1" /dev/zero | tr '\0' "$2"; }
 cat samples/description.txt samples/b1.csv > "$work/sample"
@@ -36,7 +62,7 @@ cat samples/description.txt samples/b1.csv > "$work/sample"
     }' | tee "$work/parts"
     cat samples/b1.csv
 } > "$work/places"
-# A chessboard: each other place of the 25 sections without lots, which no two parts can be joined of.
+# A chessboard: every other place of the 25 sections without lots, of which no two can be joined.
 awk 'BEGIN {
     quarter[0, 0] = "SE\xc2\xbc"; quarter[1, 0] = "SW\xc2\xbc"
     quarter[0, 1] = "NE\xc2\xbc"; quarter[1, 1] = "NW\xc2\xbc"
@@ -60,9 +86,9 @@ awk 'BEGIN {
             corners[int(n / 16) % 4 + 1], corners[int(n / 4) % 4 + 1], corners[n % 4 + 1]
 }' > "$work/tracts"
 head -n 501 "$work/tracts" > "$work/half-of-tracts"
-# The same tracts with names of 64 bytes, which fall into one place of a hashed set; and with names that differ
-# from them in that alone. bench/colliding-names has the 13 bytes by which each differs from the others: five of
-# a count, and eight that undo, in the hasher's first step, what the count changed.
+# The same tracts with names of 64 bytes, which fall into one place of a hashed set; and with names that
+# differ from them in that alone. bench/colliding-names has the 13 bytes by which each differs from the
+# others: five of a count, and eight that undo, in the hasher's first step, what the count changed.
 names() {
     awk -v part="$1" 'NR == FNR { end[NR] = $0; next }
         FNR == 1 { print; next }
@@ -94,31 +120,33 @@ awk 'BEGIN {
 }' > "$work/words"
 head -c $(($(wc -c < "$work/parts") / 2)) "$work/parts" | sed '$s/[,;][^,;]*$//' > "$work/half-of-parts"
 : > "$work/empty"
-printf '%-44s %12s\n' 'input' 'instructions'
-printf '%-44s %12s\n' 'the sample (1,653 bytes, accepted)' "$(count < "$work/sample")"
-printf '%-44s %12s\n' 'the longest refused (131,073 bytes)' "$(count < "$work/longest")"
-printf '%-44s %12s\n' "places ($(wc -c < "$work/places") bytes, accepted)" "$(count < "$work/places")"
-printf '%-44s %12s\n' 'nothing (the start of the process)' "$(count < "$work/empty")"
 printf 'secs. 1 thru 36.' > "$work/all"
-printf '%-44s %12s\n' 'acres of all 36 sections' "$(count acres samples/b1.csv "$work/all")"
+heading() { printf '%-72s %10s %5s  %s\n' "$1" instructions "$2" 'ratio to bench/expected'; }
+heading 'input' ''
+row "the sample, $(bytes sample) bytes, on standard input" "$(count < "$work/sample")"
+row 'nothing at all' "$(count < "$work/empty")"
+row "the longest description and notes, refused, $(bytes longest) bytes" "$(count < "$work/longest")"
+row "2,816 places, each named, $(bytes places) bytes, on standard input" "$(count < "$work/places")"
+row 'acres of all 36 sections' "$(count acres samples/b1.csv "$work/all")"
 for account in exact plat; do
-    printf '%-44s %12s\n' "acres of them, --account $account" \
+    row "acres of all 36 sections, --account $account" \
         "$(count acres --account "$account" samples/b1.csv "$work/all")"
 done
-printf '%-44s %12s\n' 'plat' "$(count plat samples/b1.csv)"
-printf '%-44s %12s\n' 'normal of the places' "$(count normal samples/b1.csv "$work/parts")"
-printf '%-44s %12s\n' 'normal of half of the places' "$(count normal samples/b1.csv "$work/half-of-parts")"
-printf '%-44s %12s\n' "normal of a chessboard ($(wc -c < "$work/chessboard") bytes)" \
+row 'plat' "$(count plat samples/b1.csv)"
+row 'normal of the 2,816 places' "$(count normal samples/b1.csv "$work/parts")"
+row 'normal of half of them' "$(count normal samples/b1.csv "$work/half-of-parts")"
+row "normal of a chessboard, 3,200 places that can't be joined, $(bytes chessboard) bytes" \
     "$(count normal samples/b1.csv "$work/chessboard")"
-printf '%-44s %12s\n' 'report of the sample' "$(count report samples/b1.csv samples/tracts.csv)"
-printf '%-44s %12s\n' "report of 1,000 tracts ($(wc -c < "$work/tracts") bytes)" \
+row "report of 1,000 tracts of one place each, $(bytes tracts) bytes" \
     "$(count report samples/b1.csv "$work/tracts")"
-printf '%-44s %12s\n' 'report of half of the tracts' "$(count report samples/b1.csv "$work/half-of-tracts")"
-printf '%-44s %12s\n' "report of 1,000 tracts ($(wc -c < "$work/words") bytes)" \
+row 'report of half of them' "$(count report samples/b1.csv "$work/half-of-tracts")"
+row "report of 1,000 tracts of six places each, in words, $(bytes words) bytes" \
     "$(count report samples/b1.csv "$work/words")"
-printf '%-44s %12s\n' 'report of 1,000 names of 64 bytes' "$(count report samples/b1.csv "$work/long-names")"
-printf '%-44s %12s\n' 'report of 1,000 names that collide' "$(count report samples/b1.csv "$work/colliding")"
-printf '%-44s %12s\n' 'help' "$(count --help)"
+row 'report of 1,000 tracts with names of 64 bytes' "$(count report samples/b1.csv "$work/long-names")"
+row 'report of 1,000 tracts with names that collide in a hashed set' \
+    "$(count report samples/b1.csv "$work/colliding")"
+row 'report of the sample' "$(count report samples/b1.csv samples/tracts.csv)"
+row 'help' "$(count --help)"
 # 65,536 bytes of $1 and then $2 again and again, filled up with spaces.
 text() {
     awk -v front="$1" -v again="$2" 'BEGIN {
@@ -132,14 +160,21 @@ nothing=$(count acres samples/b1.csv "$work/empty")
 byte_row() {
     text "$2" "$3" > "$work/text"
     more=$(($(count acres samples/b1.csv "$work/text") - nothing))
-    printf '%-44s %12s %5s\n' "$1" "$more" "$(awk -v more="$more" 'BEGIN { printf "%.1f", more / 65536 }')"
+    row "$1" "$more" "$(awk -v more="$more" 'BEGIN { printf "%.1f", more / 65536 }')"
 }
-printf '\n%-44s %12s %5s\n' '65,536 bytes, less those of an empty text' 'instructions' 'each'
+echo
+heading '65,536 bytes, less those of an empty text' each
 byte_row 'lots 1,1,1' 'sec. 1, lots 1' ',1'
 byte_row 'lots 1, 1, 1' 'sec. 1, lots 1' ', 1'
 byte_row 'lots 10,10' 'sec. 1, lots 10' ',10'
 byte_row 'lots 1,2,3,4 of section after section' 'sec. 1' ', lots 1,2,3,4; sec. 1'
+byte_row 'lots 1 and 1 and 1' 'sec. 1, lots 1' ' and 1'
+byte_row 'lots 1, and 1, and 1' 'sec. 1, lots 1' ', and 1'
+byte_row 'lots 1 to 1, 1 to 1' 'sec. 1, lots 1' ' to 1, 1'
+byte_row 'lots 1 THRU 1, 1 THRU 1' 'sec. 1, lots 1' ' THRU 1, 1'
+byte_row 'lots 1 and 1, ending in a comma' 'sec. 1, lots 1' ' and 1,'
 byte_row 'secs. 1,1,1' 'secs. 1' ',1'
+byte_row 'secs. 1 and 1 and 1' 'secs. 1' ' and 1'
 byte_row 'secs. 1, 1' 'secs. 1' ', 1'
 byte_row 'tabulators' '' '\t'
 byte_row 'spaces and tabulators by turns' '' ' \t'
@@ -150,5 +185,8 @@ byte_row 'indented empty lines' '' '\n    '
 byte_row 'no white space: form feeds' '' '\f'
 spaces 1048576 ',' > "$work/commas"
 more=$(($(count report samples/b1.csv "$work/commas") - $(count report samples/b1.csv "$work/empty")))
-printf '%-44s %12s %5s\n' 'report of 1,048,576 commas' "$more" \
-    "$(awk -v more="$more" 'BEGIN { printf "%.1f", more / 1048576 }')"
+row 'report of 1,048,576 commas' "$more" "$(awk -v more="$more" 'BEGIN { printf "%.1f", more / 1048576 }')"
+missing=$(($(grep -c '^[0-9]' bench/expected) - found))
+[ "$missing" = 0 ] || echo "$missing counts of bench/expected have no row here"
+[ "$too_much" = 0 ] || echo "$too_much counts are more than 1.02 times those of bench/expected"
+[ "$missing" = 0 ] && [ "$too_much" = 0 ]

@@ -1,15 +1,19 @@
 #!/bin/sh
-# Prints how many instructions 1,000 calls of each kind take on a land of 200 mixed blocks, over `Grid` and
-# over `Lanes`: what the whole process takes, less what it takes to make the same land and the same 1,000
-# sections and blocks alone. `take` is `meets` and then `add` of one block.
+# Builds twp_bench and prints how many instructions 1,000 calls of each kind take on a land of 200 mixed
+# blocks, over `Grid` and over `Lanes`: what the whole process takes, less what it takes just to make the
+# same land and the same 1,000 sections and blocks. `take` is `meets` and then `add` of one block.
 set -eu
+(cd crates/twp_bench && rt run -- lanes count 10 > /dev/null)
+program=crates/twp_bench/out/twp_bench
 count() {
-    env -i PATH="$PATH" valgrind --tool=callgrind --callgrind-out-file=/dev/null crates/twp_bench/out/twp_bench "$1" "$2" 1000 \
+    env -i PATH="$PATH" valgrind --tool=callgrind --callgrind-out-file=/dev/null "$program" "$1" "$2" 1000 \
         2>&1 >/dev/null | sed -n 's/.*Collected : *//p'
 }
 printf '%-28s %12s %12s\n' '1,000 calls on mixed blocks' 'Grid' 'Lanes'
 grid=$(count grid blocks)
 lanes=$(count lanes blocks)
 for work in add meets full count take; do
-    printf '%-28s %12s %12s\n' "$work" "$(($(count grid "$work") - grid))" "$(($(count lanes "$work") - lanes))"
+    more_grid=$(($(count grid "$work") - grid))
+    more_lanes=$(($(count lanes "$work") - lanes))
+    printf '%-28s %12s %12s\n' "$work" "$more_grid" "$more_lanes"
 done

@@ -1,8 +1,8 @@
 #!/bin/sh
-# Runs ./township, or the program that is named, as people do: on files, pipes, folders and devices. It
-# compares the status, standard output and standard error of each run. Then it tries the program's limits and
-# refused growths of memory, each by its own script; twp_growth is found in its crate, or is named second. The
-# last line counts all: 'N passed, 0 failed'.
+# Runs ./township, or the program that is named, as people do: on files, pipes, folders, and devices. It
+# compares the status, standard output, and standard error of each run. Then it tries what the documents
+# say, the program's limits, and refused growths of memory, each by its own script; twp_growth is found in
+# its crate, or is named second. The last line counts all: 'N passed, 0 failed'.
 set -u
 # A program that goes wrong fills no disk and doesn't run forever.
 ulimit -f 2000
@@ -61,7 +61,7 @@ run acres /dev/stdin d.txt < n.csv; ended 'notes on a device' $? 0 '40.45 acres'
 cat n.csv | run acres /dev/stdin d.txt; ended 'notes on a pipe' $? 0 '40.45 acres' ''
 run acres n.csv d.txt <&-; ended 'standard input is not wanted' $? 0 '40.45 acres' ''
 run acres --account exact n.csv d.txt; ended 'the exact account' $? 0 '40.45 acres' ''
-run acres n.csv d.txt --account=exact; ended 'the account behind the files' $? 0 '40.45 acres' ''
+run acres n.csv d.txt --account=exact; ended 'the account last, in one word' $? 0 '40.45 acres' ''
 # Four lots of 39.175, 39.125, 39.075 and 39.025 acres, which are printed as 39.18, 39.13, 39.08 and 39.03.
 printf 'sec. 7, lots 1 to 4, inclusive.' > lots
 run acres n.csv lots; ended 'four lots' $? 0 '156.40 acres' ''
@@ -77,36 +77,9 @@ run acres /dev/null d.txt; ended 'no notes' $? 1 'refused 2 at 1' ''
 run acres /dev/zero d.txt; ended 'endless notes' $? 1 'refused 1 at 65536' ''
 run acres empty folder; ended 'no description is read after refused notes' $? 1 'refused 2 at 1' ''
 
-# The examples of docs/REFUSALS.md on field notes and their plat: each edits the sample.
-refuses() {
-    sed "$1" "$root/samples/b0.csv" > edited
-    run acres edited d.txt; ended "refused: $1" $? 1 "refused $2" ''
-}
-refuses '1s/line/Line/' '3 at 1'
-refuses '3s/.*/N,1,,40.00/' '4 at 3'
-refuses '2s/2/0/' '5 at 2'
-refuses '3s/N/X/' '6 at 3'
-refuses '3s/1/37/' '7 at 3'
-refuses '3s/.*/N,1,3,40.00,80.00/' '8 at 3'
-refuses '3s/40.00/40.0000/' '9 at 3'
-refuses '4s/.*/N,1,,40.00,80.00/' '10 at 4'
-refuses '/^W,6,7,/d' '11 at 53'
-refuses '/^W,8,17,/s/40.00/40.251/' '21 at 58'
-refuses '/^W,6,,/s/80.00/64.99/' '22 at 47'
-refuses '/^W,6,7,/s/80.00/85.01/' '23 at 53'
-
-# Those on descriptions: a description, and its refusal.
-awk -F ' [|] ' '/^[|] [4-9][0-9] / { print $4 }' "$root/docs/REFUSALS.md" |
-    sed -n 's/^`\(.*\)`: `\(.*\)`$/\2|\1/p' > examples
-# The examples of docs/DESCRIPTIONS.md: a description, and its acres in the sample.
-awk -F ' [|] ' '/^[|] `/ { sub(/ [|]$/, "", $3); print $3 " acres|" $1 }' "$root/docs/DESCRIPTIONS.md" |
-    sed -n 's/|[|] `\(.*\)`$/|\1/p' >> examples
-wc -l < examples > out; : > err; ended 'twenty examples' $? 0 20 ''
-while IFS='|' read -r answer description; do
-    printf %s "$description" > description
-    case $answer in refused*) wanted=1 ;; *) wanted=0 ;; esac
-    run acres "$root/samples/b0.csv" description; ended "$description" $? "$wanted" "$answer" ''
-done < examples
+# Notes that make no plat: line 53 closes with a quarter mile of 25.01 chains.
+sed '/^W,6,7,/s/80.00/85.01/' "$root/samples/b0.csv" > edited
+run acres edited d.txt; ended 'a refused plat' $? 1 'refused 23 at 53' ''
 
 # The plat: its sections 6, 7 and 8 and its last line, of 37.
 run plat n.csv; status=$?
@@ -116,7 +89,7 @@ ended 'plat' "$status $lines" '0 37' 'sec. 6: lot 1 40.90, lot 2 41.10, lot 3 41
 sec. 7: lot 1 39.18, lot 2 39.13, lot 3 39.08, lot 4 39.03, total 636.40
 sec. 8: total 640.00
 township total 23037.57' ''
-run plat empty; ended 'a refused plat' $? 1 'refused 2 at 1' ''
+run plat empty; ended 'the plat of refused notes' $? 1 'refused 2 at 1' ''
 run plat /dev/stdin < edited; ended 'the plat of a device' $? 1 'refused 23 at 53' ''
 sed '/^W,6,7,/d' "$root/samples/b0.csv" > lacking
 run plat lacking; ended 'the plat of a line too few' $? 1 'refused 11 at 53' ''
@@ -203,23 +176,6 @@ total: 2500.00 acres
 remaining: 20537.57 acres' ''
 places 1001 > many
 run report n.csv many; ended '1,001 tracts' $? 1 'refused 85 at 1002' ''
-
-# The examples of docs/REFUSALS.md on lists: each puts a record into the sample.
-awk -F ' [|] ' '/^[|] 8[0-9] / { print $4 }' "$root/docs/REFUSALS.md" |
-    sed -n 's/^record \([0-9]\) `\(.*\)`: `\(refused [^`]*\)`\(, `\(refused [^`]*\)`\)*$/\1|\3|\5|\2/p' > examples
-wc -l < examples > out; : > err; ended 'four examples' $? 0 4 ''
-while IFS='|' read -r at first second record; do
-    awk -v at="$at" -v record="$record" 'NR == at { $0 = record } { print }' t.csv > list
-    wanted=$first
-    [ -z "$second" ] || wanted="$first
-$second"
-    run report n.csv list; ended "$record" $? 1 "$wanted" ''
-done < examples
-
-# The example of docs/TRACTS-FORMAT.md: a list, and its account.
-sed -n '/^    name,description$/,/^$/s/^    //p' "$root/docs/TRACTS-FORMAT.md" > list
-sed -n '/^    tract /,/^$/s/^    //p' "$root/docs/TRACTS-FORMAT.md" > account
-run report n.csv list; ended 'the list of tracts of the documents' $? 0 "$(cat account)" ''
 
 # Without a word: standard input.
 run < joined; ended 'joined input' $? 0 '40.45 acres' ''
@@ -463,14 +419,6 @@ in_turn acres d.txt; ended 'acres opens its files in their turn' $? 0 '40.45 acr
 in_turn normal parts; ended 'normal opens its files in their turn' $? 0 "$(cat canonical)" ''
 in_turn report t.csv; ended 'report opens its files in their turn' $? 0 "$account" ''
 
-# The table of docs/REFUSALS.md has the numbers and names of the code, and no other.
-find "$root/crates" -path '*/src/*' -name '*.rt' -exec \
-    sed -n 's/^ *[A-Za-z]*Fault::\([A-Za-z]*\).* => (\([0-9][0-9]*\), .*/\2 \1/p' {} + |
-    sort > in_code
-sed -n 's/^| \([0-9][0-9]*\) | \([A-Za-z]*\) |.*/\1 \2/p' "$root/docs/REFUSALS.md" | sort > out
-: > err
-[ -s in_code ]; ended 'the table of refusals' $? 0 "$(cat in_code)" ''
-
 # Counts what a script of its own tries, whose last line is 'N passed, M failed'.
 count() {
     "$@" > counted
@@ -483,6 +431,7 @@ count() {
     read -r more _ wrong _ < last
     passed=$((passed + more)) failed=$((failed + wrong))
 }
+count sh "$root/scripts/documents.sh" "$program"
 count env -i PATH="$PATH" sh "$root/scripts/limits.sh" "$program"
 count sh "$root/scripts/growths.sh" "$program" "$calls"
 

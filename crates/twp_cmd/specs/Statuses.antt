@@ -47,4 +47,4 @@ failing (Err fault) = Err (Run fault)
 -- why the words of the command line can't be had: want of memory, and else they can't be read
 abbrev pub words_fault : ErrorKind → RunFault
 words_fault OutOfMemory = fault.Memory
-words_fault other = fault.Read
+words_fault _ = fault.Read

@@ -37,8 +37,8 @@ word letters kind = record { letters = letters; kind = kind }
 -- the words of four letters and more that a description is made of
 abbrev pub long_words : List Word
 long_words =
-    word (codes "secs") Sec ∷ word (codes "section") Sec ∷ word (codes "sections") Sec
-    ∷ word (codes "lots") Lot ∷ word (codes "thru") To ∷ word (codes "through") To
+    word (codes "thru") To ∷ word (codes "lots") Lot ∷ word (codes "secs") Sec
+    ∷ word (codes "section") Sec ∷ word (codes "sections") Sec ∷ word (codes "through") To
     ∷ word (codes "inclusive") Inclusive ∷ []
 
 -- those of up to three letters

@@ -218,19 +218,32 @@ lots_begin _ h = cc h
 one_lots : IsWord (codes "lots") Lot
 one_lots = record { some = omega arith; all = AllPass-from_list_all is_ascii_alphabetic (codes "lots") refl; is = refl }
 
--- `lots `, behind white space
-pub lots_leads : (text : List ℕ) (from at : ℕ) (state : State) (its : List Item) → true ≡ is_some (next state lot) → at ≡ from + prefix_len is_white (drop from text) → drop at text ≡ codes "lots " ++ drop (at + 5) text → at + 5 ≤ length text → Leads text from state its (at + 5) past.Lot (before_parts state its)
-lots_leads text from at state its begins here spelt within =
+-- `lots `
+pub lots_leads : (text : List ℕ) (at : ℕ) (state : State) (its : List Item) → true ≡ is_some (next state lot) → drop at text ≡ codes "lots " ++ drop (at + 5) text → at + 5 ≤ length text → Leads text at state its (at + 5) past.Lot (before_parts state its)
+lots_leads text at state its begins spelt within =
     let more : List ℕ = drop (at + 5) text in
     let begun : List Item = before_parts state its in
     let space : drop (at + 4) text ≡ codes " " ++ more = left_behind text at 4 (codes "lots " ++ more) spelt in
     let end : (at + 4) + 1 ≡ at + 5 = omega arith in
-    leads_then text from state its at state its (at + 5) past.Lot begun
-    (white_leads text from at state its here (omega arith))
-    (leads_then text at state its (at + 4) past.Lot begun (at + 5) past.Lot begun
+    leads_then text at state its (at + 4) past.Lot begun (at + 5) past.Lot begun
     (word_leads text at at (at + 4) [] (codes "lots") (codes " " ++ more) Lot state past.Lot its no_space one_lots refl spelt space (omega arith) refl (omega arith) (lots_begin state begins))
     (subst (λ (n : ℕ). Leads text (at + 4) past.Lot begun n past.Lot begun) end
-    (leads_space text (at + 4) past.Lot begun (rw end space) (omega arith))))
+    (leads_space text (at + 4) past.Lot begun (rw end space) (omega arith)))
+
+-- `, lots ` behind the number of a section
+pub comma_lots_leads : (text : List ℕ) (at : ℕ) (its : List Item) → drop at text ≡ codes ", lots " ++ drop (at + 7) text → at + 7 ≤ length text → Leads text at past.SectionNumber its (at + 7) past.Lot (before_parts past.SectionNumber its)
+comma_lots_leads text at its spelt within =
+    let more : List ℕ = drop (at + 7) text in
+    let begun : List Item = before_parts past.SectionNumber its in
+    let word : drop (at + 1) text ≡ codes " lots " ++ more = left_behind text at 1 (codes ", lots " ++ more) spelt in
+    let space : drop (at + 6) text ≡ codes " " ++ more = left_behind text at 6 (codes ", lots " ++ more) spelt in
+    let end : (at + 6) + 1 ≡ at + 7 = omega arith in
+    leads_then text at past.SectionNumber its (at + 1) past.SectionComma its (at + 7) past.Lot begun
+    (mark_leads text at 44 Comma past.SectionNumber past.SectionComma its the_comma refl (rw word spelt) (omega arith))
+    (leads_then text (at + 1) past.SectionComma its (at + 6) past.Lot begun (at + 7) past.Lot begun
+    (word_leads text (at + 1) (at + 2) (at + 6) (codes " ") (codes "lots") (codes " " ++ more) Lot past.SectionComma past.Lot its one_space one_lots refl word space (omega arith) (omega arith) (omega arith) refl)
+    (subst (λ (n : ℕ). Leads text (at + 6) past.Lot begun n past.Lot begun) end
+    (leads_space text (at + 6) past.Lot begun (rw end space) (omega arith))))
 
 -- the number behind a section's word is its own
 pub section_taken : (state : State) (it : Numeral) (its : List Item) → next state number ≡ Some past.SectionNumber → take_number state it its ≡ Sections it it true ∷ its

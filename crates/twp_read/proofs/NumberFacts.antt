@@ -1,10 +1,11 @@
 -- A number as the next token of a text, and as the next one of a list.
-use Rattle.std.proofs.Common.{◌≡◌, ℕ, ◌+◌, ◌<◌, ◌≤◌, true, List, [], ◌∷◌, Some, length, take, drop, slice_index, codes, ◌++◌, refl, ap, sym, subst, ◌∙◌, ◌-◌, arith, length-drop}
+use Rattle.std.proofs.Common.{◌≡◌, ℕ, ◌+◌, ◌<◌, ◌≤◌, true, false, List, [], ◌∷◌, Some, length, take, drop, slice_index, codes, ◌++◌, refl, ap, sym, subst, ◌∙◌, ◌-◌, arith, length-drop}
 use Rattle.std.proofs.lemmas.List.{length-take-le}
 use Rattle.std.specs.Char.{is_ascii_digit}
 use Rattle.std.specs.List.{prefix_len}
 use Rattle.twp_grammar.specs.declared.item.Item.{Item}
 use Rattle.twp_grammar.specs.declared.item.Numeral.{Numeral}
+use Rattle.twp_grammar.specs.declared.kind.Kind.{Kind}
 use Rattle.twp_grammar.specs.declared.kind.Kind.TheVariants.{Number, Comma}
 use Rattle.twp_grammar.specs.declared.lexeme.Lexeme.{Lexeme}
 use Rattle.twp_read.specs.declared.numbers.Listed.{Listed}
@@ -12,15 +13,16 @@ use Rattle.twp_read.specs.declared.numbers.Listed.TheVariants as listed
 use Rattle.twp_grammar.specs.declared.state.State.{State}
 use Rattle.twp_grammar.specs.declared.state.State.TheVariants as past
 use Rattle.twp_grammar.specs.Cutting.{IsFirstIn, cut_digits, cut}
-use Rattle.twp_grammar.specs.Tokens.{Token, is_white}
-use Rattle.twp_grammar.specs.Grammar.{comma, number}
+use Rattle.twp_grammar.specs.Tokens.{Token, StartsWith, is_white}
+use Rattle.twp_grammar.specs.Grammar.{class_of, comma, number}
 use Rattle.twp_grammar.specs.Machine.{next}
-use Rattle.twp_read.specs.TokenSteps.{take_number}
-use Rattle.twp_read.specs.Passing.{Leads, IsNumberBehind, IsCommaBehind, AreCommaAndNumber, entry_of, state_behind, listed_in}
+use Rattle.twp_read.specs.TokenSteps.{take_number, take_token, with_newest}
+use Rattle.twp_read.specs.declared.change.Change.TheVariants.{Last}
+use Rattle.twp_read.specs.Passing.{Leads, IsNumberBehind, IsBehindWhite, entry_of, state_behind, last_state_behind, listed_in, listed_behind_and, listed_behind_to}
 use Rattle.twp_grammar.proofs.Cuts.{IsFirstToken, cut_of_digit, digit_no_space}
 use Rattle.twp_grammar.proofs.TokenFacts.{first_at, first_in}
 use Rattle.twp_read.proofs.FrontFacts.{number_leads}
-use Rattle.twp_read.proofs.PassingFacts.{the_comma, mark_leads, leads_then, white_leads}
+use Rattle.twp_read.proofs.PassingFacts.{the_comma, mark_leads, leads_token, leads_then, white_leads}
 
 -- what is said of a number that begins at a place, behind white space
 pub record BeginsHere (text : List ℕ) (from : ℕ) (it : Numeral) (end : ℕ) : Type 0 where
@@ -32,43 +34,102 @@ some_here : (bytes : List ℕ) → is_ascii_digit (slice_index bytes 0) ≡ true
 some_here [] h = cc h
 some_here (x ∷ xs) h = omega arith
 
-pub begins_here : (text : List ℕ) (from at value : ℕ) (l : Lexeme) → at ≡ from + prefix_len is_white (drop from text) → is_ascii_digit (slice_index (drop at text) 0) ≡ true → l ≡ cut_digits (drop at text) → l.kind ≡ Number value → BeginsHere text from (record { value = value; at = at }) (at + l.size)
-begins_here text from at value l here digit is kind =
-    let some : 0 < length text - at = rw (length-drop at text) at (some_here (drop at text) digit) in
-    let below : at < length text = omega arith in
-    let l_is : l ≡ cut (drop at text) = is ∙ sym (cut_of_digit (drop at text) digit) in
-    let token : Token = record { kind = l.kind; text = take l.size (drop at text); at = at } in
-    let first : IsFirstIn text from token = first_in text from at l (take l.size (drop at text)) here below l_is refl in
-    let whole : IsFirstToken (drop at text) l = subst (λ (m : Lexeme). IsFirstToken (drop at text) m) (sym l_is) (first_at text from at here below) in
-    let end : at + length (take l.size (drop at text)) ≡ at + l.size = ap (λ n. at + n) (length-take-le l.size (drop at text) whole.fits) in
+-- the token that is cut at a place behind white space
+record IsCutHere (text : List ℕ) (from : ℕ) (token : Token) (end : ℕ) : Type 0 where
+  first : IsFirstIn text from token
+  ends : token.at + length token.text ≡ end
+
+abbrev token_of : List ℕ → ℕ → Lexeme → Token
+token_of text at l = record { kind = l.kind; text = take l.size (drop at text); at = at }
+
+cut_here : (text : List ℕ) (from at : ℕ) (l : Lexeme)
+    → at ≡ from + prefix_len is_white (drop from text) → at < length text → l ≡ cut (drop at text)
+    → IsCutHere text from (token_of text at l) (at + l.size)
+cut_here text from at l here below is =
+    let whole : IsFirstToken (drop at text) l =
+    subst (λ (m : Lexeme). IsFirstToken (drop at text) m) (sym is) (first_at text from at here below) in
     record {
-      leads = number_leads text from token (record { value = value; at = at }) (at + l.size) first kind refl end;
-      further = subst (λ (n : ℕ). from < n) end first.further;
-      within = subst (λ (n : ℕ). n ≤ length text) end first.within;
+      first = first_in text from at l (take l.size (drop at text)) here below is refl;
+      ends = ap (λ n. at + n) (length-take-le l.size (drop at text) whole.fits);
     }
 
--- a digit and a comma are no white space
+pub begins_here : (text : List ℕ) (from at value : ℕ) (l : Lexeme)
+    → at ≡ from + prefix_len is_white (drop from text)
+    → is_ascii_digit (slice_index (drop at text) 0) ≡ true
+    → l ≡ cut_digits (drop at text) → l.kind ≡ Number value
+    → BeginsHere text from (record { value = value; at = at }) (at + l.size)
+begins_here text from at value l here digit is kind =
+    let some : 0 < length text - at = rw (length-drop at text) at (some_here (drop at text) digit) in
+    let l_is : l ≡ cut (drop at text) = is ∙ sym (cut_of_digit (drop at text) digit) in
+    let it : IsCutHere text from (token_of text at l) (at + l.size) =
+    cut_here text from at l here (omega arith) l_is in
+    record {
+      leads = number_leads text from (token_of text at l) (record { value = value; at = at }) (at + l.size)
+          it.first kind refl it.ends;
+      further = subst (λ (n : ℕ). from < n) it.ends it.first.further;
+      within = subst (λ (n : ℕ). n ≤ length text) it.ends it.first.within;
+    }
+
+-- where it ends
+pub record EndsWithin (text : List ℕ) (from end : ℕ) : Type 0 where
+  pub further : from < end
+  pub within : end ≤ length text
+
+pub word_ends : (text : List ℕ) (from at : ℕ) (l : Lexeme)
+    → at ≡ from + prefix_len is_white (drop from text) → at < length text → l ≡ cut (drop at text)
+    → EndsWithin text from (at + l.size)
+word_ends text from at l here below is =
+    let it : IsCutHere text from (token_of text at l) (at + l.size) = cut_here text from at l here below is in
+    record {
+      further = subst (λ (n : ℕ). from < n) it.ends it.first.further;
+      within = subst (λ (n : ℕ). n ≤ length text) it.ends it.first.within;
+    }
+
+-- a token that says nothing of the items
+pub word_leads : (text : List ℕ) (from at : ℕ) (l : Lexeme) (kind : Kind) (state behind : State)
+    → at ≡ from + prefix_len is_white (drop from text) → at < length text → l ≡ cut (drop at text)
+    → l.kind ≡ kind → next state (class_of kind) ≡ Some behind
+    → ((place : ℕ) (items : List Item) → take_token state kind place items ≡ items)
+    → (items : List Item) → Leads text from state items (at + l.size) behind items
+word_leads text from at l kind state behind here below is kind_is step kept items =
+    let it : IsCutHere text from (token_of text at l) (at + l.size) = cut_here text from at l here below is in
+    let same : take_token state l.kind at items ≡ items =
+    ap (λ k. take_token state k at items) kind_is ∙ kept at items in
+    subst (λ (js : List Item). Leads text from state items (at + l.size) behind js) same
+    (leads_token text from state items (token_of text at l) (at + l.size) behind
+    (subst (λ (n : ℕ). StartsWith from (drop from text) (token_of text at l) (drop n text)) it.ends it.first.starts)
+    it.ends (subst (λ (n : ℕ). n ≤ length text) it.ends it.first.within)
+    (ap (λ k. next state (class_of k)) kind_is ∙ step))
+
+-- where no white space stands, none is passed over
+no_white : (bytes : List ℕ) → is_white (slice_index bytes 0) ≡ false → prefix_len is_white bytes ≡ 0
+no_white [] h = refl
+no_white (x ∷ xs) h = rw h refl
+
+pub right_here : (text : List ℕ) (at : ℕ) → is_white (slice_index (drop at text) 0) ≡ false → at ≡ at + prefix_len is_white (drop at text)
+right_here text at h = rw (no_white (drop at text) h) (omega arith)
+
 no_white_digit : (bytes : List ℕ) → is_ascii_digit (slice_index bytes 0) ≡ true → prefix_len is_white bytes ≡ 0
 no_white_digit [] h = refl
 no_white_digit (x ∷ xs) h = rw (digit_no_space x h) refl
 
-pub digit_here : (text : List ℕ) (from : ℕ) → is_ascii_digit (slice_index (drop from text) 0) ≡ true → from ≡ from + prefix_len is_white (drop from text)
-digit_here text from h = rw (no_white_digit (drop from text) h) (omega arith)
+pub digit_here : (text : List ℕ) (at : ℕ) → is_ascii_digit (slice_index (drop at text) 0) ≡ true → at ≡ at + prefix_len is_white (drop at text)
+digit_here text at h = rw (no_white_digit (drop at text) h) (omega arith)
 
-pub comma_here : (text : List ℕ) (from : ℕ) → drop from text ≡ codes "," ++ drop (from + 1) text → from ≡ from + prefix_len is_white (drop from text)
-comma_here text from spelt =
-    let none : prefix_len is_white (drop from text) ≡ 0 = ap (λ b. prefix_len is_white b) spelt in
-    rw none (omega arith)
+-- a number behind white space
+pub number_ahead : (text : List ℕ) (from at : ℕ) (it : Numeral) (end : ℕ) → IsBehindWhite text from at → IsNumberBehind text at it end → IsNumberBehind text from it end
+number_ahead text from at it end white leads state behind items is =
+    leads_then text from state items at state items end behind (take_number state it items)
+    (white_leads text from at state items white.0 white.1) (leads state behind items is)
 
--- behind a comma, with white space before it
-pub comma_and_number : (text : List ℕ) (from at : ℕ) (it : Numeral) (end : ℕ) → IsCommaBehind text from at → IsNumberBehind text (at + 1) it end → AreCommaAndNumber text from it end
-comma_and_number text from at it end mark leads state between behind items comma_is number_is =
-    let within : at + 1 ≤ length text = mark.within in
-    leads_then text from state items (at + 1) between items end behind (take_number between it items)
-    (leads_then text from state items at state items (at + 1) between items
-    (white_leads text from at state items mark.place (omega arith))
-    (mark_leads text at 44 Comma state between items the_comma comma_is mark.spelt within))
-    (leads between behind items number_is)
+-- a comma, and the white space behind it
+pub comma_leads : (text : List ℕ) (at to : ℕ) (state behind : State) (items : List Item)
+    → drop at text ≡ codes "," ++ drop (at + 1) text → at + 1 ≤ length text → IsBehindWhite text (at + 1) to
+    → next state comma ≡ Some behind → Leads text at state items to behind items
+comma_leads text at to state behind items spelt within white is =
+    leads_then text at state items (at + 1) behind items to behind items
+    (mark_leads text at 44 Comma state behind items the_comma is spelt within)
+    (white_leads text (at + 1) to behind items white.0 white.1)
 
 -- how a list goes on behind a state
 record GoesOn (state : State) (list : Listed) : Type 0 where
@@ -87,12 +148,54 @@ goes_on past.ListLast listed.Sections h = record { between = past.ListLastComma;
 goes_on past.ListInclusive listed.Sections h = record { between = past.ListComma; comma_is = refl; number_is = refl; taken = λ it items. refl }
 goes_on _ _ h = cc h
 
--- one more number of a list leads on
-pub entry_leads : (text : List ℕ) (at : ℕ) (state : State) (items : List Item) (list : Listed) (it : Numeral) (end : ℕ) → listed_in state ≡ Some list → AreCommaAndNumber text at it end → Leads text at state items end (state_behind list) (entry_of list it ∷ items)
-entry_leads text at state items list it end is are =
+-- one more number of a list leads on, behind a comma
+pub entry_leads : (text : List ℕ) (at to : ℕ) (state : State) (items : List Item) (list : Listed) (it : Numeral) (end : ℕ)
+    → listed_in state ≡ Some list
+    → drop at text ≡ codes "," ++ drop (at + 1) text → at + 1 ≤ length text → IsBehindWhite text (at + 1) to
+    → IsNumberBehind text to it end
+    → Leads text at state items end (state_behind list) (entry_of list it ∷ items)
+entry_leads text at to state items list it end is spelt within white leads =
     let by : GoesOn state list = goes_on state list is in
     subst (λ (its : List Item). Leads text at state items end (state_behind list) its) (by.taken it items)
-    (are state by.between (state_behind list) items by.comma_is by.number_is)
+    (leads_then text at state items to by.between items end (state_behind list) (take_number by.between it items)
+    (comma_leads text at to state by.between items spelt within white by.comma_is)
+    (leads by.between (state_behind list) items by.number_is))
+
+-- and behind an `and`
+record IsEntry (state : State) (list : Listed) : Type 0 where
+  number_is : next state number ≡ Some (state_behind list)
+  taken : (it : Numeral) (items : List Item) → take_number state it items ≡ entry_of list it ∷ items
+
+is_entry : (state : State) (list : Listed) → listed_behind_and state ≡ Some list → IsEntry state list
+is_entry past.LotAnd listed.Lots h = record { number_is = refl; taken = λ it items. refl }
+is_entry past.ListAnd listed.Sections h = record { number_is = refl; taken = λ it items. refl }
+is_entry _ _ h = cc h
+
+pub joined_leads : (text : List ℕ) (from : ℕ) (state : State) (items : List Item) (list : Listed) (it : Numeral) (end : ℕ)
+    → listed_behind_and state ≡ Some list → IsNumberBehind text from it end
+    → Leads text from state items end (state_behind list) (entry_of list it ∷ items)
+joined_leads text from state items list it end is leads =
+    let by : IsEntry state list = is_entry state list is in
+    subst (λ (its : List Item). Leads text from state items end (state_behind list) its) (by.taken it items)
+    (leads state (state_behind list) items by.number_is)
+
+-- and behind `to`, as the last of a range
+record IsLast (state : State) (list : Listed) : Type 0 where
+  number_is : next state number ≡ Some (last_state_behind list)
+  taken : (it : Numeral) (items : List Item) → take_number state it items ≡ with_newest (Last it) items
+
+is_last : (state : State) (list : Listed) → listed_behind_to state ≡ Some list → IsLast state list
+is_last past.LotTo listed.Lots h = record { number_is = refl; taken = λ it items. refl }
+is_last past.ListTo listed.Sections h = record { number_is = refl; taken = λ it items. refl }
+is_last _ _ h = cc h
+
+pub last_leads : (text : List ℕ) (from : ℕ) (state : State) (items : List Item) (list : Listed) (it : Numeral) (end : ℕ)
+    → listed_behind_to state ≡ Some list → IsNumberBehind text from it end
+    → Leads text from state items end (last_state_behind list) (with_newest (Last it) items)
+last_leads text from state items list it end is leads =
+    let by : IsLast state list = is_last state list is in
+    subst (λ (its : List Item). Leads text from state items end (last_state_behind list) its) (by.taken it items)
+    (leads state (last_state_behind list) items by.number_is)
 
 -- and the list goes on there
 pub goes_on_behind : (list : Listed) → listed_in (state_behind list) ≡ Some list

@@ -1,14 +1,15 @@
 -- What the reader knows between two tokens, and what follows from it where it ends.
-use Rattle.std.proofs.Common.{◌≡◌, ◌<◌, ℕ, ◌+◌, ◌≤◌, true, false, List, [], ◌∷◌, ◌++◌, Option, Some, None, IsSomeAnd, length, reverse, refl, sym, ap, subst, ◌∙◌, append_assoc, arith, length-append}
-use Rattle.std.specs.List.{AllPass}
+use Rattle.std.proofs.Common.{◌≡◌, ◌<◌, ℕ, ◌+◌, ◌≤◌, Bool, true, false, List, [], ◌∷◌, ◌++◌, Option, Some, None, IsSomeAnd, length, map, reverse, refl, sym, ap, subst, ◌∙◌, inl, inr, append_assoc, arith, drop, length-append, length-drop}
+use Rattle.std.specs.List.{AllPass, flat_map}
 use Rattle.std.proofs.lemmas.List.{append-nil, reverse-append, take_all}
 use Rattle.std.proofs.Math.Seq.{take-append_seam}
 use Rattle.twp_grammar.specs.declared.item.Item.{Item}
+use Rattle.twp_grammar.specs.declared.item.Item.TheVariants as item
 use Rattle.twp_grammar.specs.declared.state.State.{State}
 use Rattle.twp_grammar.specs.declared.state.State.TheVariants.{Start}
 use Rattle.twp_grid.specs.declared.refusal.Refusal.{Refusal}
 use Rattle.twp_grammar.specs.Tokens.{Token, StartsWith, HasTokens, is_white}
-use Rattle.twp_grammar.specs.Grammar.{class_of}
+use Rattle.twp_grammar.specs.Grammar.{Class, class_of, bad_byte, bad_number}
 use Rattle.twp_grammar.specs.Items.{behind, BeginWithSections}
 use Rattle.twp_grammar.specs.Sentences.{IsSentence, HasItems, MayFollow}
 use Rattle.twp_grammar.specs.Machine.{next, is_final}
@@ -21,10 +22,11 @@ use Rattle.twp_grammar.specs.declared.expected.Expected.{Expected}
 use Rattle.twp_grammar.specs.Expected.{expected_of}
 use Rattle.twp_read.specs.TextFaults.{refusal_of, fault_of_bad, refusal, number_of_bad, NoneBad, place_of, IsBadToken, IsSyntaxFault, GoesWrong, Helps, HasNoneBad}
 use Rattle.twp_grammar.specs.Sentences.{TEXT_LIMIT, IsReadAs}
+use Rattle.twp_read.specs.Passing.{HasNoneBadBefore}
+use Rattle.twp_grammar.proofs.Table.{takes_no_bad_byte, takes_no_bad_number}
 use Rattle.twp_grammar.proofs.TokenFacts.{one_token_list, has_token_list}
 use Rattle.twp_read.proofs.Walk.{newest_first}
 use Rattle.twp_read.proofs.Reading.{ended, go_on, run-append, accepted, fault_here, fault_at_end, what_follows, what_is_told}
-use Rattle.twp_grammar.proofs.TreeFacts.{tree_begins}
 
 -- the tokens before some place: those behind it are the rest of the text's
 pub record Before (text : List ℕ) (at : ℕ) (bytes : List ℕ) (before : List Token) : Type 0 where
@@ -121,6 +123,20 @@ read_whole text at bytes state its f white final limit = record {
   named = subst (λ (js : List Item). HasItems f.tokens js) (turned_round its [] ∙ append-nil (reverse its)) (accepted f.tokens state its f.walked final);
 }
 
+-- a sentence names sections first
+behind_heading : (h : Tree heading) (first last : Numeral) (whole : Bool) (more : List Item) → BeginWithSections (heading_item h ∷ item.Sections first last whole ∷ more)
+behind_heading (letter & st & n & side & st2 & c & r & st3 & m & way & st4 & c2) first last whole more = tt
+
+pub tree_begins : (v : Tree description) → BeginWithSections (items v)
+tree_begins (inl h & inl (word & st & n & inl (mark & v)) & more & end) = behind_heading h (numeral n) (numeral n) false (parts_items v ++ flat_map (behind (behind group_items)) more)
+tree_begins (inl h & inl (word & st & n & inr _) & more & end) = behind_heading h (numeral n) (numeral n) true (flat_map (behind (behind group_items)) more)
+tree_begins (inl h & inr (word & st & (n & inl thru & others) & w) & more & end) = behind_heading h (numeral n) (end_of thru) true (map whole_sections_item (map (behind range_of) others) ++ flat_map (behind (behind group_items)) more)
+tree_begins (inl h & inr (word & st & (n & inr (s & second) & others) & w) & more & end) = behind_heading h (numeral n) (numeral n) true (whole_sections_item (range_of second) ∷ map whole_sections_item (map (behind range_of) others) ++ flat_map (behind (behind group_items)) more)
+tree_begins (inr _ & inl (word & st & n & inl (mark & v)) & more & end) = tt
+tree_begins (inr _ & inl (word & st & n & inr _) & more & end) = tt
+tree_begins (inr _ & inr (word & st & (n & inl thru & others) & w) & more & end) = tt
+tree_begins (inr _ & inr (word & st & (n & inr (s & second) & others) & w) & more & end) = tt
+
 pub begins : (text : List ℕ) (its : List Item) → IsReadAs text its → BeginWithSections its
 begins text its read = subst (λ (js : List Item). BeginWithSections js) read.named.read_off (tree_begins read.named.tree)
 
@@ -131,8 +147,44 @@ pub record Search (text : List ℕ) (at : ℕ) (bytes : List ℕ) : Type 0 where
   pub none_bad : NoneBad tokens
   pub within : at + length bytes ≤ length text
 
-pub search_start : (text : List ℕ) → Search text 0 text
-search_start text = record { tokens = []; before = at_front text; none_bad = tt; within = omega arith }
+-- what the machine takes is no bad token
+not_taken : (state behind : State) (class : Class) → next state class ≡ None → next state class ≡ Some behind → ⊥
+not_taken state behind class none is =
+    let both : ◌≡◌ {A = Option State} None (Some behind) = sym none ∙ is in
+    cc both
+
+taken_is_good : (state : State) (kind : Kind) (behind : State) → next state (class_of kind) ≡ Some behind → number_of_bad kind ≡ None
+taken_is_good state BadByte behind is = absurd (not_taken state behind bad_byte (takes_no_bad_byte state) is)
+taken_is_good state BadNumber behind is = absurd (not_taken state behind bad_number (takes_no_bad_number state) is)
+taken_is_good state _ behind is = refl
+
+one_more_taken : (token : Token) (tokens : List Token) (state : State) (its : List Item) (last : State) (grown : List Item) (o : Option State)
+    → ((behind : State) → run (Some behind) its tokens ≡ Some (last, grown) → NoneBad tokens)
+    → next state (class_of token.kind) ≡ o → run o its tokens ≡ Some (last, grown) → NoneBad (token ∷ tokens)
+one_more_taken token tokens state its last grown None more is walked = cc walked
+one_more_taken token tokens state its last grown (Some behind) more is walked =
+    (taken_is_good state token.kind behind is, more behind walked)
+
+taken_are_good : (tokens : List Token) (state : State) (its : List Item) (last : State) (grown : List Item) → run (Some state) its tokens ≡ Some (last, grown) → NoneBad tokens
+taken_are_good [] state its last grown walked = tt
+taken_are_good (token ∷ tokens) state its last grown walked =
+    let taken : List Item = take_token state token.kind token.at its in
+    one_more_taken token tokens state taken last grown (next state (class_of token.kind))
+    (λ behind more. taken_are_good tokens behind taken last grown more) refl walked
+
+pub none_bad_before : (text : List ℕ) (at : ℕ) (state : State) (its : List Item) → at ≤ length text → Front text at (drop at text) state its → HasNoneBadBefore text at
+none_bad_before text at state its within f =
+    record { tokens = f.tokens; joins = f.before.joins; none_bad = taken_are_good f.tokens Start [] state its f.walked; within = within }
+
+pub search_start : (text : List ℕ) (at : ℕ) → HasNoneBadBefore text at → Search text at (drop at text)
+search_start text at g =
+    let within : at ≤ length text = g.within in
+    record {
+      tokens = g.tokens;
+      before = record { joins = g.joins };
+      none_bad = g.none_bad;
+      within = rw (length-drop at text) (omega arith);
+    }
 
 one_more_good : (tokens : List Token) (token : Token) → NoneBad tokens → number_of_bad token.kind ≡ None → NoneBad (tokens ++ token ∷ [])
 one_more_good [] token none_bad is = (is, tt)

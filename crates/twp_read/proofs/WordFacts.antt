@@ -1,5 +1,5 @@
 -- The word that bytes begin with, found by its first letters.
-use Rattle.std.proofs.Common.{◌≡◌, ◌==◌, ℕ, ◌+◌, ◌<◌, Bool, true, false, cond, List, [], ◌∷◌, length, take, Option, Some, None, slice_index, refl, sym, ap, subst, ◌∙◌, arith, ◌≤◌, ◌↔◌, IsTrue, ◌++◌, ◌&&◌, nat_le}
+use Rattle.std.proofs.Common.{zero, suc, drop, ◌-◌, length-drop, ◌≡◌, ◌==◌, ℕ, ◌+◌, ◌<◌, Bool, true, false, cond, List, [], ◌∷◌, length, take, Option, Some, None, slice_index, refl, sym, ap, subst, ◌∙◌, arith, ◌≤◌, ◌↔◌, IsTrue, ◌++◌, ◌&&◌, nat_le}
 use Rattle.std.specs.Char.{is_ascii_alphabetic, to_ascii_lowercase}
 use Rattle.std.specs.List.{prefix_len}
 use Rattle.std.specs.Str.{str_to_ascii_lowercase}
@@ -10,7 +10,8 @@ use Rattle.twp_grammar.specs.declared.kind.Kind.TheVariants.{Other}
 use Rattle.twp_grammar.specs.Tokens.{Word, kind_of_word, kind_among, words, long_words, short_words, same_bytes}
 use Rattle.std.specs.List.{list_all}
 use Rattle.std.proofs.lemmas.Bool.{eqb-true, eq-eqb, leb-true, false≢true}
-use Rattle.std.proofs.lemmas.List.{length-map}
+use Rattle.std.proofs.lemmas.List.{length-map, drop-drop}
+use Rattle.std.proofs.lemmas.List.Sums.{prefix_len-le-length}
 use Rattle.std.proofs.lemmas.List.Folds.{length-prefix_len}
 
 letters : List ℕ → ℕ
@@ -154,6 +155,34 @@ long_word_is bytes kind size is long e =
     let fits : length text ≡ size = rw is (length-prefix_len is_ascii_alphabetic bytes) in
     let kind_is : kind ≡ kind_of_word text = e ∙ long_is_among text (rw fits long) in
     ap (λ k. lexeme k size) kind_is ∙ sym (word_to bytes size (sym is))
+
+-- where some letters are known, the others are counted
+behind_letters : (bytes : List ℕ) (known : ℕ) → known ≤ prefix_len is_ascii_alphabetic bytes → prefix_len is_ascii_alphabetic bytes ≡ known + prefix_len is_ascii_alphabetic (drop known bytes)
+behind_letters [] zero h = refl
+behind_letters (x ∷ xs) zero h = omega arith
+behind_letters [] (suc known) h = absurd (omega arith)
+behind_letters (x ∷ xs) (suc known) h = by_test (is_ascii_alphabetic x) refl h (λ some. behind_letters xs known some)
+  where
+    by_test : (is : Bool) → is_ascii_alphabetic x ≡ is → suc known ≤ cond is (1 + prefix_len is_ascii_alphabetic xs) 0
+        → (known ≤ prefix_len is_ascii_alphabetic xs → prefix_len is_ascii_alphabetic xs ≡ known + prefix_len is_ascii_alphabetic (drop known xs))
+        → cond is (1 + prefix_len is_ascii_alphabetic xs) 0 ≡ suc known + prefix_len is_ascii_alphabetic (drop known xs)
+    by_test true e h more =
+        let others : prefix_len is_ascii_alphabetic xs ≡ known + prefix_len is_ascii_alphabetic (drop known xs) = more (omega arith) in
+        omega arith
+    by_test false e h more = absurd (omega arith)
+
+-- of a long word, behind its first four
+pub letters_in_text : (text : List ℕ) (at : ℕ) → 3 < prefix_len is_ascii_alphabetic (drop at text) → prefix_len is_ascii_alphabetic (drop at text) ≡ 4 + prefix_len is_ascii_alphabetic (drop (at + 4) text)
+letters_in_text text at h = behind_letters (drop at text) 4 (omega arith) ∙ ap (λ b. 4 + prefix_len is_ascii_alphabetic b) (drop-drop 4 at text)
+
+pub letters_within : (text : List ℕ) (at : ℕ) → at < length text → 3 < prefix_len is_ascii_alphabetic (drop at text) → at + 4 ≤ length text
+letters_within text at below h =
+    let fits : prefix_len is_ascii_alphabetic (drop at text) ≤ length (drop at text) = prefix_len-le-length is_ascii_alphabetic (drop at text) in
+    let left : length (drop at text) ≡ length text - at = length-drop at text in
+    omega arith
+
+pub long_size : (text : List ℕ) (at more : ℕ) → 3 < prefix_len is_ascii_alphabetic (drop at text) → more ≡ prefix_len is_ascii_alphabetic (drop (at + 4) text) → 4 + more ≡ prefix_len is_ascii_alphabetic (drop at text)
+long_size text at more h is = ap (λ n. 4 + n) is ∙ sym (letters_in_text text at h)
 
 -- what a word is, by its letters
 pub ruleset word_facts = (one_letter, two_letters, three_letters, long)

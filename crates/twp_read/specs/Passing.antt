@@ -1,6 +1,6 @@
 -- What the reader takes as a whole, though it is several tokens. No public promise speaks of it.
 use Rattle.std.specs.Prelude.{◌≡◌, ◌⊎◌, ◌≤◌, ◌<◌, ℕ, ◌+◌, true, List, [], ◌∷◌, ◌++◌, Option, Some, None, length}
-use Rattle.std.specs.Prelude.{drop, codes}
+use Rattle.std.specs.Prelude.{drop}
 use Rattle.std.specs.List.{prefix_len}
 use Rattle.twp_grid.specs.declared.block.Side.TheVariants as side
 use Rattle.twp_grid.specs.declared.township.NorthSouth.TheVariants as ns
@@ -19,9 +19,10 @@ use Rattle.twp_grammar.specs.declared.state.State.TheVariants as past
 use Rattle.twp_grammar.specs.Tokens.{Token, StartsWith, HasTokens, is_white, kind_among, words}
 use Rattle.twp_grammar.specs.Cutting.{small_letter}
 use Rattle.twp_grammar.specs.declared.item.Numeral.{Numeral}
-use Rattle.twp_grammar.specs.Grammar.{comma, number}
+use Rattle.twp_grammar.specs.Grammar.{number}
 use Rattle.twp_grammar.specs.Machine.{next}
 use Rattle.twp_read.specs.TokenSteps.{run, take_number}
+use Rattle.twp_read.specs.TextFaults.{NoneBad}
 
 -- The tokens of a text between two places lead the machine from a state and items to others.
 pub record Leads (text : List ℕ) (at : ℕ) (state : State) (items : List Item)
@@ -98,18 +99,9 @@ IsNumberBehind text from it end =
     (state behind : State) (items : List Item) → next state number ≡ Some behind
     → Leads text from state items end behind (take_number state it items)
 
--- a comma stands there, behind white space that begins at another place
-pub record IsCommaBehind (text : List ℕ) (from at : ℕ) : Type 0 where
-  pub place : at ≡ from + prefix_len is_white (drop from text)
-  pub spelt : drop at text ≡ codes "," ++ drop (at + 1) text
-  pub within : at + 1 ≤ length text
-
--- a comma and then a number are the next tokens of a text from a place on, and end at another
-abbrev pub AreCommaAndNumber : List ℕ → ℕ → Numeral → ℕ → Type 0
-AreCommaAndNumber text from it end =
-    (state between behind : State) (items : List Item)
-    → next state comma ≡ Some between → next between number ≡ Some behind
-    → Leads text from state items end behind (take_number between it items)
+-- all the white space from a place on ends at another
+abbrev pub IsBehindWhite : List ℕ → ℕ → ℕ → Type 0
+IsBehindWhite text from at = (at ≡ from + prefix_len is_white (drop from text)) × (at ≤ length text)
 
 -- the item of a number in a list
 abbrev pub entry_of : Listed → Numeral → Item
@@ -121,6 +113,11 @@ abbrev pub state_behind : Listed → State
 state_behind listed.Lots = past.LotNumber
 state_behind listed.Sections = past.ListNumber
 
+-- the state behind the last number of a range in a list
+abbrev pub last_state_behind : Listed → State
+last_state_behind listed.Lots = past.LotLast
+last_state_behind listed.Sections = past.ListLast
+
 -- what a list is of that goes on in a state by a comma and a number
 abbrev pub listed_in : State → Option Listed
 listed_in past.LotNumber = Some listed.Lots
@@ -131,3 +128,22 @@ listed_in past.ListNumber = Some listed.Sections
 listed_in past.ListLast = Some listed.Sections
 listed_in past.ListInclusive = Some listed.Sections
 listed_in _ = None
+
+-- what a list is of whose next number stands behind `and`
+abbrev pub listed_behind_and : State → Option Listed
+listed_behind_and past.LotAnd = Some listed.Lots
+listed_behind_and past.ListAnd = Some listed.Sections
+listed_behind_and _ = None
+
+-- what a list is of that has a range whose last number stands behind `to`
+abbrev pub listed_behind_to : State → Option Listed
+listed_behind_to past.LotTo = Some listed.Lots
+listed_behind_to past.ListTo = Some listed.Sections
+listed_behind_to _ = None
+
+-- no bad token stands in a text before this place, behind which its other tokens stand
+pub record HasNoneBadBefore (text : List ℕ) (at : ℕ) : Type 0 where
+  pub tokens : List Token
+  pub joins : (left : List Token) → HasTokens at (drop at text) left → HasTokens 0 text (tokens ++ left)
+  pub none_bad : NoneBad tokens
+  pub within : at ≤ length text

@@ -2,6 +2,7 @@ ghost use Rattle.std.specs.Prelude.{◌≡◌, ◌≤◌, List, length, IfOk, If
 ghost use Rattle.std.specs.Prelude.{MatchOption, MatchResult};
 ghost use Rattle.twp_read.specs.TextFaults.{refusal_of, fault_of_bad, HasNoneBad, GoesWrong, Helps};
 ghost use Rattle.twp_read.specs.TextFaults.{IsBadToken, IsFirstTextFault};
+ghost use Rattle.twp_read.specs.Passing.{HasNoneBadBefore};
 
 use crate::fault::{TEXT_LIMIT, TextFault};
 use crate::items::Items;
@@ -70,13 +71,13 @@ impl Description {
                 break;
             };
             let Some(behind) = reached.state.next(token.kind) else {
-                return Err(fault_of(text, token.at, reached.state.expected()));
+                return Err(fault_of(text, reached.at, token.at, reached.state.expected()));
             };
             items.take(alloc, reached.state, token.kind, token.at as u32)?;
             reached = behind_fraction(text, token.at + token.text.len(), behind);
         }
         if !reached.state.is_final() {
-            return Err(fault_of(text, text.len(), reached.state.expected()));
+            return Err(fault_of(text, reached.at, text.len(), reached.state.expected()));
         }
         Ok(Description {
             items: items.into_vec(),
@@ -93,17 +94,18 @@ impl Description {
 }
 
 /// The fault of a text that goes wrong at a place, where something else could stand: its leftmost
-/// bad token, if it has one.
+/// bad token, if it has one. What was taken, up to another place, has none.
 #[cold]
 #[inline(never)]
-fn fault_of(text: &[u8], at: usize, expected: Expected) -> TextFault
+fn fault_of(text: &[u8], taken: usize, at: usize, expected: Expected) -> TextFault
+    requires good { HasNoneBadBefore text.now taken }
     requires within { at ≤ length text.now }
     requires limit { length text.now ≤ TEXT_LIMIT }
     requires wrong { GoesWrong text.now at expected }
     ensures refused { IsSomeAnd (refusal_of result) (IsFirstTextFault text.now) }
     ensures helps { Helps text.now result }
 {
-    match first_bad(text) {
+    match first_bad(text, taken) {
         Some(fault) => fault,
         None => TextFault::Syntax {
             at: at as u32,
@@ -112,13 +114,14 @@ fn fault_of(text: &[u8], at: usize, expected: Expected) -> TextFault
     }
 }
 
-/// The leftmost bad token.
-fn first_bad(text: &[u8]) -> Option<TextFault>
-    requires { length text.now ≤ TEXT_LIMIT }
+/// The leftmost bad token, of which none stands before a place.
+fn first_bad(text: &[u8], taken: usize) -> Option<TextFault>
+    requires good { HasNoneBadBefore text.now taken }
+    requires limit { length text.now ≤ TEXT_LIMIT }
     ensures { MatchOption result (HasNoneBad text.now)
         (λ fault. IsSomeAnd (refusal_of fault) (IsBadToken text.now)) }
 {
-    let mut tokens = Tokens::new(text);
+    let mut tokens = Tokens::behind(text, taken);
     while let Some(token) = tokens.next() {
         if let Some(fault) = fault_of_bad(token.kind, token.at as u32) {
             return Some(fault);

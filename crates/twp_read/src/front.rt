@@ -35,6 +35,9 @@ const SECTION: usize = 8;
 /// How many bytes `lots ` has.
 const LOTS: usize = 5;
 
+/// How many bytes `, lots ` has.
+const COMMA_LOTS: usize = 7;
+
 /// How many bytes a colon has.
 const COLON: usize = 1;
 
@@ -132,7 +135,8 @@ impl Items {
     }
 }
 
-/// The place behind the word that several lots begin with, if it is spelled as `lots `.
+/// The place behind the word that several lots begin with, if it stands there as `lots `, behind the
+/// number of a section as `, lots `.
 #[inline(always)]
 fn behind_lots(text: &[u8], from: Reached) -> Option<usize>
     requires { from.at ≤ length text.now }
@@ -141,14 +145,11 @@ fn behind_lots(text: &[u8], from: Reached) -> Option<usize>
         (before_parts from.state items)) }
     ensures within { IfSome result (λ word. word ≤ length text.now) }
 {
-    if !from.state.begins_part() {
-        return None;
+    match from.state {
+        State::SectionNumber if goes_on(text, from.at, b", lots ") => Some(from.at + COMMA_LOTS),
+        state if state.begins_part() && goes_on(text, from.at, b"lots ") => Some(from.at + LOTS),
+        _ => None,
     }
-    let at = behind_white(text, from.at);
-    if !goes_on(text, at, b"lots ") {
-        return None;
-    }
-    Some(at + LOTS)
 }
 
 /// The heading that a text begins with, if it is spelled as is usual.

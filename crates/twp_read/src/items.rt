@@ -6,8 +6,13 @@ ghost use Rattle.twp_grammar.specs.Sentences.{TEXT_LIMIT};
 
 use crate::change::{Change, change_item};
 use crate::growing::take_more_steps;
-use crate::numbers::{Listed, number_behind_comma};
-use crate::passing::{Reached, UsualStep, ahead_of_part, behind_and, behind_step, step_at};
+use crate::numbers::{
+    COMMA, Listed, ahead, behind_joining_word, behind_list_comma, number_at, number_behind,
+};
+use crate::passing::{
+    Reached, UsualStep, ahead_of_part, behind_and, behind_step, goes_on, step_at,
+};
+use crate::white::behind_white;
 use std::alloc::{AllocError, Global};
 use std::marker::Model;
 use twp_grammar::{Item, Kind, Numeral, State, Step, Steps};
@@ -189,10 +194,29 @@ impl Items {
         self.take_parts(alloc, text, list)
     }
 
-    /// Takes the numbers that a list of lots or of sections goes on with, as long as each stands
-    /// behind a comma.
+    /// Takes the numbers that a list of lots or of sections goes on with, and what joins them.
     #[inline(always)]
     fn take_list(&mut self, text: &[u8], from: Reached) -> Result<Reached, AllocError>
+        requires place { from.at ≤ length text.now }
+        requires limit { length text.now ≤ TEXT_LIMIT }
+        ensures { IfOk result
+            (λ to. Leads text.now from.at from.state self.old to.at to.state self.new) }
+    {
+        if Listed::in_state(from.state).is_none() {
+            return Ok(from);
+        }
+        let mut reached = self.take_numbers(text, from)?;
+        'words: while let Some(word) = behind_joining_word(text, reached) {
+            let joined = self.take_joined(text, word)?;
+            reached = self.take_numbers(text, joined)?;
+        }
+        Ok(reached)
+    }
+
+    /// Takes the numbers that a list goes on with, as long as each stands behind a comma, and a
+    /// comma behind the last of them.
+    #[inline(always)]
+    fn take_numbers(&mut self, text: &[u8], from: Reached) -> Result<Reached, AllocError>
         requires place { from.at ≤ length text.now }
         requires limit { length text.now ≤ TEXT_LIMIT }
         ensures { IfOk result
@@ -201,15 +225,48 @@ impl Items {
         let Some(list) = Listed::in_state(from.state) else {
             return Ok(from);
         };
-        let mut reached = from;
-        'numbers: while let Some(number) = number_behind_comma(text, reached.at) {
+        let mut reached = ahead(text, from);
+        'numbers: while goes_on(text, reached.at, b",") {
+            let next = behind_white(text, reached.at + COMMA);
+            let Some(number) = number_at(text, next) else {
+                return Ok(behind_list_comma(text, reached, next));
+            };
             self.push(list.entry(number.numeral))?;
-            reached = Reached {
+            let behind = Reached {
                 at: number.end,
                 state: list.state(),
             };
+            reached = ahead(text, behind);
         }
         Ok(reached)
+    }
+
+    /// Takes the number behind a word that joins it to a list, if one stands there.
+    #[inline(always)]
+    fn take_joined(&mut self, text: &[u8], word: Reached) -> Result<Reached, AllocError>
+        requires place { word.at ≤ length text.now }
+        requires limit { length text.now ≤ TEXT_LIMIT }
+        ensures { IfOk result
+            (λ to. Leads text.now word.at word.state self.old to.at to.state self.new) }
+    {
+        let Some(number) = number_behind(text, word.at) else {
+            return Ok(word);
+        };
+        if let Some(list) = Listed::behind_and(word.state) {
+            self.push(list.entry(number.numeral))?;
+            return Ok(Reached {
+                at: number.end,
+                state: list.state(),
+            });
+        }
+        let Some(list) = Listed::behind_to(word.state) else {
+            return Ok(word);
+        };
+        self.change(Change::Last(number.numeral))?;
+        Ok(Reached {
+            at: number.end,
+            state: list.last_state(),
+        })
     }
 
     /// Takes what stands next of a chain, and the parts behind it, as long as each step is spelled

@@ -12,6 +12,9 @@ ghost use Rattle.twp_grammar.specs.Cutting.{cut_mark, cut};
 use crate::word::{self, one_letter, three_letters, two_letters};
 use twp_grammar::{Kind, Lexeme};
 
+/// How many letters of a long word are known.
+const KNOWN: usize = 4;
+
 /// The token that begins at a place of a text.
 #[inline(always)]
 #[tactic(auto, unfolding(twp_grammar::specs::Cutting::cut))]
@@ -105,15 +108,14 @@ fn word(text: &[u8], at: usize, first: u8) -> Lexeme
     long_word(text, at)
 }
 
-/// A word of four letters or more.
-#[inline(always)]
-#[tactic(auto, using(crate::proofs::WordFacts::long_word_is))]
+/// A word of four letters or more. Those behind the first four are counted.
+#[inline(never)]
 fn long_word(text: &[u8], at: usize) -> Lexeme
     requires place { at < length text.now }
     requires long { 3 < prefix_len is_ascii_alphabetic (drop at text.now) }
     ensures { result ≡ cut_word (drop at text.now) }
 {
-    let size = count_letters(text, at);
+    let size = KNOWN + count_letters(text, at + KNOWN);
     Lexeme {
         kind: kind_of_long(text, at, size),
         size,
@@ -121,7 +123,7 @@ fn long_word(text: &[u8], at: usize) -> Lexeme
 }
 
 /// How many letters stand at a place.
-#[inline(never)]
+#[inline(always)]
 fn count_letters(text: &[u8], at: usize) -> usize
     requires { at ≤ length text.now }
     ensures value { result ≡ prefix_len is_ascii_alphabetic (drop at text.now) }
@@ -134,7 +136,7 @@ fn count_letters(text: &[u8], at: usize) -> usize
 }
 
 /// What the word of so many letters at a place is, which are four or more.
-#[inline(never)]
+#[inline(always)]
 fn kind_of_long(text: &[u8], at: usize, size: usize) -> Kind
     requires place { at ≤ length text.now }
     requires size { size ≤ length (drop at text.now) }

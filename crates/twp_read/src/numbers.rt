@@ -1,19 +1,20 @@
 //! Numbers, and how a list of lots or of sections goes on with them.
-ghost use Rattle.std.specs.Prelude.{◌≡◌, ◌≤◌, ◌<◌, ◌+◌, true, length, drop, slice_index, IfSome};
-ghost use Rattle.std.specs.Char.{is_ascii_digit};
-ghost use Rattle.std.specs.List.{prefix_len};
+ghost use Rattle.std.specs.Prelude.{◌≡◌, ◌≤◌, ◌<◌, ◌+◌, ◌++◌, false, List, length, drop, codes};
+ghost use Rattle.std.specs.Prelude.{IfSome, IsTrue};
 ghost use Rattle.twp_grammar.specs.Tokens.{is_white};
-ghost use Rattle.twp_read.specs.Passing.{IsNumberBehind, IsCommaBehind, AreCommaAndNumber};
-ghost use Rattle.twp_read.specs.Passing.{entry_of, state_behind, listed_in};
+ghost use Rattle.twp_grammar.specs.declared.item.Item.{Item as TakenItem};
+ghost use Rattle.twp_read.specs.Passing.{IsNumberBehind, IsBehindWhite, Leads, entry_of};
+ghost use Rattle.twp_read.specs.Passing.{state_behind, last_state_behind, listed_in};
+ghost use Rattle.twp_read.specs.Passing.{listed_behind_and, listed_behind_to};
 ghost use Rattle.twp_grammar.specs.Sentences.{TEXT_LIMIT};
 
-use crate::lexeme::{byte_at, digits};
-use crate::passing::goes_on;
+use crate::lexeme::{byte_at, digits, lexeme_at};
+use crate::passing::Reached;
 use crate::white::behind_white;
 use twp_grammar::{Item, Kind, Numeral, State};
 
 /// How many bytes a comma has.
-const COMMA: usize = 1;
+pub const COMMA: usize = 1;
 
 /// A number, and the place behind it.
 #[derive(Clone, Copy)]
@@ -40,6 +41,41 @@ impl Listed {
             State::SectionNumber | State::ListNumber => Some(Listed::Sections),
             State::ListLast | State::ListInclusive => Some(Listed::Sections),
             _ => None,
+        }
+    }
+
+    /// What a list is of whose next number stands behind `and`.
+    #[inline(always)]
+    pub fn behind_and(state: State) -> Option<Listed>
+        ensures { result ≡ listed_behind_and state }
+    {
+        match state {
+            State::LotAnd => Some(Listed::Lots),
+            State::ListAnd => Some(Listed::Sections),
+            _ => None,
+        }
+    }
+
+    /// What a list is of that has a range whose last number stands behind `to`.
+    #[inline(always)]
+    pub fn behind_to(state: State) -> Option<Listed>
+        ensures { result ≡ listed_behind_to state }
+    {
+        match state {
+            State::LotTo => Some(Listed::Lots),
+            State::ListTo => Some(Listed::Sections),
+            _ => None,
+        }
+    }
+
+    /// The state behind the last number of a range.
+    #[inline(always)]
+    pub fn last_state(self) -> State
+        ensures { result ≡ last_state_behind self }
+    {
+        match self {
+            Listed::Lots => State::LotLast,
+            Listed::Sections => State::ListLast,
         }
     }
 
@@ -82,7 +118,21 @@ pub fn number_behind(text: &[u8], from: usize) -> Option<UsualNumber>
     ensures within { IfSome result (λ it. it.end ≤ length text.now) }
     ensures forward { IfSome result (λ it. from < it.end) }
 {
-    let at = digit_behind(text, from)?;
+    number_at(text, behind_white(text, from))
+}
+
+/// The number that stands right at a place.
+#[inline(always)]
+pub fn number_at(text: &[u8], at: usize) -> Option<UsualNumber>
+    requires place { at ≤ length text.now }
+    requires limit { length text.now ≤ TEXT_LIMIT }
+    ensures number { IfSome result (λ it. IsNumberBehind text.now at it.numeral it.end) }
+    ensures within { IfSome result (λ it. it.end ≤ length text.now) }
+    ensures forward { IfSome result (λ it. at < it.end) }
+{
+    if !byte_at(text, at, 0).is_ascii_digit() {
+        return None;
+    }
     let number = digits(text, at);
     let Kind::Number(value) = number.kind else {
         return None;
@@ -96,52 +146,66 @@ pub fn number_behind(text: &[u8], from: usize) -> Option<UsualNumber>
     })
 }
 
-/// The place of the digit that stands behind white space, if one does. Mostly there is none before
-/// it.
+/// Passes over white space.
 #[inline(always)]
-fn digit_behind(text: &[u8], from: usize) -> Option<usize>
-    requires { from ≤ length text.now }
-    ensures place { IfSome result (λ at. at ≡ from + prefix_len is_white (drop from text.now)) }
-    ensures digit { IfSome result
-        (λ at. is_ascii_digit (slice_index (drop at text.now) 0) ≡ true) }
-    ensures within { IfSome result (λ at. at < length text.now) }
+pub fn ahead(text: &[u8], from: Reached) -> Reached
+    requires { from.at ≤ length text.now }
+    ensures leads { (items : List TakenItem)
+        → Leads text.now from.at from.state items result.at result.state items }
+    ensures same { result.state ≡ from.state }
 {
-    if byte_at(text, from, 0).is_ascii_digit() {
-        return Some(from);
+    Reached {
+        at: behind_white(text, from.at),
+        state: from.state,
     }
-    let at = behind_white(text, from);
-    if byte_at(text, at, 0).is_ascii_digit() {
-        return Some(at);
-    }
-    None
 }
 
-/// The number behind a comma, which are the next two tokens of a text from a place on.
+/// Passes over a comma and the white space behind it, where the tokens so far may go on by one.
 #[inline(always)]
-pub fn number_behind_comma(text: &[u8], from: usize) -> Option<UsualNumber>
-    requires place { from ≤ length text.now }
-    requires limit { length text.now ≤ TEXT_LIMIT }
-    ensures number { IfSome result (λ it. AreCommaAndNumber text.now from it.numeral it.end) }
-    ensures within { IfSome result (λ it. it.end ≤ length text.now) }
-    ensures forward { IfSome result (λ it. from < it.end) }
+pub fn behind_list_comma(text: &[u8], comma: Reached, next: usize) -> Reached
+    requires spelt { drop comma.at text.now ≡ codes "," ++ drop (comma.at + 1) text.now }
+    requires within { comma.at + 1 ≤ length text.now }
+    requires next { IsBehindWhite text.now (comma.at + 1) next }
+    ensures { (items : List TakenItem)
+        → Leads text.now comma.at comma.state items result.at result.state items }
 {
-    let at = comma_behind(text, from)?;
-    number_behind(text, at + COMMA)
+    match comma.state.next(Kind::Comma) {
+        Some(state) => Reached { at: next, state },
+        None => comma,
+    }
 }
 
-/// The place of the comma that stands behind white space, if one does. Mostly there is none before
-/// it.
+/// The place behind `and`, or behind `to` or a word for it, in letters of any kind, if one stands
+/// right there and the tokens so far may go on by it.
 #[inline(always)]
-fn comma_behind(text: &[u8], from: usize) -> Option<usize>
-    requires { from ≤ length text.now }
-    ensures { IfSome result (IsCommaBehind text.now from) }
+pub fn behind_joining_word(text: &[u8], from: Reached) -> Option<Reached>
+    requires { from.at ≤ length text.now }
+    ensures leads { IfSome result (λ word. (items : List TakenItem)
+        → Leads text.now from.at from.state items word.at word.state items) }
+    ensures forward { IfSome result (λ word. from.at < word.at) }
 {
-    if goes_on(text, from, b",") {
-        return Some(from);
+    if !begins_joining_word(byte_at(text, from.at, 0)) {
+        return None;
     }
-    let at = behind_white(text, from);
-    if goes_on(text, at, b",") {
-        return Some(at);
+    let word = lexeme_at(text, from.at);
+    match word.kind {
+        Kind::And => Some(Reached {
+            at: from.at + word.size,
+            state: from.state.next(Kind::And)?,
+        }),
+        Kind::To => Some(Reached {
+            at: from.at + word.size,
+            state: from.state.next(Kind::To)?,
+        }),
+        _ => None,
     }
-    None
+}
+
+/// Whether `and`, `to`, `thru` or `through` may begin with a byte.
+#[inline(always)]
+fn begins_joining_word(byte: u8) -> bool
+    ensures some { IsTrue result → 0 < byte }
+    ensures dark { IsTrue result → is_white byte ≡ false }
+{
+    matches!(byte, b'a' | b't' | b'A' | b'T')
 }

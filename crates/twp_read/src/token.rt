@@ -1,4 +1,4 @@
-ghost use Rattle.std.specs.Prelude.{◌≡◌, ◌≤◌, length};
+ghost use Rattle.std.specs.Prelude.{◌≡◌, ◌≤◌, drop, length};
 ghost use Rattle.twp_grammar.specs.Cutting.{GivesFirst};
 ghost use Rattle.std.specs.Iterator.{at_most};
 
@@ -52,6 +52,14 @@ impl<'a> Tokens<'a> {
         ensures { result ≡ record { at = 0; bytes = text.now } }
     {
         Tokens { text, at: 0 }
+    }
+
+    /// The tokens of a text that stand at a place or behind it.
+    pub(crate) fn behind(text: &'a [u8], at: usize) -> Tokens<'a>
+        requires { at ≤ length text.now }
+        ensures { result ≡ record { at = at; bytes = drop at text.now } }
+    {
+        Tokens { text, at }
     }
 }
 

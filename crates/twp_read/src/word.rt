@@ -55,11 +55,17 @@ pub fn three_letters(first: u8, second: u8, third: u8) -> Kind
     }
 }
 
-/// What a word of four letters or more is, in any letters.
-#[inline(never)]
+/// What a word of four letters or more is, in any letters. Lists have them most often.
+#[inline(always)]
 pub fn long_word(text: &[u8]) -> Kind
     ensures { result ≡ kind_among (str_to_ascii_lowercase text.now) long_words }
 {
+    if is_word(text, b"thru") {
+        return Kind::To;
+    }
+    if is_word(text, b"lots") {
+        return Kind::Lot;
+    }
     if is_word(text, b"secs") {
         return Kind::Sec;
     }
@@ -68,12 +74,6 @@ pub fn long_word(text: &[u8]) -> Kind
     }
     if is_word(text, b"sections") {
         return Kind::Sec;
-    }
-    if is_word(text, b"lots") {
-        return Kind::Lot;
-    }
-    if is_word(text, b"thru") {
-        return Kind::To;
     }
     if is_word(text, b"through") {
         return Kind::To;

@@ -7,8 +7,25 @@ use Rattle.twp_read.specs.TokenSteps.{take_token}
 use Rattle.twp_grammar.specs.Tokens.{seen}
 use Rattle.twp_grammar.specs.Sentences.{IsReadAs}
 use Rattle.twp_read.proofs.PassingFacts.{goes_further}
-use Rattle.twp_read.proofs.ReaderFacts.{Front, front_next, wrong_here, wrong_at_end, read_whole, begins}
+use Rattle.twp_read.proofs.ReaderFacts.{Front, front_next, none_bad_before, wrong_here, wrong_at_end, read_whole, begins}
 use Rattle.twp_read.proofs.description.Description.read_within.Goals as goal
+
+-- the tokens that were taken are good
+pub fault_of-requires-clause-good : goal.fault_of-requires-clause-good
+fault_of-requires-clause-good c =
+    let reached : Reached = c.in_ok-reached-2.reached in
+    let its : List Item = c.take_usual.new.self in
+    none_bad_before c.args.text.now reached.at reached.state its c.in_ok-reached-2.ensures.within
+    (goes_further c.args.text.now c.tokens.reached.at c.tokens.reached.state c.tokens.items reached.at reached.state its
+    c.tokens.invariant c.in_ok-reached-2.ensures)
+
+pub fault_of-requires-then-not-is_final-clause-good : goal.fault_of-requires-then-not-is_final-clause-good
+fault_of-requires-then-not-is_final-clause-good c =
+    let reached : Reached = c.in_ok-reached-2.reached in
+    let its : List Item = c.take_usual.new.self in
+    none_bad_before c.args.text.now reached.at reached.state its c.in_ok-reached-2.ensures.within
+    (goes_further c.args.text.now c.tokens.reached.at c.tokens.reached.state c.tokens.items reached.at reached.state its
+    c.tokens.invariant c.in_ok-reached-2.ensures)
 
 pub fault_of-requires-clause-wrong : goal.fault_of-requires-clause-wrong
 fault_of-requires-clause-wrong c =

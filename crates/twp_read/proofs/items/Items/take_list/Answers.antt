@@ -1,20 +1,25 @@
-use Rattle.std.proofs.Common.{ℕ, List}
+-- One more word, and what the list goes on with behind it.
+use Rattle.std.proofs.Common.{List, ℕ}
+use Rattle.twp_grammar.specs.declared.item.Item.{Item}
 use Rattle.twp_read.specs.declared.passing.Reached.{Reached}
-use Rattle.twp_read.specs.Passing.{state_behind}
 use Rattle.twp_read.proofs.PassingFacts.{leads_then}
-use Rattle.twp_read.proofs.NumberFacts.{entry_leads, goes_on_behind}
 use Rattle.twp_read.proofs.items.Items.take_list.Goals as goal
 
-pub numbers-preserved : goal.numbers-preserved
-numbers-preserved c =
+pub take_joined-requires-clause-place : goal.take_joined-requires-clause-place
+take_joined-requires-clause-place c = (c.in-Some.ensures.leads c.words.self).within
+
+pub words-preserved : goal.words-preserved
+words-preserved c =
     let text : List ℕ = c.args.text.now in
     let from : Reached = c.args.from in
-    let reached : Reached = c.numbers.reached in
-    let list = c.in-Some.list in
-    let number = c.in-Some-number_behind_comma.number in
-    rw (c.state.ensures, c.in_ok-push.ensures, c.entry.ensures) (record {
-      led = leads_then text from.at from.state c.args.self.now reached.at reached.state c.numbers.self number.end (state_behind list) _
-          c.numbers.invariant.led
-          (entry_leads text reached.at reached.state c.numbers.self list number.numeral number.end c.numbers.invariant.goes_on c.in-Some-number_behind_comma.ensures.number);
-      goes_on = goes_on_behind list;
-    })
+    let reached : Reached = c.words.reached in
+    let before : List Item = c.words.self in
+    let word : Reached = c.in-Some.word in
+    let joined : Reached = c.in_ok-joined.joined in
+    let more : List Item = c.take_joined.new.self in
+    let last : Reached = c.in_ok-reached-2.reached in
+    let grown : List Item = c.take_numbers-in-Some.new.self in
+    leads_then text from.at from.state c.args.self.now reached.at reached.state before last.at last.state grown c.words.invariant
+    (leads_then text reached.at reached.state before word.at word.state before last.at last.state grown (c.in-Some.ensures.leads before)
+    (leads_then text word.at word.state before joined.at joined.state more last.at last.state grown c.in_ok-joined.ensures
+    c.in_ok-reached-2.ensures))

@@ -1,0 +1,235 @@
+#!/bin/sh
+# Tries what the documents say on ./township, or on the program that is named: their commands, their
+# examples of refusals and of descriptions, the indexes and names that they give, and the README's counts.
+# What is tried is read out of the documents. The last line is 'N passed, 0 failed'.
+set -u
+ulimit -f 2000
+ulimit -t 20
+root=$(readlink -f "$(dirname "$0")/..")
+program=$(readlink -f "${1:-./township}")
+docs=$root/docs
+even=$root/samples/b0.csv
+uneven=$root/samples/b1.csv
+work=$(mktemp -d)
+trap 'rm -rf "$work"' EXIT
+cd "$work" || exit 1
+passed=0
+failed=0
+
+# Compares the files `wanted` and `found`, and shows them where they differ.
+same() {
+    if cmp -s wanted found; then
+        passed=$((passed + 1))
+        return
+    fi
+    failed=$((failed + 1))
+    echo "FAILED: $1: wanted, and found:"
+    head -c 2000 wanted
+    head -c 2000 found
+}
+
+# Two numbers are the same and not 0: so many were there to be read, and so many were read.
+all_read() {
+    echo "$2" > wanted
+    echo "$3" > found
+    [ "$2" -gt 0 ] || echo 'some' > wanted
+    same "$1"
+}
+
+# Runs the program with these words: its output and its status are `found`.
+run() {
+    { "$program" "$@" 2> errors; echo "status $?"; } > found
+    sed 's/^/standard error: /' errors >> found
+}
+
+# The last run: what it shows, its status, and its output.
+ended() {
+    printf '%s\nstatus %s\n' "$3" "$2" > wanted
+    same "$1"
+}
+
+# The commands of a document, each on an indented line after a dollar sign, and what they print, on the
+# indented lines below it. They are run one after another in a folder of their own.
+commands() {
+    rm -rf folder shown
+    mkdir folder shown
+    ln -s "$program" folder/township
+    ln -s "$root/samples" folder/samples
+    awk '
+        /^    [$] / { n++; command = "shown/" n; output = command ".out"; printf "" > output }
+        /^    [$] / { print substr($0, 7) > command; next }
+        !/^    / { output = "" }
+        output { print substr($0, 5) > output }
+    ' "$root/$1"
+    n=0
+    while [ -e "shown/$((n + 1))" ]; do
+        n=$((n + 1))
+        cp "shown/$n.out" wanted
+        (cd folder && sh "../shown/$n") > found 2>&1
+        same "$1: $(cat "shown/$n")"
+    done
+    all_read "the commands of $1" "$(grep -c '^    [$] ' "$root/$1")" "$n"
+}
+for document in README.md docs/DESCRIPTIONS.md docs/REFUSALS.md docs/TRACTS-FORMAT.md; do
+    commands "$document"
+done
+
+# A list of so many tracts, each another place of 2.5 acres, of sections 8 to 11.
+tracts() {
+    awk -v count="$1" 'BEGIN {
+        split("NE1/4 NW1/4 SW1/4 SE1/4", corners, " ")
+        print "name,description"
+        for (n = 0; n < count; n++)
+            printf "%s,\"sec. %s, %s%s%s%s.\"\n", n + 1, 8 + int(n / 256), corners[int(n / 64) % 4 + 1],
+                corners[int(n / 16) % 4 + 1], corners[int(n / 4) % 4 + 1], corners[n % 4 + 1]
+    }'
+}
+
+# The input that an example names, where record numbers are those of a sample: a description, a record in the
+# place of the sample's or after its last, the sample without a record, or so much of something.
+input_of() {
+    sample=$2
+    words=${1#* }
+    count=$(echo "${1%% *}" | tr -d ,)
+    case $1 in
+        '`'*) text=${1#?} && printf %s "${text%?}" ;;
+        'record '*)
+            text=${words#* ?}
+            awk -v number="${words%% *}" -v text="${text%?}" '
+                NR == number { $0 = text }
+                { print }
+                END { if (NR < number) print text }
+            ' "$sample" ;;
+        'no record '*) sed "${words#* }d" "$sample" ;;
+        *' line feeds') head -c "$count" /dev/zero | tr '\0' '\n' ;;
+        *' spaces') head -c "$count" /dev/zero | tr '\0' ' ' ;;
+        *' tracts') tracts "$count" ;;
+        'an empty file') ;;
+        *) echo "no input is made of: $1" ;;
+    esac
+}
+
+# The examples of docs/REFUSALS.md, one in each row whose first cell is a number: the number; its refusal, and
+# the one of a tract's description; and the input.
+printf 'sec. 14.' > d.txt
+grep '^| [0-9]* |' "$docs/REFUSALS.md" > rows
+input='\([^|]*\)' refusal='`\(refused \1 at [0-9]*\)`' inner='\(, `\(refused [0-9]* at [0-9]*\)`\)*'
+sed -n "s/^| \([0-9]*\) |.* | $input: $refusal$inner |[^|]*|\$/\1|\3|\5|\2/p" rows > examples
+all_read 'the examples of docs/REFUSALS.md' "$(wc -l < rows)" "$(wc -l < examples)"
+while IFS='|' read -r number first second input; do
+    answer=$first
+    [ -z "$second" ] || answer="$first
+$second"
+    if [ "$number" -lt 40 ]; then
+        input_of "$input" "$even" | run acres /dev/stdin d.txt
+    elif [ "$number" -lt 80 ]; then
+        input_of "$input" "$even" | run acres "$even" /dev/stdin
+    else
+        input_of "$input" "$root/samples/tracts.csv" | run report "$uneven" /dev/stdin
+    fi
+    ended "$input" 1 "$answer"
+done < examples
+
+# What it offers to write in place of a refused description: in a row's last cell, whatever begins as a
+# description does. It is accepted.
+sed -n 's/^| [4-6][0-9] |.*|\([^|]*\)|$/\1/p' "$docs/REFUSALS.md" |
+    tr '`' '\n' | grep -E '^(secs?|T)[.] ' > offered
+all_read 'what docs/REFUSALS.md offers' "$(wc -l < offered)" "$(wc -l < offered)"
+while read -r description; do
+    printf %s "$description" | run acres "$even" /dev/stdin
+    ended "offered: $description" 0 "$(grep -x '[0-9]*[.][0-9][0-9] acres' found)"
+done < offered
+
+# Its tables have the numbers and the names of the code, and no other.
+find "$root/crates" -path '*/src/*' -name '*.rt' -exec \
+    sed -n 's/^ *[A-Za-z]*Fault::\([A-Za-z]*\).* => (\([0-9][0-9]*\), .*/\2 \1/p' {} + |
+    sort > in_code
+sed -n 's/^| \([0-9][0-9]*\) | \([A-Z][A-Za-z]*\) |.*/\1 \2/p' "$docs/REFUSALS.md" | sort > in_tables
+all_read 'the names of refusals' "$(wc -l < in_code)" "$(wc -l < in_tables)"
+cp in_code wanted
+cp in_tables found
+same 'the numbers and names of refusals'
+
+# The descriptions of docs/DESCRIPTIONS.md, and their acres.
+grep '^| `' "$docs/DESCRIPTIONS.md" > rows
+sed -n 's/^| `\([^`]*\)` |.* | \([0-9.]*\) |$/\2|\1/p' rows > examples
+all_read 'the examples of docs/DESCRIPTIONS.md' "$(wc -l < rows)" "$(wc -l < examples)"
+while IFS='|' read -r acres description; do
+    printf %s "$description" | run acres "$even" /dev/stdin
+    ended "$description" 0 "$acres acres"
+done < examples
+
+# The list of docs/TRACTS-FORMAT.md, and its account.
+sed -n '/^    name,description$/,/^$/s/^    //p' "$docs/TRACTS-FORMAT.md" > list
+sed -n '/^    tract /,/^$/s/^    //p' "$docs/TRACTS-FORMAT.md" > account
+run report "$uneven" list
+ended 'the list of docs/TRACTS-FORMAT.md' 0 "$(cat account)"
+
+# The drawing of docs/NOTES-FORMAT.md, as how a record names each section line, in both orders of its
+# sections, and the line's index: a north-run line stands between two sections of a row, a west-run line
+# between two rows.
+awk '
+    function line(run, a, b, at) {
+        if (a == "" || b == "") { print run "," a b ", " at; return }
+        print run "," a "," b " " at
+        print run "," b "," a " " at
+    }
+    /^ +[+]---/ {
+        tiers++
+        gsub(/[^0-9]+/, " ")
+        split($0, numbers)
+        for (i = 1; i <= 6; i++) west_run[tiers, i] = numbers[i]
+    }
+    /^ +[0-9]+ +[[]/ {
+        rows++
+        gsub(/[^0-9]+/, " ")
+        split($0, numbers)
+        for (i = 1; i <= 7; i++) north_run[rows, i] = numbers[2 * i - 1]
+        for (i = 1; i <= 6; i++) section[rows, i] = numbers[2 * i]
+    }
+    END {
+        for (row = 1; row <= 6; row++)
+            for (i = 1; i <= 7; i++) line("N", section[row, i - 1], section[row, i], north_run[row, i])
+        for (tier = 1; tier <= 7; tier++)
+            for (i = 1; i <= 6; i++) line("W", section[tier - 1, i], section[tier, i], west_run[tier, i])
+    }
+' "$docs/NOTES-FORMAT.md" > drawn
+# Without a record of the sample its line is missing, whose index is the drawn one. Line k is in record k + 3.
+sed 1,2d "$even" > records
+number=2
+while read -r record; do
+    number=$((number + 1))
+    index=$(sed -n "s/^${record%,*,*} //p" drawn)
+    sed "${number}d" "$even" | run plat /dev/stdin
+    ended "without $record" 1 "refused 11 at $index"
+    echo "$number $index" >> drawn_in_order
+done < records
+awk 'BEGIN { for (k = 0; k < 84; k++) print k + 3, k }' > wanted
+mv drawn_in_order found
+same 'line k in record k + 3'
+
+# The names in the last column of docs/GLOSSARY.md: a crate, or what a crate defines.
+is_defined() {
+    [ -d "$root/crates/$1" ] || grep -rqE --include=*.antt --include=*.rt \
+        -e "(abbrev|unfoldable) pub $1 " -e "pub (record|data|struct|enum|trait|fn) $1\\b" \
+        -e "^ +(pub )?$1( :| \\{|[:,(])" "$root"/crates/*/specs "$root"/crates/*/src
+}
+sed -n 's/^|.*| \([^|]*\) |$/\1/p' "$docs/GLOSSARY.md" | grep -o '`[^`]*`' | tr -d '`' | sort -u > names
+all_read 'the names of docs/GLOSSARY.md' "$(wc -l < names)" "$(wc -l < names)"
+while read -r name; do
+    echo "$name" > wanted
+    if is_defined "$name"; then echo "$name"; else echo 'no definition'; fi > found
+    same "docs/GLOSSARY.md: $name"
+done < names
+
+# The counts under "Measured" in the README are those of the first block of bench/expected.
+sed -e '/^#/d' -e '/^$/,$d' "$root/bench/expected" > expected
+sed -n '/^## Measured$/,$s/^| \([^|]*\) | \([0-9,]*\) |$/\2 \1/p' "$root/README.md" |
+    awk '{ gsub(/,/, "", $1); print }' > measured
+all_read 'the counts of the README' "$(wc -l < expected)" "$(wc -l < measured)"
+cp expected wanted
+cp measured found
+same 'the counts of the README and of bench/expected'
+
+echo "$passed passed, $failed failed"
+[ "$failed" = 0 ]
