@@ -1,8 +1,8 @@
 -- The tokens of a tree, put in front of others; and the items that a sentence begins with.
-use Rattle.std.proofs.Common.{◌≡◌, List, [], ◌∷◌, ◌++◌, refl, sym, ap, ◌∙◌, inl, inr, append_assoc, ◌<◌, ◌+◌, ◌≤◌, Bool, true, false, map}
+use Rattle.std.proofs.Common.{◌≡◌, List, [], ◌∷◌, ◌++◌, refl, sym, ap, ◌∙◌, inl, inr, append_assoc, Bool, true, false, map}
 use Rattle.std.specs.List.{flat_map}
 use Rattle.twp_grammar.specs.Tokens.{Token}
-use Rattle.twp_grammar.specs.Grammar.{of, the, Ebnf, never, nothing, one, ◌⨾◌, ◌∣◌, many, heading, description}
+use Rattle.twp_grammar.specs.Grammar.{Ebnf, never, nothing, one, ◌⨾◌, ◌∣◌, many, heading, description}
 use Rattle.twp_grammar.specs.Items.{token_of, ◌&◌, Tree, tokens, behind, items, numeral, end_of, range_of, whole_sections_item, parts_items, group_items, heading_item, BeginWithSections}
 use Rattle.twp_grammar.specs.declared.item.Item.{Item}
 use Rattle.twp_grammar.specs.declared.item.Numeral.{Numeral}

@@ -1,5 +1,5 @@
 -- Blocks that share a place, and the blocks of lots.
-use Rattle.std.proofs.Common.{◌≡◌, ◌==◌, ℕ, ◌+◌, ◌-◌, ◌<◌, ◌≤◌, ◌&&◌, ◌||◌, ◌⊎◌, true, Some, ◌∙◌, arith, if◌then◌else◌, ◌/◌, ◌%◌, ◌↔◌, Bool, Option, None, refl, sym, ap, inl, inr, nat_le, nat_lt, is_some, IsSome, IsTrue}
+use Rattle.std.proofs.Common.{◌≡◌, ◌==◌, ℕ, ◌+◌, ◌<◌, ◌≤◌, ◌⊎◌, true, Some, ◌∙◌, arith, ◌/◌, ◌%◌, ◌↔◌, Bool, Option, None, refl, sym, ap, inl, inr, nat_le, nat_lt, is_some, IsSome, IsTrue}
 use Rattle.std.proofs.lemmas.Bool.Decides.{nat_tests}
 use Rattle.twp_grid.specs.Winding.{IsSection}
 use Rattle.twp_grid.specs.Places.{PLACE_DIGITS, is_place, position_along}

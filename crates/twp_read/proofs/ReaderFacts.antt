@@ -9,9 +9,8 @@ use Rattle.twp_grammar.specs.declared.state.State.{State}
 use Rattle.twp_grammar.specs.declared.state.State.TheVariants.{Start}
 use Rattle.twp_grid.specs.declared.refusal.Refusal.{Refusal}
 use Rattle.twp_grammar.specs.Tokens.{Token, StartsWith, HasTokens, is_white}
-use Rattle.twp_grammar.specs.Grammar.{Class, class_of, bad_byte, bad_number, heading, description}
-use Rattle.twp_grammar.specs.declared.item.Numeral.{Numeral}
-use Rattle.twp_grammar.specs.Items.{Tree, ◌&◌, behind, items, numeral, end_of, range_of, whole_sections_item, parts_items, group_items, heading_item, BeginWithSections}
+use Rattle.twp_grammar.specs.Grammar.{Class, class_of, bad_byte, bad_number}
+use Rattle.twp_grammar.specs.Items.{behind, BeginWithSections}
 use Rattle.twp_grammar.specs.Sentences.{IsSentence, HasItems, MayFollow}
 use Rattle.twp_grammar.specs.Machine.{next, is_final}
 use Rattle.twp_read.specs.TokenSteps.{take_token, run}

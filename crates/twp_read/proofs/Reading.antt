@@ -13,7 +13,7 @@ use Rattle.twp_grid.specs.declared.township.EastWest.TheVariants as ew
 use Rattle.twp_grid.specs.declared.block.Corner.TheVariants as which
 use Rattle.twp_grammar.specs.Tokens.{Token}
 use Rattle.twp_grammar.specs.Grammar.{Class, sec, lot, all, and, to, inclusive, of, the, t, r, north_south, east_west, corner, half, quarter, number, comma, semicolon, colon, stop, other, bad_number, bad_byte, Value, class_of, kind_of, description}
-use Rattle.twp_grammar.specs.Items.{tokens, items}
+use Rattle.twp_grammar.specs.Items.{items}
 use Rattle.twp_grammar.specs.Sentences.{HasItems, IsSentence, IsFront, IsFault, MayFollow}
 use Rattle.twp_read.specs.Laws.{classes_of, ClassesDecide}
 use Rattle.twp_grammar.specs.Machine.{next, is_final}

@@ -12,7 +12,7 @@ use Rattle.twp_grammar.specs.declared.state.State.TheVariants as past
 use Rattle.twp_grid.specs.declared.township.NorthSouth.TheVariants as ns
 use Rattle.twp_grid.specs.declared.township.EastWest.TheVariants as ew
 use Rattle.twp_grammar.specs.Tokens.{Token}
-use Rattle.twp_grammar.specs.Grammar.{sec, lot, all, and, of, the, t, r, north_south, east_west, number, comma, semicolon, stop, Ebnf, one, ◌⨾◌, ◌∣◌, many, maybe, step, through, entry, separator, several, part, parts, comma_or_colon, group, heading, description}
+use Rattle.twp_grammar.specs.Grammar.{sec, lot, all, and, of, the, t, r, north_south, east_west, number, comma, semicolon, stop, Ebnf, one, ◌⨾◌, many, maybe, step, through, entry, separator, several, part, parts, comma_or_colon, group, heading, description}
 use Rattle.twp_grammar.specs.Items.{Leaf, token_of, ◌&◌, behind, Tree, tokens, numeral, step_of, place_of_step, Range, end_of, range_of, ranges_of_several, lots_item, whole_sections_item, part_items, parts_items, group_items, heading_item, items}
 use Rattle.twp_grammar.specs.Machine.{is_final}
 use Rattle.twp_read.specs.TokenSteps.{before_parts, run}

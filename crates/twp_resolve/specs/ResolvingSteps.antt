@@ -1,7 +1,7 @@
 -- What each step of resolving does with an item: it is taken into the land of the items before it,
 -- or its first flaw is answered. No public promise speaks of it; proofs/ResolvingFacts shows that
 -- the steps lead to the land of all items, or to the first fault.
-use Rattle.std.specs.Prelude.{◌≡◌, ◌==◌, ◌&&◌, nat_le, ℕ, ◌+◌, ◌≤◌, ◌<◌, Bool, List, drop}
+use Rattle.std.specs.Prelude.{◌≡◌, ◌==◌, ◌&&◌, nat_le, ℕ, ◌≤◌, Bool, List, drop}
 use Rattle.std.specs.Prelude.{Option}
 use Rattle.std.specs.Option.{option_map_or}
 use Rattle.twp_grid.specs.Blocks.{CanHalve, CanQuarter}

@@ -2,7 +2,7 @@
 use Rattle.std.proofs.Common.{◌≡◌, true}
 use Rattle.std.proofs.lemmas.Result.{err_from_is_err_and}
 use Rattle.twp_resolve.proofs.RangeFlaws.{sections_no_first, sections_no_last, sections_backward, sections_overlap}
-use Rattle.twp_resolve.proofs.ranges.take_sections.Goals as goal
+use Rattle.twp_resolve.proofs.ranges.resolve_sections.Goals as goal
 
 pub returns-in_err-from-clause-refused : goal.returns-in_err-from-clause-refused
 returns-in_err-from-clause-refused g c =
