@@ -4,7 +4,7 @@ pub mod Reading
 pub mod WordFacts
 pub mod WhiteFacts
 pub mod ReaderFacts
-pub mod PassingFacts
+pub mod UsualFacts
 pub mod FrontFacts
 pub mod NumberFacts
 pub mod OneAnswer

@@ -8,8 +8,8 @@ use Rattle.twp_grammar.specs.declared.item.Numeral.{Numeral}
 use Rattle.twp_grammar.specs.declared.kind.Kind.{Kind}
 use Rattle.twp_grammar.specs.declared.kind.Kind.TheVariants.{Number, Comma}
 use Rattle.twp_grammar.specs.declared.lexeme.Lexeme.{Lexeme}
-use Rattle.twp_read.specs.declared.numbers.Listed.{Listed}
-use Rattle.twp_read.specs.declared.numbers.Listed.TheVariants as listed
+use Rattle.twp_read.specs.declared.usual.list.Listed.{Listed}
+use Rattle.twp_read.specs.declared.usual.list.Listed.TheVariants as listed
 use Rattle.twp_grammar.specs.declared.state.State.{State}
 use Rattle.twp_grammar.specs.declared.state.State.TheVariants as past
 use Rattle.twp_grammar.specs.Cutting.{IsFirstIn, cut_digits, cut}
@@ -18,11 +18,11 @@ use Rattle.twp_grammar.specs.Grammar.{class_of, comma, number}
 use Rattle.twp_grammar.specs.Machine.{next}
 use Rattle.twp_read.specs.TokenSteps.{take_number, take_token, with_newest}
 use Rattle.twp_read.specs.declared.change.Change.TheVariants.{Last}
-use Rattle.twp_read.specs.Passing.{Leads, IsNumberBehind, IsBehindWhite, entry_of, state_behind, last_state_behind, listed_in, listed_behind_and, listed_behind_to}
+use Rattle.twp_read.specs.Usual.{Leads, IsNumberBehind, IsBehindWhite, entry_of, state_behind, last_state_behind, listed_in, listed_behind_and, listed_behind_to}
 use Rattle.twp_grammar.proofs.Cuts.{IsFirstToken, cut_of_digit, digit_no_space}
 use Rattle.twp_grammar.proofs.TokenFacts.{first_at, first_in}
 use Rattle.twp_read.proofs.FrontFacts.{number_leads}
-use Rattle.twp_read.proofs.PassingFacts.{the_comma, mark_leads, leads_token, leads_then, white_leads}
+use Rattle.twp_read.proofs.UsualFacts.{the_comma, mark_leads, leads_token, leads_then, white_leads}
 
 -- what is said of a number that begins at a place, behind white space
 pub record BeginsHere (text : List ℕ) (from : ℕ) (it : Numeral) (end : ℕ) : Type 0 where

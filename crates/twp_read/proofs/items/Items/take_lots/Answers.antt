@@ -2,10 +2,10 @@ use Rattle.std.proofs.Common.{ℕ, List, ◌∷◌, refl}
 use Rattle.twp_grammar.specs.declared.item.Item.{Item}
 use Rattle.twp_grammar.specs.declared.item.Item.TheVariants.{Lots}
 use Rattle.twp_grammar.specs.declared.item.Numeral.{Numeral}
-use Rattle.twp_read.specs.declared.passing.Reached.{Reached}
+use Rattle.twp_read.specs.declared.reached.Reached.{Reached}
 use Rattle.twp_grammar.specs.declared.state.State.TheVariants as past
 use Rattle.twp_read.specs.TokenSteps.{before_parts}
-use Rattle.twp_read.proofs.PassingFacts.{leads_then}
+use Rattle.twp_read.proofs.UsualFacts.{leads_then}
 use Rattle.twp_read.proofs.items.Items.take_lots.Goals as goal
 
 pub returns : goal.returns
