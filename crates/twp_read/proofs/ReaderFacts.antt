@@ -27,6 +27,7 @@ use Rattle.twp_grammar.proofs.Table.{takes_no_bad_byte, takes_no_bad_number}
 use Rattle.twp_grammar.proofs.TokenFacts.{one_token_list, has_token_list}
 use Rattle.twp_read.proofs.Walk.{newest_first}
 use Rattle.twp_read.proofs.Reading.{ended, go_on, run-append, accepted, fault_here, fault_at_end, what_follows, what_is_told}
+use Rattle.twp_grammar.proofs.TreeFacts.{tree_begins}
 
 -- the tokens before some place: those behind it are the rest of the text's
 pub record Before (text : List ℕ) (at : ℕ) (bytes : List ℕ) (before : List Token) : Type 0 where
@@ -122,20 +123,6 @@ read_whole text at bytes state its f white final limit = record {
   cut = all_tokens text at bytes f.tokens f.before white;
   named = subst (λ (js : List Item). HasItems f.tokens js) (turned_round its [] ∙ append-nil (reverse its)) (accepted f.tokens state its f.walked final);
 }
-
--- a sentence names sections first
-behind_heading : (h : Tree heading) (first last : Numeral) (whole : Bool) (more : List Item) → BeginWithSections (heading_item h ∷ item.Sections first last whole ∷ more)
-behind_heading (letter & st & n & side & st2 & c & r & st3 & m & way & st4 & c2) first last whole more = tt
-
-pub tree_begins : (v : Tree description) → BeginWithSections (items v)
-tree_begins (inl h & inl (word & st & n & inl (mark & v)) & more & end) = behind_heading h (numeral n) (numeral n) false (parts_items v ++ flat_map (behind (behind group_items)) more)
-tree_begins (inl h & inl (word & st & n & inr _) & more & end) = behind_heading h (numeral n) (numeral n) true (flat_map (behind (behind group_items)) more)
-tree_begins (inl h & inr (word & st & (n & inl thru & others) & w) & more & end) = behind_heading h (numeral n) (end_of thru) true (map whole_sections_item (map (behind range_of) others) ++ flat_map (behind (behind group_items)) more)
-tree_begins (inl h & inr (word & st & (n & inr (s & second) & others) & w) & more & end) = behind_heading h (numeral n) (numeral n) true (whole_sections_item (range_of second) ∷ map whole_sections_item (map (behind range_of) others) ++ flat_map (behind (behind group_items)) more)
-tree_begins (inr _ & inl (word & st & n & inl (mark & v)) & more & end) = tt
-tree_begins (inr _ & inl (word & st & n & inr _) & more & end) = tt
-tree_begins (inr _ & inr (word & st & (n & inl thru & others) & w) & more & end) = tt
-tree_begins (inr _ & inr (word & st & (n & inr (s & second) & others) & w) & more & end) = tt
 
 pub begins : (text : List ℕ) (its : List Item) → IsReadAs text its → BeginWithSections its
 begins text its read = subst (λ (js : List Item). BeginWithSections js) read.named.read_off (tree_begins read.named.tree)
