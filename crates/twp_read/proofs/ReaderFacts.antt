@@ -1,10 +1,9 @@
 -- What the reader knows between two tokens, and what follows from it where it ends.
-use Rattle.std.proofs.Common.{◌≡◌, ◌<◌, ℕ, ◌+◌, ◌≤◌, Bool, true, false, List, [], ◌∷◌, ◌++◌, Option, Some, None, IsSomeAnd, length, map, reverse, refl, sym, ap, subst, ◌∙◌, inl, inr, append_assoc, arith, drop, length-append, length-drop}
-use Rattle.std.specs.List.{AllPass, flat_map}
+use Rattle.std.proofs.Common.{◌≡◌, ◌<◌, ℕ, ◌+◌, ◌≤◌, true, false, List, [], ◌∷◌, ◌++◌, Option, Some, None, IsSomeAnd, length, reverse, refl, sym, ap, subst, ◌∙◌, append_assoc, arith, drop, length-append, length-drop}
+use Rattle.std.specs.List.{AllPass}
 use Rattle.std.proofs.lemmas.List.{append-nil, reverse-append, take_all}
 use Rattle.std.proofs.Math.Seq.{take-append_seam}
 use Rattle.twp_grammar.specs.declared.item.Item.{Item}
-use Rattle.twp_grammar.specs.declared.item.Item.TheVariants as item
 use Rattle.twp_grammar.specs.declared.state.State.{State}
 use Rattle.twp_grammar.specs.declared.state.State.TheVariants.{Start}
 use Rattle.twp_grid.specs.declared.refusal.Refusal.{Refusal}
@@ -28,7 +27,6 @@ use Rattle.twp_grammar.proofs.TokenFacts.{one_token_list, has_token_list}
 use Rattle.twp_grammar.proofs.TreeFacts.{tree_begins}
 use Rattle.twp_read.proofs.Walk.{newest_first}
 use Rattle.twp_read.proofs.Reading.{ended, go_on, run-append, accepted, fault_here, fault_at_end, what_follows, what_is_told}
-use Rattle.twp_grammar.proofs.TreeFacts.{tree_begins}
 
 -- the tokens before some place: those behind it are the rest of the text's
 pub record Before (text : List ℕ) (at : ℕ) (bytes : List ℕ) (before : List Token) : Type 0 where

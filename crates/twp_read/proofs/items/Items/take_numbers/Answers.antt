@@ -1,5 +1,5 @@
 -- One more number of the list, or the comma behind the last.
-use Rattle.std.proofs.Common.{◌≡◌, ℕ, ◌+◌, ◌<◌, ◌≤◌, List, length, drop, refl, sym, arith}
+use Rattle.std.proofs.Common.{◌≡◌, ℕ, ◌+◌, ◌<◌, ◌≤◌, List, length, drop, refl, arith}
 use Rattle.std.specs.List.{prefix_len}
 use Rattle.twp_grammar.specs.Tokens.{is_white}
 use Rattle.twp_grammar.specs.declared.item.Item.{Item}
