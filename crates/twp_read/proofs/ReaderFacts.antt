@@ -28,7 +28,6 @@ use Rattle.twp_grammar.proofs.TokenFacts.{one_token_list, has_token_list}
 use Rattle.twp_grammar.proofs.TreeFacts.{tree_begins}
 use Rattle.twp_read.proofs.Walk.{newest_first}
 use Rattle.twp_read.proofs.Reading.{ended, go_on, run-append, accepted, fault_here, fault_at_end, what_follows, what_is_told}
-use Rattle.twp_grammar.proofs.TreeFacts.{tree_begins}
 
 -- the tokens before some place: those behind it are the rest of the text's
 pub record Before (text : List ℕ) (at : ℕ) (bytes : List ℕ) (before : List Token) : Type 0 where
