@@ -8,5 +8,7 @@ abbrev pub invariant-loop-index : goal.invariant-loop-index
 invariant-loop-index g l = record {
   all : length l.self.plots ≡ SECTION_COUNT;
   reach : l.self.reach ≡ l.initial.self.reach;
-  joined : held_by_section g.P.Plot.held l.self.plots ≡ joined_to l.index (held_by_section g.P.Plot.held l.initial.self.plots) (held_by_section g.P.Plot.held l.other.plots);
+  joined : held_by_section g.P.Plot.held l.self.plots
+      ≡ joined_to l.index (held_by_section g.P.Plot.held l.initial.self.plots)
+      (held_by_section g.P.Plot.held l.other.plots);
 }

@@ -9,17 +9,25 @@ loop-index-preserved g c =
     record {
       all = length-set c.loop-index.self.plots c.loop-index.index c.empty.result ∙ is.all;
       reach = is.reach;
-      left = cleared_next g.P.Plot.held c.loop-index.self.plots c.loop-index.index c.args.self.now.reach.end c.empty.result (omega arith) is.all c.empty.ensures is.left;
+      left =
+          cleared_next g.P.Plot.held c.loop-index.self.plots c.loop-index.index c.args.self.now.reach.end
+          c.empty.result (omega arith) is.all c.empty.ensures is.left;
     }
 
 pub invariant_of-self : goal.invariant_of-self
 invariant_of-self g c =
     let is = c.loop-index.invariant in
-    let left = cleared_next g.P.Plot.held c.loop-index.self.plots c.loop-index.index c.args.self.now.reach.end c.empty.result (omega arith) is.all c.empty.ensures is.left in
+    let left =
+    cleared_next g.P.Plot.held c.loop-index.self.plots c.loop-index.index c.args.self.now.reach.end
+    c.empty.result (omega arith) is.all c.empty.ensures is.left in
     record {
       few = c.loop-index.self.few;
-      within = rw is.reach (within_wider _ (c.loop-index.index + 1 + 1) c.args.self.now.reach.end (c.args.self.now.reach.first + 1) c.args.self.now.reach.end (omega arith) (omega arith) left);
+      within =
+          rw is.reach
+          (within_wider _ (c.loop-index.index + 1 + 1) c.args.self.now.reach.end
+          (c.args.self.now.reach.first + 1) c.args.self.now.reach.end (omega arith) (omega arith) left);
     }
 
 pub returns : goal.returns
-returns g c = none_within _ (c.loop-index.index + 1) c.args.self.now.reach.end c.loop-index.invariant.left (omega arith)
+returns g c =
+    none_within _ (c.loop-index.index + 1) c.args.self.now.reach.end c.loop-index.invariant.left (omega arith)

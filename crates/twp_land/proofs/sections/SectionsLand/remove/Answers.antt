@@ -9,11 +9,17 @@ invariant_of-self g c =
     record {
       few = c.args.self.now.few;
       within = removed_within _ _ (block_places c.args.section c.args.block) _ _
-          (rw (c.from.ensures, at.value) (removed_where_kept g.P.Plot.held c.args.self.now.plots c.args.section c.args.block c.index-self-from.result c.remove.new.self (rw at.value at at.range) (omega arith) (rw (c.from.ensures, at.value) at c.remove.ensures)))
+          (rw (c.from.ensures, at.value)
+          (removed_where_kept g.P.Plot.held c.args.self.now.plots c.args.section c.args.block
+          c.index-self-from.result c.remove.new.self (rw at.value at at.range) (omega arith)
+          (rw (c.from.ensures, at.value) at c.remove.ensures)))
           c.args.self.now.within;
     }
 
 pub returns : goal.returns
 returns g c =
     let at = c.number.ensures in
-    rw (c.from.ensures, at.value) (removed_where_kept g.P.Plot.held c.args.self.now.plots c.args.section c.args.block c.index-self-from.result c.remove.new.self (rw at.value at at.range) (omega arith) (rw (c.from.ensures, at.value) at c.remove.ensures))
+    rw (c.from.ensures, at.value)
+    (removed_where_kept g.P.Plot.held c.args.self.now.plots c.args.section c.args.block
+    c.index-self-from.result c.remove.new.self (rw at.value at at.range) (omega arith)
+    (rw (c.from.ensures, at.value) at c.remove.ensures))
