@@ -124,13 +124,16 @@ module _ (P : Text → Text → Type 0) where
       go true rest = h.2
       go false rest = (h.0, h.1, rest)
 
-  with_values_good : (id : Text) (how : Reading) (source : ValueSource) (v : Text) (vs : List Text) (rows : List Row)
+  with_values_good : (id : Text) (how : Reading) (source : ValueSource) (v : Text) (vs : List Text)
+      (rows : List Row)
       → EachMay id (v ∷ vs) → Good rows → Good (with_values id how source (v ∷ vs) rows)
   with_values_good id how source v vs [] may h = (omega arith, may, tt)
-  with_values_good id how source v vs (r ∷ rs) may h = go (bytes_eq r.id id) refl (with_values_good id how source v vs rs may h.2)
+  with_values_good id how source v vs (r ∷ rs) may h =
+      go (bytes_eq r.id id) refl (with_values_good id how source v vs rs may h.2)
     where
       go : (t : Bool) → bytes_eq r.id id ≡ t → Good (with_values id how source (v ∷ vs) rs)
-          → Good (if t then more_values source (v ∷ vs) r ++ rs else r ∷ with_values id how source (v ∷ vs) rs)
+          → Good
+          (if t then more_values source (v ∷ vs) r ++ rs else r ∷ with_values id how source (v ∷ vs) rs)
       go true t rest =
           let own : EachMay r.id (v ∷ vs) = subst (λ x. EachMay x (v ∷ vs)) (sym (same_id r.id id t)) may in
           let longer : 0 < length (r.values ++ v ∷ vs) = rw (length-append r.values (v ∷ vs)) (omega arith) in
@@ -138,7 +141,8 @@ module _ (P : Text → Text → Type 0) where
       go false t rest = (h.0, h.1, rest)
 
   -- values that the parser takes are such as the id may have
-  taken_may : (a : Rule) → ((v : Text) → value_kinds a.ignore_case (parser_of_value a.parser) v ≡ [] → P a.id v)
+  taken_may : (a : Rule)
+      → ((v : Text) → value_kinds a.ignore_case (parser_of_value a.parser) v ≡ [] → P a.id v)
       → (vs : List Text) → values_fault a vs ≡ [] → EachMay a.id vs
   taken_may a takes [] e = tt
   taken_may a takes (v ∷ vs) e =
@@ -148,7 +152,9 @@ module _ (P : Text → Text → Type 0) where
   used_good : (again : Bool) (a : Rule) (values : List Text) (rows : List Row) → Fits a → Good rows
       → use_fault again a values rows ≡ [] → Good (used a values rows)
   used_good again a values rows (inl help) g e =
-      let act = second_empty (range_kinds (unwrap_or_range a.range).start_inclusive (most_values a) (length values)) _ e in
+      let act =
+      second_empty (range_kinds (unwrap_or_range a.range).start_inclusive (most_values a) (length values))
+      _ e in
       let bad : action_fault Help again a (values_or_missing a values) rows ≡ [] = rw help at act in
       cc
   used_good again a [] rows (inr fits) g e =
@@ -156,15 +162,21 @@ module _ (P : Text → Text → Type 0) where
       let bad = rw fits.0 at range in
       cc
   used_good again a (v ∷ vs) rows (inr fits) g e =
-      go (action_of a) (second_empty (range_kinds (unwrap_or_range a.range).start_inclusive (most_values a) (length (v ∷ vs))) _ e)
+      go (action_of a)
+      (second_empty (range_kinds (unwrap_or_range a.range).start_inclusive (most_values a) (length (v ∷ vs)))
+      _ e)
     where
       may : values_fault a (v ∷ vs) ≡ [] → EachMay a.id (v ∷ vs)
       may f = taken_may a fits.1 (v ∷ vs) f
 
-      anew : values_fault a (v ∷ vs) ≡ [] → Good (with_values a.id (reading_by a) CommandLine (v ∷ vs) (without a.id rows))
-      anew f = with_values_good a.id (reading_by a) CommandLine v vs (without a.id rows) (may f) (without_good a.id rows g)
+      anew : values_fault a (v ∷ vs) ≡ []
+          → Good (with_values a.id (reading_by a) CommandLine (v ∷ vs) (without a.id rows))
+      anew f =
+          with_values_good a.id (reading_by a) CommandLine v vs (without a.id rows) (may f)
+          (without_good a.id rows g)
 
-      go : (act : ArgAction) → action_fault act again a (v ∷ vs) rows ≡ [] → Good (used_as act a.id (reading_by a) (v ∷ vs) rows)
+      go : (act : ArgAction) → action_fault act again a (v ∷ vs) rows ≡ []
+          → Good (used_as act a.id (reading_by a) (v ∷ vs) rows)
       go Set f = anew (second_empty (repeat_fault again a.id rows) _ f)
       go SetTrue f = anew (second_empty (repeat_fault again a.id rows) _ f)
       go SetFalse f = anew (second_empty (repeat_fault again a.id rows) _ f)
@@ -175,7 +187,8 @@ module _ (P : Text → Text → Type 0) where
       go HelpLong f = g
       go Version f = g
 
-  settled_good : (c : List Rule) (again : Bool) (h : Held) → EachFits c → Good h.rows → settle_fault c again h ≡ [] → Good (settled c h).rows
+  settled_good : (c : List Rule) (again : Bool) (h : Held) → EachFits c → Good h.rows
+      → settle_fault c again h ≡ [] → Good (settled c h).rows
   settled_good c again h each g e = go h.pending refl e
     where
       at : (p : Text × List Text) (a : Option Rule) → arg_by_id c p.0 ≡ a
@@ -183,21 +196,26 @@ module _ (P : Text → Text → Type 0) where
       at p None is f = g
       at p (Some a) is f = used_good again a p.1 h.rows (found_fits _ c a each is) g (rw is at f)
 
-      go : (p : Option (Text × List Text)) → h.pending ≡ p → settle_fault c again (record h { pending = p }) ≡ [] → Good (settled_rows c p h.rows)
+      go : (p : Option (Text × List Text)) → h.pending ≡ p
+          → settle_fault c again (record h { pending = p }) ≡ [] → Good (settled_rows c p h.rows)
       go None is f = g
       go (Some p) is f = at p (arg_by_id c p.0) refl f
 
-  reacted_good : (c : List Rule) (again : Bool) (a : Rule) (values : List Text) (h : Held) → EachFits c → Fits a → Good h.rows
+  reacted_good : (c : List Rule) (again : Bool) (a : Rule) (values : List Text) (h : Held) → EachFits c
+      → Fits a → Good h.rows
       → react_fault c again a values h ≡ [] → Good (reacted c a values h).rows
   reacted_good c again a values h each fits g e =
-      used_good again a values (settled c h).rows fits (settled_good c again h each g (first_empty _ _ e)) (second_empty (settle_fault c again h) _ e)
+      used_good again a values (settled c h).rows fits (settled_good c again h each g (first_empty _ _ e))
+      (second_empty (settle_fault c again h) _ e)
 
-  option_good : (c : List Rule) (again : Bool) (a : Rule) (v : Option Text) (h : Held) → EachFits c → Fits a → Good h.rows
+  option_good : (c : List Rule) (again : Bool) (a : Rule) (v : Option Text) (h : Held) → EachFits c → Fits a
+      → Good h.rows
       → option_fault c again a v h ≡ [] → Good (option_met c a v h).0.rows
   option_good c again a None h each fits g e = settled_good c again h each g e
   option_good c again a (Some v) h each fits g e = reacted_good c again a (v ∷ []) h each fits g e
 
-  long_good : (c : List Rule) (again : Bool) (a : Option Rule) (name : Text) (v : Option Text) (h : Held) → EachFits c
+  long_good : (c : List Rule) (again : Bool) (a : Option Rule) (name : Text) (v : Option Text) (h : Held)
+      → EachFits c
       → arg_by_long c name ≡ a → Good h.rows → long_fault c again a v h ≡ [] → Good (long_met c a v h).0.rows
   long_good c again None name v h each is g e = g
   long_good c again (Some a) name v h each is g e = go (takes_values a) v e
@@ -206,7 +224,9 @@ module _ (P : Text → Text → Type 0) where
       fits = found_fits _ c a each is
 
       go : (t : Bool) (v : Option Text)
-          → (if t then option_fault c again a v h else (if is_some v then TooManyValues ∷ [] else react_fault c again a [] h)) ≡ []
+          → (if t then option_fault c again a v h else
+          (if is_some v then TooManyValues ∷ [] else react_fault c again a [] h))
+          ≡ []
           → Good (if t then option_met c a v h else flag_met c a v h).0.rows
       go true v e = option_good c again a v h each fits g e
       go false None e = reacted_good c again a [] h each fits g e
@@ -217,7 +237,8 @@ module _ (P : Text → Text → Type 0) where
   RestGood c again k = (flags : Text) (skip : ℕ) (so_far : Outcome) (h : Held) → Good h.rows
       → flags_fault c again k flags skip h ≡ [] → Good (bundle_met c k flags skip so_far h).0.rows
 
-  short_good : (c : List Rule) (again : Bool) (k : ℕ) (a : Option Rule) (x : ℕ) (rest : Text) (h : Held) → EachFits c → RestGood c again k
+  short_good : (c : List Rule) (again : Bool) (k : ℕ) (a : Option Rule) (x : ℕ) (rest : Text) (h : Held)
+      → EachFits c → RestGood c again k
       → arg_by_short c x ≡ a → Good h.rows → short_fault c again a rest h (flags_fault c again k rest 0) ≡ []
       → Good (short_met c a rest h (bundle_met c k rest 0 done)).0.rows
   short_good c again k None x rest h each below is g e = g
@@ -229,7 +250,9 @@ module _ (P : Text → Text → Type 0) where
       go : (t : Bool)
           → (if t then option_fault c again a (attached_value rest) h
           else or_else (react_fault c again a [] h) (flags_fault c again k rest 0 (reacted c a [] h))) ≡ []
-          → Good (if t then option_met c a (attached_value rest) h else bundle_met c k rest 0 done (reacted c a [] h)).0.rows
+          → Good
+          (if t then option_met c a (attached_value rest) h else bundle_met c k rest 0 done
+          (reacted c a [] h)).0.rows
       go true e = option_good c again a (attached_value rest) h each fits g e
       go false e =
           below rest 0 done (reacted c a [] h) (reacted_good c again a [] h each fits g (first_empty _ _ e))
@@ -238,12 +261,16 @@ module _ (P : Text → Text → Type 0) where
   flags_good : (c : List Rule) (again : Bool) (k : ℕ) → EachFits c → RestGood c again k
   unfolding flags_fault bundle_met
   flags_good c again zero each flags skip so_far h g e = g
-  flags_good c again (suc k) each flags skip so_far h g e = go (slice_get (chars flags) 0) skip (flags_good c again k each) e
+  flags_good c again (suc k) each flags skip so_far h g e =
+      go (slice_get (chars flags) 0) skip (flags_good c again k each) e
     where
-      go : (o : Option ℕ) (skip : ℕ) → RestGood c again k → bundle_step_fault c again o flags skip h (flags_fault c again k) ≡ []
+      go : (o : Option ℕ) (skip : ℕ) → RestGood c again k
+          → bundle_step_fault c again o flags skip h (flags_fault c again k) ≡ []
           → Good (bundle_step c o flags skip so_far h (bundle_met c k)).0.rows
       go None skip below e = g
-      go (Some x) zero below e = short_good c again k (arg_by_short c x) x (drop (length (encode_utf8 x)) flags) h each below refl g e
+      go (Some x) zero below e =
+          short_good c again k (arg_by_short c x) x (drop (length (encode_utf8 x)) flags) h each below refl g
+          e
       go (Some x) (suc skip) below e = below (drop (length (encode_utf8 x)) flags) skip so_far h g e
 
   -- the rows are good, and the walk goes on without help
@@ -251,7 +278,8 @@ module _ (P : Text → Text → Type 0) where
     pub rows : Good met.0.rows
     pub step : PlainStep met.1
 
-  plain_met : (c : List Rule) (waiting : Waiting) (word : Text) (h : Held) → Good h.rows → IsMet (plain_word c waiting word h)
+  plain_met : (c : List Rule) (waiting : Waiting) (word : Text) (h : Held) → Good h.rows
+      → IsMet (plain_word c waiting word h)
   plain_met c idle word h g = record { rows = g; step = tt }
   plain_met c (option id) word h g = go (arg_by_id c id)
     where
@@ -260,29 +288,35 @@ module _ (P : Text → Text → Type 0) where
       go (Some a) = record { rows = g; step = tt }
   plain_met c positional word h g = record { rows = g; step = tt }
 
-  after_flag_met : (c : List Rule) (waiting : Waiting) (word : Text) (h : Held) (o : Outcome) → Good h.rows → IsMet (after_flag c waiting word h o)
+  after_flag_met : (c : List Rule) (waiting : Waiting) (word : Text) (h : Held) (o : Outcome) → Good h.rows
+      → IsMet (after_flag c waiting word h o)
   after_flag_met c waiting word h done g = record { rows = g; step = tt }
   after_flag_met c waiting word h (waits id) g = record { rows = g; step = tt }
   after_flag_met c waiting word h plain g = plain_met c waiting word h g
   after_flag_met c waiting word h refused g = plain_met c waiting word h g
 
-  flag_is_met : (c : List Rule) (again : Bool) (waiting : Waiting) (word : Text) (h : Held) → EachFits c → Good h.rows
-      → flag_word_fault c again (long_of word) word h ≡ [] → IsMet (long_or_other c waiting word (long_of word) h)
+  flag_is_met : (c : List Rule) (again : Bool) (waiting : Waiting) (word : Text) (h : Held) → EachFits c
+      → Good h.rows
+      → flag_word_fault c again (long_of word) word h ≡ []
+      → IsMet (long_or_other c waiting word (long_of word) h)
   flag_is_met c again waiting word h each g e = go (long_of word) e
     where
-      shorts : (s : Option Text) → option_map_or (λ flags. bundle_fault c again flags h) s [] ≡ [] → IsMet (short_or_plain c waiting word s h)
+      shorts : (s : Option Text) → option_map_or (λ flags. bundle_fault c again flags h) s [] ≡ []
+          → IsMet (short_or_plain c waiting word s h)
       shorts None e = plain_met c waiting word h g
       shorts (Some flags) e =
           after_flag_met c waiting word _ (bundle c flags h).1
           (flags_good c again (length flags) each flags h.skip plain (record h { skip = 0 }) g e)
 
-      go : (l : Option (Text × Option Text)) → flag_word_fault c again l word h ≡ [] → IsMet (long_or_other c waiting word l h)
+      go : (l : Option (Text × Option Text)) → flag_word_fault c again l word h ≡ []
+          → IsMet (long_or_other c waiting word l h)
       go (Some p) e =
           after_flag_met c waiting word _ (long_met c (arg_by_long c p.0) p.1 h).1
           (long_good c again (arg_by_long c p.0) p.0 p.1 h each refl g e)
       go None e = shorts (short_of word) e
 
-  no_help : (s : Shape) (names : Names) (waiting : Waiting) (word name : Text) (h : Held) → RefusesHelp s names
+  no_help : (s : Shape) (names : Names) (waiting : Waiting) (word name : Text) (h : Held)
+      → RefusesHelp s names
       → subcommand_met names waiting word ≡ Some name → other_fault s (Some name) word h ≡ [] → IsNoHelp name
   no_help s names waiting word name h (inr none) met e = absurd (go waiting (rw none at met))
     where
@@ -296,11 +330,14 @@ module _ (P : Text → Text → Type 0) where
       go false t = t
       go true t = let bad = rw (t, off) at e in cc
 
-  word_is_met : (s : Shape) (names : Names) (is_trailing : Bool) (waiting : Waiting) (position : ℕ) (word : Text) (h : Held) → EachFits s.rules
+  word_is_met : (s : Shape) (names : Names) (is_trailing : Bool) (waiting : Waiting) (position : ℕ)
+      (word : Text) (h : Held)
+      → EachFits s.rules
       → RefusesHelp s names → Good h.rows → word_fault s names is_trailing waiting word h ≡ []
       → IsMet (word_met s.rules names is_trailing waiting position word h)
   word_is_met s names true waiting position word h each help g e = record { rows = g; step = tt }
-  word_is_met s names false waiting position word h each help g e = go (subcommand_met names waiting word) refl e
+  word_is_met s names false waiting position word h each help g e =
+      go (subcommand_met names waiting word) refl e
     where
       at : (t : Bool) → bytes_eq word (45 ∷ 45 ∷ []) ≡ t → other_fault s None word h ≡ []
           → IsMet (subcommand_or_other s.rules None waiting position word h)
@@ -317,24 +354,31 @@ module _ (P : Text → Text → Type 0) where
     pub rows : Good w.held.rows
     pub stopped : StoppedWell w.stopped
 
-  value_walked : (s : Shape) (o : Option Rule) (word : Text) (w : Walk) (h : Held) → EachFits s.rules → IsWalked w → Good h.rows
+  value_walked : (s : Shape) (o : Option Rule) (word : Text) (w : Walk) (h : Held) → EachFits s.rules
+      → IsWalked w → Good h.rows
       → option_map_or (λ a. positional_fault s.rules s.args_override_self a h) o (stray_fault s) ≡ []
       → IsWalked (to_positional s.rules o word w h)
   value_walked s None word w h each walked g e = record { rows = g; stopped = walked.stopped }
-  value_walked s (Some a) word w h each walked g e = record { rows = go (is_pending a h.pending && takes_several a) e; stopped = tt }
+  value_walked s (Some a) word w h each walked g e =
+      record { rows = go (is_pending a h.pending && takes_several a) e; stopped = tt }
     where
-      go : (t : Bool) → (if t then [] else settle_fault s.rules s.args_override_self h) ≡ [] → Good (if t then h else settled s.rules h).rows
+      go : (t : Bool) → (if t then [] else settle_fault s.rules s.args_override_self h) ≡ []
+          → Good (if t then h else settled s.rules h).rows
       go true e = g
       go false e = settled_good s.rules s.args_override_self h each g e
 
-  step_walked : (s : Shape) (word : Text) (w : Walk) (h : Held) (step : Step) → EachFits s.rules → IsWalked w → Good h.rows → PlainStep step
+  step_walked : (s : Shape) (word : Text) (w : Walk) (h : Held) (step : Step) → EachFits s.rules → IsWalked w
+      → Good h.rows → PlainStep step
       → step_fault s w.position h step ≡ [] → IsWalked (after_step s.rules word w h step)
   step_walked s word w h (next waiting) each walked g ok e = record { rows = g; stopped = walked.stopped }
-  step_walked s word w h (trailing position) each walked g ok e = record { rows = g; stopped = walked.stopped }
+  step_walked s word w h (trailing position) each walked g ok e =
+      record { rows = g; stopped = walked.stopped }
   step_walked s word w h (subcommand name) each walked g ok e = record { rows = g; stopped = ok }
-  step_walked s word w h value each walked g ok e = value_walked s (arg_by_index s.rules w.position) word w h each walked g e
+  step_walked s word w h value each walked g ok e =
+      value_walked s (arg_by_index s.rules w.position) word w h each walked g e
 
-  turn_walked : (s : Shape) (names : Names) (w : Walk) (word : Text) → EachFits s.rules → RefusesHelp s names → IsWalked w
+  turn_walked : (s : Shape) (names : Names) (w : Walk) (word : Text) → EachFits s.rules → RefusesHelp s names
+      → IsWalked w
       → turn_fault s names w word ≡ [] → IsWalked (walked s.rules names w word)
   unfolding walked
   turn_walked s names w word each help walked e = go w.stopped refl
@@ -344,10 +388,13 @@ module _ (P : Text → Text → Type 0) where
       go None is =
           let faults = rw is at e in
           let words = word_fault s names w.is_trailing w.waiting word w.held in
-          let met = word_is_met s names w.is_trailing w.waiting w.position word w.held each help walked.rows (first_empty words _ faults) in
+          let met =
+          word_is_met s names w.is_trailing w.waiting w.position word w.held each help walked.rows
+          (first_empty words _ faults) in
           step_walked s word w _ _ each walked met.rows met.step (second_empty words _ faults)
 
-  walk_walked : (s : Shape) (names : Names) (w : Walk) (words : List Text) → EachFits s.rules → RefusesHelp s names → IsWalked w
+  walk_walked : (s : Shape) (names : Names) (w : Walk) (words : List Text) → EachFits s.rules
+      → RefusesHelp s names → IsWalked w
       → walk_fault s names w words ≡ [] → IsWalked (fold (walked s.rules names) w words)
   unfolding walk_fault
   walk_walked s names w [] each help walked e = walked
@@ -357,18 +404,23 @@ module _ (P : Text → Text → Type 0) where
 
   -- a walk over all the words, where none is a fault
   pub is_walked : (s : Shape) (names : Names) (words : List Text) → EachFits s.rules → RefusesHelp s names
-      → walk_fault s names (walk_from nothing_held) words ≡ [] → IsWalked (walk s.rules names nothing_held words)
-  is_walked s names words each help e = walk_walked s names (walk_from nothing_held) words each help (record { rows = tt; stopped = tt }) e
+      → walk_fault s names (walk_from nothing_held) words ≡ []
+      → IsWalked (walk s.rules names nothing_held words)
+  is_walked s names words each help e =
+      walk_walked s names (walk_from nothing_held) words each help (record { rows = tt; stopped = tt }) e
 
   -- a default is looked at where the argument has no row
-  default_good : (rows : List Row) (a : Rule) → Fits a → Good rows → default_fault rows a ≡ [] → Good (with_default rows a)
+  default_good : (rows : List Row) (a : Rule) → Fits a → Good rows → default_fault rows a ≡ []
+      → Good (with_default rows a)
   default_good rows a fits g e = go (has_row a.id rows) e
     where
-      at : (vs : List Text) → (if is_empty vs then [] else given_default_fault a vs) ≡ [] → Fits a → Good (default_rows a.id (reading_by a) vs rows)
+      at : (vs : List Text) → (if is_empty vs then [] else given_default_fault a vs) ≡ [] → Fits a
+          → Good (default_rows a.id (reading_by a) vs rows)
       at [] e fits = g
       at (v ∷ vs) e fits = some (rw (some_not_empty v vs) at e) fits
         where
-          some : given_default_fault a (v ∷ vs) ≡ [] → Fits a → Good (default_rows a.id (reading_by a) (v ∷ vs) rows)
+          some : given_default_fault a (v ∷ vs) ≡ [] → Fits a
+              → Good (default_rows a.id (reading_by a) (v ∷ vs) rows)
           some e (inl help) =
               let asks : request_kinds (action_of a) ≡ [] = first_empty (request_kinds (action_of a)) _ e in
               let bad : request_kinds Help ≡ [] = rw help at asks in
@@ -383,27 +435,34 @@ module _ (P : Text → Text → Type 0) where
       go true e = g
       go false e = at a.defaults e fits
 
-  defaults_good : (rows : List Row) (c : List Rule) → EachFits c → Good rows → defaults_fault rows c ≡ [] → Good (fold with_default rows c)
+  defaults_good : (rows : List Row) (c : List Rule) → EachFits c → Good rows → defaults_fault rows c ≡ []
+      → Good (fold with_default rows c)
   unfolding defaults_fault
   defaults_good rows [] each g e = g
   defaults_good rows (a ∷ rest) each g e =
-      defaults_good (with_default rows a) rest each.1 (default_good rows a each.0 g (first_empty _ _ e)) (second_empty (default_fault rows a) _ e)
+      defaults_good (with_default rows a) rest each.1 (default_good rows a each.0 g (first_empty _ _ e))
+      (second_empty (default_fault rows a) _ e)
 
   -- and the rows that it ends with are good
-  pub finished_good : (c : List Rule) (again : Bool) (h : Held) → EachFits c → Good h.rows → settle_fault c again h ≡ []
+  pub finished_good : (c : List Rule) (again : Bool) (h : Held) → EachFits c → Good h.rows
+      → settle_fault c again h ≡ []
       → defaults_fault (settled c h).rows c ≡ [] → Good (finished c h)
-  finished_good c again h each g settles defaults = defaults_good (settled c h).rows c each (settled_good c again h each g settles) defaults
+  finished_good c again h each g settles defaults =
+      defaults_good (settled c h).rows c each (settled_good c again h each g settles) defaults
 
   -- what has a row has a first value, such as it may have
-  pub row_value : (id : Text) (rows : List Row) → Good rows → has_row id rows ≡ true → (value : Text) × (first_of id rows ≡ Some value) × P id value
+  pub row_value : (id : Text) (rows : List Row) → Good rows → has_row id rows ≡ true
+      → (value : Text) × (first_of id rows ≡ Some value) × P id value
   row_value id [] h has = cc
   row_value id (r ∷ rs) h has = go (bytes_eq r.id id) refl (λ rest. row_value id rs h.2 rest)
     where
-      at : (values : List Text) → 0 < length values → EachMay r.id values → (value : Text) × (slice_get values 0 ≡ Some value) × P r.id value
+      at : (values : List Text) → 0 < length values → EachMay r.id values
+          → (value : Text) × (slice_get values 0 ≡ Some value) × P r.id value
       at [] lt may = absurd (omega arith)
       at (v ∷ vs) lt may = (v, refl, may.0)
 
-      go : (t : Bool) → bytes_eq r.id id ≡ t → (has_row id rs ≡ true → (value : Text) × (first_of id rs ≡ Some value) × P id value)
+      go : (t : Bool) → bytes_eq r.id id ≡ t
+          → (has_row id rs ≡ true → (value : Text) × (first_of id rs ≡ Some value) × P id value)
           → (value : Text) × (first_of id (r ∷ rs) ≡ Some value) × P id value
       go true t rest =
           let first = at r.values h.0 h.1 in
@@ -418,7 +477,8 @@ pub given_row : (id : Text) (rows : List Row) → is_given id rows ≡ true → 
 given_row id [] given = cc
 given_row id (r ∷ rs) given = go (bytes_eq r.id id) refl (given_row id rs)
   where
-    go : (t : Bool) → bytes_eq r.id id ≡ t → (is_given id rs ≡ true → has_row id rs ≡ true) → t || has_row id rs ≡ true
+    go : (t : Bool) → bytes_eq r.id id ≡ t → (is_given id rs ≡ true → has_row id rs ≡ true)
+        → t || has_row id rs ≡ true
     go true t rest = refl
     go false t rest = rest (rw t at given)
 
@@ -433,22 +493,27 @@ with_values_row id how source vs (r ∷ rs) = go (bytes_eq r.id id) refl (with_v
     go true t rest = rw t refl
     go false t rest = rw t rest
 
-others_stay : (id other : Text) (how : Reading) (source : ValueSource) (vs : List Text) (rows : List Row) → has_row id rows ≡ true
+others_stay : (id other : Text) (how : Reading) (source : ValueSource) (vs : List Text) (rows : List Row)
+    → has_row id rows ≡ true
     → has_row id (with_values other how source vs rows) ≡ true
 others_stay id other how source vs [] has = cc
-others_stay id other how source vs (r ∷ rs) has = go (bytes_eq r.id other) (at (bytes_eq r.id id) has (others_stay id other how source vs rs))
+others_stay id other how source vs (r ∷ rs) has =
+    go (bytes_eq r.id other) (at (bytes_eq r.id id) has (others_stay id other how source vs rs))
   where
-    at : (t : Bool) → t || has_row id rs ≡ true → (has_row id rs ≡ true → has_row id (with_values other how source vs rs) ≡ true)
+    at : (t : Bool) → t || has_row id rs ≡ true
+        → (has_row id rs ≡ true → has_row id (with_values other how source vs rs) ≡ true)
         → t || has_row id (with_values other how source vs rs) ≡ true
     at true h rest = refl
     at false h rest = rest h
 
     go : (t : Bool) → has_row id (r ∷ with_values other how source vs rs) ≡ true
-        → has_row id (if t then more_values source vs r ++ rs else r ∷ with_values other how source vs rs) ≡ true
+        → has_row id (if t then more_values source vs r ++ rs else r ∷ with_values other how source vs rs)
+        ≡ true
     go true below = has
     go false below = below
 
-default_stays : (id : Text) (rows : List Row) (a : Rule) → has_row id rows ≡ true → has_row id (with_default rows a) ≡ true
+default_stays : (id : Text) (rows : List Row) (a : Rule) → has_row id rows ≡ true
+    → has_row id (with_default rows a) ≡ true
 default_stays id rows a has = go (has_row a.id rows)
   where
     at : (vs : List Text) → has_row id (default_rows a.id (reading_by a) vs rows) ≡ true
@@ -459,18 +524,23 @@ default_stays id rows a has = go (has_row a.id rows)
     go true = has
     go false = at a.defaults
 
-defaults_stay : (id : Text) (rows : List Row) (c : List Rule) → has_row id rows ≡ true → has_row id (fold with_default rows c) ≡ true
+defaults_stay : (id : Text) (rows : List Row) (c : List Rule) → has_row id rows ≡ true
+    → has_row id (fold with_default rows c) ≡ true
 defaults_stay id rows [] has = has
-defaults_stay id rows (a ∷ rest) has = defaults_stay id (with_default rows a) rest (default_stays id rows a has)
+defaults_stay id rows (a ∷ rest) has =
+    defaults_stay id (with_default rows a) rest (default_stays id rows a has)
 
-default_row : (rows : List Row) (a : Rule) → is_empty a.defaults ≡ false → has_row a.id (with_default rows a) ≡ true
+default_row : (rows : List Row) (a : Rule) → is_empty a.defaults ≡ false
+    → has_row a.id (with_default rows a) ≡ true
 default_row rows a some = go (has_row a.id rows) refl
   where
-    at : (vs : List Text) → is_empty vs ≡ false → has_row a.id (default_rows a.id (reading_by a) vs rows) ≡ true
+    at : (vs : List Text) → is_empty vs ≡ false
+        → has_row a.id (default_rows a.id (reading_by a) vs rows) ≡ true
     at [] e = cc
     at (v ∷ vs) e = with_values_row a.id (reading_by a) DefaultValue (v ∷ vs) rows
 
-    go : (t : Bool) → has_row a.id rows ≡ t → has_row a.id (if t then rows else default_rows a.id (reading_by a) a.defaults rows) ≡ true
+    go : (t : Bool) → has_row a.id rows ≡ t
+        → has_row a.id (if t then rows else default_rows a.id (reading_by a) a.defaults rows) ≡ true
     go true t = t
     go false t = at a.defaults some
 
@@ -480,8 +550,10 @@ HasDefault id [] = ⊥
 HasDefault id (a ∷ rest) = ((a.id ≡ id) × (is_empty a.defaults ≡ false)) ⊎ HasDefault id rest
 
 -- so it has a row in the end
-pub defaulted_row : (id : Text) (rows : List Row) (c : List Rule) → HasDefault id c → has_row id (fold with_default rows c) ≡ true
+pub defaulted_row : (id : Text) (rows : List Row) (c : List Rule) → HasDefault id c
+    → has_row id (fold with_default rows c) ≡ true
 defaulted_row id rows [] h = absurd h
 defaulted_row id rows (a ∷ rest) (inl h) =
-    defaults_stay id (with_default rows a) rest (subst (λ x. has_row x (with_default rows a) ≡ true) h.0 (default_row rows a h.1))
+    defaults_stay id (with_default rows a) rest
+    (subst (λ x. has_row x (with_default rows a) ≡ true) h.0 (default_row rows a h.1))
 defaulted_row id rows (a ∷ rest) (inr h) = defaulted_row id (with_default rows a) rest h
