@@ -1,6 +1,7 @@
 -- The places that the items of a description name. A place is one of its section's, by column from
 -- the east and row from the south; g is how many binary digits each of both has.
-use Rattle.std.specs.Prelude.{ℕ, ◌==◌, ◌&&◌, nat_le, Bool, true, false, List, [], ◌∷◌, Option, Some, None, map, ◌≡◌, ◌+◌, ◌≤◌, ◌<◌}
+use Rattle.std.specs.Prelude.{ℕ, ◌==◌, ◌&&◌, nat_le, Bool, true, false, List, [], ◌∷◌, Option, Some, None}
+use Rattle.std.specs.Prelude.{map, ◌≡◌, ◌+◌, ◌≤◌, ◌<◌}
 use Rattle.std.specs.List.{list_any}
 use Rattle.twp_grid.specs.Places.{is_place, binary, begins}
 use Rattle.twp_grid.specs.Cuts.{Cut, rows_asked, columns_asked}
