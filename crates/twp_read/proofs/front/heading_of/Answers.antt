@@ -27,7 +27,8 @@ returns c items =
     let sided : List Item = Heading n side 0 E 0 ∷ items in
     let ranged : List Item = Heading n side r E 0 ∷ items in
     let whole : List Item = Heading n side r way 0 ∷ items in
-    leads_then text 0 past.Start items range_end past.RangeNumber ranged (range_end + 4) past.BeforeGroup whole
+    leads_then text 0 past.Start items range_end past.RangeNumber ranged (range_end + 4) past.BeforeGroup
+    whole
     (leads_then text 0 past.Start items side_end past.RangeStop sided range_end past.RangeNumber ranged
     (leads_then text 0 past.Start items number_end past.TownshipNumber numbered side_end past.RangeStop sided
     (leads_then text 0 past.Start items 3 past.TownshipStop begun number_end past.TownshipNumber numbered

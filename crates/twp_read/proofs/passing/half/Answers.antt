@@ -6,7 +6,8 @@ pub returns : goal.returns
 returns c = (
   record {
     small = bit_or c.args.first 32;
-    letter = small_by_bit c.args.first (bit_or c.args.first 32) c.ranges.first.fits refl c.in-Some.ensures.letter;
+    letter =
+        small_by_bit c.args.first (bit_or c.args.first 32) c.ranges.first.fits refl c.in-Some.ensures.letter;
     letters = c.in-Some.ensures.kind;
     fraction = refl;
   },

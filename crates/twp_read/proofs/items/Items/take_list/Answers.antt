@@ -19,7 +19,10 @@ words-preserved c =
     let more : List Item = c.take_joined.new.self in
     let last : Reached = c.in_ok-reached-2.reached in
     let grown : List Item = c.take_numbers-in-Some.new.self in
-    leads_then text from.at from.state c.args.self.now reached.at reached.state before last.at last.state grown c.words.invariant
-    (leads_then text reached.at reached.state before word.at word.state before last.at last.state grown (c.in-Some.ensures.leads before)
-    (leads_then text word.at word.state before joined.at joined.state more last.at last.state grown c.in_ok-joined.ensures
+    leads_then text from.at from.state c.args.self.now reached.at reached.state before last.at last.state
+    grown c.words.invariant
+    (leads_then text reached.at reached.state before word.at word.state before last.at last.state grown
+    (c.in-Some.ensures.leads before)
+    (leads_then text word.at word.state before joined.at joined.state more last.at last.state grown
+    c.in_ok-joined.ensures
     c.in_ok-reached-2.ensures))

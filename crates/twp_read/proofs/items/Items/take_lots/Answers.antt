@@ -18,5 +18,7 @@ returns c =
     let items : List Item = c.args.self.now in
     let begun : List Item = before_parts from.state items in
     rw (c.in_ok-push.ensures, c.entry.ensures, c.in_ok-before_parts.ensures)
-    (leads_then text from.at from.state items word past.Lot begun end past.LotNumber (Lots number number ∷ begun)
-    (c.in-Some.ensures.leads items) (c.in-Some-number_behind.ensures.number past.Lot past.LotNumber begun refl))
+    (leads_then text from.at from.state items word past.Lot begun end past.LotNumber
+    (Lots number number ∷ begun)
+    (c.in-Some.ensures.leads items)
+    (c.in-Some-number_behind.ensures.number past.Lot past.LotNumber begun refl))

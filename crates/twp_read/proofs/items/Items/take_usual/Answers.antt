@@ -23,6 +23,7 @@ returns c =
     (λ to. Leads text from.at from.state begun to.at to.state grown)
     (λ to leads. leads_then text from.at from.state begun list.at list.state listed to.at to.state grown
     (leads_then text from.at from.state begun lots.at lots.state begun_lots list.at list.state listed
-    (leads_then text from.at from.state begun section.at section.state sectioned lots.at lots.state begun_lots c.in_ok-section.ensures c.in_ok-lots.ensures)
+    (leads_then text from.at from.state begun section.at section.state sectioned lots.at lots.state
+    begun_lots c.in_ok-section.ensures c.in_ok-lots.ensures)
     c.in_ok-list.ensures) leads)
     c.take_parts.ensures
