@@ -12,7 +12,7 @@ use Rattle.twp_grid.specs.Totals.{total}
 use Rattle.twp_grid.proofs.TotalFacts.{total-next, total-zero}
 use Rattle.twp_land.specs.Lands.{no_places, Meets, LieWithin}
 use Rattle.twp_land.specs.WholeLots.{HasWholeLots}
-use Rattle.twp_land.proofs.LandFacts.{nothing_within}
+use Rattle.twp_land.proofs.LandRanges.{nothing_within}
 use Rattle.twp_plat.specs.Plats.{TownshipPlat, IsPlat}
 use Rattle.twp_acres.specs.LandAreas.{section_sum, township_sum}
 use Rattle.twp_acres.specs.PlatAccounts.{lots_held, places_off_lots, printed_units}

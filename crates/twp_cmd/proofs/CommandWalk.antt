@@ -1,41 +1,38 @@
 -- What clap's walk over the words of a subcommand holds, where each argument wants a value or asks for help:
 -- each row has a value, and its values are such as its id may have.
-use Rattle.std.proofs.Common.{zero, suc, ◌≡◌, ◌⊎◌, ◌++◌, ◌<◌, ◌&&◌, ◌||◌, ℕ, Bool, true, false, List}
-use Rattle.std.proofs.Common.{[], ◌∷◌, length, drop, is_some, Option, Some, None, refl, inl, inr, sym}
-use Rattle.std.proofs.Common.{subst, arith, length-append}
-use Rattle.std.specs.Prelude.{⊤, find, fold, slice_get, if◌then◌else◌, nat_lt, codes, encode_utf8}
+use Rattle.std.proofs.Common.{zero, suc, ◌≡◌, ◌⊎◌, ◌++◌, ◌<◌, ◌&&◌, ℕ, Bool, true, false, List, [], ◌∷◌}
+use Rattle.std.proofs.Common.{length, drop, is_some, Option, Some, None, refl, inl, inr, sym, subst, arith}
+use Rattle.std.proofs.Common.{length-append}
+use Rattle.std.specs.Prelude.{⊤, find, fold, slice_get, if◌then◌else◌, nat_lt, encode_utf8}
 use Rattle.std.specs.Option.{option_map_or}
 use Rattle.std.specs.Str.{bytes_eq, chars}
 use Rattle.std.proofs.lemmas.Bool.{ne_eqb}
 use Rattle.std.proofs.lemmas.Slice.Eq.{bytes_eq-Decides}
 use Rattle.clap.specs.Lexer.{long_of, short_of}
-use Rattle.clap.specs.Kinds.{Kinds, or_else, range_kinds, request_kinds, value_kinds}
-use Rattle.clap.specs.Walk.{Held, Names, Outcome, Row, Rule, Step, Text, Waiting, Walk, action_of}
-use Rattle.clap.specs.Walk.{after_flag, after_step, arg_by_id, arg_by_index, arg_by_long, arg_by_short}
-use Rattle.clap.specs.Walk.{attached_value, bundle, bundle_met, bundle_step, default_rows, done}
-use Rattle.clap.specs.Walk.{finished, first_of, flag_met, has_row, idle, is_empty, is_pending, long_met}
-use Rattle.clap.specs.Walk.{long_or_other, more_values, most_values, next, nothing_held, option}
+use Rattle.clap.specs.Kinds.{Kinds, or_else, range_kinds, value_kinds}
+use Rattle.clap.specs.Walk.{Held, Names, Outcome, Row, Rule, Step, Text, Waiting, Walk, action_of, after_flag}
+use Rattle.clap.specs.Walk.{after_step, arg_by_id, arg_by_index, arg_by_long, arg_by_short, attached_value}
+use Rattle.clap.specs.Walk.{bundle, bundle_met, bundle_step, done, flag_met, idle, is_empty, is_pending}
+use Rattle.clap.specs.Walk.{long_met, long_or_other, more_values, most_values, next, nothing_held, option}
 use Rattle.clap.specs.Walk.{option_met, option_word, plain, plain_word, positional, reacted, reading_by}
 use Rattle.clap.specs.Walk.{refused, settled, settled_rows, short_met, short_or_plain, subcommand}
 use Rattle.clap.specs.Walk.{subcommand_met, subcommand_or_other, takes_several, takes_values, to_positional}
 use Rattle.clap.specs.Walk.{trailing, used, used_as, used_by_id, value, values_or_missing, waits, walk}
-use Rattle.clap.specs.Walk.{walk_from, walked, walked_from, with_default, with_values, without, word_met}
+use Rattle.clap.specs.Walk.{walk_from, walked, walked_from, with_values, without, word_met}
 use Rattle.clap.specs.Facts.{parser_of_value, unwrap_or_range}
-use Rattle.clap.specs.Takes.{is_given}
 use Rattle.clap.specs.Simple.{Shape}
-use Rattle.clap.specs.Faults.{action_fault, bundle_fault, bundle_step_fault, default_fault}
-use Rattle.clap.specs.Faults.{defaults_fault, flag_word_fault, flags_fault, given_default_fault}
+use Rattle.clap.specs.Faults.{action_fault, bundle_fault, bundle_step_fault, flag_word_fault, flags_fault}
 use Rattle.clap.specs.Faults.{long_fault, option_fault, other_fault, positional_fault, react_fault}
-use Rattle.clap.specs.Faults.{repeat_fault, settle_fault, short_fault, step_fault, stray_fault}
-use Rattle.clap.specs.Faults.{turn_fault, use_fault, values_fault, walk_fault, word_fault}
+use Rattle.clap.specs.Faults.{repeat_fault, settle_fault, short_fault, step_fault, stray_fault, turn_fault}
+use Rattle.clap.specs.Faults.{use_fault, values_fault, walk_fault, word_fault}
 use Rattle.clap.specs.declared.error.kind.ErrorKind.TheVariants.{TooManyValues}
 use Rattle.clap.specs.declared.builder.action.ArgAction.{ArgAction}
-use Rattle.clap.specs.declared.builder.action.ArgAction.TheVariants.{Set, Append, SetTrue, SetFalse}
-use Rattle.clap.specs.declared.builder.action.ArgAction.TheVariants.{Count, Help, HelpShort}
-use Rattle.clap.specs.declared.builder.action.ArgAction.TheVariants.{HelpLong, Version}
+use Rattle.clap.specs.declared.builder.action.ArgAction.TheVariants.{Set, Append, SetTrue, SetFalse, Count}
+use Rattle.clap.specs.declared.builder.action.ArgAction.TheVariants.{Help, HelpShort, HelpLong, Version}
 use Rattle.clap.specs.declared.builder.value_parser.Reading.{Reading}
 use Rattle.clap.specs.declared.parser.matches.ValueSource.{ValueSource}
-use Rattle.clap.specs.declared.parser.matches.ValueSource.TheVariants.{DefaultValue, CommandLine}
+use Rattle.clap.specs.declared.parser.matches.ValueSource.TheVariants.{CommandLine}
+use Rattle.twp_cmd.proofs.HelpWords.{IsNoHelp, StoppedWell, RefusesHelp, no_help}
 
 pub first_empty : (xs ys : Kinds) → or_else xs ys ≡ [] → xs ≡ []
 first_empty [] ys h = refl
@@ -45,18 +42,11 @@ pub second_empty : (xs ys : Kinds) → or_else xs ys ≡ [] → ys ≡ []
 second_empty [] ys h = h
 second_empty (k ∷ ks) ys h = cc
 
-same_id : (x y : Text) → bytes_eq x y ≡ true → x ≡ y
+pub same_id : (x y : Text) → bytes_eq x y ≡ true → x ≡ y
 same_id x y t = (bytes_eq-Decides x y).0 t
 
-some_not_empty : (v : Text) (vs : List Text) → is_empty (v ∷ vs) ≡ false
+pub some_not_empty : (v : Text) (vs : List Text) → is_empty (v ∷ vs) ≡ false
 some_not_empty v vs = ne_eqb _ _ (λ e. omega arith)
-
-abbrev pub IsNoHelp : Text → Type 0
-IsNoHelp name = bytes_eq name (codes "help") ≡ false
-
-abbrev pub StoppedWell : Option (Text × List Text) → Type 0
-StoppedWell None = ⊤
-StoppedWell (Some p) = IsNoHelp p.0
 
 -- a step of the walk enters no `help`
 abbrev pub PlainStep : Step → Type 0
@@ -64,10 +54,6 @@ PlainStep (next w) = ⊤
 PlainStep (trailing p) = ⊤
 PlainStep (subcommand name) = IsNoHelp name
 PlainStep value = ⊤
-
--- help is no subcommand that a walk goes on with
-abbrev pub RefusesHelp : Shape → Names → Type 0
-RefusesHelp s names = (s.disable_help_subcommand ≡ false) ⊎ (names ≡ [])
 
 -- the argument asks for help
 abbrev pub AsksForHelp : Rule → Type 0
@@ -124,7 +110,7 @@ module _ (P : Text → Text → Type 0) where
       go true rest = h.2
       go false rest = (h.0, h.1, rest)
 
-  with_values_good : (id : Text) (how : Reading) (source : ValueSource) (v : Text) (vs : List Text)
+  pub with_values_good : (id : Text) (how : Reading) (source : ValueSource) (v : Text) (vs : List Text)
       (rows : List Row)
       → EachMay id (v ∷ vs) → Good rows → Good (with_values id how source (v ∷ vs) rows)
   with_values_good id how source v vs [] may h = (omega arith, may, tt)
@@ -141,7 +127,7 @@ module _ (P : Text → Text → Type 0) where
       go false t rest = (h.0, h.1, rest)
 
   -- values that the parser takes are such as the id may have
-  taken_may : (a : Rule)
+  pub taken_may : (a : Rule)
       → ((v : Text) → value_kinds a.ignore_case (parser_of_value a.parser) v ≡ [] → P a.id v)
       → (vs : List Text) → values_fault a vs ≡ [] → EachMay a.id vs
   taken_may a takes [] e = tt
@@ -187,7 +173,7 @@ module _ (P : Text → Text → Type 0) where
       go HelpLong f = g
       go Version f = g
 
-  settled_good : (c : List Rule) (again : Bool) (h : Held) → EachFits c → Good h.rows
+  pub settled_good : (c : List Rule) (again : Bool) (h : Held) → EachFits c → Good h.rows
       → settle_fault c again h ≡ [] → Good (settled c h).rows
   settled_good c again h each g e = go h.pending refl e
     where
@@ -315,21 +301,6 @@ module _ (P : Text → Text → Type 0) where
           (long_good c again (arg_by_long c p.0) p.0 p.1 h each refl g e)
       go None e = shorts (short_of word) e
 
-  no_help : (s : Shape) (names : Names) (waiting : Waiting) (word name : Text) (h : Held)
-      → RefusesHelp s names
-      → subcommand_met names waiting word ≡ Some name → other_fault s (Some name) word h ≡ [] → IsNoHelp name
-  no_help s names waiting word name h (inr none) met e = absurd (go waiting (rw none at met))
-    where
-      go : (w : Waiting) → subcommand_met [] w word ≡ Some name → ⊥
-      go idle m = cc
-      go (option id) m = cc
-      go positional m = cc
-  no_help s names waiting word name h (inl off) met e = go (bytes_eq name (codes "help")) refl
-    where
-      go : (t : Bool) → bytes_eq name (codes "help") ≡ t → IsNoHelp name
-      go false t = t
-      go true t = let bad = rw (t, off) at e in cc
-
   word_is_met : (s : Shape) (names : Names) (is_trailing : Bool) (waiting : Waiting) (position : ℕ)
       (word : Text) (h : Held)
       → EachFits s.rules
@@ -408,152 +379,3 @@ module _ (P : Text → Text → Type 0) where
       → IsWalked (walk s.rules names nothing_held words)
   is_walked s names words each help e =
       walk_walked s names (walk_from nothing_held) words each help (record { rows = tt; stopped = tt }) e
-
-  -- a default is looked at where the argument has no row
-  default_good : (rows : List Row) (a : Rule) → Fits a → Good rows → default_fault rows a ≡ []
-      → Good (with_default rows a)
-  default_good rows a fits g e = go (has_row a.id rows) e
-    where
-      at : (vs : List Text) → (if is_empty vs then [] else given_default_fault a vs) ≡ [] → Fits a
-          → Good (default_rows a.id (reading_by a) vs rows)
-      at [] e fits = g
-      at (v ∷ vs) e fits = some (rw (some_not_empty v vs) at e) fits
-        where
-          some : given_default_fault a (v ∷ vs) ≡ [] → Fits a
-              → Good (default_rows a.id (reading_by a) (v ∷ vs) rows)
-          some e (inl help) =
-              let asks : request_kinds (action_of a) ≡ [] = first_empty (request_kinds (action_of a)) _ e in
-              let bad : request_kinds Help ≡ [] = rw help at asks in
-              let none : ⊥ = cc in
-              absurd none
-          some e (inr fits) =
-              let may = taken_may a fits.1 (v ∷ vs) (second_empty (request_kinds (action_of a)) _ e) in
-              with_values_good a.id (reading_by a) DefaultValue v vs rows may g
-
-      go : (t : Bool) → (if t || is_empty a.defaults then [] else given_default_fault a a.defaults) ≡ []
-          → Good (if t then rows else default_rows a.id (reading_by a) a.defaults rows)
-      go true e = g
-      go false e = at a.defaults e fits
-
-  defaults_good : (rows : List Row) (c : List Rule) → EachFits c → Good rows → defaults_fault rows c ≡ []
-      → Good (fold with_default rows c)
-  unfolding defaults_fault
-  defaults_good rows [] each g e = g
-  defaults_good rows (a ∷ rest) each g e =
-      defaults_good (with_default rows a) rest each.1 (default_good rows a each.0 g (first_empty _ _ e))
-      (second_empty (default_fault rows a) _ e)
-
-  -- and the rows that it ends with are good
-  pub finished_good : (c : List Rule) (again : Bool) (h : Held) → EachFits c → Good h.rows
-      → settle_fault c again h ≡ []
-      → defaults_fault (settled c h).rows c ≡ [] → Good (finished c h)
-  finished_good c again h each g settles defaults =
-      defaults_good (settled c h).rows c each (settled_good c again h each g settles) defaults
-
-  -- what has a row has a first value, such as it may have
-  pub row_value : (id : Text) (rows : List Row) → Good rows → has_row id rows ≡ true
-      → (value : Text) × (first_of id rows ≡ Some value) × P id value
-  row_value id [] h has = cc
-  row_value id (r ∷ rs) h has = go (bytes_eq r.id id) refl (λ rest. row_value id rs h.2 rest)
-    where
-      at : (values : List Text) → 0 < length values → EachMay r.id values
-          → (value : Text) × (slice_get values 0 ≡ Some value) × P r.id value
-      at [] lt may = absurd (omega arith)
-      at (v ∷ vs) lt may = (v, refl, may.0)
-
-      go : (t : Bool) → bytes_eq r.id id ≡ t
-          → (has_row id rs ≡ true → (value : Text) × (first_of id rs ≡ Some value) × P id value)
-          → (value : Text) × (first_of id (r ∷ rs) ≡ Some value) × P id value
-      go true t rest =
-          let first = at r.values h.0 h.1 in
-          (first.0, rw t first.1, subst (λ x. P x first.0) (same_id r.id id t) first.2)
-      go false t rest =
-          let more : has_row id rs ≡ true = rw t at has in
-          let found = rest more in
-          (found.0, rw t found.1, found.2)
-
--- what was given has a row
-pub given_row : (id : Text) (rows : List Row) → is_given id rows ≡ true → has_row id rows ≡ true
-given_row id [] given = cc
-given_row id (r ∷ rs) given = go (bytes_eq r.id id) refl (given_row id rs)
-  where
-    go : (t : Bool) → bytes_eq r.id id ≡ t → (is_given id rs ≡ true → has_row id rs ≡ true)
-        → t || has_row id rs ≡ true
-    go true t rest = refl
-    go false t rest = rest (rw t at given)
-
--- more values for an id leave it a row, and each other
-with_values_row : (id : Text) (how : Reading) (source : ValueSource) (vs : List Text) (rows : List Row)
-    → has_row id (with_values id how source vs rows) ≡ true
-with_values_row id how source vs [] = rw ((bytes_eq-Decides id id).1 refl) refl
-with_values_row id how source vs (r ∷ rs) = go (bytes_eq r.id id) refl (with_values_row id how source vs rs)
-  where
-    go : (t : Bool) → bytes_eq r.id id ≡ t → has_row id (with_values id how source vs rs) ≡ true
-        → has_row id (if t then more_values source vs r ++ rs else r ∷ with_values id how source vs rs) ≡ true
-    go true t rest = rw t refl
-    go false t rest = rw t rest
-
-others_stay : (id other : Text) (how : Reading) (source : ValueSource) (vs : List Text) (rows : List Row)
-    → has_row id rows ≡ true
-    → has_row id (with_values other how source vs rows) ≡ true
-others_stay id other how source vs [] has = cc
-others_stay id other how source vs (r ∷ rs) has =
-    go (bytes_eq r.id other) (at (bytes_eq r.id id) has (others_stay id other how source vs rs))
-  where
-    at : (t : Bool) → t || has_row id rs ≡ true
-        → (has_row id rs ≡ true → has_row id (with_values other how source vs rs) ≡ true)
-        → t || has_row id (with_values other how source vs rs) ≡ true
-    at true h rest = refl
-    at false h rest = rest h
-
-    go : (t : Bool) → has_row id (r ∷ with_values other how source vs rs) ≡ true
-        → has_row id (if t then more_values source vs r ++ rs else r ∷ with_values other how source vs rs)
-        ≡ true
-    go true below = has
-    go false below = below
-
-default_stays : (id : Text) (rows : List Row) (a : Rule) → has_row id rows ≡ true
-    → has_row id (with_default rows a) ≡ true
-default_stays id rows a has = go (has_row a.id rows)
-  where
-    at : (vs : List Text) → has_row id (default_rows a.id (reading_by a) vs rows) ≡ true
-    at [] = has
-    at (v ∷ vs) = others_stay id a.id (reading_by a) DefaultValue (v ∷ vs) rows has
-
-    go : (t : Bool) → has_row id (if t then rows else default_rows a.id (reading_by a) a.defaults rows) ≡ true
-    go true = has
-    go false = at a.defaults
-
-defaults_stay : (id : Text) (rows : List Row) (c : List Rule) → has_row id rows ≡ true
-    → has_row id (fold with_default rows c) ≡ true
-defaults_stay id rows [] has = has
-defaults_stay id rows (a ∷ rest) has =
-    defaults_stay id (with_default rows a) rest (default_stays id rows a has)
-
-default_row : (rows : List Row) (a : Rule) → is_empty a.defaults ≡ false
-    → has_row a.id (with_default rows a) ≡ true
-default_row rows a some = go (has_row a.id rows) refl
-  where
-    at : (vs : List Text) → is_empty vs ≡ false
-        → has_row a.id (default_rows a.id (reading_by a) vs rows) ≡ true
-    at [] e = cc
-    at (v ∷ vs) e = with_values_row a.id (reading_by a) DefaultValue (v ∷ vs) rows
-
-    go : (t : Bool) → has_row a.id rows ≡ t
-        → has_row a.id (if t then rows else default_rows a.id (reading_by a) a.defaults rows) ≡ true
-    go true t = t
-    go false t = at a.defaults some
-
--- one of the arguments has this id, and a default
-abbrev pub HasDefault : Text → List Rule → Type 0
-HasDefault id [] = ⊥
-HasDefault id (a ∷ rest) = ((a.id ≡ id) × (is_empty a.defaults ≡ false)) ⊎ HasDefault id rest
-
--- so it has a row in the end
-pub defaulted_row : (id : Text) (rows : List Row) (c : List Rule) → HasDefault id c
-    → has_row id (fold with_default rows c) ≡ true
-defaulted_row id rows [] h = absurd h
-defaulted_row id rows (a ∷ rest) (inl h) =
-    defaults_stay id (with_default rows a) rest
-    (subst (λ x. has_row x (with_default rows a) ≡ true) h.0 (default_row rows a h.1))
-defaulted_row id rows (a ∷ rest) (inr h) = defaulted_row id (with_default rows a) rest h

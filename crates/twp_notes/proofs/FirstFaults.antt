@@ -1,20 +1,15 @@
 -- The first fault of notes whose records were looked at one after another.
-use Rattle.std.proofs.Common.{◌≡◌, ◌≢◌, ◌⊎◌, ℕ, ◌+◌, ◌-◌, ◌≤◌, ◌<◌, List, ◌∷◌, length, inl, inr}
-use Rattle.std.proofs.Common.{suc, Option, Some, None, IsSome, IfSome, Err, refl, ap, subst, sym}
-use Rattle.std.proofs.Common.{◌∙◌, arith}
+use Rattle.std.proofs.Common.{◌≡◌, ◌≢◌, ◌⊎◌, ℕ, ◌+◌, ◌≤◌, ◌<◌, List, length, inl, inr, suc, Option, Some}
+use Rattle.std.proofs.Common.{None, IsSome, IfSome, Err, refl, ap, subst, sym, ◌∙◌, arith}
 use Rattle.std.proofs.lemmas.Bool.{cases_lt, cases_eq}
 use Rattle.std.specs.Prelude.{slice_index_or}
 use Rattle.std.proofs.lemmas.List.{get_or_past}
 use Rattle.twp_grid.specs.Lines.{LINE_COUNT, IsLine}
-use Rattle.twp_grid.specs.Townships.{Designation}
 use Rattle.twp_notes.specs.Records.{Fields, records_of, record_at, record_numbered}
-use Rattle.twp_notes.specs.FieldNotes.{NOTES_MOST, FIELDS, heading, IsTownshipRecord, IsLineNumber}
-use Rattle.twp_notes.specs.FieldNotes.{IsNamed, NamesLine, AreNotes, nothing_returned}
+use Rattle.twp_notes.specs.FieldNotes.{FIELDS, IsLineNumber, IsNamed, NamesLine, AreNotes, nothing_returned}
 use Rattle.twp_notes.specs.NotesFaults.{HasNoRun, HasNoSection, NamesNoLine, HasNoLength, HasOnLine}
-use Rattle.twp_notes.specs.NotesFaults.{IsRepeated, HasFault, IsFrom, IsFirstFault, AnswersNotes}
-use Rattle.twp_notes.specs.NotesFaults.{refusal_of}
-use Rattle.twp_notes.specs.Tables.{entry_of, AreEntries, IsTaken, IsNamedBy, AreTaken}
-use Rattle.twp_notes.specs.Tables.{IsLeastMissing}
+use Rattle.twp_notes.specs.NotesFaults.{IsRepeated, HasFault, IsFrom, IsFirstFault, AnswersNotes, refusal_of}
+use Rattle.twp_notes.specs.Tables.{entry_of, AreEntries, IsTaken, IsNamedBy, AreTaken, IsLeastMissing}
 use Rattle.twp_notes.specs.LineFaults.{IsRefusedNext, IsRefusedAfter}
 use Rattle.twp_notes.specs.declared.fault.NotesFault.{NotesFault}
 use Rattle.twp_notes.specs.declared.fault.NotesFault.TheVariants as fault
@@ -24,72 +19,7 @@ use Rattle.twp_notes.specs.declared.reading.ReadFault.TheVariants as reading
 use Rattle.twp_notes.specs.declared.returned.Returned.{Returned}
 use Rattle.twp_notes.proofs.NameFacts.{names_one, has_run, has_section}
 use Rattle.twp_notes.proofs.FieldFacts.{has_lengths}
-
--- the bytes are few enough, and behind the heading and the township's record stand these
-pub record AreBehind (bytes : List ℕ) (rows : List Fields) : Type 0 where
-  pub size : length bytes ≤ NOTES_MOST
-  pub first : Fields
-  pub second : Fields
-  pub township : Designation
-  pub split : records_of bytes ≡ first ∷ second ∷ rows
-  pub heading_is : first ≡ heading
-  pub township_is : IsTownshipRecord second township
-
--- the first two records were read, and are right
-abbrev pub behind_of : (bytes : List ℕ) (first second : Fields) (start after rest : List Fields)
-    (township : Designation)
-    → length bytes ≤ NOTES_MOST → start ≡ records_of bytes
-    → start ≡ first ∷ after → after ≡ second ∷ rest → first ≡ heading → IsTownshipRecord second township
-    → AreBehind bytes rest
-behind_of bytes first second start after rest township size all one two heading_is township_is = record {
-  size = size;
-  first = first;
-  second = second;
-  township = township;
-  split = sym all ∙ one ∙ ap (λ (more : List Fields). first ∷ more) two;
-  heading_is = heading_is;
-  township_is = township_is;
-}
-
--- a line's record by its place behind the first two
-pub record IsPlaced (bytes : List ℕ) (rows : List Fields) (number : ℕ) : Type 0 where
-  pub place : ℕ
-  pub number_is : number ≡ place + 3
-  pub within : place < length rows
-  pub is : record_numbered (records_of bytes) number ≡ record_at rows place
-
-numbered : (first second : Fields) (rows : List Fields) (place : ℕ)
-    → record_numbered (first ∷ second ∷ rows) (place + 3) ≡ record_at rows place
-numbered first second rows place =
-    let e : place + 3 - 1 ≡ suc (suc place) = omega arith in
-    rw e refl
-
-pub placed : (bytes : List ℕ) (rows : List Fields) (number : ℕ) → AreBehind bytes rows
-    → IsLineNumber (records_of bytes) number → IsPlaced bytes rows number
-placed bytes rows number behind is =
-    let long : length (records_of bytes) ≡ suc (suc (length rows)) = ap length behind.split in
-    let from : 3 ≤ number = is.0 in
-    let to : number ≤ length (records_of bytes) = is.1 in
-    let e : number ≡ number - 3 + 3 = omega arith in
-    record {
-      place = number - 3;
-      number_is = e;
-      within = omega arith;
-      is =
-          rw behind.split
-          (subst
-          (λ n. record_numbered (behind.first ∷ behind.second ∷ rows) n ≡ record_at rows (number - 3))
-          (sym e) (numbered behind.first behind.second rows (number - 3)));
-    }
-
--- the place of a line's record is that of its number
-on_line : (Bad : Fields → Type 0) (bytes : List ℕ) (rows : List Fields) (place : ℕ) → AreBehind bytes rows
-    → place < length rows → Bad (record_at rows place) → HasOnLine bytes (place + 3) Bad
-on_line Bad bytes rows place behind within bad =
-    let long : length (records_of bytes) ≡ suc (suc (length rows)) = ap length behind.split in (
-      (omega arith, omega arith),
-      rw behind.split (subst Bad (sym (numbered behind.first behind.second rows place)) bad),
-    )
+use Rattle.twp_notes.proofs.RecordPlaces.{AreBehind, IsPlaced, placed, on_line}
 
 -- a place behind this one, or this one with a number that isn't less
 abbrev IsBehind : ℕ → ℕ → ℕ → ℕ → Type 0

@@ -5,8 +5,8 @@ use Rattle.csv.specs.Records.{fields_of}
 use Rattle.twp_notes.specs.Records.{records_of, records_left}
 use Rattle.twp_notes.specs.LineFaults.{IsRefusedAfter}
 use Rattle.twp_notes.proofs.RecordFacts.{few_records}
-use Rattle.twp_notes.proofs.FirstFaults.{behind_of, answer_refused, missing_is_first}
-use Rattle.twp_notes.proofs.FirstFaults.{notes_of_table}
+use Rattle.twp_notes.proofs.RecordPlaces.{behind_of}
+use Rattle.twp_notes.proofs.FirstFaults.{answer_refused, missing_is_first, notes_of_table}
 use Rattle.twp_notes.proofs.parsing.parse.Goals as goal
 
 pub take_lines-requires-clause-few : goal.take_lines-requires-clause-few

@@ -1,5 +1,6 @@
 use Rattle.std.proofs.Common.{◌+◌, arith}
-use Rattle.twp_land.proofs.LandFacts.{added_where_kept, added_within}
+use Rattle.twp_land.proofs.LandFacts.{added_where_kept}
+use Rattle.twp_land.proofs.LandRanges.{added_within}
 use Rattle.twp_land.proofs.sections.SectionsLand.add.Goals as goal
 
 pub invariant_of-self : goal.invariant_of-self

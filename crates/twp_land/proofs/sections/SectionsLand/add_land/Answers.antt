@@ -1,7 +1,7 @@
 -- One section more is joined.
 use Rattle.std.proofs.Common.{◌+◌, refl, arith, length-set, ◌∙◌}
-use Rattle.twp_land.proofs.LandFacts.{within_wider, joined_first, joined_next, joined_within}
-use Rattle.twp_land.proofs.LandFacts.{joined_all}
+use Rattle.twp_land.proofs.LandRanges.{within_wider}
+use Rattle.twp_land.proofs.JoinedLands.{joined_first, joined_next, joined_within, joined_all}
 use Rattle.twp_land.proofs.sections.SectionsLand.add_land.Goals as goal
 
 pub loop-index-init : goal.loop-index-init

@@ -1,7 +1,7 @@
 use Rattle.std.proofs.Common.{◌≡◌, length}
 use Rattle.twp_grid.specs.Winding.{SECTION_COUNT}
 use Rattle.twp_land.specs.Storage.{held_by_section}
-use Rattle.twp_land.proofs.LandFacts.{joined_to}
+use Rattle.twp_land.proofs.JoinedLands.{joined_to}
 use Rattle.twp_land.proofs.sections.SectionsLand.add_land.Given as goal
 
 abbrev pub invariant-loop-index : goal.invariant-loop-index

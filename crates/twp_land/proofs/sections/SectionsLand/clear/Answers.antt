@@ -1,6 +1,7 @@
 -- One section more is emptied; behind the last one nothing is left.
 use Rattle.std.proofs.Common.{◌+◌, arith, length-set, ◌∙◌}
-use Rattle.twp_land.proofs.LandFacts.{cleared_next, none_within, within_wider}
+use Rattle.twp_land.proofs.LandFacts.{cleared_next}
+use Rattle.twp_land.proofs.LandRanges.{none_within, within_wider}
 use Rattle.twp_land.proofs.sections.SectionsLand.clear.Goals as goal
 
 pub loop-index-preserved : goal.loop-index-preserved
