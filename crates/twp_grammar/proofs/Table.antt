@@ -161,536 +161,71 @@ record Row (s : State) : Type 0 where
   names_all : list_all (λ c. is_among c (next s c) (named (expected_of s))) classes ≡ true
   tells_all : list_all (λ c. is_some (next s c)) (told (expected_of s)) ≡ true
 
+a_row : {s : State} → list_all (λ c. is_edge s c (next s c)) classes ≡ true → is_end s (is_final s) ≡ true
+    → has_one_empty (rest s) ≡ true → leads_out (Some s) (way_out s) ≡ true → length (way_out s) ≤ 7
+    → next s bad_byte ≡ None → next s bad_number ≡ None → next s other ≡ None
+    → list_all (λ c. is_among c (next s c) (named (expected_of s))) classes ≡ true
+    → list_all (λ c. is_some (next s c)) (told (expected_of s)) ≡ true
+    → Row s
+a_row edges end empty out few no_byte no_number no_word names_all tells_all = record {
+  edges = edges;
+  end = end;
+  empty = empty;
+  out = out;
+  few = few;
+  no_byte = no_byte;
+  no_number = no_number;
+  no_word = no_word;
+  names_all = names_all;
+  tells_all = tells_all;
+}
+
 row : (s : State) → Row s
 unfolding rest after_all
-row past.Start = record {
-  edges = refl;
-  end = refl;
-  empty = refl;
-  out = refl;
-  few = omega arith;
-  no_byte = refl;
-  no_number = refl;
-  no_word = refl;
-  names_all = refl;
-  tells_all = refl;
-}
-row past.Township = record {
-  edges = refl;
-  end = refl;
-  empty = refl;
-  out = refl;
-  few = omega arith;
-  no_byte = refl;
-  no_number = refl;
-  no_word = refl;
-  names_all = refl;
-  tells_all = refl;
-}
-row past.TownshipStop = record {
-  edges = refl;
-  end = refl;
-  empty = refl;
-  out = refl;
-  few = omega arith;
-  no_byte = refl;
-  no_number = refl;
-  no_word = refl;
-  names_all = refl;
-  tells_all = refl;
-}
-row past.TownshipNumber = record {
-  edges = refl;
-  end = refl;
-  empty = refl;
-  out = refl;
-  few = omega arith;
-  no_byte = refl;
-  no_number = refl;
-  no_word = refl;
-  names_all = refl;
-  tells_all = refl;
-}
-row past.TownshipSide = record {
-  edges = refl;
-  end = refl;
-  empty = refl;
-  out = refl;
-  few = omega arith;
-  no_byte = refl;
-  no_number = refl;
-  no_word = refl;
-  names_all = refl;
-  tells_all = refl;
-}
-row past.TownshipSideStop = record {
-  edges = refl;
-  end = refl;
-  empty = refl;
-  out = refl;
-  few = omega arith;
-  no_byte = refl;
-  no_number = refl;
-  no_word = refl;
-  names_all = refl;
-  tells_all = refl;
-}
-row past.TownshipComma = record {
-  edges = refl;
-  end = refl;
-  empty = refl;
-  out = refl;
-  few = omega arith;
-  no_byte = refl;
-  no_number = refl;
-  no_word = refl;
-  names_all = refl;
-  tells_all = refl;
-}
-row past.Range = record {
-  edges = refl;
-  end = refl;
-  empty = refl;
-  out = refl;
-  few = omega arith;
-  no_byte = refl;
-  no_number = refl;
-  no_word = refl;
-  names_all = refl;
-  tells_all = refl;
-}
-row past.RangeStop = record {
-  edges = refl;
-  end = refl;
-  empty = refl;
-  out = refl;
-  few = omega arith;
-  no_byte = refl;
-  no_number = refl;
-  no_word = refl;
-  names_all = refl;
-  tells_all = refl;
-}
-row past.RangeNumber = record {
-  edges = refl;
-  end = refl;
-  empty = refl;
-  out = refl;
-  few = omega arith;
-  no_byte = refl;
-  no_number = refl;
-  no_word = refl;
-  names_all = refl;
-  tells_all = refl;
-}
-row past.RangeSide = record {
-  edges = refl;
-  end = refl;
-  empty = refl;
-  out = refl;
-  few = omega arith;
-  no_byte = refl;
-  no_number = refl;
-  no_word = refl;
-  names_all = refl;
-  tells_all = refl;
-}
-row past.RangeSideStop = record {
-  edges = refl;
-  end = refl;
-  empty = refl;
-  out = refl;
-  few = omega arith;
-  no_byte = refl;
-  no_number = refl;
-  no_word = refl;
-  names_all = refl;
-  tells_all = refl;
-}
-row past.SectionWord = record {
-  edges = refl;
-  end = refl;
-  empty = refl;
-  out = refl;
-  few = omega arith;
-  no_byte = refl;
-  no_number = refl;
-  no_word = refl;
-  names_all = refl;
-  tells_all = refl;
-}
-row past.SectionStop = record {
-  edges = refl;
-  end = refl;
-  empty = refl;
-  out = refl;
-  few = omega arith;
-  no_byte = refl;
-  no_number = refl;
-  no_word = refl;
-  names_all = refl;
-  tells_all = refl;
-}
-row past.SectionNumber = record {
-  edges = refl;
-  end = refl;
-  empty = refl;
-  out = refl;
-  few = omega arith;
-  no_byte = refl;
-  no_number = refl;
-  no_word = refl;
-  names_all = refl;
-  tells_all = refl;
-}
-row past.SectionComma = record {
-  edges = refl;
-  end = refl;
-  empty = refl;
-  out = refl;
-  few = omega arith;
-  no_byte = refl;
-  no_number = refl;
-  no_word = refl;
-  names_all = refl;
-  tells_all = refl;
-}
-row past.Semicolon = record {
-  edges = refl;
-  end = refl;
-  empty = refl;
-  out = refl;
-  few = omega arith;
-  no_byte = refl;
-  no_number = refl;
-  no_word = refl;
-  names_all = refl;
-  tells_all = refl;
-}
-row past.BeforeGroup = record {
-  edges = refl;
-  end = refl;
-  empty = refl;
-  out = refl;
-  few = omega arith;
-  no_byte = refl;
-  no_number = refl;
-  no_word = refl;
-  names_all = refl;
-  tells_all = refl;
-}
-row past.End = record {
-  edges = refl;
-  end = refl;
-  empty = refl;
-  out = refl;
-  few = omega arith;
-  no_byte = refl;
-  no_number = refl;
-  no_word = refl;
-  names_all = refl;
-  tells_all = refl;
-}
-row past.ListTo = record {
-  edges = refl;
-  end = refl;
-  empty = refl;
-  out = refl;
-  few = omega arith;
-  no_byte = refl;
-  no_number = refl;
-  no_word = refl;
-  names_all = refl;
-  tells_all = refl;
-}
-row past.ListAnd = record {
-  edges = refl;
-  end = refl;
-  empty = refl;
-  out = refl;
-  few = omega arith;
-  no_byte = refl;
-  no_number = refl;
-  no_word = refl;
-  names_all = refl;
-  tells_all = refl;
-}
-row past.ListNumber = record {
-  edges = refl;
-  end = refl;
-  empty = refl;
-  out = refl;
-  few = omega arith;
-  no_byte = refl;
-  no_number = refl;
-  no_word = refl;
-  names_all = refl;
-  tells_all = refl;
-}
-row past.ListLast = record {
-  edges = refl;
-  end = refl;
-  empty = refl;
-  out = refl;
-  few = omega arith;
-  no_byte = refl;
-  no_number = refl;
-  no_word = refl;
-  names_all = refl;
-  tells_all = refl;
-}
-row past.ListInclusive = record {
-  edges = refl;
-  end = refl;
-  empty = refl;
-  out = refl;
-  few = omega arith;
-  no_byte = refl;
-  no_number = refl;
-  no_word = refl;
-  names_all = refl;
-  tells_all = refl;
-}
-row past.ListComma = record {
-  edges = refl;
-  end = refl;
-  empty = refl;
-  out = refl;
-  few = omega arith;
-  no_byte = refl;
-  no_number = refl;
-  no_word = refl;
-  names_all = refl;
-  tells_all = refl;
-}
-row past.ListLastComma = record {
-  edges = refl;
-  end = refl;
-  empty = refl;
-  out = refl;
-  few = omega arith;
-  no_byte = refl;
-  no_number = refl;
-  no_word = refl;
-  names_all = refl;
-  tells_all = refl;
-}
-row past.ListColon = record {
-  edges = refl;
-  end = refl;
-  empty = refl;
-  out = refl;
-  few = omega arith;
-  no_byte = refl;
-  no_number = refl;
-  no_word = refl;
-  names_all = refl;
-  tells_all = refl;
-}
-row past.ListAll = record {
-  edges = refl;
-  end = refl;
-  empty = refl;
-  out = refl;
-  few = omega arith;
-  no_byte = refl;
-  no_number = refl;
-  no_word = refl;
-  names_all = refl;
-  tells_all = refl;
-}
-row past.Lot = record {
-  edges = refl;
-  end = refl;
-  empty = refl;
-  out = refl;
-  few = omega arith;
-  no_byte = refl;
-  no_number = refl;
-  no_word = refl;
-  names_all = refl;
-  tells_all = refl;
-}
-row past.LotNumber = record {
-  edges = refl;
-  end = refl;
-  empty = refl;
-  out = refl;
-  few = omega arith;
-  no_byte = refl;
-  no_number = refl;
-  no_word = refl;
-  names_all = refl;
-  tells_all = refl;
-}
-row past.LotTo = record {
-  edges = refl;
-  end = refl;
-  empty = refl;
-  out = refl;
-  few = omega arith;
-  no_byte = refl;
-  no_number = refl;
-  no_word = refl;
-  names_all = refl;
-  tells_all = refl;
-}
-row past.LotLast = record {
-  edges = refl;
-  end = refl;
-  empty = refl;
-  out = refl;
-  few = omega arith;
-  no_byte = refl;
-  no_number = refl;
-  no_word = refl;
-  names_all = refl;
-  tells_all = refl;
-}
-row past.LotInclusive = record {
-  edges = refl;
-  end = refl;
-  empty = refl;
-  out = refl;
-  few = omega arith;
-  no_byte = refl;
-  no_number = refl;
-  no_word = refl;
-  names_all = refl;
-  tells_all = refl;
-}
-row past.LotComma = record {
-  edges = refl;
-  end = refl;
-  empty = refl;
-  out = refl;
-  few = omega arith;
-  no_byte = refl;
-  no_number = refl;
-  no_word = refl;
-  names_all = refl;
-  tells_all = refl;
-}
-row past.LotLastComma = record {
-  edges = refl;
-  end = refl;
-  empty = refl;
-  out = refl;
-  few = omega arith;
-  no_byte = refl;
-  no_number = refl;
-  no_word = refl;
-  names_all = refl;
-  tells_all = refl;
-}
-row past.LotAnd = record {
-  edges = refl;
-  end = refl;
-  empty = refl;
-  out = refl;
-  few = omega arith;
-  no_byte = refl;
-  no_number = refl;
-  no_word = refl;
-  names_all = refl;
-  tells_all = refl;
-}
-row past.BeforePart = record {
-  edges = refl;
-  end = refl;
-  empty = refl;
-  out = refl;
-  few = omega arith;
-  no_byte = refl;
-  no_number = refl;
-  no_word = refl;
-  names_all = refl;
-  tells_all = refl;
-}
-row past.Side = record {
-  edges = refl;
-  end = refl;
-  empty = refl;
-  out = refl;
-  few = omega arith;
-  no_byte = refl;
-  no_number = refl;
-  no_word = refl;
-  names_all = refl;
-  tells_all = refl;
-}
-row past.Corner = record {
-  edges = refl;
-  end = refl;
-  empty = refl;
-  out = refl;
-  few = omega arith;
-  no_byte = refl;
-  no_number = refl;
-  no_word = refl;
-  names_all = refl;
-  tells_all = refl;
-}
-row past.All = record {
-  edges = refl;
-  end = refl;
-  empty = refl;
-  out = refl;
-  few = omega arith;
-  no_byte = refl;
-  no_number = refl;
-  no_word = refl;
-  names_all = refl;
-  tells_all = refl;
-}
-row past.PartComma = record {
-  edges = refl;
-  end = refl;
-  empty = refl;
-  out = refl;
-  few = omega arith;
-  no_byte = refl;
-  no_number = refl;
-  no_word = refl;
-  names_all = refl;
-  tells_all = refl;
-}
-row past.Step = record {
-  edges = refl;
-  end = refl;
-  empty = refl;
-  out = refl;
-  few = omega arith;
-  no_byte = refl;
-  no_number = refl;
-  no_word = refl;
-  names_all = refl;
-  tells_all = refl;
-}
-row past.Of = record {
-  edges = refl;
-  end = refl;
-  empty = refl;
-  out = refl;
-  few = omega arith;
-  no_byte = refl;
-  no_number = refl;
-  no_word = refl;
-  names_all = refl;
-  tells_all = refl;
-}
-row past.OfThe = record {
-  edges = refl;
-  end = refl;
-  empty = refl;
-  out = refl;
-  few = omega arith;
-  no_byte = refl;
-  no_number = refl;
-  no_word = refl;
-  names_all = refl;
-  tells_all = refl;
-}
+row past.Start = a_row refl refl refl refl (omega arith) refl refl refl refl refl
+row past.Township = a_row refl refl refl refl (omega arith) refl refl refl refl refl
+row past.TownshipStop = a_row refl refl refl refl (omega arith) refl refl refl refl refl
+row past.TownshipNumber = a_row refl refl refl refl (omega arith) refl refl refl refl refl
+row past.TownshipSide = a_row refl refl refl refl (omega arith) refl refl refl refl refl
+row past.TownshipSideStop = a_row refl refl refl refl (omega arith) refl refl refl refl refl
+row past.TownshipComma = a_row refl refl refl refl (omega arith) refl refl refl refl refl
+row past.Range = a_row refl refl refl refl (omega arith) refl refl refl refl refl
+row past.RangeStop = a_row refl refl refl refl (omega arith) refl refl refl refl refl
+row past.RangeNumber = a_row refl refl refl refl (omega arith) refl refl refl refl refl
+row past.RangeSide = a_row refl refl refl refl (omega arith) refl refl refl refl refl
+row past.RangeSideStop = a_row refl refl refl refl (omega arith) refl refl refl refl refl
+row past.SectionWord = a_row refl refl refl refl (omega arith) refl refl refl refl refl
+row past.SectionStop = a_row refl refl refl refl (omega arith) refl refl refl refl refl
+row past.SectionNumber = a_row refl refl refl refl (omega arith) refl refl refl refl refl
+row past.SectionComma = a_row refl refl refl refl (omega arith) refl refl refl refl refl
+row past.Semicolon = a_row refl refl refl refl (omega arith) refl refl refl refl refl
+row past.BeforeGroup = a_row refl refl refl refl (omega arith) refl refl refl refl refl
+row past.End = a_row refl refl refl refl (omega arith) refl refl refl refl refl
+row past.ListTo = a_row refl refl refl refl (omega arith) refl refl refl refl refl
+row past.ListAnd = a_row refl refl refl refl (omega arith) refl refl refl refl refl
+row past.ListNumber = a_row refl refl refl refl (omega arith) refl refl refl refl refl
+row past.ListLast = a_row refl refl refl refl (omega arith) refl refl refl refl refl
+row past.ListInclusive = a_row refl refl refl refl (omega arith) refl refl refl refl refl
+row past.ListComma = a_row refl refl refl refl (omega arith) refl refl refl refl refl
+row past.ListLastComma = a_row refl refl refl refl (omega arith) refl refl refl refl refl
+row past.ListColon = a_row refl refl refl refl (omega arith) refl refl refl refl refl
+row past.ListAll = a_row refl refl refl refl (omega arith) refl refl refl refl refl
+row past.Lot = a_row refl refl refl refl (omega arith) refl refl refl refl refl
+row past.LotNumber = a_row refl refl refl refl (omega arith) refl refl refl refl refl
+row past.LotTo = a_row refl refl refl refl (omega arith) refl refl refl refl refl
+row past.LotLast = a_row refl refl refl refl (omega arith) refl refl refl refl refl
+row past.LotInclusive = a_row refl refl refl refl (omega arith) refl refl refl refl refl
+row past.LotComma = a_row refl refl refl refl (omega arith) refl refl refl refl refl
+row past.LotLastComma = a_row refl refl refl refl (omega arith) refl refl refl refl refl
+row past.LotAnd = a_row refl refl refl refl (omega arith) refl refl refl refl refl
+row past.BeforePart = a_row refl refl refl refl (omega arith) refl refl refl refl refl
+row past.Side = a_row refl refl refl refl (omega arith) refl refl refl refl refl
+row past.Corner = a_row refl refl refl refl (omega arith) refl refl refl refl refl
+row past.All = a_row refl refl refl refl (omega arith) refl refl refl refl refl
+row past.PartComma = a_row refl refl refl refl (omega arith) refl refl refl refl refl
+row past.Step = a_row refl refl refl refl (omega arith) refl refl refl refl refl
+row past.Of = a_row refl refl refl refl (omega arith) refl refl refl refl refl
+row past.OfThe = a_row refl refl refl refl (omega arith) refl refl refl refl refl
 
 same_tells : (g h : Ebnf) → same g h ≡ true → g ≡ h
 same_tells never never e = refl

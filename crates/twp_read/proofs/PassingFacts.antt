@@ -496,112 +496,31 @@ record GrowsBy (state : State) (it : Step) : Type 0 where
   grown : (at : ℕ) (its : List Item) → take_token state (letters_of it) at its ≡ with_newest (Grown it) its
   kept : (at : ℕ) (its : List Item) → take_token between (fraction_of it) at its ≡ its
 
+grown_by : {state : State} {it : Step} (between : State)
+    → next state (class_of (letters_of it)) ≡ Some between
+    → next between (class_of (fraction_of it)) ≡ Some past.Step
+    → ((at : ℕ) (its : List Item) → take_token state (letters_of it) at its ≡ with_newest (Grown it) its)
+    → ((at : ℕ) (its : List Item) → take_token between (fraction_of it) at its ≡ its)
+    → GrowsBy state it
+grown_by between letters fraction grown kept =
+    record { between = between; letters = letters; fraction = fraction; grown = grown; kept = kept }
+
 grows_by : (state : State) (it : Step) → is_in_chain state ≡ true → GrowsBy state it
-grows_by past.Step (step.Half side.N) h = record {
-  between = past.Side;
-  letters = refl;
-  fraction = refl;
-  grown = λ at its. refl;
-  kept = λ at its. refl;
-}
-grows_by past.Step (step.Half side.S) h = record {
-  between = past.Side;
-  letters = refl;
-  fraction = refl;
-  grown = λ at its. refl;
-  kept = λ at its. refl;
-}
-grows_by past.Step (step.Half side.E) h = record {
-  between = past.Side;
-  letters = refl;
-  fraction = refl;
-  grown = λ at its. refl;
-  kept = λ at its. refl;
-}
-grows_by past.Step (step.Half side.W) h = record {
-  between = past.Side;
-  letters = refl;
-  fraction = refl;
-  grown = λ at its. refl;
-  kept = λ at its. refl;
-}
-grows_by past.Step (step.Quarter corner) h = record {
-  between = past.Corner;
-  letters = refl;
-  fraction = refl;
-  grown = λ at its. refl;
-  kept = λ at its. refl;
-}
-grows_by past.Of (step.Half side.N) h = record {
-  between = past.Side;
-  letters = refl;
-  fraction = refl;
-  grown = λ at its. refl;
-  kept = λ at its. refl;
-}
-grows_by past.Of (step.Half side.S) h = record {
-  between = past.Side;
-  letters = refl;
-  fraction = refl;
-  grown = λ at its. refl;
-  kept = λ at its. refl;
-}
-grows_by past.Of (step.Half side.E) h = record {
-  between = past.Side;
-  letters = refl;
-  fraction = refl;
-  grown = λ at its. refl;
-  kept = λ at its. refl;
-}
-grows_by past.Of (step.Half side.W) h = record {
-  between = past.Side;
-  letters = refl;
-  fraction = refl;
-  grown = λ at its. refl;
-  kept = λ at its. refl;
-}
-grows_by past.Of (step.Quarter corner) h = record {
-  between = past.Corner;
-  letters = refl;
-  fraction = refl;
-  grown = λ at its. refl;
-  kept = λ at its. refl;
-}
-grows_by past.OfThe (step.Half side.N) h = record {
-  between = past.Side;
-  letters = refl;
-  fraction = refl;
-  grown = λ at its. refl;
-  kept = λ at its. refl;
-}
-grows_by past.OfThe (step.Half side.S) h = record {
-  between = past.Side;
-  letters = refl;
-  fraction = refl;
-  grown = λ at its. refl;
-  kept = λ at its. refl;
-}
-grows_by past.OfThe (step.Half side.E) h = record {
-  between = past.Side;
-  letters = refl;
-  fraction = refl;
-  grown = λ at its. refl;
-  kept = λ at its. refl;
-}
-grows_by past.OfThe (step.Half side.W) h = record {
-  between = past.Side;
-  letters = refl;
-  fraction = refl;
-  grown = λ at its. refl;
-  kept = λ at its. refl;
-}
-grows_by past.OfThe (step.Quarter corner) h = record {
-  between = past.Corner;
-  letters = refl;
-  fraction = refl;
-  grown = λ at its. refl;
-  kept = λ at its. refl;
-}
+grows_by past.Step (step.Half side.N) h = grown_by past.Side refl refl (λ at its. refl) (λ at its. refl)
+grows_by past.Step (step.Half side.S) h = grown_by past.Side refl refl (λ at its. refl) (λ at its. refl)
+grows_by past.Step (step.Half side.E) h = grown_by past.Side refl refl (λ at its. refl) (λ at its. refl)
+grows_by past.Step (step.Half side.W) h = grown_by past.Side refl refl (λ at its. refl) (λ at its. refl)
+grows_by past.Step (step.Quarter corner) h = grown_by past.Corner refl refl (λ at its. refl) (λ at its. refl)
+grows_by past.Of (step.Half side.N) h = grown_by past.Side refl refl (λ at its. refl) (λ at its. refl)
+grows_by past.Of (step.Half side.S) h = grown_by past.Side refl refl (λ at its. refl) (λ at its. refl)
+grows_by past.Of (step.Half side.E) h = grown_by past.Side refl refl (λ at its. refl) (λ at its. refl)
+grows_by past.Of (step.Half side.W) h = grown_by past.Side refl refl (λ at its. refl) (λ at its. refl)
+grows_by past.Of (step.Quarter corner) h = grown_by past.Corner refl refl (λ at its. refl) (λ at its. refl)
+grows_by past.OfThe (step.Half side.N) h = grown_by past.Side refl refl (λ at its. refl) (λ at its. refl)
+grows_by past.OfThe (step.Half side.S) h = grown_by past.Side refl refl (λ at its. refl) (λ at its. refl)
+grows_by past.OfThe (step.Half side.E) h = grown_by past.Side refl refl (λ at its. refl) (λ at its. refl)
+grows_by past.OfThe (step.Half side.W) h = grown_by past.Side refl refl (λ at its. refl) (λ at its. refl)
+grows_by past.OfThe (step.Quarter corner) h = grown_by past.Corner refl refl (λ at its. refl) (λ at its. refl)
 grows_by _ it h = cc h
 
 stands_leads : (text : List ℕ) (at : ℕ) (state : State) (its : List Item) (kind : Kind) (size : ℕ)
@@ -647,252 +566,87 @@ record BeginsWith (state : State) (it : Step) : Type 0 where
       → take_token state (letters_of it) at its ≡ Chain (it ∷ []) at ∷ before_parts state its
   kept : (at : ℕ) (its : List Item) → take_token between (fraction_of it) at its ≡ its
 
+begun_by : {state : State} {it : Step} (between : State)
+    → next state (class_of (letters_of it)) ≡ Some between
+    → next between (class_of (fraction_of it)) ≡ Some past.Step
+    → ((at : ℕ) (its : List Item)
+    → take_token state (letters_of it) at its ≡ Chain (it ∷ []) at ∷ before_parts state its)
+    → ((at : ℕ) (its : List Item) → take_token between (fraction_of it) at its ≡ its)
+    → BeginsWith state it
+begun_by between letters fraction begun kept =
+    record { between = between; letters = letters; fraction = fraction; begun = begun; kept = kept }
+
 part_begins_with : (state : State) (it : Step) → is_some (next state lot) ≡ true → BeginsWith state it
-part_begins_with past.SectionNumber (step.Half side.N) h = record {
-  between = past.Side;
-  letters = refl;
-  fraction = refl;
-  begun = λ at its. refl;
-  kept = λ at its. refl;
-}
-part_begins_with past.SectionNumber (step.Half side.S) h = record {
-  between = past.Side;
-  letters = refl;
-  fraction = refl;
-  begun = λ at its. refl;
-  kept = λ at its. refl;
-}
-part_begins_with past.SectionNumber (step.Half side.E) h = record {
-  between = past.Side;
-  letters = refl;
-  fraction = refl;
-  begun = λ at its. refl;
-  kept = λ at its. refl;
-}
-part_begins_with past.SectionNumber (step.Half side.W) h = record {
-  between = past.Side;
-  letters = refl;
-  fraction = refl;
-  begun = λ at its. refl;
-  kept = λ at its. refl;
-}
-part_begins_with past.SectionNumber (step.Quarter which) h = record {
-  between = past.Corner;
-  letters = refl;
-  fraction = refl;
-  begun = λ at its. refl;
-  kept = λ at its. refl;
-}
-part_begins_with past.SectionComma (step.Half side.N) h = record {
-  between = past.Side;
-  letters = refl;
-  fraction = refl;
-  begun = λ at its. refl;
-  kept = λ at its. refl;
-}
-part_begins_with past.SectionComma (step.Half side.S) h = record {
-  between = past.Side;
-  letters = refl;
-  fraction = refl;
-  begun = λ at its. refl;
-  kept = λ at its. refl;
-}
-part_begins_with past.SectionComma (step.Half side.E) h = record {
-  between = past.Side;
-  letters = refl;
-  fraction = refl;
-  begun = λ at its. refl;
-  kept = λ at its. refl;
-}
-part_begins_with past.SectionComma (step.Half side.W) h = record {
-  between = past.Side;
-  letters = refl;
-  fraction = refl;
-  begun = λ at its. refl;
-  kept = λ at its. refl;
-}
-part_begins_with past.SectionComma (step.Quarter which) h = record {
-  between = past.Corner;
-  letters = refl;
-  fraction = refl;
-  begun = λ at its. refl;
-  kept = λ at its. refl;
-}
-part_begins_with past.LotComma (step.Half side.N) h = record {
-  between = past.Side;
-  letters = refl;
-  fraction = refl;
-  begun = λ at its. refl;
-  kept = λ at its. refl;
-}
-part_begins_with past.LotComma (step.Half side.S) h = record {
-  between = past.Side;
-  letters = refl;
-  fraction = refl;
-  begun = λ at its. refl;
-  kept = λ at its. refl;
-}
-part_begins_with past.LotComma (step.Half side.E) h = record {
-  between = past.Side;
-  letters = refl;
-  fraction = refl;
-  begun = λ at its. refl;
-  kept = λ at its. refl;
-}
-part_begins_with past.LotComma (step.Half side.W) h = record {
-  between = past.Side;
-  letters = refl;
-  fraction = refl;
-  begun = λ at its. refl;
-  kept = λ at its. refl;
-}
-part_begins_with past.LotComma (step.Quarter which) h = record {
-  between = past.Corner;
-  letters = refl;
-  fraction = refl;
-  begun = λ at its. refl;
-  kept = λ at its. refl;
-}
-part_begins_with past.LotLastComma (step.Half side.N) h = record {
-  between = past.Side;
-  letters = refl;
-  fraction = refl;
-  begun = λ at its. refl;
-  kept = λ at its. refl;
-}
-part_begins_with past.LotLastComma (step.Half side.S) h = record {
-  between = past.Side;
-  letters = refl;
-  fraction = refl;
-  begun = λ at its. refl;
-  kept = λ at its. refl;
-}
-part_begins_with past.LotLastComma (step.Half side.E) h = record {
-  between = past.Side;
-  letters = refl;
-  fraction = refl;
-  begun = λ at its. refl;
-  kept = λ at its. refl;
-}
-part_begins_with past.LotLastComma (step.Half side.W) h = record {
-  between = past.Side;
-  letters = refl;
-  fraction = refl;
-  begun = λ at its. refl;
-  kept = λ at its. refl;
-}
-part_begins_with past.LotLastComma (step.Quarter which) h = record {
-  between = past.Corner;
-  letters = refl;
-  fraction = refl;
-  begun = λ at its. refl;
-  kept = λ at its. refl;
-}
-part_begins_with past.LotAnd (step.Half side.N) h = record {
-  between = past.Side;
-  letters = refl;
-  fraction = refl;
-  begun = λ at its. refl;
-  kept = λ at its. refl;
-}
-part_begins_with past.LotAnd (step.Half side.S) h = record {
-  between = past.Side;
-  letters = refl;
-  fraction = refl;
-  begun = λ at its. refl;
-  kept = λ at its. refl;
-}
-part_begins_with past.LotAnd (step.Half side.E) h = record {
-  between = past.Side;
-  letters = refl;
-  fraction = refl;
-  begun = λ at its. refl;
-  kept = λ at its. refl;
-}
-part_begins_with past.LotAnd (step.Half side.W) h = record {
-  between = past.Side;
-  letters = refl;
-  fraction = refl;
-  begun = λ at its. refl;
-  kept = λ at its. refl;
-}
-part_begins_with past.LotAnd (step.Quarter which) h = record {
-  between = past.Corner;
-  letters = refl;
-  fraction = refl;
-  begun = λ at its. refl;
-  kept = λ at its. refl;
-}
-part_begins_with past.BeforePart (step.Half side.N) h = record {
-  between = past.Side;
-  letters = refl;
-  fraction = refl;
-  begun = λ at its. refl;
-  kept = λ at its. refl;
-}
-part_begins_with past.BeforePart (step.Half side.S) h = record {
-  between = past.Side;
-  letters = refl;
-  fraction = refl;
-  begun = λ at its. refl;
-  kept = λ at its. refl;
-}
-part_begins_with past.BeforePart (step.Half side.E) h = record {
-  between = past.Side;
-  letters = refl;
-  fraction = refl;
-  begun = λ at its. refl;
-  kept = λ at its. refl;
-}
-part_begins_with past.BeforePart (step.Half side.W) h = record {
-  between = past.Side;
-  letters = refl;
-  fraction = refl;
-  begun = λ at its. refl;
-  kept = λ at its. refl;
-}
-part_begins_with past.BeforePart (step.Quarter which) h = record {
-  between = past.Corner;
-  letters = refl;
-  fraction = refl;
-  begun = λ at its. refl;
-  kept = λ at its. refl;
-}
-part_begins_with past.PartComma (step.Half side.N) h = record {
-  between = past.Side;
-  letters = refl;
-  fraction = refl;
-  begun = λ at its. refl;
-  kept = λ at its. refl;
-}
-part_begins_with past.PartComma (step.Half side.S) h = record {
-  between = past.Side;
-  letters = refl;
-  fraction = refl;
-  begun = λ at its. refl;
-  kept = λ at its. refl;
-}
-part_begins_with past.PartComma (step.Half side.E) h = record {
-  between = past.Side;
-  letters = refl;
-  fraction = refl;
-  begun = λ at its. refl;
-  kept = λ at its. refl;
-}
-part_begins_with past.PartComma (step.Half side.W) h = record {
-  between = past.Side;
-  letters = refl;
-  fraction = refl;
-  begun = λ at its. refl;
-  kept = λ at its. refl;
-}
-part_begins_with past.PartComma (step.Quarter which) h = record {
-  between = past.Corner;
-  letters = refl;
-  fraction = refl;
-  begun = λ at its. refl;
-  kept = λ at its. refl;
-}
+part_begins_with past.SectionNumber (step.Half side.N) h =
+    begun_by past.Side refl refl (λ at its. refl) (λ at its. refl)
+part_begins_with past.SectionNumber (step.Half side.S) h =
+    begun_by past.Side refl refl (λ at its. refl) (λ at its. refl)
+part_begins_with past.SectionNumber (step.Half side.E) h =
+    begun_by past.Side refl refl (λ at its. refl) (λ at its. refl)
+part_begins_with past.SectionNumber (step.Half side.W) h =
+    begun_by past.Side refl refl (λ at its. refl) (λ at its. refl)
+part_begins_with past.SectionNumber (step.Quarter which) h =
+    begun_by past.Corner refl refl (λ at its. refl) (λ at its. refl)
+part_begins_with past.SectionComma (step.Half side.N) h =
+    begun_by past.Side refl refl (λ at its. refl) (λ at its. refl)
+part_begins_with past.SectionComma (step.Half side.S) h =
+    begun_by past.Side refl refl (λ at its. refl) (λ at its. refl)
+part_begins_with past.SectionComma (step.Half side.E) h =
+    begun_by past.Side refl refl (λ at its. refl) (λ at its. refl)
+part_begins_with past.SectionComma (step.Half side.W) h =
+    begun_by past.Side refl refl (λ at its. refl) (λ at its. refl)
+part_begins_with past.SectionComma (step.Quarter which) h =
+    begun_by past.Corner refl refl (λ at its. refl) (λ at its. refl)
+part_begins_with past.LotComma (step.Half side.N) h =
+    begun_by past.Side refl refl (λ at its. refl) (λ at its. refl)
+part_begins_with past.LotComma (step.Half side.S) h =
+    begun_by past.Side refl refl (λ at its. refl) (λ at its. refl)
+part_begins_with past.LotComma (step.Half side.E) h =
+    begun_by past.Side refl refl (λ at its. refl) (λ at its. refl)
+part_begins_with past.LotComma (step.Half side.W) h =
+    begun_by past.Side refl refl (λ at its. refl) (λ at its. refl)
+part_begins_with past.LotComma (step.Quarter which) h =
+    begun_by past.Corner refl refl (λ at its. refl) (λ at its. refl)
+part_begins_with past.LotLastComma (step.Half side.N) h =
+    begun_by past.Side refl refl (λ at its. refl) (λ at its. refl)
+part_begins_with past.LotLastComma (step.Half side.S) h =
+    begun_by past.Side refl refl (λ at its. refl) (λ at its. refl)
+part_begins_with past.LotLastComma (step.Half side.E) h =
+    begun_by past.Side refl refl (λ at its. refl) (λ at its. refl)
+part_begins_with past.LotLastComma (step.Half side.W) h =
+    begun_by past.Side refl refl (λ at its. refl) (λ at its. refl)
+part_begins_with past.LotLastComma (step.Quarter which) h =
+    begun_by past.Corner refl refl (λ at its. refl) (λ at its. refl)
+part_begins_with past.LotAnd (step.Half side.N) h =
+    begun_by past.Side refl refl (λ at its. refl) (λ at its. refl)
+part_begins_with past.LotAnd (step.Half side.S) h =
+    begun_by past.Side refl refl (λ at its. refl) (λ at its. refl)
+part_begins_with past.LotAnd (step.Half side.E) h =
+    begun_by past.Side refl refl (λ at its. refl) (λ at its. refl)
+part_begins_with past.LotAnd (step.Half side.W) h =
+    begun_by past.Side refl refl (λ at its. refl) (λ at its. refl)
+part_begins_with past.LotAnd (step.Quarter which) h =
+    begun_by past.Corner refl refl (λ at its. refl) (λ at its. refl)
+part_begins_with past.BeforePart (step.Half side.N) h =
+    begun_by past.Side refl refl (λ at its. refl) (λ at its. refl)
+part_begins_with past.BeforePart (step.Half side.S) h =
+    begun_by past.Side refl refl (λ at its. refl) (λ at its. refl)
+part_begins_with past.BeforePart (step.Half side.E) h =
+    begun_by past.Side refl refl (λ at its. refl) (λ at its. refl)
+part_begins_with past.BeforePart (step.Half side.W) h =
+    begun_by past.Side refl refl (λ at its. refl) (λ at its. refl)
+part_begins_with past.BeforePart (step.Quarter which) h =
+    begun_by past.Corner refl refl (λ at its. refl) (λ at its. refl)
+part_begins_with past.PartComma (step.Half side.N) h =
+    begun_by past.Side refl refl (λ at its. refl) (λ at its. refl)
+part_begins_with past.PartComma (step.Half side.S) h =
+    begun_by past.Side refl refl (λ at its. refl) (λ at its. refl)
+part_begins_with past.PartComma (step.Half side.E) h =
+    begun_by past.Side refl refl (λ at its. refl) (λ at its. refl)
+part_begins_with past.PartComma (step.Half side.W) h =
+    begun_by past.Side refl refl (λ at its. refl) (λ at its. refl)
+part_begins_with past.PartComma (step.Quarter which) h =
+    begun_by past.Corner refl refl (λ at its. refl) (λ at its. refl)
 part_begins_with _ it h = cc h
 
 white_append : (xs ys : List ℕ) → list_all is_white xs ≡ true → list_all is_white ys ≡ true
