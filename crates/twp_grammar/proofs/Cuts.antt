@@ -1,15 +1,15 @@
 -- The token that is cut off bytes is the one token that they begin with.
-use Rattle.std.proofs.Common.{◌≡◌, ◌==◌, ℕ, zero, suc, ◌+◌, ◌<◌, ◌≤◌, ◌⊎◌, Bool, true, false, cond, ◌&&◌}
-use Rattle.std.proofs.Common.{List, [], ◌∷◌, ◌++◌, length, take, drop, slice_index, refl, sym, ap, subst, ◌∙◌}
-use Rattle.std.proofs.Common.{inl, inr, arith, one-add, le-leb, not}
+use Rattle.std.proofs.Common.{◌≡◌, ◌==◌, ℕ, zero, suc, ◌<◌, ◌≤◌, ◌⊎◌, Bool, true, false, cond, ◌&&◌, List, []}
+use Rattle.std.proofs.Common.{◌∷◌, ◌++◌, length, take, drop, slice_index, refl, sym, ap, subst, ◌∙◌, inl, inr}
+use Rattle.std.proofs.Common.{arith, le-leb, not}
 use Rattle.std.specs.Char.{is_ascii_alphabetic, is_ascii_digit}
 use Rattle.std.specs.List.{prefix_len, list_all}
 use Rattle.std.specs.Str.Parse.{digits_value}
 use Rattle.std.proofs.lemmas.Bool.{eqb-true, eq-eqb, false≢true}
 use Rattle.std.proofs.Math.Dec.{leb}
-use Rattle.std.proofs.lemmas.Bool.Decides.{nat_tests, leb_tells}
+use Rattle.std.proofs.lemmas.Bool.Decides.{leb_tells}
 use Rattle.std.proofs.lemmas.List.{take-append-drop}
-use Rattle.std.proofs.lemmas.List.Sums.{AllPass-from_list_all, list_all-from_AllPass, prefix_len-le-length}
+use Rattle.std.proofs.lemmas.List.Sums.{list_all-from_AllPass, prefix_len-le-length}
 use Rattle.std.proofs.lemmas.List.Folds.{length-prefix_len}
 use Rattle.std.proofs.Math.Seq.{take-append_seam}
 use Rattle.twp_grammar.specs.declared.kind.Kind.{Kind}
@@ -22,67 +22,8 @@ use Rattle.twp_grammar.specs.Tokens.{is_white, Word, same_bytes, words, kind_amo
 use Rattle.twp_grammar.specs.Tokens.{IsWholeRun, Begins, IsNumber, IsGoodToken, a_word, a_number}
 use Rattle.twp_grammar.specs.Tokens.{a_bad_number, a_half, a_half_sign, a_quarter, a_quarter_sign, a_comma}
 use Rattle.twp_grammar.specs.Tokens.{a_semicolon, a_colon, a_stop, NoGoodToken, IsToken, good, bad}
-
--- which bytes a byte isn't
-letter_no_digit : (byte : ℕ) → is_ascii_digit byte ≡ true → is_ascii_alphabetic byte ≡ false
-letter_no_digit byte h = grind (arith, nat_tests)
-
-letter_no_space : (byte : ℕ) → is_ascii_alphabetic byte ≡ true → is_white byte ≡ false
-letter_no_space byte h = grind (arith, nat_tests)
-
-pub digit_no_space : (byte : ℕ) → is_ascii_digit byte ≡ true → is_white byte ≡ false
-digit_no_space byte h = grind (arith, nat_tests)
-
-both : (x y : Bool) → (x && y) ≡ true → (x ≡ true) × (y ≡ true)
-both true y h = (refl, h)
-both false y h = cc h
-
--- the length of a run that ends
-pub run_len : (p : ℕ → Bool) (text rest : List ℕ) → list_all p text ≡ true → begins_with p rest ≡ false
-    → prefix_len p (text ++ rest) ≡ length text
-run_len p [] [] all end = refl
-run_len p [] (byte ∷ rest) all end = ap (λ x. cond x (1 + prefix_len p rest) 0) end
-run_len p (byte ∷ text) rest all end =
-    let parts = both (p byte) (list_all p text) all in
-    ap (λ x. cond x (1 + prefix_len p (text ++ rest)) 0) parts.0
-    ∙ ap (λ n. 1 + n) (run_len p text rest parts.1 end)
-    ∙ one-add (length text)
-
-run_of : (p : ℕ → Bool) (text rest : List ℕ) → IsWholeRun p text rest
-    → prefix_len p (text ++ rest) ≡ length text
-run_of p text rest run = run_len p text rest (list_all-from_AllPass p text run.all) run.ends
-
--- the run in front of bytes is a whole one
-pub front_passes : (p : ℕ → Bool) (bytes : List ℕ) → list_all p (take (prefix_len p bytes) bytes) ≡ true
-front_passes p [] = refl
-front_passes p (byte ∷ bytes) = step p byte bytes (p byte) refl (front_passes p bytes)
-  where
-    step : (p : ℕ → Bool) (byte : ℕ) (bytes : List ℕ) (x : Bool) → p byte ≡ x
-        → list_all p (take (prefix_len p bytes) bytes) ≡ true
-        → list_all p (take (cond x (1 + prefix_len p bytes) 0) (byte ∷ bytes)) ≡ true
-    step p byte bytes true e more = rw one-add (rw e more)
-    step p byte bytes false e more = refl
-
-pub front_ends : (p : ℕ → Bool) (bytes : List ℕ) → begins_with p (drop (prefix_len p bytes) bytes) ≡ false
-front_ends p [] = refl
-front_ends p (byte ∷ bytes) = step p byte bytes (p byte) refl (front_ends p bytes)
-  where
-    step : (p : ℕ → Bool) (byte : ℕ) (bytes : List ℕ) (x : Bool) → p byte ≡ x
-        → begins_with p (drop (prefix_len p bytes) bytes) ≡ false
-        → begins_with p (drop (cond x (1 + prefix_len p bytes) 0) (byte ∷ bytes)) ≡ false
-    step p byte bytes true e more = rw one-add more
-    step p byte bytes false e more = e
-
-front_run : (p : ℕ → Bool) (bytes : List ℕ) → 0 < prefix_len p bytes
-    → IsWholeRun p (take (prefix_len p bytes) bytes) (drop (prefix_len p bytes) bytes)
-front_run p bytes some = record {
-  some = rw length-prefix_len some;
-  all = AllPass-from_list_all p _ (front_passes p bytes);
-  ends = front_ends p bytes;
-}
-
-starts_run : (p : ℕ → Bool) (byte : ℕ) (bytes : List ℕ) → p byte ≡ true → 0 < prefix_len p (byte ∷ bytes)
-starts_run p byte bytes h = rw h (omega arith)
+use Rattle.twp_grammar.proofs.ByteRuns.{letter_no_digit, letter_no_space, digit_no_space, both, run_of}
+use Rattle.twp_grammar.proofs.ByteRuns.{front_run, starts_run}
 
 -- a half or a quarter in digits is there where its three bytes are
 abbrev three : List ℕ → ℕ → Bool

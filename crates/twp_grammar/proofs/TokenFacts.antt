@@ -12,8 +12,8 @@ use Rattle.twp_grammar.specs.declared.kind.Kind.{Kind}
 use Rattle.twp_grammar.specs.declared.lexeme.Lexeme.{Lexeme}
 use Rattle.twp_grammar.specs.Cutting.{lexeme, cut, IsFirstIn}
 use Rattle.twp_grammar.specs.Tokens.{is_white, begins_with, StartsWith, HasTokens, Token}
-use Rattle.twp_grammar.proofs.Cuts.{run_len, front_passes, front_ends, IsTheCut, the_cut, IsFirstToken}
-use Rattle.twp_grammar.proofs.Cuts.{cut_is_token, kind_of_cut, size_of_cut}
+use Rattle.twp_grammar.proofs.ByteRuns.{run_len, front_passes, front_ends}
+use Rattle.twp_grammar.proofs.Cuts.{IsTheCut, the_cut, IsFirstToken, cut_is_token, kind_of_cut, size_of_cut}
 
 abbrev spaces : List ℕ → ℕ
 spaces bytes = prefix_len is_white bytes

@@ -26,8 +26,8 @@ use Rattle.twp_grammar.specs.Grammar.{class_of, sec, lot, stop, comma, number}
 use Rattle.twp_grammar.specs.Machine.{next}
 use Rattle.twp_read.specs.TokenSteps.{take_token, take_township, take_number, before_parts, with_newest}
 use Rattle.twp_read.specs.Passing.{Leads, IsNumberBehind}
-use Rattle.twp_read.proofs.PassingFacts.{IsMark, the_comma, mark_leads, made, leads_token, leads_space}
-use Rattle.twp_read.proofs.PassingFacts.{leads_then, left_behind, white_leads}
+use Rattle.twp_read.proofs.Leading.{IsMark, the_comma, mark_leads, made, leads_token, leads_space, leads_then}
+use Rattle.twp_read.proofs.Leading.{left_behind, white_leads}
 
 pub a_full_stop : IsMark 46 Stop
 a_full_stop = record { is = λ rest. a_stop refl refl; kept = λ state at its. refl }

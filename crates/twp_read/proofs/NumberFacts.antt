@@ -21,10 +21,11 @@ use Rattle.twp_read.specs.TokenSteps.{take_number, take_token, with_newest}
 use Rattle.twp_read.specs.declared.change.Change.TheVariants.{Last}
 use Rattle.twp_read.specs.Passing.{Leads, IsNumberBehind, IsBehindWhite, entry_of, state_behind}
 use Rattle.twp_read.specs.Passing.{last_state_behind, listed_in, listed_behind_and, listed_behind_to}
-use Rattle.twp_grammar.proofs.Cuts.{IsFirstToken, cut_of_digit, digit_no_space}
+use Rattle.twp_grammar.proofs.ByteRuns.{digit_no_space}
+use Rattle.twp_grammar.proofs.Cuts.{IsFirstToken, cut_of_digit}
 use Rattle.twp_grammar.proofs.TokenFacts.{first_at, first_in}
 use Rattle.twp_read.proofs.FrontFacts.{number_leads}
-use Rattle.twp_read.proofs.PassingFacts.{the_comma, mark_leads, leads_token, leads_then, white_leads}
+use Rattle.twp_read.proofs.Leading.{the_comma, mark_leads, leads_token, leads_then, white_leads}
 
 -- what is said of a number that begins at a place, behind white space
 pub record BeginsHere (text : List ℕ) (from : ℕ) (it : Numeral) (end : ℕ) : Type 0 where

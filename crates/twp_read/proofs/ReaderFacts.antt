@@ -30,7 +30,7 @@ use Rattle.twp_grammar.specs.Sentences.{TEXT_LIMIT, IsReadAs}
 use Rattle.twp_read.specs.Passing.{HasNoneBadBefore}
 use Rattle.twp_grammar.proofs.Table.{takes_no_bad_byte, takes_no_bad_number}
 use Rattle.twp_grammar.proofs.TokenFacts.{one_token_list, has_token_list}
-use Rattle.twp_read.proofs.Walk.{newest_first}
+use Rattle.twp_read.proofs.ListWalk.{newest_first}
 use Rattle.twp_read.proofs.Reading.{ended, go_on, run-append, accepted, fault_here, fault_at_end}
 use Rattle.twp_read.proofs.Reading.{what_follows, what_is_told}
 

@@ -24,7 +24,8 @@ use Rattle.twp_read.specs.TokenSteps.{take_token, run}
 use Rattle.twp_grammar.specs.Expected.{told, named, expected_of, IsNamed}
 use Rattle.twp_grammar.proofs.Derivatives.{same_class, same_class_tells, Derives, derives_none, takes_token}
 use Rattle.twp_grammar.proofs.Table as table
-use Rattle.twp_read.proofs.Walk.{newest_first, IsRead, read_description}
+use Rattle.twp_read.proofs.ListWalk.{newest_first}
+use Rattle.twp_read.proofs.Walk.{IsRead, read_description}
 
 -- turned round twice
 turned : (xs ys zs : List Item) → newest_first (newest_first xs ys) zs ≡ newest_first ys (xs ++ zs)

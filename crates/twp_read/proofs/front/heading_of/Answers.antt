@@ -6,7 +6,7 @@ use Rattle.twp_grammar.specs.declared.item.Item.TheVariants.{Heading}
 use Rattle.twp_grammar.specs.declared.state.State.TheVariants as past
 use Rattle.twp_read.specs.TokenSteps.{take_township}
 use Rattle.twp_read.proofs.FrontFacts.{township_leads}
-use Rattle.twp_read.proofs.PassingFacts.{leads_then}
+use Rattle.twp_read.proofs.Leading.{leads_then}
 use Rattle.twp_read.proofs.front.heading_of.Goals as goal
 
 pub number_behind-requires-2-clause-place : goal.number_behind-requires-2-clause-place

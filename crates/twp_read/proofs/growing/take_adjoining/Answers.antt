@@ -5,7 +5,8 @@ use Rattle.twp_read.specs.declared.passing.Reached.{Reached}
 use Rattle.twp_read.specs.declared.passing.UsualStep.{UsualStep}
 use Rattle.twp_grammar.specs.declared.state.State.TheVariants as past
 use Rattle.twp_read.specs.Passing.{Leads}
-use Rattle.twp_read.proofs.PassingFacts.{step_leads, step_within}
+use Rattle.twp_read.proofs.StandingSteps.{step_within}
+use Rattle.twp_read.proofs.PassingFacts.{step_leads}
 use Rattle.twp_read.proofs.growing.take_adjoining.Goals as goal
 
 pub loop-usual-smaller : goal.loop-usual-smaller

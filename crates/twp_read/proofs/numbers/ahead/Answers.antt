@@ -1,4 +1,4 @@
-use Rattle.twp_read.proofs.PassingFacts.{white_leads}
+use Rattle.twp_read.proofs.Leading.{white_leads}
 use Rattle.twp_read.proofs.numbers.ahead.Goals as goal
 
 pub returns-clause-leads : goal.returns-clause-leads

@@ -1,4 +1,4 @@
-use Rattle.twp_read.proofs.PassingFacts.{white_leads}
+use Rattle.twp_read.proofs.Leading.{white_leads}
 use Rattle.twp_read.proofs.passing.ahead_of_part.Goals as goal
 
 pub returns : goal.returns

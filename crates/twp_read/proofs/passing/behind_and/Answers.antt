@@ -1,5 +1,5 @@
 use Rattle.std.proofs.Common.{refl}
-use Rattle.twp_read.proofs.PassingFacts.{and_leads}
+use Rattle.twp_read.proofs.Leading.{and_leads}
 use Rattle.twp_read.proofs.passing.behind_and.Goals as goal
 
 pub returns-in-PartComma-clause-leads : goal.returns-in-PartComma-clause-leads

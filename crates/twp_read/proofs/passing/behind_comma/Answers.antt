@@ -1,5 +1,5 @@
 use Rattle.std.proofs.Common.{refl}
-use Rattle.twp_read.proofs.PassingFacts.{comma_space_leads, comma_leads}
+use Rattle.twp_read.proofs.Leading.{comma_space_leads, comma_leads}
 use Rattle.twp_read.proofs.passing.behind_comma.Goals as goal
 
 pub returns-in-Step : goal.returns-in-Step

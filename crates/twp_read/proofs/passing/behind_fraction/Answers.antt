@@ -1,5 +1,5 @@
 use Rattle.std.proofs.Common.{refl}
-use Rattle.twp_read.proofs.PassingFacts.{half_leads, quarter_leads}
+use Rattle.twp_read.proofs.Leading.{half_leads, quarter_leads}
 use Rattle.twp_read.proofs.passing.behind_fraction.Goals as goal
 
 pub returns-in-Side : goal.returns-in-Side

@@ -1,5 +1,5 @@
 use Rattle.std.proofs.Common.{refl}
-use Rattle.twp_read.proofs.PassingFacts.{of_the_leads}
+use Rattle.twp_read.proofs.Leading.{of_the_leads}
 use Rattle.twp_read.proofs.passing.behind_of_the.Goals as goal
 
 pub returns-in-Step-clause-leads : goal.returns-in-Step-clause-leads

@@ -1,5 +1,5 @@
 use Rattle.std.proofs.Common.{refl, bit_or}
-use Rattle.twp_read.proofs.PassingFacts.{small_by_bit}
+use Rattle.twp_read.proofs.StandingSteps.{small_by_bit}
 use Rattle.twp_read.proofs.passing.half.Goals as goal
 
 pub returns : goal.returns

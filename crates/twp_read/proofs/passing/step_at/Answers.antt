@@ -1,4 +1,4 @@
-use Rattle.twp_read.proofs.PassingFacts.{step_stands}
+use Rattle.twp_read.proofs.StandingSteps.{step_stands}
 use Rattle.twp_read.proofs.passing.step_at.Goals as goal
 
 pub returns : goal.returns

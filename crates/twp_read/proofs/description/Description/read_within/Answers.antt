@@ -6,7 +6,7 @@ use Rattle.twp_grammar.specs.declared.state.State.{State}
 use Rattle.twp_read.specs.TokenSteps.{take_token}
 use Rattle.twp_grammar.specs.Tokens.{seen}
 use Rattle.twp_grammar.specs.Sentences.{IsReadAs}
-use Rattle.twp_read.proofs.PassingFacts.{goes_further}
+use Rattle.twp_read.proofs.Leading.{goes_further}
 use Rattle.twp_read.proofs.ReaderFacts.{Front, front_next, none_bad_before, wrong_here, wrong_at_end}
 use Rattle.twp_read.proofs.ReaderFacts.{read_whole, begins}
 use Rattle.twp_read.proofs.description.Description.read_within.Goals as goal

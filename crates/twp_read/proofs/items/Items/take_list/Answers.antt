@@ -2,7 +2,7 @@
 use Rattle.std.proofs.Common.{List, ℕ}
 use Rattle.twp_grammar.specs.declared.item.Item.{Item}
 use Rattle.twp_read.specs.declared.passing.Reached.{Reached}
-use Rattle.twp_read.proofs.PassingFacts.{leads_then}
+use Rattle.twp_read.proofs.Leading.{leads_then}
 use Rattle.twp_read.proofs.items.Items.take_list.Goals as goal
 
 pub take_joined-requires-clause-place : goal.take_joined-requires-clause-place

@@ -5,7 +5,8 @@ use Rattle.twp_read.specs.declared.passing.Reached.{Reached}
 use Rattle.twp_read.specs.declared.passing.UsualStep.{UsualStep}
 use Rattle.twp_grammar.specs.declared.state.State.TheVariants as past
 use Rattle.twp_read.specs.Passing.{Leads}
-use Rattle.twp_read.proofs.PassingFacts.{first_leads, leads_then}
+use Rattle.twp_read.proofs.Leading.{leads_then}
+use Rattle.twp_read.proofs.PassingFacts.{first_leads}
 use Rattle.twp_read.proofs.items.Items.take_parts.Goals as goal
 
 pub loop-alloc-init : goal.loop-alloc-init

@@ -7,7 +7,7 @@ use Rattle.twp_grammar.specs.declared.state.State.TheVariants as past
 use Rattle.twp_read.specs.TokenSteps.{before_parts}
 use Rattle.twp_read.specs.Passing.{Leads}
 use Rattle.twp_read.proofs.FrontFacts.{colon_leads, section_taken}
-use Rattle.twp_read.proofs.PassingFacts.{leads_then}
+use Rattle.twp_read.proofs.Leading.{leads_then}
 use Rattle.twp_read.proofs.items.Items.take_section.Goals as goal
 
 pub number_behind-requires-clause-place : goal.number_behind-requires-clause-place

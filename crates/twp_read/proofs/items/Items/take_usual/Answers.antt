@@ -3,7 +3,7 @@ use Rattle.twp_grammar.specs.declared.item.Item.{Item}
 use Rattle.twp_read.specs.declared.passing.Reached.{Reached}
 use Rattle.twp_read.specs.Passing.{Leads}
 use Rattle.twp_read.proofs.NewestItem.{if_ok}
-use Rattle.twp_read.proofs.PassingFacts.{leads_then}
+use Rattle.twp_read.proofs.Leading.{leads_then}
 use Rattle.twp_read.proofs.items.Items.take_usual.Goals as goal
 
 pub returns : goal.returns
