@@ -414,10 +414,12 @@ def of_run(run: Run, is_record: bool = False) -> Document:
 
 
 def of_bracket(bracket: Bracket, is_record: bool) -> Document:
+    if not bracket.nodes:
+        return Text(flat_of_bracket(bracket))
     is_closed = bool(bracket.opener and bracket.closer)
     if is_closed and bracket.opener == "[":
         return Block(bracket, "|", [document_of(part) for part in parts_at(bracket.nodes, "|")])
-    if is_closed and bracket.opener == "{" and is_record and bracket.nodes:
+    if is_closed and bracket.opener == "{" and is_record:
         return Block(bracket, ";", [document_of(part) for part in parts_at(bracket.nodes, ";")])
     if is_closed and bracket.opener == "(" and len(parts_at(bracket.nodes, ",")) > 1:
         return Block(bracket, ",", [document_of(part) for part in parts_at(bracket.nodes, ",")])
@@ -649,6 +651,12 @@ def wrapped_comment(line: str, waiting: List[str], width: int) -> List[str]:
     return [*lines, current]
 
 
+def has_comment(line: str) -> bool:
+    """Whether a comment stands on a line of code, which is then left as it is."""
+    words = [token for token, _ in tokens_of(line) if not token.startswith('"')]
+    return any(word.startswith("--") for word in words) or "{-" in "".join(words)
+
+
 def wrapped_code(line: str, continued: int, width: int) -> List[str]:
     indentation = indentation_of(line)
     nodes = tree_of(line.strip())
@@ -695,7 +703,7 @@ def wrapped(text: str, width: int) -> str:
             continue
         begins = items.begins_item(line)
         before, continued = continued, indentation_of(line) + (CONTINUATION if begins else 0)
-        if len(line) <= width or " -- " in line or "{-" in line:
+        if len(line) <= width or has_comment(line):
             lines.append(line)
         elif re.match(r"(pub )?use ", line):
             lines += wrapped_use(line, width)
@@ -715,11 +723,11 @@ def shift_block(waiting: List[str], old: int, new: int, opener: str) -> None:
     """Moves the lines of a block whose opening bracket has come to stand on a line that is further in."""
     if opener not in CLOSERS or old == new:
         return
-    for at, line in enumerate(waiting):
-        if line.strip():
-            waiting[at] = " " * (new - old) + line
-        if indentation_of(line) == old and line.lstrip().startswith(CLOSERS[opener]):
-            return
+    left = [at for at, line in enumerate(waiting) if line.strip() and indentation_of(line) <= old]
+    if not left or not waiting[left[0]].startswith(" " * old + CLOSERS[opener]):
+        return
+    for at in range(left[0] + 1):
+        waiting[at] = " " * (new - old) + waiting[at] if waiting[at].strip() else waiting[at]
 
 
 def meaning_of(text: str) -> List[str]:
