@@ -26,31 +26,38 @@ use Rattle.twp_acres.proofs.AreaLaws.{one_land_area}
 use Rattle.twp_acres.proofs.WholeAreas.{section_area_is_of_land, township_area_is_of_land}
 
 -- where a lot is
-in_position : (section lot column row : ℕ) → IsSection section → position_of_lot section lot ≡ Some (column, row) → IsPosition column row
+in_position : (section lot column row : ℕ) → IsSection section
+    → position_of_lot section lot ≡ Some (column, row) → IsPosition column row
 in_position section lot column row range is =
     let there = fills section column row lot range ((lots_match section column row lot range).1 is) in
     (there.in_column, there.in_row)
 
 -- the figure of a lot is one
-pub same_lot : (plat : TownshipPlat) (figures : PlatFigures) (section lot h : ℕ) → IsSection section → AreFigures plat figures → IsFigureOfLot plat section lot h → h ≡ figures.lots section lot
+pub same_lot : (plat : TownshipPlat) (figures : PlatFigures) (section lot h : ℕ) → IsSection section
+    → AreFigures plat figures → IsFigureOfLot plat section lot h → h ≡ figures.lots section lot
 same_lot plat figures section lot h range are is =
-    same_figure plat section is.column is.row h (figures.lots section lot) (in_position section lot is.column is.row range is.position_is) is.figure_is
+    same_figure plat section is.column is.row h (figures.lots section lot)
+    (in_position section lot is.column is.row range is.position_is) is.figure_is
     (are.lots section lot is.column is.row range is.position_is)
 
 -- the figure of a section is one
-pub same_section : (plat : TownshipPlat) (section h h' : ℕ) (area : Fraction) → IsSection section → IsSectionArea plat section area → IsRounded area h
+pub same_section : (plat : TownshipPlat) (section h h' : ℕ) (area : Fraction) → IsSection section
+    → IsSectionArea plat section area → IsRounded area h
     → IsSectionFigure plat section h' → h ≡ h'
 same_section plat section h h' area range area_is rounded is =
     let same : area ≡ is.area =
     one_land_area PLACE_DIGITS (omega arith) plat (section_places PLACE_DIGITS section) area is.area
-    (section_area_is_of_land plat section area range area_is) (section_area_is_of_land plat section is.area range is.area_is) in
+    (section_area_is_of_land plat section area range area_is)
+    (section_area_is_of_land plat section is.area range is.area_is) in
     one_rounding is.area h h' (rw same at rounded) is.rounded
 
 -- the figure of the township is one
-pub same_township : (plat : TownshipPlat) (h h' : ℕ) (area : Fraction) → IsTownshipArea plat area → IsRounded area h → IsTownshipFigure plat h' → h ≡ h'
+pub same_township : (plat : TownshipPlat) (h h' : ℕ) (area : Fraction) → IsTownshipArea plat area
+    → IsRounded area h → IsTownshipFigure plat h' → h ≡ h'
 same_township plat h h' area area_is rounded is =
     let same : area ≡ is.area =
-    one_land_area PLACE_DIGITS (omega arith) plat (township_places PLACE_DIGITS) area is.area (township_area_is_of_land plat area area_is) (township_area_is_of_land plat is.area is.area_is) in
+    one_land_area PLACE_DIGITS (omega arith) plat (township_places PLACE_DIGITS) area is.area
+    (township_area_is_of_land plat area area_is) (township_area_is_of_land plat is.area is.area_is) in
     one_rounding is.area h h' (rw same at rounded) is.rounded
 
 -- so many units over the plat's denominator, rounded
@@ -58,11 +65,13 @@ abbrev hundredths_of : TownshipPlat → ℕ → ℕ
 hundredths_of plat units = (2 * units + 100000 * over_of plat) / (2 * (100000 * over_of plat))
 
 -- each plat has figures
-pub figures_of : (plat : TownshipPlat) (area : Fraction) → IsTownshipArea plat area → 0 < over_of plat → (figures : PlatFigures) × AreFigures plat figures
+pub figures_of : (plat : TownshipPlat) (area : Fraction) → IsTownshipArea plat area → 0 < over_of plat
+    → (figures : PlatFigures) × AreFigures plat figures
 figures_of plat area is some =
     let pieces : ℕ → ℕ → ℕ → ℕ = is.pieces in
     let over : ℕ = over_of plat in
-    let of_place : ℕ → Option (ℕ × ℕ) → ℕ = λ section place. pieces section (unwrap_or place (0, 0)).0 (unwrap_or place (0, 0)).1 in (
+    let of_place : ℕ → Option (ℕ × ℕ) → ℕ =
+    λ section place. pieces section (unwrap_or place (0, 0)).0 (unwrap_or place (0, 0)).1 in (
       record {
         lots = λ section lot. hundredths_of plat (of_place section (position_of_lot section lot));
         sections = λ section. hundredths_of plat (over_positions (pieces section));
@@ -71,7 +80,8 @@ figures_of plat area is some =
       record {
         lots = λ section lot column row range there. rw there (record {
           area = record { units = pieces section column row; over = over };
-          piece_is = is.are.is_piece section column row range (in_position section lot column row range there);
+          piece_is =
+              is.are.is_piece section column row range (in_position section lot column row range there);
           over_is = refl;
           rounded = rounded (pieces section column row) over some;
         });
@@ -81,7 +91,10 @@ figures_of plat area is some =
           rounded = rounded (over_positions (pieces section)) over some;
         };
         township = record {
-          area = record { units = total SECTION_COUNT (λ before. over_positions (pieces (before + 1))); over = over };
+          area = record {
+            units = total SECTION_COUNT (λ before. over_positions (pieces (before + 1)));
+            over = over;
+          };
           area_is = record { pieces = pieces; are = is.are; over_is = refl; sum_is = refl };
           rounded = rounded (total SECTION_COUNT (λ before. over_positions (pieces (before + 1)))) over some;
         };
@@ -94,13 +107,15 @@ unfolding over_of
 over_some plat = some (closing_quarter_of plat (west_run 0 5)) (closing_quarter_of plat (north_run 0 6))
   where
     some : (n w : ℕ) → 0 < 4 * line_length n * line_length w
-    some n w = let least = mul-le 1 1 (4 * line_length n) (line_length w) (omega arith) (omega arith) in omega arith
+    some n w =
+        let least = mul-le 1 1 (4 * line_length n) (line_length w) (omega arith) (omega arith) in omega arith
 
 pub plat_figures : (plat : TownshipPlat) → IsPlat plat → (figures : PlatFigures) × AreFigures plat figures
 plat_figures plat is =
     let has = pieces_of plat is in
     let units : ℕ = total SECTION_COUNT (λ before. over_positions (has.pieces (before + 1))) in
-    figures_of plat (record { units = units; over = over_of plat }) (record { pieces = has.pieces; are = has.are; over_is = refl; sum_is = refl }) (over_some plat)
+    figures_of plat (record { units = units; over = over_of plat })
+    (record { pieces = has.pieces; are = has.are; over_is = refl; sum_is = refl }) (over_some plat)
 
 pub no_texts : (text : ℕ → List ℕ) → texts_to 0 text ≡ []
 unfolding texts_to
@@ -112,16 +127,22 @@ unfolding texts_to
 texts_next n text = let e : n + 1 ≡ suc n = omega arith in rw e refl
 
 -- a text that grows by the texts of numbers behind a name, and by an end
-pub texts_begin : (old name new : List ℕ) (text : ℕ → List ℕ) → new ≡ old ++ name → new ≡ old ++ (name ++ texts_to 0 text)
+pub texts_begin : (old name new : List ℕ) (text : ℕ → List ℕ) → new ≡ old ++ name
+    → new ≡ old ++ (name ++ texts_to 0 text)
 texts_begin old name new text is = rw (no_texts text, append-nil name) is
 
-pub texts_grow : (old name now new more : List ℕ) (n : ℕ) (text : ℕ → List ℕ) → now ≡ old ++ (name ++ texts_to n text) → new ≡ now ++ more → more ≡ text (n + 1)
+pub texts_grow : (old name now new more : List ℕ) (n : ℕ) (text : ℕ → List ℕ)
+    → now ≡ old ++ (name ++ texts_to n text) → new ≡ now ++ more → more ≡ text (n + 1)
     → new ≡ old ++ (name ++ texts_to (n + 1) text)
 texts_grow old name now new more n text is is' last =
-    is' ∙ ap (λ t. t ++ more) is ∙ append_assoc old (name ++ texts_to n text) more ∙ ap (λ t. old ++ t) (append_assoc name (texts_to n text) more)
+    is'
+    ∙ ap (λ t. t ++ more) is
+    ∙ append_assoc old (name ++ texts_to n text) more
+    ∙ ap (λ t. old ++ t) (append_assoc name (texts_to n text) more)
     ∙ ap (λ t. old ++ (name ++ t)) (ap (λ t. texts_to n text ++ t) last ∙ sym (texts_next n text))
 
-pub texts_end : (old name texts now new total : List ℕ) → now ≡ old ++ (name ++ texts) → new ≡ now ++ total → new ≡ old ++ (name ++ texts ++ total)
+pub texts_end : (old name texts now new total : List ℕ) → now ≡ old ++ (name ++ texts) → new ≡ now ++ total
+    → new ≡ old ++ (name ++ texts ++ total)
 texts_end old name texts now new total is is' =
     is' ∙ ap (λ t. t ++ total) is ∙ append_assoc old (name ++ texts) total
 
@@ -131,13 +152,20 @@ on_ok (Ok x) P Q h f = f h
 on_ok (Err e) P Q h f = tt
 
 -- the line of one number more
-pub lines_grow : (number : ℕ) (now new more : List ℕ) (text : ℕ → List ℕ) → 1 ≤ number → now ≡ texts_to (number - 1) text → new ≡ now ++ more → more ≡ text number
+pub lines_grow : (number : ℕ) (now new more : List ℕ) (text : ℕ → List ℕ) → 1 ≤ number
+    → now ≡ texts_to (number - 1) text → new ≡ now ++ more → more ≡ text number
     → new ≡ texts_to (number + 1 - 1) text
 lines_grow number now new more text first is is' last =
     let count : number + 1 - 1 ≡ number - 1 + 1 = omega arith in
     let here : number - 1 + 1 ≡ number = omega arith in
-    rw count (is' ∙ ap (λ t. t ++ more) is ∙ ap (λ t. texts_to (number - 1) text ++ t) (last ∙ ap text (sym here)) ∙ sym (texts_next (number - 1) text))
+    rw count
+    (is'
+    ∙ ap (λ t. t ++ more) is
+    ∙ ap (λ t. texts_to (number - 1) text ++ t) (last ∙ ap text (sym here))
+    ∙ sym (texts_next (number - 1) text))
 
 -- two texts behind all lines
-pub lines_end : (lines name total now mid new : List ℕ) → now ≡ lines → mid ≡ now ++ name → new ≡ mid ++ total → new ≡ lines ++ name ++ total
-lines_end lines name total now mid new is is' is'' = is'' ∙ ap (λ t. t ++ total) (is' ∙ ap (λ t. t ++ name) is)
+pub lines_end : (lines name total now mid new : List ℕ) → now ≡ lines → mid ≡ now ++ name → new ≡ mid ++ total
+    → new ≡ lines ++ name ++ total
+lines_end lines name total now mid new is is' is'' =
+    is'' ∙ ap (λ t. t ++ total) (is' ∙ ap (λ t. t ++ name) is)

@@ -26,26 +26,43 @@ use Rattle.twp_acres.specs.declared.tract_fault.TractFault.TheVariants as fault
 use Rattle.twp_acres.proofs.OneAnswer.{not_described}
 
 -- a description that is refused is a tract's fault
-pub description_refused : (township : Designation) (fields : Fields) (tally : Tally) (number : ℕ) (stopped : Stop) → IsNamedAnew fields tally
-    → IfRefused stopped (IsNoDescription township (description_in fields)) → IsTractRefused township fields tally number (fault_of_stop stopped number)
+pub description_refused : (township : Designation) (fields : Fields) (tally : Tally) (number : ℕ)
+    (stopped : Stop)
+    → IsNamedAnew fields tally
+    → IfRefused stopped (IsNoDescription township (description_in fields))
+    → IsTractRefused township fields tally number (fault_of_stop stopped number)
 description_refused township fields tally number (stop.Refused inner) anew none = (refl, anew, none)
 description_refused township fields tally number (stop.Failed failed) anew is = tt
 
 -- the next record isn't taken: what is answered is its first fault
-module _ (plat : TownshipPlat) (rows : List Fields) (count : ℕ) (tally : Tally) (before : IsTallyOf plat rows count tally) (within : count < length rows) (below : count < TRACTS_MOST) where
+module _ (plat : TownshipPlat) (rows : List Fields) (count : ℕ) (tally : Tally)
+    (before : IsTallyOf plat rows count tally) (within : count < length rows)
+    (below : count < TRACTS_MOST) where
   -- a name that the tally doesn't have isn't repeated
   not_repeated : has_name tally.names (name_in (record_at rows count)) ≡ false → IsNameRepeated rows count → ⊥
   not_repeated anew repeated =
-      cc (sym (before.named repeated.earlier repeated.is_earlier) ∙ ap (has_name tally.names) repeated.same ∙ anew)
+      cc
+      (sym (before.named repeated.earlier repeated.is_earlier)
+      ∙ ap (has_name tally.names) repeated.same
+      ∙ anew)
 
   refused : (tract_fault : TractFault) → HasAt plat.township rows count tract_fault
       → ((other : TractFault) → HasAt plat.township rows count other → turn_of tract_fault ≤ turn_of other)
       → IsNextRefused plat.township rows tract_fault
-  refused tract_fault has first = record { index = count; within = within; below = below; tracts = before.tracts; has = has; first = first }
+  refused tract_fault has first = record {
+    index = count;
+    within = within;
+    below = below;
+    tracts = before.tracts;
+    has = has;
+    first = first;
+  }
 
-  pub refused_next : (tract_fault : TractFault) → IsTractRefused plat.township (record_at rows count) tally (count + 2) tract_fault
+  pub refused_next : (tract_fault : TractFault)
+      → IsTractRefused plat.township (record_at rows count) tally (count + 2) tract_fault
       → AreTractsRefused plat.township rows tract_fault
-  refused_next (fault.TractRow number) (at_record, bad) = refused (fault.TractRow number) (at_record, bad) least
+  refused_next (fault.TractRow number) (at_record, bad) =
+      refused (fault.TractRow number) (at_record, bad) least
     where
       least : (other : TractFault) → HasAt plat.township rows count other → 1 ≤ turn_of other
       least (fault.TractRow n) has = omega arith
@@ -57,9 +74,11 @@ module _ (plat : TownshipPlat) (rows : List Fields) (count : ℕ) (tally : Tally
       least fault.Memory has = absurd has
   refused_next (fault.NameRepeated number) (at_record, is, known) =
       let found = before.names (name_in (record_at rows count)) known in
-      refused (fault.NameRepeated number) (at_record, record { earlier = found.0; is_earlier = found.1; same = found.2 }) (least is)
+      refused (fault.NameRepeated number)
+      (at_record, record { earlier = found.0; is_earlier = found.1; same = found.2 }) (least is)
     where
-      least : IsTractRecord (record_at rows count) → (other : TractFault) → HasAt plat.township rows count other → 2 ≤ turn_of other
+      least : IsTractRecord (record_at rows count) → (other : TractFault)
+          → HasAt plat.township rows count other → 2 ≤ turn_of other
       least is (fault.TractRow n) (e, bad) = absurd (bad is)
       least is (fault.NameRepeated n) has = omega arith
       least is (fault.TractRefused n inner) has = omega arith
@@ -70,7 +89,8 @@ module _ (plat : TownshipPlat) (rows : List Fields) (count : ℕ) (tally : Tally
   refused_next (fault.TractRefused number inner) (at_record, (is, anew), none) =
       refused (fault.TractRefused number inner) (at_record, none) (least is anew)
     where
-      least : IsTractRecord (record_at rows count) → has_name tally.names (name_in (record_at rows count)) ≡ false
+      least : IsTractRecord (record_at rows count)
+          → has_name tally.names (name_in (record_at rows count)) ≡ false
           → (other : TractFault) → HasAt plat.township rows count other → 3 ≤ turn_of other
       least is anew (fault.TractRow n) (e, bad) = absurd (bad is)
       least is anew (fault.NameRepeated n) (e, repeated) = absurd (not_repeated anew repeated)
@@ -80,7 +100,9 @@ module _ (plat : TownshipPlat) (rows : List Fields) (count : ℕ) (tally : Tally
       least is anew fault.TooManyTracts has = absurd has
       least is anew fault.Memory has = absurd has
   refused_next (fault.TractsOverlap number) (at_record, (is, anew), overlaps) =
-      let there = (before.land overlaps.shared.section overlaps.shared.column overlaps.shared.row).0 overlaps.shared.in_first in
+      let there =
+      (before.land overlaps.shared.section overlaps.shared.column overlaps.shared.row).0
+      overlaps.shared.in_first in
       refused (fault.TractsOverlap number) (
         at_record,
         record {
@@ -102,13 +124,16 @@ module _ (plat : TownshipPlat) (rows : List Fields) (count : ℕ) (tally : Tally
         },
       ) (least is anew overlaps)
     where
-      least : IsTractRecord (record_at rows count) → has_name tally.names (name_in (record_at rows count)) ≡ false
+      least : IsTractRecord (record_at rows count)
+          → has_name tally.names (name_in (record_at rows count)) ≡ false
           → OverlapsTally plat.township (record_at rows count) tally
           → (other : TractFault) → HasAt plat.township rows count other → 4 ≤ turn_of other
       least is anew overlaps (fault.TractRow n) (e, bad) = absurd (bad is)
       least is anew overlaps (fault.NameRepeated n) (e, repeated) = absurd (not_repeated anew repeated)
       least is anew overlaps (fault.TractRefused n inner) (e, none) =
-          absurd (not_described plat.township (description_in (record_at rows count)) inner overlaps.more none overlaps.land)
+          absurd
+          (not_described plat.township (description_in (record_at rows count)) inner overlaps.more none
+          overlaps.land)
       least is anew overlaps (fault.TractsOverlap n) has = omega arith
       least is anew overlaps fault.TractsTooLarge has = absurd has
       least is anew overlaps fault.TooManyTracts has = absurd has
@@ -118,7 +143,8 @@ module _ (plat : TownshipPlat) (rows : List Fields) (count : ℕ) (tally : Tally
   refused_next fault.TooManyTracts is = absurd is
 
 -- a list whose first record is another than the heading
-pub no_heading_first : (township : Designation) (bytes : List ℕ) → length bytes ≤ TRACTS_LIMIT → record_numbered (records_of bytes) 1 ≢ tracts_heading
+pub no_heading_first : (township : Designation) (bytes : List ℕ) → length bytes ≤ TRACTS_LIMIT
+    → record_numbered (records_of bytes) 1 ≢ tracts_heading
     → IsFirstTractFault township bytes (fault.TractRow 1)
 no_heading_first township bytes size differs = record { is = inl (refl, differs); first = first }
   where
@@ -126,19 +152,25 @@ no_heading_first township bytes size differs = record { is = inl (refl, differs)
     first fault.TractsTooLarge large = absurd (omega arith)
     first fault.TooManyTracts many = inl (omega arith)
     first (fault.TractRow n) (inl (e, bad)) = inr (omega arith, omega arith)
-    first (fault.TractRow n) (inr at_tract) = inl (let e : n ≡ at_tract.index + 2 = at_tract.has.0 in omega arith)
+    first (fault.TractRow n) (inr at_tract) =
+        inl (let e : n ≡ at_tract.index + 2 = at_tract.has.0 in omega arith)
     first (fault.NameRepeated n) (inl none) = absurd none
-    first (fault.NameRepeated n) (inr at_tract) = inl (let e : n ≡ at_tract.index + 2 = at_tract.has.0 in omega arith)
+    first (fault.NameRepeated n) (inr at_tract) =
+        inl (let e : n ≡ at_tract.index + 2 = at_tract.has.0 in omega arith)
     first (fault.TractRefused n inner) (inl none) = absurd none
-    first (fault.TractRefused n inner) (inr at_tract) = inl (let e : n ≡ at_tract.index + 2 = at_tract.has.0 in omega arith)
+    first (fault.TractRefused n inner) (inr at_tract) =
+        inl (let e : n ≡ at_tract.index + 2 = at_tract.has.0 in omega arith)
     first (fault.TractsOverlap n) (inl none) = absurd none
-    first (fault.TractsOverlap n) (inr at_tract) = inl (let e : n ≡ at_tract.index + 2 = at_tract.has.0 in omega arith)
+    first (fault.TractsOverlap n) (inr at_tract) =
+        inl (let e : n ≡ at_tract.index + 2 = at_tract.has.0 in omega arith)
     first fault.Memory (inl none) = absurd none
     first fault.Memory (inr at_tract) = absurd at_tract.has
 
 -- more bytes than a list may have
-pub large_first : (township : Designation) (bytes : List ℕ) → TRACTS_LIMIT < length bytes → IsFirstTractFault township bytes fault.TractsTooLarge
-large_first township bytes large = record { is = large; first = λ other has. from (record_of other) (turn_of other) }
+pub large_first : (township : Designation) (bytes : List ℕ) → TRACTS_LIMIT < length bytes
+    → IsFirstTractFault township bytes fault.TractsTooLarge
+large_first township bytes large =
+    record { is = large; first = λ other has. from (record_of other) (turn_of other) }
   where
     from : (number turn : ℕ) → (0 < number) ⊎ ((0 ≡ number) × (0 ≤ turn))
     from number turn = elim (cases_lt 0 number) [
@@ -146,22 +178,29 @@ large_first township bytes large = record { is = large; first = λ other has. fr
       | inr over ↦ inr (omega arith, omega arith)
     ]
 
-module _ (township : Designation) (bytes : List ℕ) (size : length bytes ≤ TRACTS_LIMIT) (heading_is : record_numbered (records_of bytes) 1 ≡ tracts_heading) where
+module _ (township : Designation) (bytes : List ℕ) (size : length bytes ≤ TRACTS_LIMIT)
+    (heading_is : record_numbered (records_of bytes) 1 ≡ tracts_heading) where
   -- of the tracts before no fault holds
-  pub none_before : (index : ℕ) → AreTracts township (tract_records bytes) index → (other : TractFault) (at_tract : HasAtTract township (tract_records bytes) other) → at_tract.index < index → ⊥
+  pub none_before : (index : ℕ) → AreTracts township (tract_records bytes) index
+      → (other : TractFault) (at_tract : HasAtTract township (tract_records bytes) other)
+      → at_tract.index < index → ⊥
   none_before index tracts other at_tract earlier = at_earlier other at_tract.has
     where
       at_earlier : (other : TractFault) → HasAt township (tract_records bytes) at_tract.index other → ⊥
       at_earlier (fault.TractRow n) (e, bad) = bad (tracts.each at_tract.index earlier).is_record
-      at_earlier (fault.NameRepeated n) (e, repeated) = tracts.once repeated.earlier at_tract.index repeated.is_earlier earlier repeated.same
+      at_earlier (fault.NameRepeated n) (e, repeated) =
+          tracts.once repeated.earlier at_tract.index repeated.is_earlier earlier repeated.same
       at_earlier (fault.TractRefused n inner) (e, none) =
-          not_described township (description_in (record_at (tract_records bytes) at_tract.index)) inner (tracts.each at_tract.index earlier).places none (tracts.each at_tract.index earlier).land
-      at_earlier (fault.TractsOverlap n) (e, overlaps) = tracts.apart overlaps.earlier at_tract.index overlaps.is_earlier earlier overlaps.overlap
+          not_described township (description_in (record_at (tract_records bytes) at_tract.index)) inner
+          (tracts.each at_tract.index earlier).places none (tracts.each at_tract.index earlier).land
+      at_earlier (fault.TractsOverlap n) (e, overlaps) =
+          tracts.apart overlaps.earlier at_tract.index overlaps.is_earlier earlier overlaps.overlap
       at_earlier fault.TractsTooLarge has = has
       at_earlier fault.TooManyTracts has = has
       at_earlier fault.Memory has = has
 
-  number_is : (index : ℕ) (other : TractFault) → HasAt township (tract_records bytes) index other → record_of other ≡ index + 2
+  number_is : (index : ℕ) (other : TractFault) → HasAt township (tract_records bytes) index other
+      → record_of other ≡ index + 2
   number_is index (fault.TractRow n) has = has.0
   number_is index (fault.NameRepeated n) has = has.0
   number_is index (fault.TractRefused n inner) has = has.0
@@ -190,20 +229,24 @@ module _ (township : Designation) (bytes : List ℕ) (size : length bytes ≤ TR
   where_is fault.Memory (inr is) = at_tract is
 
   -- the first fault of a record is the first of the list
-  first_of_next : (tract_fault : TractFault) → IsNextRefused township (tract_records bytes) tract_fault → HasTractFault township bytes tract_fault
+  first_of_next : (tract_fault : TractFault) → IsNextRefused township (tract_records bytes) tract_fault
+      → HasTractFault township bytes tract_fault
       → IsFirstTractFault township bytes tract_fault
-  first_of_next tract_fault next has = record { is = has; first = λ other there. first other (where_is other there) }
+  first_of_next tract_fault next has =
+      record { is = has; first = λ other there. first other (where_is other there) }
     where
       here : record_of tract_fault ≡ next.index + 2
       here = number_is next.index tract_fault next.has
 
       first : (other : TractFault) → Where other → IsFrom (record_of tract_fault) (turn_of tract_fault) other
-      first other (too_many e) = let below : next.index < TRACTS_MOST = next.below in inl (omega (arith, here, e))
+      first other (too_many e) =
+          let below : next.index < TRACTS_MOST = next.below in inl (omega (arith, here, e))
       first other (at_tract is) = elim (cases_lt is.index next.index) [
         | inl earlier ↦ absurd (none_before next.index next.tracts other is earlier)
         | inr over ↦ elim (cases_eq is.index next.index) [
           | inl same ↦
-              let there : HasAt township (tract_records bytes) next.index other = subst (λ i. HasAt township (tract_records bytes) i other) same is.has in
+              let there : HasAt township (tract_records bytes) next.index other =
+              subst (λ i. HasAt township (tract_records bytes) i other) same is.has in
               inr (here ∙ sym (number_is next.index other there), next.first other there)
           | inr later ↦ inl (let e = number_is is.index other is.has in omega (arith, here, e))
         ]
@@ -211,11 +254,26 @@ module _ (township : Designation) (bytes : List ℕ) (size : length bytes ≤ TR
 
   pub first_refused : (tract_fault : TractFault) → AreTractsRefused township (tract_records bytes) tract_fault
       → IfSome (verdict_of tract_fault) (λ _. IsFirstTractFault township bytes tract_fault)
-  first_refused (fault.TractRow n) next = first_of_next (fault.TractRow n) next (inr (record { index = next.index; within = next.within; has = next.has }))
-  first_refused (fault.NameRepeated n) next = first_of_next (fault.NameRepeated n) next (inr (record { index = next.index; within = next.within; has = next.has }))
-  first_refused (fault.TractRefused n inner) next = first_of_next (fault.TractRefused n inner) next (inr (record { index = next.index; within = next.within; has = next.has }))
-  first_refused (fault.TractsOverlap n) next = first_of_next (fault.TractsOverlap n) next (inr (record { index = next.index; within = next.within; has = next.has }))
-  first_refused fault.TooManyTracts (many, tracts) = record { is = many; first = λ other there. first other (where_is other there) }
+  first_refused (fault.TractRow n) next = first_of_next (fault.TractRow n) next (inr (record {
+    index = next.index;
+    within = next.within;
+    has = next.has;
+  }))
+  first_refused (fault.NameRepeated n) next = first_of_next (fault.NameRepeated n) next (inr (record {
+    index = next.index;
+    within = next.within;
+    has = next.has;
+  }))
+  first_refused (fault.TractRefused n inner) next =
+      first_of_next (fault.TractRefused n inner) next
+      (inr (record { index = next.index; within = next.within; has = next.has }))
+  first_refused (fault.TractsOverlap n) next = first_of_next (fault.TractsOverlap n) next (inr (record {
+    index = next.index;
+    within = next.within;
+    has = next.has;
+  }))
+  first_refused fault.TooManyTracts (many, tracts) =
+      record { is = many; first = λ other there. first other (where_is other there) }
     where
       first : (other : TractFault) → Where other → IsFrom (TRACTS_MOST + 2) 0 other
       first other (too_many e) = inr (sym e, omega arith)
@@ -236,18 +294,25 @@ pub record AreBehind (bytes : List ℕ) (fields : Fields) (rest : List Fields) :
   pub first : record_numbered (records_of bytes) 1 ≡ fields
   pub behind : tract_records bytes ≡ rest
 
-pub behind_of : (bytes : List ℕ) (fields : Fields) (rest : List Fields) → records_of bytes ≡ fields ∷ rest → AreBehind bytes fields rest
+pub behind_of : (bytes : List ℕ) (fields : Fields) (rest : List Fields) → records_of bytes ≡ fields ∷ rest
+    → AreBehind bytes fields rest
 behind_of bytes fields rest split = record { first = rw split refl; behind = rw split refl }
 
-pub no_first : (bytes : List ℕ) → records_of bytes ≡ [] → record_numbered (records_of bytes) 1 ≢ tracts_heading
+pub no_first : (bytes : List ℕ) → records_of bytes ≡ []
+    → record_numbered (records_of bytes) 1 ≢ tracts_heading
 no_first bytes none same =
     let nothing : record_numbered (records_of bytes) 1 ≡ [] = rw none refl in
     let heading : [] ≡ tracts_heading = sym nothing ∙ same in
     cc heading
 
 -- the lines of a list's refusal are its answer
-pub list_refused : (plat : TownshipPlat) (bytes answer : List ℕ) (verdict : Verdict) (tract_fault : TractFault) → IsFirstTractFault plat.township bytes tract_fault
-    → verdict_of tract_fault ≡ Some verdict → verdict ≢ Accepted → answer ≡ refusal_lines verdict → AnswersList plat bytes answer verdict
+pub list_refused : (plat : TownshipPlat) (bytes answer : List ℕ) (verdict : Verdict)
+    (tract_fault : TractFault)
+    → IsFirstTractFault plat.township bytes tract_fault
+    → verdict_of tract_fault ≡ Some verdict → verdict ≢ Accepted → answer ≡ refusal_lines verdict
+    → AnswersList plat bytes answer verdict
 list_refused plat bytes answer Accepted tract_fault first is other lines = absurd (other refl)
-list_refused plat bytes answer (Refused refusal) tract_fault first is other lines = record { tract_fault = tract_fault; first = first; verdict_is = is; lines_are = lines }
-list_refused plat bytes answer (TractRefused at_ inner) tract_fault first is other lines = record { tract_fault = tract_fault; first = first; verdict_is = is; lines_are = lines }
+list_refused plat bytes answer (Refused refusal) tract_fault first is other lines =
+    record { tract_fault = tract_fault; first = first; verdict_is = is; lines_are = lines }
+list_refused plat bytes answer (TractRefused at_ inner) tract_fault first is other lines =
+    record { tract_fault = tract_fault; first = first; verdict_is = is; lines_are = lines }

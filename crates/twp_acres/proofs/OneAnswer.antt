@@ -38,73 +38,91 @@ abbrev unfound : PlaceFault → Result (ℕ → ℕ → ℕ → Bool) PlaceFault
 unfound fault = Err fault
 
 -- notes are one list of notes, and make one plat
-pub one_plat : (notes : List ℕ) (plat plat' : TownshipPlat) → ArePlatted notes plat → ArePlatted notes plat' → plat ≡ plat'
+pub one_plat : (notes : List ℕ) (plat plat' : TownshipPlat) → ArePlatted notes plat → ArePlatted notes plat'
+    → plat ≡ plat'
 one_plat notes plat plat' are are' =
     let same : are.notes ≡ are'.notes = one_notes notes are.notes are'.notes are.notes_are are'.notes_are in
-    let both : made plat ≡ made plat' = plats.one_answer are'.notes (Ok plat) (Ok plat') (subst (λ n. IsPlatOf n plat) same are.plat_is) are'.plat_is in
+    let both : made plat ≡ made plat' =
+    plats.one_answer are'.notes (Ok plat) (Ok plat') (subst (λ n. IsPlatOf n plat) same are.plat_is)
+    are'.plat_is in
     cc both
 
 -- a description is of one land
-pub one_land : (township : Designation) (description : List ℕ) (places places' : ℕ → ℕ → ℕ → Bool) → Describe township description places
+pub one_land : (township : Designation) (description : List ℕ) (places places' : ℕ → ℕ → ℕ → Bool)
+    → Describe township description places
     → Describe township description places' → places ≡ places'
 one_land township description places places' is is' =
     let same : is.items ≡ is'.items = texts.one_reading description is.items is'.items is.read is'.read in
     let land : place_faults.IsLandOfItems PLACE_DIGITS township is'.items places = rw same at is.land in
-    let both : found places ≡ found places' = lands.one_answer PLACE_DIGITS township is'.items (Ok places) (Ok places') land is'.land in
+    let both : found places ≡ found places' =
+    lands.one_answer PLACE_DIGITS township is'.items (Ok places) (Ok places') land is'.land in
     cc both
 
 -- the land of a plat is rounded to one number of hundredths
-pub one_hundredths : (plat : TownshipPlat) (places : ℕ → ℕ → ℕ → Bool) (h h' : ℕ) → AreHundredthsOf plat places h → AreHundredthsOf plat places h' → h ≡ h'
+pub one_hundredths : (plat : TownshipPlat) (places : ℕ → ℕ → ℕ → Bool) (h h' : ℕ)
+    → AreHundredthsOf plat places h → AreHundredthsOf plat places h' → h ≡ h'
 one_hundredths plat places h h' is is' =
-    let area : is.area ≡ is'.area = one_land_area PLACE_DIGITS (omega arith) plat places is.area is'.area is.area_is is'.area_is in
+    let area : is.area ≡ is'.area =
+    one_land_area PLACE_DIGITS (omega arith) plat places is.area is'.area is.area_is is'.area_is in
     one_rounding is'.area h h' (rw area at is.rounded) is'.rounded
 
 -- the plat and the land of two texts
-same_plat : (notes d d' : List ℕ) (plat plat' : TownshipPlat) (places places' : ℕ → ℕ → ℕ → Bool) → IsLandOnPlat notes d plat places
+same_plat : (notes d d' : List ℕ) (plat plat' : TownshipPlat) (places places' : ℕ → ℕ → ℕ → Bool)
+    → IsLandOnPlat notes d plat places
     → IsLandOnPlat notes d' plat' places' → plat ≡ plat'
 same_plat notes d d' plat plat' places places' is is' = one_plat notes plat plat' is.platted is'.platted
 
 -- two descriptions of one land have the same acres
-acres_of_land : (notes d : List ℕ) (h : ℕ) (plat : TownshipPlat) (places : ℕ → ℕ → ℕ → Bool) → IsLandOnPlat notes d plat places → HasAcres notes d h → AreHundredthsOf plat places h
+acres_of_land : (notes d : List ℕ) (h : ℕ) (plat : TownshipPlat) (places : ℕ → ℕ → ℕ → Bool)
+    → IsLandOnPlat notes d plat places → HasAcres notes d h → AreHundredthsOf plat places h
 acres_of_land notes d h plat places land is =
     let p : is.plat ≡ plat = one_plat notes is.plat plat is.land.platted land.platted in
-    let described : Describe plat.township d is.places = subst (λ (q : TownshipPlat). Describe q.township d is.places) p is.land.described in
+    let described : Describe plat.township d is.places =
+    subst (λ (q : TownshipPlat). Describe q.township d is.places) p is.land.described in
     let l : is.places ≡ places = one_land plat.township d is.places places described land.described in
     subst (λ q. AreHundredthsOf plat q h) l (subst (λ q. AreHundredthsOf q is.places h) p is.acres)
 
 pub one_acres : (notes d : List ℕ) (h h' : ℕ) → HasAcres notes d h → HasAcres notes d h' → h ≡ h'
 one_acres notes d h h' is is' =
-    one_hundredths is'.plat is'.places h h' (acres_of_land notes d h is'.plat is'.places is'.land is) is'.acres
+    one_hundredths is'.plat is'.places h h' (acres_of_land notes d h is'.plat is'.places is'.land is)
+    is'.acres
 
 -- notes that are refused are none
-not_both : (notes : List ℕ) (refusal : Refusal) (others : FieldNotes) → AreRefused notes refusal → AreNotes notes others → ⊥
+not_both : (notes : List ℕ) (refusal : Refusal) (others : FieldNotes) → AreRefused notes refusal
+    → AreNotes notes others → ⊥
 not_both notes refusal others is are = no_fault notes others is.fault are is.first.is
 
 -- what makes no plat makes none
-pub not_platted : (notes : List ℕ) (refusal : Refusal) (plat : TownshipPlat) → IsNoPlat notes refusal → ArePlatted notes plat → ⊥
+pub not_platted : (notes : List ℕ) (refusal : Refusal) (plat : TownshipPlat) → IsNoPlat notes refusal
+    → ArePlatted notes plat → ⊥
 not_platted notes refusal plat (inl is) are = not_both notes refusal are.notes is are.notes_are
 not_platted notes refusal plat (inr is) are =
     let same : is.notes ≡ are.notes = one_notes notes is.notes are.notes is.notes_are are.notes_are in
     let both : made plat ≡ unmade is.fault =
-    plats.one_answer are.notes (Ok plat) (Err is.fault) are.plat_is (subst (λ n. plat_faults.IsFirstFault n is.fault) same is.first) in
+    plats.one_answer are.notes (Ok plat) (Err is.fault) are.plat_is
+    (subst (λ n. plat_faults.IsFirstFault n is.fault) same is.first) in
     cc both
 
 -- what is no description of land describes none
-pub not_described : (township : Designation) (d : List ℕ) (refusal : Refusal) (places : ℕ → ℕ → ℕ → Bool) → IsNoDescription township d refusal
+pub not_described : (township : Designation) (d : List ℕ) (refusal : Refusal) (places : ℕ → ℕ → ℕ → Bool)
+    → IsNoDescription township d refusal
     → Describe township d places → ⊥
 not_described township d refusal places (inl is) land = texts.no_fault d land.items refusal land.read is
 not_described township d refusal places (inr is) land =
     let same : is.items ≡ land.items = texts.one_reading d is.items land.items is.read land.read in
     let both : found places ≡ unfound is.fault =
-    lands.one_answer PLACE_DIGITS township land.items (Ok places) (Err is.fault) land.land (subst (λ i. place_faults.IsFirstPlaceFault PLACE_DIGITS township i is.fault) same is.first) in
+    lands.one_answer PLACE_DIGITS township land.items (Ok places) (Err is.fault) land.land
+    (subst (λ i. place_faults.IsFirstPlaceFault PLACE_DIGITS township i is.fault) same is.first) in
     cc both
 
 -- what is refused is no land
-pub not_land : (notes d : List ℕ) (refusal : Refusal) (plat : TownshipPlat) (places : ℕ → ℕ → ℕ → Bool) → IsRefusal notes d refusal → IsLandOnPlat notes d plat places → ⊥
+pub not_land : (notes d : List ℕ) (refusal : Refusal) (plat : TownshipPlat) (places : ℕ → ℕ → ℕ → Bool)
+    → IsRefusal notes d refusal → IsLandOnPlat notes d plat places → ⊥
 not_land notes d refusal plat places (inl none) land = not_platted notes refusal plat none land.platted
 not_land notes d refusal plat places (inr is) land =
     let same : is.plat ≡ plat = one_plat notes is.plat plat is.platted land.platted in
-    not_described plat.township d refusal places (subst (λ (p : TownshipPlat). IsNoDescription p.township d refusal) same is.refused) land.described
+    not_described plat.township d refusal places
+    (subst (λ (p : TownshipPlat). IsNoDescription p.township d refusal) same is.refused) land.described
 
 -- one refusal of notes and plat is the first
 pub one_plat_refusal : (notes : List ℕ) (r r' : Refusal) → IsNoPlat notes r → IsNoPlat notes r' → r ≡ r'
@@ -117,20 +135,23 @@ one_plat_refusal notes r r' (inr is) (inl is') = absurd (not_both notes r' is.no
 one_plat_refusal notes r r' (inr is) (inr is') =
     let same : is.notes ≡ is'.notes = one_notes notes is.notes is'.notes is.notes_are is'.notes_are in
     let both : unmade is.fault ≡ unmade is'.fault =
-    plats.one_answer is'.notes (Err is.fault) (Err is'.fault) (subst (λ n. plat_faults.IsFirstFault n is.fault) same is.first) is'.first in
+    plats.one_answer is'.notes (Err is.fault) (Err is'.fault)
+    (subst (λ n. plat_faults.IsFirstFault n is.fault) same is.first) is'.first in
     let fault : is.fault ≡ is'.fault = cc both in
     let refusals : Some r ≡ Some r' = sym is.refusal_is ∙ rw fault is'.refusal_is in
     cc refusals
 
 -- one refusal of a description is the first
-pub one_description_refusal : (township : Designation) (d : List ℕ) (r r' : Refusal) → IsNoDescription township d r → IsNoDescription township d r' → r ≡ r'
+pub one_description_refusal : (township : Designation) (d : List ℕ) (r r' : Refusal)
+    → IsNoDescription township d r → IsNoDescription township d r' → r ≡ r'
 one_description_refusal township d r r' (inl is) (inl is') = texts.one_refusal d r r' is is'
 one_description_refusal township d r r' (inl is) (inr is') = absurd (texts.no_fault d is'.items r is'.read is)
 one_description_refusal township d r r' (inr is) (inl is') = absurd (texts.no_fault d is.items r' is.read is')
 one_description_refusal township d r r' (inr is) (inr is') =
     let same : is.items ≡ is'.items = texts.one_reading d is.items is'.items is.read is'.read in
     let both : unfound is.fault ≡ unfound is'.fault =
-    lands.one_answer PLACE_DIGITS township is'.items (Err is.fault) (Err is'.fault) (subst (λ i. place_faults.IsFirstPlaceFault PLACE_DIGITS township i is.fault) same is.first) is'.first in
+    lands.one_answer PLACE_DIGITS township is'.items (Err is.fault) (Err is'.fault)
+    (subst (λ i. place_faults.IsFirstPlaceFault PLACE_DIGITS township i is.fault) same is.first) is'.first in
     let fault : is.fault ≡ is'.fault = cc both in
     let refusals : Some r ≡ Some r' = sym is.refusal_is ∙ rw fault is'.refusal_is in
     cc refusals
@@ -142,13 +163,15 @@ one_refusal notes d r r' (inl is) (inr is') = absurd (not_platted notes r is'.pl
 one_refusal notes d r r' (inr is) (inl is') = absurd (not_platted notes r' is.plat is' is.platted)
 one_refusal notes d r r' (inr is) (inr is') =
     let same : is.plat ≡ is'.plat = one_plat notes is.plat is'.plat is.platted is'.platted in
-    one_description_refusal is'.plat.township d r r' (subst (λ (p : TownshipPlat). IsNoDescription p.township d r) same is.refused) is'.refused
+    one_description_refusal is'.plat.township d r r'
+    (subst (λ (p : TownshipPlat). IsNoDescription p.township d r) same is.refused) is'.refused
 
 -- an answer with acres is of land, so nothing of it is refused
 not_refused : (notes d : List ℕ) (r : Refusal) (h : ℕ) → IsRefusal notes d r → HasAcres notes d h → ⊥
 not_refused notes d r h is land = not_land notes d r land.plat land.places is land.land
 
-pub one_answer : (notes description answer answer' : List ℕ) (verdict verdict' : Verdict) → IsAcresAnswer notes description answer verdict
+pub one_answer : (notes description answer answer' : List ℕ) (verdict verdict' : Verdict)
+    → IsAcresAnswer notes description answer verdict
     → IsAcresAnswer notes description answer' verdict' → (answer ≡ answer') × (verdict ≡ verdict')
 one_answer notes description answer answer' Accepted Accepted (h, land, is) (h', land', is') =
     let same : h ≡ h' = one_acres notes description h h' land land' in
@@ -156,20 +179,27 @@ one_answer notes description answer answer' Accepted Accepted (h, land, is) (h',
 one_answer notes description answer answer' (Refused r) (Refused r') (refused, is) (refused', is') =
     let same : r ≡ r' = one_refusal notes description r r' refused refused' in
     (is ∙ rw same (sym is'), ap (λ x. Refused x) same)
-one_answer notes description answer answer' Accepted (Refused r) (h, land, is) (refused, is') = absurd (not_refused notes description r h refused land)
-one_answer notes description answer answer' (Refused r) Accepted (refused, is) (h, land, is') = absurd (not_refused notes description r h refused land)
+one_answer notes description answer answer' Accepted (Refused r) (h, land, is) (refused, is') =
+    absurd (not_refused notes description r h refused land)
+one_answer notes description answer answer' (Refused r) Accepted (refused, is) (h, land, is') =
+    absurd (not_refused notes description r h refused land)
 one_answer notes description answer answer' (TractRefused at_ inner) verdict' is is' = absurd is
 one_answer notes description answer answer' Accepted (TractRefused at_ inner) is is' = absurd is'
 one_answer notes description answer answer' (Refused r) (TractRefused at_ inner) is is' = absurd is'
 
 -- the answer of a land, by the hundredths that it has
-of_land : (notes d d' a a' : List ℕ) (v v' : Verdict) (plat : TownshipPlat) (places : ℕ → ℕ → ℕ → Bool) → IsLandOnPlat notes d plat places → IsLandOnPlat notes d' plat places
+of_land : (notes d d' a a' : List ℕ) (v v' : Verdict) (plat : TownshipPlat) (places : ℕ → ℕ → ℕ → Bool)
+    → IsLandOnPlat notes d plat places → IsLandOnPlat notes d' plat places
     → IsAcresAnswer notes d a v → IsAcresAnswer notes d' a' v' → (a ≡ a') × (v ≡ v')
 of_land notes d d' a a' Accepted Accepted plat places land land' (h, acres, is) (h', acres', is') =
-    let same : h ≡ h' = one_hundredths plat places h h' (acres_of_land notes d h plat places land acres) (acres_of_land notes d' h' plat places land' acres') in
+    let same : h ≡ h' =
+    one_hundredths plat places h h' (acres_of_land notes d h plat places land acres)
+    (acres_of_land notes d' h' plat places land' acres') in
     (is ∙ rw same (sym is'), refl)
-of_land notes d d' a a' (Refused r) v' plat places land land' (refused, is) is' = absurd (not_land notes d r plat places refused land)
-of_land notes d d' a a' Accepted (Refused r) plat places land land' is (refused, is') = absurd (not_land notes d' r plat places refused land')
+of_land notes d d' a a' (Refused r) v' plat places land land' (refused, is) is' =
+    absurd (not_land notes d r plat places refused land)
+of_land notes d d' a a' Accepted (Refused r) plat places land land' is (refused, is') =
+    absurd (not_land notes d' r plat places refused land')
 of_land notes d d' a a' (TractRefused at_ inner) v' plat places land land' is is' = absurd is
 of_land notes d d' a a' Accepted (TractRefused at_ inner) plat places land land' is is' = absurd is'
 

@@ -14,30 +14,43 @@ use Rattle.twp_acres.specs.NormalLaws.{too_large}
 use Rattle.twp_acres.specs.declared.verdict.Verdict.TheVariants.{Accepted, Refused}
 
 -- field notes name the township by such numbers
-township_numbers : (notes : List ℕ) (plat : TownshipPlat) → ArePlatted notes plat → HasTownshipNumbers plat.township
+township_numbers : (notes : List ℕ) (plat : TownshipPlat) → ArePlatted notes plat
+    → HasTownshipNumbers plat.township
 township_numbers notes plat platted =
     let named = platted.notes_are.records_are.township_is in
     subst HasTownshipNumbers (sym platted.plat_is.township_is) (named.number.1, named.range.1)
 
 -- the text describes the same land, and is its canonical text
-own_form : (notes d text : List ℕ) → IsNormalForm notes d text → length text ≤ TEXT_LIMIT → IsNormalForm notes text text
+own_form : (notes d text : List ℕ) → IsNormalForm notes d text → length text ≤ TEXT_LIMIT
+    → IsNormalForm notes text text
 own_form notes d text form within =
     let township = form.plat.township in
     let described = form.land.described in
-    let some : form.places ≢ no_places = names_some_place township described.read.tokens described.items form.places described.read.named described.land in
-    let land : IsTownshipLand PLACE_DIGITS form.places = is_of_township township described.read.tokens described.items form.places described.read.named described.land in
-    let again = read_back PLACE_DIGITS township form.places text (township_numbers notes form.plat form.land.platted) land some form.text_is within in
+    let some : form.places ≢ no_places =
+    names_some_place township described.read.tokens described.items form.places described.read.named
+    described.land in
+    let land : IsTownshipLand PLACE_DIGITS form.places =
+    is_of_township township described.read.tokens described.items form.places described.read.named
+    described.land in
+    let again =
+    read_back PLACE_DIGITS township form.places text (township_numbers notes form.plat form.land.platted)
+    land some form.text_is within in
     record {
       plat = form.plat;
       places = form.places;
-      land = record { platted = form.land.platted; described = record { items = again.0; read = again.1; land = again.2 } };
+      land = record {
+        platted = form.land.platted;
+        described = record { items = again.0; read = again.1; land = again.2 };
+      };
       text_is = form.text_is;
     }
 
-pub is_its_own : (notes d text : List ℕ) → IsNormalAnswer notes d text Accepted → length text ≤ TEXT_LIMIT → IsNormalAnswer notes text text Accepted
+pub is_its_own : (notes d text : List ℕ) → IsNormalAnswer notes d text Accepted → length text ≤ TEXT_LIMIT
+    → IsNormalAnswer notes text text Accepted
 is_its_own notes d text form within = own_form notes d text form within
 
-pub long_is_refused : (notes d text : List ℕ) → IsNormalAnswer notes d text Accepted → TEXT_LIMIT < length text
+pub long_is_refused : (notes d text : List ℕ) → IsNormalAnswer notes d text Accepted
+    → TEXT_LIMIT < length text
     → IsNormalAnswer notes text (refusal_line too_large) (Refused too_large)
 long_is_refused notes d text form over =
     (inr (record { plat = form.plat; platted = form.land.platted; refused = inl (longer over refl) }), refl)

@@ -4,41 +4,56 @@ use Rattle.std.proofs.lemmas.Bool.{cases_eq}
 use Rattle.twp_grid.specs.Places.{PLACE_DIGITS}
 use Rattle.twp_grid.specs.Spans.{whole_block, position_block}
 use Rattle.twp_grid.specs.Totals.{total, total_over, over_positions}
-use Rattle.twp_grid.proofs.TotalFacts.{total-ext, total-add, total-both, total-scale, total-swap, total-all_zero, total-le}
+use Rattle.twp_grid.proofs.TotalFacts.{total-ext, total-add, total-both, total-scale, total-swap}
+use Rattle.twp_grid.proofs.TotalFacts.{total-all_zero, total-le}
 
-pub positions-ext : (f g : ℕ → ℕ → ℕ) → ((column row : ℕ) → column < 4 → row < 4 → f column row ≡ g column row) → over_positions f ≡ over_positions g
+pub positions-ext : (f g : ℕ → ℕ → ℕ)
+    → ((column row : ℕ) → column < 4 → row < 4 → f column row ≡ g column row)
+    → over_positions f ≡ over_positions g
 positions-ext f g same =
-    total-ext 4 (λ row. total 4 (λ column. f column row)) (λ row. total 4 (λ column. g column row)) (λ row in-row.
-    total-ext 4 (λ column. f column row) (λ column. g column row) (λ column in-column. same column row in-column in-row))
+    total-ext 4 (λ row. total 4 (λ column. f column row)) (λ row. total 4 (λ column. g column row))
+    (λ row in-row.
+    total-ext 4 (λ column. f column row) (λ column. g column row)
+    (λ column in-column. same column row in-column in-row))
 
-pub positions-le : (f g : ℕ → ℕ → ℕ) → ((column row : ℕ) → column < 4 → row < 4 → f column row ≤ g column row) → over_positions f ≤ over_positions g
+pub positions-le : (f g : ℕ → ℕ → ℕ) → ((column row : ℕ) → column < 4 → row < 4 → f column row ≤ g column row)
+    → over_positions f ≤ over_positions g
 positions-le f g least =
-    total-le 4 (λ row. total 4 (λ column. f column row)) (λ row. total 4 (λ column. g column row)) (λ row in-row.
-    total-le 4 (λ column. f column row) (λ column. g column row) (λ column in-column. least column row in-column in-row))
+    total-le 4 (λ row. total 4 (λ column. f column row)) (λ row. total 4 (λ column. g column row))
+    (λ row in-row.
+    total-le 4 (λ column. f column row) (λ column. g column row)
+    (λ column in-column. least column row in-column in-row))
 
-pub positions-zero : (f : ℕ → ℕ → ℕ) → ((column row : ℕ) → column < 4 → row < 4 → f column row ≡ 0) → over_positions f ≡ 0
+pub positions-zero : (f : ℕ → ℕ → ℕ) → ((column row : ℕ) → column < 4 → row < 4 → f column row ≡ 0)
+    → over_positions f ≡ 0
 positions-zero f none =
     total-all_zero 4 (λ row. total 4 (λ column. f column row)) (λ row in-row.
     total-all_zero 4 (λ column. f column row) (λ column in-column. none column row in-column in-row))
 
-pub positions-both : (f g : ℕ → ℕ → ℕ) → over_positions (λ column row. f column row + g column row) ≡ over_positions f + over_positions g
+pub positions-both : (f g : ℕ → ℕ → ℕ)
+    → over_positions (λ column row. f column row + g column row) ≡ over_positions f + over_positions g
 positions-both f g =
-    total-ext 4 (λ row. total 4 (λ column. f column row + g column row)) (λ row. total 4 (λ column. f column row) + total 4 (λ column. g column row)) (λ row _.
+    total-ext 4 (λ row. total 4 (λ column. f column row + g column row))
+    (λ row. total 4 (λ column. f column row) + total 4 (λ column. g column row)) (λ row _.
     total-both 4 (λ column. f column row) (λ column. g column row))
     ∙ total-both 4 (λ row. total 4 (λ column. f column row)) (λ row. total 4 (λ column. g column row))
 
-pub positions-scale : (c : ℕ) (f : ℕ → ℕ → ℕ) → over_positions (λ column row. c * f column row) ≡ c * over_positions f
+pub positions-scale : (c : ℕ) (f : ℕ → ℕ → ℕ)
+    → over_positions (λ column row. c * f column row) ≡ c * over_positions f
 positions-scale c f =
-    total-ext 4 (λ row. total 4 (λ column. c * f column row)) (λ row. c * total 4 (λ column. f column row)) (λ row _. total-scale 4 c (λ column. f column row))
+    total-ext 4 (λ row. total 4 (λ column. c * f column row)) (λ row. c * total 4 (λ column. f column row))
+    (λ row _. total-scale 4 c (λ column. f column row))
     ∙ total-scale 4 c (λ row. total 4 (λ column. f column row))
 
 -- two sums that differ at one number
-pub total_differs : (n at : ℕ) (f g : ℕ → ℕ) → at < n → ((k : ℕ) → k < n → k ≢ at → g k ≡ f k) → total n g + f at ≡ total n f + g at
+pub total_differs : (n at : ℕ) (f g : ℕ → ℕ) → at < n → ((k : ℕ) → k < n → k ≢ at → g k ≡ f k)
+    → total n g + f at ≡ total n f + g at
 unfolding total
 total_differs zero at f g below same = absurd (omega arith)
 total_differs (suc n) at f g below same = elim (cases_eq n at) [
   | inl here ↦
-      let lower : total n g ≡ total n f = total-ext n g f (λ k lt. same k (omega arith) (λ e. absurd (omega arith))) in
+      let lower : total n g ≡ total n f =
+      total-ext n g f (λ k lt. same k (omega arith) (λ e. absurd (omega arith))) in
       let first : f at ≡ f n = ap f (sym here) in
       let second : g at ≡ g n = ap g (sym here) in
       omega arith
@@ -69,16 +84,25 @@ total_blocks (suc m) n f =
     rw e (total-add (m * n) n f ∙ ap (λ t. t + total n (λ k. f (m * n + k))) (total_blocks m n f))
 
 -- the sum over a section's places by positions
-pub by_position : (f : ℕ → ℕ → ℕ) → total_over (whole_block PLACE_DIGITS) f ≡ over_positions (λ column row. total_over (position_block PLACE_DIGITS column row) f)
+pub by_position : (f : ℕ → ℕ → ℕ) → total_over (whole_block PLACE_DIGITS) f ≡ over_positions (λ column row.
+    total_over (position_block PLACE_DIGITS column row) f)
 by_position f =
-    total-ext 16 _ (λ up. total 16 (λ along. f along up)) (λ up _. total-ext 16 _ (λ along. f along up) (λ along _. at along up))
+    total-ext 16 _ (λ up. total 16 (λ along. f along up))
+    (λ up _. total-ext 16 _ (λ along. f along up) (λ along _. at along up))
     ∙ total_blocks 4 4 (λ up. total 16 (λ along. f along up))
     ∙ total-ext 4 (λ row. total 4 (λ up. total 16 (λ along. f along (row * 4 + up)))) _ (λ row _. in_rows row)
   where
     at : (along up : ℕ) → f (0 + along) (0 + up) ≡ f along up
-    at along up = let e : 0 + along ≡ along = omega arith in let e' : 0 + up ≡ up = omega arith in ap (λ c. f c (0 + up)) e ∙ ap (λ r. f along r) e'
+    at along up =
+        let e : 0 + along ≡ along = omega arith in
+        let e' : 0 + up ≡ up = omega arith in
+        ap (λ c. f c (0 + up)) e ∙ ap (λ r. f along r) e'
 
-    in_rows : (row : ℕ) → total 4 (λ up. total 16 (λ along. f along (row * 4 + up))) ≡ total 4 (λ column. total 4 (λ up. total 4 (λ along. f (column * 4 + along) (row * 4 + up))))
+    in_rows : (row : ℕ)
+        → total 4 (λ up. total 16 (λ along. f along (row * 4 + up)))
+        ≡ total 4 (λ column. total 4 (λ up. total 4 (λ along. f (column * 4 + along) (row * 4 + up))))
     in_rows row =
-        total-ext 4 (λ up. total 16 (λ along. f along (row * 4 + up))) (λ up. total 4 (λ column. total 4 (λ along. f (column * 4 + along) (row * 4 + up)))) (λ up _. total_blocks 4 4 (λ along. f along (row * 4 + up)))
+        total-ext 4 (λ up. total 16 (λ along. f along (row * 4 + up)))
+        (λ up. total 4 (λ column. total 4 (λ along. f (column * 4 + along) (row * 4 + up))))
+        (λ up _. total_blocks 4 4 (λ along. f along (row * 4 + up)))
         ∙ total-swap 4 4 (λ up column. total 4 (λ along. f (column * 4 + along) (row * 4 + up)))

@@ -34,14 +34,17 @@ some_bytes None = tt
 some_bytes (Some bytes) = refl
 
 -- the bytes that are told are the only ones
-pub told_are : (told : Option (List ℕ)) (bytes other : List ℕ) → told ≡ Some bytes → Tells told other → other ≡ bytes
+pub told_are : (told : Option (List ℕ)) (bytes other : List ℕ) → told ≡ Some bytes → Tells told other
+    → other ≡ bytes
 told_are told bytes other is tells = sym (rw is at tells)
 
 -- what holds of the bytes that were read holds of the told ones
-pub told_one : (told : Option (List ℕ)) (bytes : List ℕ) (Holds : List ℕ → Type 0) → Reads told Holds → told ≡ Some bytes → Holds bytes
+pub told_one : (told : Option (List ℕ)) (bytes : List ℕ) (Holds : List ℕ → Type 0) → Reads told Holds
+    → told ≡ Some bytes → Holds bytes
 told_one told bytes Holds read is = subst Holds (told_are told bytes read.bytes is read.tells) read.holds
 
-pub told_two : (first second : Option (List ℕ)) (a b : List ℕ) (GoesOn : List ℕ → Type 0) (unread : Type 0) (Holds : List ℕ → List ℕ → Type 0)
+pub told_two : (first second : Option (List ℕ)) (a b : List ℕ) (GoesOn : List ℕ → Type 0) (unread : Type 0)
+    (Holds : List ℕ → List ℕ → Type 0)
     → ReadsTwo first second GoesOn unread Holds → first ≡ Some a → second ≡ Some b → Holds a b
 told_two first second a b GoesOn unread Holds read is-a is-b =
     let same-a : read.first_bytes ≡ a = told_are first a read.first_bytes is-a read.first_tells in
@@ -57,19 +60,24 @@ pub refused_of_notes : (n d : List ℕ) (is : Stop) → IfRefused is (IsNoPlat n
 refused_of_notes n d (stop.Refused refusal) none = inl none
 refused_of_notes n d (stop.Failed fault) none = tt
 
-pub refused_on_plat : (n d : List ℕ) (plat : TownshipPlat) (is : Stop) → ArePlatted n plat → IfRefused is (IsNoDescription plat.township d) → IfRefused is (IsRefusal n d)
-refused_on_plat n d plat (stop.Refused refusal) platted none = inr (record { plat = plat; platted = platted; refused = none })
+pub refused_on_plat : (n d : List ℕ) (plat : TownshipPlat) (is : Stop) → ArePlatted n plat
+    → IfRefused is (IsNoDescription plat.township d) → IfRefused is (IsRefusal n d)
+refused_on_plat n d plat (stop.Refused refusal) platted none =
+    inr (record { plat = plat; platted = platted; refused = none })
 refused_on_plat n d plat (stop.Failed fault) platted none = tt
 
 -- notes that are refused make no plat
-pub none_platted : (told : Option (List ℕ)) (n : List ℕ) (refusal : Refusal) → Reads told (λ bytes. IsNoPlat bytes refusal)
+pub none_platted : (told : Option (List ℕ)) (n : List ℕ) (refusal : Refusal)
+    → Reads told (λ bytes. IsNoPlat bytes refusal)
     → told ≡ Some n → MakePlat n → ⊥
 none_platted told n refusal read is makes =
     not_platted n refusal makes.0 (told_one told n (λ bytes. IsNoPlat bytes refusal) read is) makes.1
 
 -- so of notes that make a plat a run stops for a fault alone
-pub plat_stops_by_fault : (told : Option (List ℕ)) (n : List ℕ) (by : Stop) → Reads told (λ bytes. IfRefused by (IsNoPlat bytes))
-    → told ≡ Some n → MakePlat n → by ≢ stop.Failed Read → by ≢ stop.Failed Write → by ≢ stop.Failed Memory → ⊥
+pub plat_stops_by_fault : (told : Option (List ℕ)) (n : List ℕ) (by : Stop)
+    → Reads told (λ bytes. IfRefused by (IsNoPlat bytes))
+    → told ≡ Some n → MakePlat n → by ≢ stop.Failed Read → by ≢ stop.Failed Write → by ≢ stop.Failed Memory
+    → ⊥
 plat_stops_by_fault told n (stop.Refused refusal) read is makes not_read not_write not_memory =
     none_platted told n refusal read is makes
 plat_stops_by_fault told n (stop.Failed Read) read is makes not_read not_write not_memory = not_read refl
@@ -77,39 +85,52 @@ plat_stops_by_fault told n (stop.Failed Write) read is makes not_read not_write 
 plat_stops_by_fault told n (stop.Failed Memory) read is makes not_read not_write not_memory = not_memory refl
 
 -- items that don't lie on the plat stop the run by their refusal
-pub stopped_by_places : (township : Designation) (d : List ℕ) (is : List Item) (fault : PlaceFault) (stopped : Stop) → IsReadAs d is
-    → IsFirstPlaceFault PLACE_DIGITS township is fault → IsStopOfPlaces fault stopped → IfRefused stopped (IsNoDescription township d)
-stopped_by_places township d is fault (stop.Refused refusal) read first by = inr (record { items = is; read = read; fault = fault; first = first; refusal_is = by })
+pub stopped_by_places : (township : Designation) (d : List ℕ) (is : List Item) (fault : PlaceFault)
+    (stopped : Stop)
+    → IsReadAs d is
+    → IsFirstPlaceFault PLACE_DIGITS township is fault → IsStopOfPlaces fault stopped
+    → IfRefused stopped (IsNoDescription township d)
+stopped_by_places township d is fault (stop.Refused refusal) read first by =
+    inr (record { items = is; read = read; fault = fault; first = first; refusal_is = by })
 stopped_by_places township d is fault (stop.Failed failed) read first by = tt
 
 -- and by nothing that failed
-pub places_never_fail : (fault : PlaceFault) (stopped : Stop) (Holds : RunFault → Type 0) → IsStopOfPlaces fault stopped → IfFailed stopped Holds
+pub places_never_fail : (fault : PlaceFault) (stopped : Stop) (Holds : RunFault → Type 0)
+    → IsStopOfPlaces fault stopped → IfFailed stopped Holds
 places_never_fail fault (stop.Refused refusal) Holds by = tt
 places_never_fail fault (stop.Failed failed) Holds by = absurd by
 
 -- an answer was written, or a front of it
-pub written : (Answers : AnswerRelation) (old new : Option (List ℕ)) (text : List ℕ) (verdict : Verdict) (r : Result Verdict RunFault) → Answers text verdict
-    → IfOk r (λ v. v ≡ verdict) → OnOk r (Appends old new text) → OnErr r (AppendsFront old new text) → IfErr r (λ fault. fault ≡ Write) → IsRun Answers old new r
-written Answers old new text verdict (Ok v) answer is whole front fault = record { answer = text; answers = rw is answer; appended = whole }
+pub written : (Answers : AnswerRelation) (old new : Option (List ℕ)) (text : List ℕ) (verdict : Verdict)
+    (r : Result Verdict RunFault)
+    → Answers text verdict
+    → IfOk r (λ v. v ≡ verdict) → OnOk r (Appends old new text) → OnErr r (AppendsFront old new text)
+    → IfErr r (λ fault. fault ≡ Write) → IsRun Answers old new r
+written Answers old new text verdict (Ok v) answer is whole front fault =
+    record { answer = text; answers = rw is answer; appended = whole }
 written Answers old new text verdict (Err e) answer is whole front fault =
     rw fault (record { answer = text; verdict = verdict; answers = answer; front = front })
 
 -- what the notes show of themselves holds of the told bytes
-pub unread_of : (first second : Option (List ℕ)) (bytes : List ℕ) (GoesOn : List ℕ → Type 0) (unread : Type 0) (Holds : List ℕ → List ℕ → Type 0)
+pub unread_of : (first second : Option (List ℕ)) (bytes : List ℕ) (GoesOn : List ℕ → Type 0) (unread : Type 0)
+    (Holds : List ℕ → List ℕ → Type 0)
     → ReadsTwo first second GoesOn unread Holds → first ≡ Some bytes → (GoesOn bytes → ⊥) → unread
 unread_of first second bytes GoesOn unread Holds read is stops =
     unread_or (read.order) where
       unread_or : (GoesOn read.first_bytes ⊎ unread) → unread
-      unread_or (inl goes) = absurd (stops (subst GoesOn (told_are first bytes read.first_bytes is read.first_tells) goes))
+      unread_or (inl goes) =
+          absurd (stops (subst GoesOn (told_are first bytes read.first_bytes is read.first_tells) goes))
       unread_or (inr left) = left
 
 -- the writer failed, or a verdict was given
-pub write_answered : (r : Result Verdict RunFault) (failed : Bool) → IfErr r (λ fault. fault ≡ Write) → failed ≡ is_err r → IsErrOf r Write ↔ (failed ≡ true)
+pub write_answered : (r : Result Verdict RunFault) (failed : Bool) → IfErr r (λ fault. fault ≡ Write)
+    → failed ≡ is_err r → IsErrOf r Write ↔ (failed ≡ true)
 write_answered (Ok v) failed by is = ((λ wrong. cc wrong), (λ fails. cc (sym is ∙ fails)))
 write_answered (Err e) failed by is = ((λ _. is), (λ _. ap Err by))
 
 -- where the writer didn't fail there is a verdict
-pub verdict_given : (r : Result Verdict RunFault) (failed : Bool) → failed ≡ is_err r → failed ≡ false → IsOkUnless r Memory
+pub verdict_given : (r : Result Verdict RunFault) (failed : Bool) → failed ≡ is_err r → failed ≡ false
+    → IsOkUnless r Memory
 verdict_given (Ok v) failed is holds = tt
 verdict_given (Err e) failed is holds = cc (sym is ∙ holds)
 
@@ -127,24 +148,29 @@ unmade fault = Err fault
 
 -- the notes were read to their end or to one byte past the limit, unless their reader failed
 abbrev pub TakesNotes : {T : Type 0} → Use → Result T RunFault → Type 0
-TakesNotes notes r = notes.has_failed ≡ false → r ≢ Err Memory → TakesFirst notes.old notes.new (NOTES_MOST + 1)
+TakesNotes notes r =
+    notes.has_failed ≡ false → r ≢ Err Memory → TakesFirst notes.old notes.new (NOTES_MOST + 1)
 
 -- and so was the second text, where the notes make a plat
 abbrev pub TakesSecond : {T : Type 0} → Use → Use → ℕ → Result T RunFault → Type 0
-TakesSecond notes second most r = (n : List ℕ) → notes.old ≡ Some n → MakePlat n → notes.has_failed ≡ false → second.has_failed ≡ false
+TakesSecond notes second most r =
+    (n : List ℕ) → notes.old ≡ Some n → MakePlat n → notes.has_failed ≡ false → second.has_failed ≡ false
     → r ≢ Err Memory → TakesFirst second.old second.new (most + 1)
 
 -- a run that had an answer of two texts, and wrote it
-pub run_on_plat : {T : Type 0} (answer : T) (Answers : List ℕ → List ℕ → AnswerRelation) (most : ℕ) (notes second out : Use) (unread : Type 0)
+pub run_on_plat : {T : Type 0} (answer : T) (Answers : List ℕ → List ℕ → AnswerRelation) (most : ℕ)
+    (notes second out : Use) (unread : Type 0)
     (text : List ℕ) (verdict : Verdict) (r : Result Verdict RunFault)
     → ReadsTwo notes.old second.old MakePlat unread (λ n s. Answers n s text verdict)
     → (AnyFailed notes.has_failed second.has_failed → ⊥) → (notes.has_failed ≡ true → unread)
     → TakesAtMost notes.old notes.new (NOTES_MOST + 1) → TakesAtMost second.old second.new (most + 1)
     → TakesNotes notes (made answer) → TakesSecond notes second most (made answer)
-    → IfOk r (λ v. v ≡ verdict) → OnOk r (Appends out.old out.new text) → OnErr r (AppendsFront out.old out.new text)
+    → IfOk r (λ v. v ≡ verdict) → OnOk r (Appends out.old out.new text)
+    → OnErr r (AppendsFront out.old out.new text)
     → IfErr r (λ fault. fault ≡ Write) → out.has_failed ≡ is_err r
     → RunsOnPlat Answers most notes second out unread r
-run_on_plat answer Answers most notes second out unread text verdict r read none_failed after notes_most second_most
+run_on_plat answer Answers most notes second out unread text verdict r read none_failed after notes_most
+    second_most
     notes_exact second_exact is whole front by failed =
     let wrote : (n s : List ℕ) → Answers n s text verdict → IsRun (Answers n s) out.old out.new r
     = λ n s answers. written (Answers n s) out.old out.new text verdict r answers is whole front by in
@@ -168,7 +194,8 @@ run_on_plat answer Answers most notes second out unread text verdict r read none
       notes_most = notes_most;
       second_most = second_most;
       notes_exact = λ notes _. notes_exact notes (λ wrong. cc wrong);
-      second_exact = λ n is-n makes notes second _. second_exact n is-n makes notes second (λ wrong. cc wrong);
+      second_exact =
+          λ n is-n makes notes second _. second_exact n is-n makes notes second (λ wrong. cc wrong);
     }
 
 -- what stops without an answer, and not by its writer, has written nothing
@@ -192,14 +219,18 @@ none_failed_of first second first_open second_open (inl failed) = cc (first_open
 none_failed_of first second first_open second_open (inr failed) = cc (second_open, failed)
 
 -- a run of two texts that stopped before it had an answer
-pub run_stopped : {T : Type 0} (Answers : List ℕ → List ℕ → AnswerRelation) (most : ℕ) (notes second : Use) (out : Option (List ℕ))
-    (out_failed : Bool) (unread : Type 0) (fault : RunFault) (Holds : List ℕ → List ℕ → Type 0) → ReadsTwo notes.old second.old MakePlat unread Holds
-    → IsErrOf (unmade {T = T} fault) Read ↔ AnyFailed notes.has_failed second.has_failed → (notes.has_failed ≡ true → unread)
+pub run_stopped : {T : Type 0} (Answers : List ℕ → List ℕ → AnswerRelation) (most : ℕ) (notes second : Use)
+    (out : Option (List ℕ))
+    (out_failed : Bool) (unread : Type 0) (fault : RunFault) (Holds : List ℕ → List ℕ → Type 0)
+    → ReadsTwo notes.old second.old MakePlat unread Holds
+    → IsErrOf (unmade {T = T} fault) Read ↔ AnyFailed notes.has_failed second.has_failed
+    → (notes.has_failed ≡ true → unread)
     → fault ≢ Write → out_failed ≡ false
     → TakesAtMost notes.old notes.new (NOTES_MOST + 1) → TakesAtMost second.old second.new (most + 1)
     → TakesNotes notes (unmade {T = T} fault) → TakesSecond notes second most (unmade {T = T} fault)
     → RunsOnPlat Answers most notes second (used out out out_failed) unread (Err fault)
-run_stopped Answers most notes second out out_failed unread fault Holds read by after not_write out_open notes_most second_most
+run_stopped Answers most notes second out out_failed unread fault Holds read by after not_write out_open
+    notes_most second_most
     notes_exact second_exact =
     let ran : ReadsTwo notes.old second.old MakePlat unread (λ n s. IsRun (Answers n s) out out (Err fault))
     = record {
@@ -227,14 +258,18 @@ run_stopped Answers most notes second out out_failed unread fault Holds read by 
     }
 
 -- what was answered is the one answer that there is
-pub answered : (Answers : AnswerRelation) (old new : Option (List ℕ)) (answer : List ℕ) (verdict : Verdict) (r : Result Verdict RunFault) → IsRun Answers old new r
-    → ((a : List ℕ) (v : Verdict) → Answers a v → (a ≡ answer) × (v ≡ verdict)) → IsAnswered old new answer verdict r
+pub answered : (Answers : AnswerRelation) (old new : Option (List ℕ)) (answer : List ℕ) (verdict : Verdict)
+    (r : Result Verdict RunFault)
+    → IsRun Answers old new r
+    → ((a : List ℕ) (v : Verdict) → Answers a v → (a ≡ answer) × (v ≡ verdict))
+    → IsAnswered old new answer verdict r
 answered Answers old new answer verdict (Ok v) is one =
     let same = one is.answer v is.answers in (same.1, subst (λ a. Appends old new a) same.0 is.appended)
 answered Answers old new answer verdict (Err e) is one = tt
 
 -- where reading failed nothing was written
-pub keeps_nothing : (Answers : AnswerRelation) (old : Option (List ℕ)) (fault : ReadFault) → IsRun Answers old old (Err (run_fault_of fault))
+pub keeps_nothing : (Answers : AnswerRelation) (old : Option (List ℕ)) (fault : ReadFault)
+    → IsRun Answers old old (Err (run_fault_of fault))
 keeps_nothing Answers None reading.Read = tt
 keeps_nothing Answers (Some bytes) reading.Read = refl
 keeps_nothing Answers None reading.Memory = tt

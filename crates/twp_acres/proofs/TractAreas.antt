@@ -22,16 +22,19 @@ pub rest_adds_up : RestAddsUp
 rest_adds_up plat places area rest whole is others all =
     let left = rest_of_places PLACE_DIGITS (omega arith) plat places area whole is all in
     let same : rest ≡ record { units = whole.units - area.units; over = whole.over } =
-    one_land_area PLACE_DIGITS (omega arith) plat (other_places places) rest (record { units = whole.units - area.units; over = whole.over }) others left.1 in
+    one_land_area PLACE_DIGITS (omega arith) plat (other_places places) rest
+    (record { units = whole.units - area.units; over = whole.over }) others left.1 in
     let units : rest.units ≡ whole.units - area.units = ap (λ (f : Fraction). f.units) same in
     let within : area.units ≤ whole.units = left.0 in
     omega arith
 
 -- no place has no area
-pub no_area : (plat : TownshipPlat) (pieces : ℕ → ℕ → ℕ → ℕ) → ArePieces plat pieces → IsLandArea PLACE_DIGITS plat no_places (record { units = 0; over = over_of plat })
+pub no_area : (plat : TownshipPlat) (pieces : ℕ → ℕ → ℕ → ℕ) → ArePieces plat pieces
+    → IsLandArea PLACE_DIGITS plat no_places (record { units = 0; over = over_of plat })
 no_area plat pieces are =
     let sum : township_sum PLACE_DIGITS pieces no_places ≡ 0 =
-    total-all_zero 36 (λ before. section_sum PLACE_DIGITS (pieces (before + 1)) (no_places (before + 1))) (λ before _.
+    total-all_zero 36 (λ before. section_sum PLACE_DIGITS (pieces (before + 1)) (no_places (before + 1)))
+    (λ before _.
     section_none (pieces (before + 1)) (no_places (before + 1)) (λ column row. refl)) in
     record { pieces = pieces; are = are; over_is = refl; sum_is = sym sum }
 
@@ -44,24 +47,42 @@ all_left = λ i section column row. same (township_places PLACE_DIGITS section c
     same false = refl
 
 -- what is left of what was left
-left_of_left : (places more : ℕ → ℕ → ℕ → Bool) → (λ section column row. other_places places section column row && not (more section column row)) ≡ other_places (union places more)
-left_of_left places more = λ i section column row. same (township_places PLACE_DIGITS section column row) (places section column row) (more section column row) i
+left_of_left : (places more : ℕ → ℕ → ℕ → Bool)
+    → (λ section column row. other_places places section column row && not (more section column row))
+    ≡ other_places (union places more)
+left_of_left places more = λ i section column row.
+    same (township_places PLACE_DIGITS section column row) (places section column row)
+    (more section column row) i
   where
     same : (t a b : Bool) → ((t && not a) && not b) ≡ (t && not (a || b))
     same true true b = refl
     same true false b = refl
     same false a b = refl
 
--- a land that shares no place with those that are taken is no more than what is left, and leaves the rest of it
-pub taken_from : (plat : TownshipPlat) (places more : ℕ → ℕ → ℕ → Bool) (area rest : Fraction) → ¬ SharePlace places more
+-- a land that shares no place with those that are taken is no more than what is left, and leaves the rest of
+-- it
+pub taken_from : (plat : TownshipPlat) (places more : ℕ → ℕ → ℕ → Bool) (area rest : Fraction)
+    → ¬ SharePlace places more
     → IsLandArea PLACE_DIGITS plat more area → IsLandArea PLACE_DIGITS plat (other_places places) rest
-    → (area.units ≤ rest.units) × IsLandArea PLACE_DIGITS plat (other_places (union places more)) (record { units = rest.units - area.units; over = rest.over })
+    → (area.units ≤ rest.units) × IsLandArea PLACE_DIGITS plat (other_places (union places more)) (record {
+      units = rest.units - area.units;
+      over = rest.over;
+    })
 taken_from plat places more area rest apart is left =
-    let less = rest_within PLACE_DIGITS (omega arith) plat (other_places places) more area rest (λ section column row range in_column in_row held.
-    other (township_places PLACE_DIGITS section column row) (places section column row) (is_place_of PLACE_DIGITS section column row range in_column in_row)
-    (λ there. apart (record { section = section; column = column; row = row; in_first = there; in_second = held })))
-    is left in
-    (less.0, subst (λ p. IsLandArea PLACE_DIGITS plat p (record { units = rest.units - area.units; over = rest.over })) (left_of_left places more) less.1)
+    let less =
+    rest_within PLACE_DIGITS (omega arith) plat (other_places places) more area rest
+    (λ section column row range in_column in_row held.
+    other (township_places PLACE_DIGITS section column row) (places section column row)
+    (is_place_of PLACE_DIGITS section column row range in_column in_row)
+    (λ there.
+    apart (record { section = section; column = column; row = row; in_first = there; in_second = held })))
+    is left in (
+      less.0,
+      subst (λ p. IsLandArea PLACE_DIGITS plat p (record {
+        units = rest.units - area.units;
+        over = rest.over;
+      })) (left_of_left places more) less.1,
+    )
   where
     other : (t a : Bool) → t ≡ true → (a ≡ true → ⊥) → (t && not a) ≡ true
     other true true is not_there = absurd (not_there refl)
@@ -69,22 +90,45 @@ taken_from plat places more area rest apart is left =
     other false a is not_there = cc is
 
 -- the figures without a tract
-pub totals_none : (plat : TownshipPlat) (totals : Totals) → totals.total.units ≡ 0 → totals.total.over ≡ over_of plat
-    → IsLandArea PLACE_DIGITS plat (township_places PLACE_DIGITS) totals.remaining → AreTotals plat no_places totals
+pub totals_none : (plat : TownshipPlat) (totals : Totals) → totals.total.units ≡ 0
+    → totals.total.over ≡ over_of plat
+    → IsLandArea PLACE_DIGITS plat (township_places PLACE_DIGITS) totals.remaining
+    → AreTotals plat no_places totals
 totals_none plat totals none over_is all =
     let zero_area = no_area plat all.pieces all.are in
     record {
-      total_is = record { pieces = all.pieces; are = all.are; over_is = over_is; sum_is = ap (λ u. 16 * u) none ∙ zero_area.sum_is };
+      total_is = record {
+        pieces = all.pieces;
+        are = all.are;
+        over_is = over_is;
+        sum_is = ap (λ u. 16 * u) none ∙ zero_area.sum_is;
+      };
       remaining_is = subst (λ p. IsLandArea PLACE_DIGITS plat p totals.remaining) (sym all_left) all;
     }
 
 -- the figures after a land was taken that shares no place with those before
-pub totals_next : (plat : TownshipPlat) (places more : ℕ → ℕ → ℕ → Bool) (old new : Totals) (area : Fraction) → ¬ SharePlace places more
-    → IsLandArea PLACE_DIGITS plat more area → AreTotals plat places old → TakesArea area old new → AreTotals plat (union places more) new
+pub totals_next : (plat : TownshipPlat) (places more : ℕ → ℕ → ℕ → Bool) (old new : Totals) (area : Fraction)
+    → ¬ SharePlace places more
+    → IsLandArea PLACE_DIGITS plat more area → AreTotals plat places old → TakesArea area old new
+    → AreTotals plat (union places more) new
 totals_next plat places more old new area apart is are takes =
-    let sum = disjoint_areas_add PLACE_DIGITS (omega arith) plat places more old.total area (λ section column row there here. apart (record { section = section; column = column; row = row; in_first = there; in_second = here })) are.total_is is in
+    let sum =
+    disjoint_areas_add PLACE_DIGITS (omega arith) plat places more old.total area
+    (λ section column row there here.
+    apart (record { section = section; column = column; row = row; in_first = there; in_second = here }))
+    are.total_is is in
     let rest = taken_from plat places more area old.remaining apart is are.remaining_is in
     record {
-      total_is = record { pieces = sum.pieces; are = sum.are; over_is = takes.total_over ∙ sum.over_is; sum_is = ap (λ u. 16 * u) takes.total_is ∙ sum.sum_is };
-      remaining_is = record { pieces = rest.1.pieces; are = rest.1.are; over_is = takes.remaining_over ∙ rest.1.over_is; sum_is = ap (λ u. 16 * u) takes.remaining_is ∙ rest.1.sum_is };
+      total_is = record {
+        pieces = sum.pieces;
+        are = sum.are;
+        over_is = takes.total_over ∙ sum.over_is;
+        sum_is = ap (λ u. 16 * u) takes.total_is ∙ sum.sum_is;
+      };
+      remaining_is = record {
+        pieces = rest.1.pieces;
+        are = rest.1.are;
+        over_is = takes.remaining_over ∙ rest.1.over_is;
+        sum_is = ap (λ u. 16 * u) takes.remaining_is ∙ rest.1.sum_is;
+      };
     }

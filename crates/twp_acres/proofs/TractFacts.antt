@@ -9,7 +9,8 @@ use Rattle.twp_notes.specs.Records.{Fields, field}
 use Rattle.twp_acres.specs.Tracts.{IsPrinted}
 
 -- a record of two fields is these two
-pub two_fields : (fields : Fields) (first second : List ℕ) → length fields ≡ 2 → field fields 0 ≡ first → field fields 1 ≡ second
+pub two_fields : (fields : Fields) (first second : List ℕ) → length fields ≡ 2 → field fields 0 ≡ first
+    → field fields 1 ≡ second
     → fields ≡ first ∷ second ∷ []
 two_fields [] first second two is is' = absurd (omega arith)
 two_fields (a ∷ []) first second two is is' = absurd (omega arith)
@@ -19,7 +20,10 @@ two_fields (a ∷ b ∷ c ∷ rest) first second two is is' = absurd (omega arit
 -- bytes of printed ASCII are text
 pub printed_is_text : (bytes : List ℕ) → All IsPrinted bytes → IsUtf8 bytes
 printed_is_text bytes printed =
-    IsUtf8-from_ascii bytes (IsAscii-from_all bytes (λ k d below. let byte : IsPrinted (get_or bytes k d) = printed k d below in let most : get_or bytes k d ≤ 0x7E = byte.1 in omega arith))
+    IsUtf8-from_ascii bytes (IsAscii-from_all bytes (λ k d below.
+    let byte : IsPrinted (get_or bytes k d) = printed k d below in
+    let most : get_or bytes k d ≤ 0x7E = byte.1 in
+    omega arith))
 
 pub either_of : (b c : Bool) → (if b then true else c) ≡ (b || c)
 either_of true c = refl

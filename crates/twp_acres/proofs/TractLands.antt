@@ -36,8 +36,10 @@ no_land township rows section column row = (
 )
 
 -- one tract more
-pub land_next : (township : Designation) (rows : List Fields) (count : ℕ) (places more : ℕ → ℕ → ℕ → Bool) → IsLandOfTracts township rows count places
-    → Describe township (description_in (record_at rows count)) more → IsLandOfTracts township rows (count + 1) (union places more)
+pub land_next : (township : Designation) (rows : List Fields) (count : ℕ) (places more : ℕ → ℕ → ℕ → Bool)
+    → IsLandOfTracts township rows count places
+    → Describe township (description_in (record_at rows count)) more
+    → IsLandOfTracts township rows (count + 1) (union places more)
 land_next township rows count places more land next section column row = (
   λ held. elim (either_way (places section column row) (more section column row) held) [
     | inl there ↦
@@ -47,11 +49,20 @@ land_next township rows count places more land next section column row = (
     | inr here ↦ record { index = count; within = omega arith; places = more; land = next; held = here }
   ],
   λ is. elim (earlier_or_last count is.index is.within) [
-    | inl earlier ↦ with_left _ _ ((land section column row).1 (record { index = is.index; within = earlier; places = is.places; land = is.land; held = is.held }))
+    | inl earlier ↦ with_left _ _ ((land section column row).1 (record {
+      index = is.index;
+      within = earlier;
+      places = is.places;
+      land = is.land;
+      held = is.held;
+    }))
     | inr last ↦
-        let described : Describe township (description_in (record_at rows count)) is.places = subst (λ i. Describe township (description_in (record_at rows i)) is.places) last is.land in
-        let same : is.places ≡ more = one_land township (description_in (record_at rows count)) is.places more described next in
-        with_right (places section column row) (more section column row) (ap (λ p. p section column row) (sym same) ∙ is.held)
+        let described : Describe township (description_in (record_at rows count)) is.places =
+        subst (λ i. Describe township (description_in (record_at rows i)) is.places) last is.land in
+        let same : is.places ≡ more =
+        one_land township (description_in (record_at rows count)) is.places more described next in
+        with_right (places section column row) (more section column row)
+        (ap (λ p. p section column row) (sym same) ∙ is.held)
   ],
 )
 
@@ -62,7 +73,11 @@ same_test false true P is is' = is.1 (is'.0 refl)
 same_test false false P is is' = refl
 
 -- they have one land
-pub one_land_of_tracts : (township : Designation) (rows : List Fields) (count : ℕ) (places places' : ℕ → ℕ → ℕ → Bool) → IsLandOfTracts township rows count places
+pub one_land_of_tracts : (township : Designation) (rows : List Fields) (count : ℕ)
+    (places places' : ℕ → ℕ → ℕ → Bool)
+    → IsLandOfTracts township rows count places
     → IsLandOfTracts township rows count places' → places ≡ places'
 one_land_of_tracts township rows count places places' land land' =
-    λ i section column row. same_test (places section column row) (places' section column row) (IsInTract township rows count section column row) (land section column row) (land' section column row) i
+    λ i section column row.
+    same_test (places section column row) (places' section column row)
+    (IsInTract township rows count section column row) (land section column row) (land' section column row) i

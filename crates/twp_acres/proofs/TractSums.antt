@@ -27,7 +27,8 @@ record IsSummed (plat : TownshipPlat) (rows : List Fields) (areas : ℕ → Frac
   land : IsLandOfTracts plat.township rows count places
   area : IsLandArea PLACE_DIGITS plat places (record { units = units_to areas count; over = over_of plat })
 
-module _ (plat : TownshipPlat) (rows : List Fields) (areas : ℕ → Fraction) (pieces : ℕ → ℕ → ℕ → ℕ) (are : ArePieces plat pieces) where
+module _ (plat : TownshipPlat) (rows : List Fields) (areas : ℕ → Fraction) (pieces : ℕ → ℕ → ℕ → ℕ)
+    (are : ArePieces plat pieces) where
   none : IsSummed plat rows areas 0
   none = record {
     places = no_places;
@@ -35,7 +36,9 @@ module _ (plat : TownshipPlat) (rows : List Fields) (areas : ℕ → Fraction) (
     area = rw (total-zero (λ index. (areas index).units)) (no_area plat pieces are);
   }
 
-  one_more : (count : ℕ) → AreTracts plat.township rows (count + 1) → AreTractAreas plat rows (count + 1) areas → IsSummed plat rows areas count → IsSummed plat rows areas (count + 1)
+  one_more : (count : ℕ) → AreTracts plat.township rows (count + 1)
+      → AreTractAreas plat rows (count + 1) areas → IsSummed plat rows areas count
+      → IsSummed plat rows areas (count + 1)
   one_more count tracts each so_far =
       let next = each.each count (omega arith) in
       let apart : AreDisjoint so_far.places next.places = λ section column row there here.
@@ -46,21 +49,27 @@ module _ (plat : TownshipPlat) (rows : List Fields) (areas : ℕ → Fraction) (
         more = next.places;
         land = is.land;
         other_land = next.land;
-        shared = record { section = section; column = column; row = row; in_first = is.held; in_second = here };
+        shared =
+            record { section = section; column = column; row = row; in_first = is.held; in_second = here };
       }) in
       record {
         places = union so_far.places next.places;
         land = land_next plat.township rows count so_far.places next.places so_far.land next.land;
         area = rw (total-next count (λ index. (areas index).units))
-            (disjoint_areas_add PLACE_DIGITS (omega arith) plat so_far.places next.places (record { units = units_to areas count; over = over_of plat }) (areas count) apart so_far.area next.area_is);
+            (disjoint_areas_add PLACE_DIGITS (omega arith) plat so_far.places next.places
+            (record { units = units_to areas count; over = over_of plat }) (areas count) apart so_far.area
+            next.area_is);
       }
 
-  summed : (count : ℕ) → AreTracts plat.township rows count → AreTractAreas plat rows count areas → IsSummed plat rows areas count
+  summed : (count : ℕ) → AreTracts plat.township rows count → AreTractAreas plat rows count areas
+      → IsSummed plat rows areas count
   summed zero tracts each = none
   summed (suc count) tracts each =
       let e : suc count ≡ count + 1 = omega arith in
       let back : count + 1 ≡ suc count = omega arith in
-      subst (IsSummed plat rows areas) back (one_more count (subst (AreTracts plat.township rows) e tracts) (subst (λ n. AreTractAreas plat rows n areas) e each)
+      subst (IsSummed plat rows areas) back
+      (one_more count (subst (AreTracts plat.township rows) e tracts)
+      (subst (λ n. AreTractAreas plat rows n areas) e each)
       (summed count
       (record {
         each = λ index below. tracts.each index (omega arith);
@@ -71,8 +80,14 @@ module _ (plat : TownshipPlat) (rows : List Fields) (areas : ℕ → Fraction) (
 
 pub tracts_add_up : TractsAddUp
 tracts_add_up plat bytes areas places area list each land is =
-    let all = summed plat (tract_records bytes) areas is.pieces is.are (length (tract_records bytes)) list.tracts each in
-    let same : places ≡ all.places = one_land_of_tracts plat.township (tract_records bytes) (length (tract_records bytes)) places all.places land all.land in
+    let all =
+    summed plat (tract_records bytes) areas is.pieces is.are (length (tract_records bytes)) list.tracts
+    each in
+    let same : places ≡ all.places =
+    one_land_of_tracts plat.township (tract_records bytes) (length (tract_records bytes)) places all.places
+    land all.land in
     let one : area ≡ record { units = units_to areas (length (tract_records bytes)); over = over_of plat } =
-    one_land_area PLACE_DIGITS (omega arith) plat all.places area (record { units = units_to areas (length (tract_records bytes)); over = over_of plat }) (subst (λ p. IsLandArea PLACE_DIGITS plat p area) same is) all.area in
+    one_land_area PLACE_DIGITS (omega arith) plat all.places area
+    (record { units = units_to areas (length (tract_records bytes)); over = over_of plat })
+    (subst (λ p. IsLandArea PLACE_DIGITS plat p area) same is) all.area in
     ap (λ (f : Fraction). f.units) one

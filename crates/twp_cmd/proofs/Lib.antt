@@ -1,4 +1,6 @@
+pub mod HelpWords
 pub mod CommandWalk
+pub mod CommandDefaults
 pub mod TaskFacts
 pub mod TownshipWords
 pub mod JoinedFacts

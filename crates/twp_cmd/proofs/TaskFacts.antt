@@ -20,7 +20,9 @@ use Rattle.twp_cmd.specs.declared.task.TaskFault.TheVariants.{Usage, Help, Memor
 use Rattle.twp_cmd.proofs.TownshipWords.{township_whole}
 
 module _ {Z : Type 0} where
-  entered_names : (o : Option (Box SubCommand Z)) → option_map (λ p. p.0) (subcommand_rows o) ≡ option_map (λ b. (out-SubCommand (box_value b)).name.now) o
+  entered_names : (o : Option (Box SubCommand Z))
+      → option_map (λ p. p.0) (subcommand_rows o)
+      ≡ option_map (λ b. (out-SubCommand (box_value b)).name.now) o
   entered_names None = refl
   entered_names (Some b) = refl
 
@@ -45,7 +47,8 @@ land_words (Some e) name rows whole named found no_plat no_report =
 
 -- what is `acres` has an account
 pub acres_words : (entered : Option (Text × List Row)) (rows : List Row) → IsWhole entered
-    → option_map (λ p. p.0) entered ≡ Some (codes "acres") → option_map (λ p. p.1) entered ≡ Some rows → HasAccount rows
+    → option_map (λ p. p.0) entered ≡ Some (codes "acres") → option_map (λ p. p.1) entered ≡ Some rows
+    → HasAccount rows
 acres_words None rows whole named found = absurd whole
 acres_words (Some e) rows whole named found =
     let name : e.0 ≡ codes "acres" = cc in
@@ -64,16 +67,22 @@ simple_and_free : (app : App) → IsTownship app → is_simple_and_free app ≡ 
 simple_and_free app is = rw is.2 refl
 
 -- what a parse that succeeds entered has all its values
-pub parse_whole : (app : App) (words : List Text) (rows : List Row) (entered : Option (Text × List Row)) → IsTownship app
+pub parse_whole : (app : App) (words : List Text) (rows : List Row) (entered : Option (Text × List Row))
+    → IsTownship app
     → (is_simple_and_free app ≡ true → fault_of app words ≡ [])
-    → (is_simple app ≡ true → (rows ≡ matches_of app words) × (entered ≡ subcommand_of app words)) → IsWhole entered
+    → (is_simple app ≡ true → (rows ≡ matches_of app words) × (entered ≡ subcommand_of app words))
+    → IsWhole entered
 parse_whole app words rows entered is taken matches =
-    let none : fault_of (township is.0) words ≡ [] = subst (λ a. fault_of a words ≡ []) is.2 (taken (simple_and_free app is)) in
-    let same : entered ≡ subcommand_of (township is.0) words = (matches (simple app is)).1 ∙ ap (λ a. subcommand_of a words) is.2 in
+    let none : fault_of (township is.0) words ≡ [] =
+    subst (λ a. fault_of a words ≡ []) is.2 (taken (simple_and_free app is)) in
+    let same : entered ≡ subcommand_of (township is.0) words =
+    (matches (simple app is)).1 ∙ ap (λ a. subcommand_of a words) is.2 in
     rw same (township_whole is.0 words is.1 none)
 
 -- and its task is what the words ask for
-pub parse_task : (app : App) (words : List Text) (rows : List Row) (entered : Option (Text × List Row)) (task : Task) → IsTownship app
+pub parse_task : (app : App) (words : List Text) (rows : List Row) (entered : Option (Text × List Row))
+    (task : Task)
+    → IsTownship app
     → (is_simple_and_free app ≡ true → fault_of app words ≡ [])
     → (is_simple app ≡ true → (rows ≡ matches_of app words) × (entered ≡ subcommand_of app words))
     → IsTaskIn entered task → IsTaskOf words task
@@ -90,9 +99,11 @@ pub parse_fault : (app : App) (words : List Text) (kind : ErrorKind) (fault : Ta
     → ShowsAs kind fault → IsFaultOf words fault
 parse_fault app words kind fault is fails shows = go fault shows (fails (simple_and_free app is))
   where
-    go : (f : TaskFault) → ShowsAs kind f → (kind ≡ OutOfMemory) ⊎ IsAmong kind (fault_of app words) → IsFaultOf words f
+    go : (f : TaskFault) → ShowsAs kind f → (kind ≡ OutOfMemory) ⊎ IsAmong kind (fault_of app words)
+        → IsFaultOf words f
     go (Usage text) h (inl none) = absurd (h.1 none)
     go (Usage text) h (inr among) = (kind, record { app = app; is_township = is; among = among }, h.0)
     go (Help text) h (inl none) = let bad : OutOfMemory ≡ DisplayHelp = rw none at h in cc
-    go (Help text) h (inr among) = record { app = app; is_township = is; among = subst (λ k. IsAmong k (fault_of app words)) h among }
+    go (Help text) h (inr among) =
+        record { app = app; is_township = is; among = subst (λ k. IsAmong k (fault_of app words)) h among }
     go Memory h e = tt

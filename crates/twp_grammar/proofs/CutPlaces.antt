@@ -1,5 +1,6 @@
 -- The places of what cuts leave of a section.
-use Rattle.std.proofs.Common.{◌≡◌, ℕ, zero, suc, ◌+◌, ◌^◌, ◌<◌, ◌≤◌, ◌&&◌, Bool, true, false, List, refl, inl, inr, arith, nat_lt, nat_le}
+use Rattle.std.proofs.Common.{◌≡◌, ℕ, zero, suc, ◌+◌, ◌^◌, ◌<◌, ◌≤◌, ◌&&◌, Bool, true, false, List, refl, inl}
+use Rattle.std.proofs.Common.{inr, arith, nat_lt, nat_le}
 use Rattle.std.proofs.Math.Nat.{pow-succ'}
 use Rattle.std.proofs.lemmas.Nat.{pow_pos}
 use Rattle.std.proofs.lemmas.Bool.{and_parts, cases_Bool}
@@ -7,7 +8,8 @@ use Rattle.std.proofs.lemmas.Bool.Decides.{nat_tests}
 use Rattle.twp_grid.specs.Cuts.{Cut, rows_asked, columns_asked, AreWithin, reached}
 use Rattle.twp_grid.specs.Places.{is_place, IsPlace, PLACE_DIGITS, places_across}
 use Rattle.twp_grid.specs.Spans.{Span, in_span, in_rectangle, whole_block}
-use Rattle.twp_grid.proofs.CutFacts.{within_span_of, rows_reached, columns_reached, rows_are_digits, columns_are_digits}
+use Rattle.twp_grid.proofs.CutFacts.{within_span_of, rows_reached, columns_reached, rows_are_digits}
+use Rattle.twp_grid.proofs.CutFacts.{columns_are_digits}
 
 -- a side of so many digits is more than one place where a digit is left
 pub more_left : (k : ℕ) → 1 < 2 ^ k → 0 < k
@@ -19,23 +21,27 @@ more_than_one zero some = absurd (omega arith)
 more_than_one (suc k) some = let power = pow-succ' 2 k in let least = pow_pos k in omega arith
 
 -- a block that cuts reach lies in the section
-outside_span : (g : ℕ) (span : Span) (n : ℕ) → span.start + span.len ≤ 2 ^ g → nat_lt n (2 ^ g) ≡ false → in_span span n ≡ false
+outside_span : (g : ℕ) (span : Span) (n : ℕ) → span.start + span.len ≤ 2 ^ g → nat_lt n (2 ^ g) ≡ false
+    → in_span span n ≡ false
 outside_span g span n within outside = grind (arith, nat_tests)
 
 and_false : (a : Bool) → (a && false) ≡ false
 and_false true = refl
 and_false false = refl
 
-pub outside : (g : ℕ) (cuts : List Cut) (column row : ℕ) → AreWithin g cuts → is_place g column row ≡ false → in_rectangle (reached g cuts) column row ≡ false
+pub outside : (g : ℕ) (cuts : List Cut) (column row : ℕ) → AreWithin g cuts → is_place g column row ≡ false
+    → in_rectangle (reached g cuts) column row ≡ false
 outside g cuts column row within not = elim (cases_Bool (nat_lt column (2 ^ g))) [
   | inl in-column ↦
       let out : nat_lt row (2 ^ g) ≡ false = rw in-column at not in
       let ends = within_span_of g (rows_asked cuts) (rows_are_digits cuts) within.rows in
-      let rows_out : in_span (reached g cuts).rows row ≡ false = outside_span g (reached g cuts).rows row (rw (rows_reached g cuts within.rows) ends) out in
+      let rows_out : in_span (reached g cuts).rows row ≡ false =
+      outside_span g (reached g cuts).rows row (rw (rows_reached g cuts within.rows) ends) out in
       rw rows_out (and_false _)
   | inr out ↦
       let ends = within_span_of g (columns_asked cuts) (columns_are_digits cuts) within.columns in
-      let columns_out : in_span (reached g cuts).columns column ≡ false = outside_span g (reached g cuts).columns column (rw (columns_reached g cuts within.columns) ends) out in
+      let columns_out : in_span (reached g cuts).columns column ≡ false =
+      outside_span g (reached g cuts).columns column (rw (columns_reached g cuts within.columns) ends) out in
       rw columns_out refl
 ]
 
@@ -45,8 +51,10 @@ inside g column row place =
     (grind (arith, nat_tests, parts.0), grind (arith, nat_tests, parts.1))
 
 -- a whole section has all places
-pub whole_is_place : (column row : ℕ) → in_rectangle (whole_block PLACE_DIGITS) column row ≡ is_place PLACE_DIGITS column row
+pub whole_is_place : (column row : ℕ)
+    → in_rectangle (whole_block PLACE_DIGITS) column row ≡ is_place PLACE_DIGITS column row
 whole_is_place column row = rw (along column, along row) refl
   where
-    along : (n : ℕ) → (nat_le 0 n && nat_lt n (0 + places_across PLACE_DIGITS)) ≡ nat_lt n (places_across PLACE_DIGITS)
+    along : (n : ℕ)
+        → (nat_le 0 n && nat_lt n (0 + places_across PLACE_DIGITS)) ≡ nat_lt n (places_across PLACE_DIGITS)
     along n = grind (arith, nat_tests)

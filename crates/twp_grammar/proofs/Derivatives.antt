@@ -1,17 +1,25 @@
 -- What may follow a token by a grammar is a grammar again, its derivative by the token's class. Trees of the
 -- derivative give trees of the grammar.
-use Rattle.std.proofs.Common.{◌≡◌, ◌==◌, ℕ, Bool, true, false, not, cond, ◌&&◌, List, [], ◌∷◌, ◌++◌, get_or, refl, sym, ap, subst, ◌∙◌, inl, inr, append_assoc}
+use Rattle.std.proofs.Common.{◌≡◌, ◌==◌, ℕ, Bool, true, false, not, cond, ◌&&◌, List, [], ◌∷◌, ◌++◌, get_or}
+use Rattle.std.proofs.Common.{refl, sym, ap, subst, ◌∙◌, inl, inr, append_assoc}
 use Rattle.std.proofs.lemmas.Bool.{eqb-true}
 use Rattle.twp_grammar.specs.declared.kind.Kind.{Kind}
-use Rattle.twp_grammar.specs.declared.kind.Kind.TheVariants.{Sec, Lot, All, And, To, Inclusive, Of, The, T, R, NorthSouth, EastWest, Corner, Half, Quarter, Number, Comma, Semicolon, Colon, Stop, Other, BadNumber, BadByte}
+use Rattle.twp_grammar.specs.declared.kind.Kind.TheVariants.{Sec, Lot, All, And, To, Inclusive, Of, The, T, R}
+use Rattle.twp_grammar.specs.declared.kind.Kind.TheVariants.{NorthSouth, EastWest, Corner, Half, Quarter}
+use Rattle.twp_grammar.specs.declared.kind.Kind.TheVariants.{Number, Comma, Semicolon, Colon, Stop, Other}
+use Rattle.twp_grammar.specs.declared.kind.Kind.TheVariants.{BadNumber, BadByte}
 use Rattle.twp_grammar.specs.Tokens.{Token}
-use Rattle.twp_grammar.specs.Grammar.{Class, sec, lot, all, and, to, inclusive, of, the, t, r, north_south, east_west, corner, half, quarter, number, comma, semicolon, colon, stop, other, bad_number, bad_byte, Value, class_of, kind_of, Ebnf, never, nothing, one, ◌⨾◌, ◌∣◌, many}
+use Rattle.twp_grammar.specs.Grammar.{Class, sec, lot, all, and, to, inclusive, of, the, t, r, north_south}
+use Rattle.twp_grammar.specs.Grammar.{east_west, corner, half, quarter, number, comma, semicolon, colon, stop}
+use Rattle.twp_grammar.specs.Grammar.{other, bad_number, bad_byte, Value, class_of, kind_of, Ebnf, never}
+use Rattle.twp_grammar.specs.Grammar.{nothing, one, ◌⨾◌, ◌∣◌, many}
 use Rattle.twp_grammar.specs.Items.{Leaf, token_of, ◌&◌, Tree, tokens}
 
 -- the classes, and the number of each
 abbrev pub classes : List Class
 classes =
-    sec ∷ lot ∷ all ∷ and ∷ to ∷ inclusive ∷ of ∷ the ∷ t ∷ r ∷ north_south ∷ east_west ∷ corner ∷ half ∷ quarter ∷ number
+    sec ∷ lot ∷ all ∷ and ∷ to ∷ inclusive ∷ of ∷ the ∷ t ∷ r ∷ north_south ∷ east_west ∷ corner ∷ half
+    ∷ quarter ∷ number
     ∷ comma ∷ semicolon ∷ colon ∷ stop ∷ other ∷ bad_number ∷ bad_byte ∷ []
 
 abbrev pub place_of_class : Class → ℕ
@@ -69,7 +77,9 @@ same_class c d = place_of_class c == place_of_class d
 
 pub same_class_tells : (c d : Class) → same_class c d ≡ true → c ≡ d
 same_class_tells c d h =
-    sym (class_at_place c) ∙ ap (λ n. get_or classes n sec) (eqb-true (place_of_class c) (place_of_class d) h) ∙ class_at_place d
+    sym (class_at_place c)
+    ∙ ap (λ n. get_or classes n sec) (eqb-true (place_of_class c) (place_of_class d) h)
+    ∙ class_at_place d
 
 -- the value of a token
 abbrev pub value_of : (k : Kind) → Value (class_of k)
@@ -127,7 +137,9 @@ abbrev pub leaf_of : (token : Token) → Leaf (class_of token.kind)
 leaf_of token = record { value = value_of token.kind; text = token.text; at = token.at }
 
 pub token_of_leaf : (token : Token) → token_of (class_of token.kind) (leaf_of token) ≡ token
-token_of_leaf token = ap (λ k. let made : Token = record { kind = k; text = token.text; at = token.at } in made) (kind_of_value token.kind)
+token_of_leaf token =
+    ap (λ k. let made : Token = record { kind = k; text = token.text; at = token.at } in made)
+    (kind_of_value token.kind)
 
 -- the grammar derives the tokens
 pub record Derives (g : Ebnf) (ts : List Token) : Type 0 where
@@ -179,9 +191,12 @@ pub both : (x y : Bool) → (x && y) ≡ true → (x ≡ true) × (y ≡ true)
 both true y h = (refl, h)
 both false y h = cc h
 
-none_of_either : (g k : Ebnf) (x : Bool) → is_nullable g ≡ x → cond x true (is_nullable k) ≡ true → (is_nullable g ≡ true → Derives g []) → (is_nullable k ≡ true → Derives k []) → Derives (g ∣ k) []
-none_of_either g k true e h on_left on_right = let v = on_left e in record { tree = inl v.tree; spelt = v.spelt }
-none_of_either g k false e h on_left on_right = let v = on_right h in record { tree = inr v.tree; spelt = v.spelt }
+none_of_either : (g k : Ebnf) (x : Bool) → is_nullable g ≡ x → cond x true (is_nullable k) ≡ true
+    → (is_nullable g ≡ true → Derives g []) → (is_nullable k ≡ true → Derives k []) → Derives (g ∣ k) []
+none_of_either g k true e h on_left on_right =
+    let v = on_left e in record { tree = inl v.tree; spelt = v.spelt }
+none_of_either g k false e h on_left on_right =
+    let v = on_right h in record { tree = inr v.tree; spelt = v.spelt }
 
 pub derives_none : (g : Ebnf) → is_nullable g ≡ true → Derives g []
 derives_none never h = cc h
@@ -196,13 +211,16 @@ derives_none (g ∣ k) h = none_of_either g k (is_nullable g) refl h (derives_no
 derives_none (many g) h = record { tree = []; spelt = refl }
 
 -- trees of a sequence, taken apart
-with_parts : (g k : Ebnf) (P : List Token → Type 0) (v : Tree (g ⨾ k)) → ((x : Tree g) (y : Tree k) → P (tokens g x ++ tokens k y)) → P (tokens (g ⨾ k) v)
+with_parts : (g k : Ebnf) (P : List Token → Type 0) (v : Tree (g ⨾ k))
+    → ((x : Tree g) (y : Tree k) → P (tokens g x ++ tokens k y)) → P (tokens (g ⨾ k) v)
 with_parts g k P (x & y) use_parts = use_parts x y
 
-regrouped : (g h k : Ebnf) (x : Tree g) (us : List Token) → Derives (h ⨾ k) us → Derives ((g ⨾ h) ⨾ k) (tokens g x ++ us)
+regrouped : (g h k : Ebnf) (x : Tree g) (us : List Token) → Derives (h ⨾ k) us
+    → Derives ((g ⨾ h) ⨾ k) (tokens g x ++ us)
 regrouped g h k x us d =
     subst (λ (ts : List Token). Derives ((g ⨾ h) ⨾ k) (tokens g x ++ ts)) d.spelt
-    (with_parts h k (λ ts. Derives ((g ⨾ h) ⨾ k) (tokens g x ++ ts)) d.tree (λ y z. record { tree = (x & y) & z; spelt = rw append_assoc refl }))
+    (with_parts h k (λ ts. Derives ((g ⨾ h) ⨾ k) (tokens g x ++ ts)) d.tree
+    (λ y z. record { tree = (x & y) & z; spelt = rw append_assoc refl }))
 
 pub from_seq : (g k : Ebnf) (ts : List Token) → Derives (seq g k) ts → Derives (g ⨾ k) ts
 from_seq never k ts d = absurd d.tree
@@ -211,7 +229,10 @@ from_seq (one c) k ts d = d
 from_seq (g ⨾ h) k ts d =
     subst (λ (us : List Token). Derives ((g ⨾ h) ⨾ k) us) d.spelt
     (with_parts g (seq h k) (λ us. Derives ((g ⨾ h) ⨾ k) us) d.tree
-    (λ x y. regrouped g h k x (tokens (seq h k) y) (from_seq h k (tokens (seq h k) y) (record { tree = y; spelt = refl }))))
+    (λ x y. regrouped g h k x (tokens (seq h k) y) (from_seq h k (tokens (seq h k) y) (record {
+      tree = y;
+      spelt = refl;
+    }))))
 from_seq (g ∣ h) k ts d = d
 from_seq (many g) k ts d = d
 
@@ -256,20 +277,24 @@ from_alt (many x) (many g) ts d = d
 
 -- what the derivative derives, the grammar derives behind the token
 abbrev TakesOn : Ebnf → Type 0
-TakesOn g = (c : Class) (leaf : Leaf c) (ts : List Token) → Derives (after c g) ts → Derives g (token_of c leaf ∷ ts)
+TakesOn g =
+    (c : Class) (leaf : Leaf c) (ts : List Token) → Derives (after c g) ts → Derives g (token_of c leaf ∷ ts)
 
-one_leaf : (c d : Class) (x : Bool) (leaf : Leaf c) (ts : List Token) → same_class c d ≡ x → Derives (cond x nothing never) ts → Derives (one d) (token_of c leaf ∷ ts)
+one_leaf : (c d : Class) (x : Bool) (leaf : Leaf c) (ts : List Token) → same_class c d ≡ x
+    → Derives (cond x nothing never) ts → Derives (one d) (token_of c leaf ∷ ts)
 one_leaf c d true leaf ts same v =
     subst (λ (e : Class). Derives (one e) (token_of c leaf ∷ ts)) (same_class_tells c d same)
     (record { tree = leaf; spelt = ap (λ us. token_of c leaf ∷ us) v.spelt })
 one_leaf c d false leaf ts same v = absurd v.tree
 
-in_front : (g h : Ebnf) → TakesOn g → (c : Class) (leaf : Leaf c) (ts : List Token) → Derives (seq (after c g) h) ts → Derives (g ⨾ h) (token_of c leaf ∷ ts)
+in_front : (g h : Ebnf) → TakesOn g → (c : Class) (leaf : Leaf c) (ts : List Token)
+    → Derives (seq (after c g) h) ts → Derives (g ⨾ h) (token_of c leaf ∷ ts)
 in_front g h takes c leaf ts d =
     let d' : Derives (after c g ⨾ h) ts = from_seq (after c g) h ts d in
     subst (λ (us : List Token). Derives (g ⨾ h) (token_of c leaf ∷ us)) d'.spelt
     (with_parts (after c g) h (λ us. Derives (g ⨾ h) (token_of c leaf ∷ us)) d'.tree (λ x y.
-    let v : Derives g (token_of c leaf ∷ tokens (after c g) x) = takes c leaf (tokens (after c g) x) (record { tree = x; spelt = refl }) in
+    let v : Derives g (token_of c leaf ∷ tokens (after c g) x) =
+    takes c leaf (tokens (after c g) x) (record { tree = x; spelt = refl }) in
     record { tree = v.tree & y; spelt = ap (λ us. us ++ tokens h y) v.spelt }))
 
 past_nothing : (g h : Ebnf) → is_nullable g ≡ true → (ts : List Token) → Derives h ts → Derives (g ⨾ h) ts
@@ -277,13 +302,20 @@ past_nothing g h empty ts d =
     let v : Derives g [] = derives_none g empty in
     record { tree = v.tree & d.tree; spelt = rw (v.spelt, d.spelt) refl }
 
-in_sequence : (g h : Ebnf) (x : Bool) → is_nullable g ≡ x → TakesOn g → TakesOn h → (c : Class) (leaf : Leaf c) (ts : List Token) → Derives (cond x (alt (seq (after c g) h) (after c h)) (seq (after c g) h)) ts → Derives (g ⨾ h) (token_of c leaf ∷ ts)
+in_sequence : (g h : Ebnf) (x : Bool) → is_nullable g ≡ x → TakesOn g → TakesOn h
+    → (c : Class) (leaf : Leaf c) (ts : List Token)
+    → Derives (cond x (alt (seq (after c g) h) (after c h)) (seq (after c g) h)) ts
+    → Derives (g ⨾ h) (token_of c leaf ∷ ts)
 in_sequence g h false empty takes_g takes_h c leaf ts d = in_front g h takes_g c leaf ts d
 in_sequence g h true empty takes_g takes_h c leaf ts d =
     let d' : Derives (seq (after c g) h ∣ after c h) ts = from_alt (seq (after c g) h) (after c h) ts d in
-    elim d'.tree as (λ v. tokens (seq (after c g) h ∣ after c h) v ≡ ts → Derives (g ⨾ h) (token_of c leaf ∷ ts)) [
+    elim d'.tree as
+    (λ v. tokens (seq (after c g) h ∣ after c h) v ≡ ts → Derives (g ⨾ h) (token_of c leaf ∷ ts)) [
       | inl v ↦ λ e. in_front g h takes_g c leaf ts (record { tree = v; spelt = e })
-      | inr w ↦ λ e. past_nothing g h empty (token_of c leaf ∷ ts) (takes_h c leaf ts (record { tree = w; spelt = e }))
+      | inr w ↦ λ e. past_nothing g h empty (token_of c leaf ∷ ts) (takes_h c leaf ts (record {
+        tree = w;
+        spelt = e;
+      }))
     ] d'.spelt
 
 in_choice : (g h : Ebnf) → TakesOn g → TakesOn h → TakesOn (g ∣ h)
@@ -291,7 +323,8 @@ in_choice g h takes_g takes_h c leaf ts d =
     let d' : Derives (after c g ∣ after c h) ts = from_alt (after c g) (after c h) ts d in
     elim d'.tree as (λ v. tokens (after c g ∣ after c h) v ≡ ts → Derives (g ∣ h) (token_of c leaf ∷ ts)) [
       | inl v ↦ λ e. from_left g h (token_of c leaf ∷ ts) (takes_g c leaf ts (record { tree = v; spelt = e }))
-      | inr w ↦ λ e. from_right g h (token_of c leaf ∷ ts) (takes_h c leaf ts (record { tree = w; spelt = e }))
+      | inr w ↦
+          λ e. from_right g h (token_of c leaf ∷ ts) (takes_h c leaf ts (record { tree = w; spelt = e }))
     ] d'.spelt
 
 many_more : (g : Ebnf) (ts : List Token) → Derives (g ⨾ many g) ts → Derives (many g) ts
@@ -305,10 +338,12 @@ takes_on nothing c leaf ts d = absurd d.tree
 takes_on (one e) c leaf ts d = one_leaf c e (same_class c e) leaf ts refl d
 takes_on (g ⨾ h) c leaf ts d = in_sequence g h (is_nullable g) refl (takes_on g) (takes_on h) c leaf ts d
 takes_on (g ∣ h) c leaf ts d = in_choice g h (takes_on g) (takes_on h) c leaf ts d
-takes_on (many g) c leaf ts d = many_more g (token_of c leaf ∷ ts) (in_front g (many g) (takes_on g) c leaf ts d)
+takes_on (many g) c leaf ts d =
+    many_more g (token_of c leaf ∷ ts) (in_front g (many g) (takes_on g) c leaf ts d)
 
 -- the same for any token
-pub takes_token : (g : Ebnf) (token : Token) (ts : List Token) → Derives (after (class_of token.kind) g) ts → Derives g (token ∷ ts)
+pub takes_token : (g : Ebnf) (token : Token) (ts : List Token) → Derives (after (class_of token.kind) g) ts
+    → Derives g (token ∷ ts)
 takes_token g token ts d =
     subst (λ (u : Token). Derives g (u ∷ ts)) (token_of_leaf token)
     (takes_on g (class_of token.kind) (leaf_of token) ts d)

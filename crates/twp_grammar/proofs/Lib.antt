@@ -1,8 +1,10 @@
 pub mod Derivatives
 pub mod Table
+pub mod DerivedTrees
 pub mod OneDerivation
 pub mod Several
 pub mod Numerals
+pub mod ByteRuns
 pub mod Cuts
 pub mod TokenFacts
 pub mod StepFacts

@@ -1,181 +1,23 @@
--- A sentence has one derivation. A derivation of a token and more by a grammar is made of one by the grammar's
--- derivative, so two of them are the same where those are; and no tokens at all have one derivation.
-use Rattle.std.proofs.Common.{◌≡◌, Bool, true, false, not, cond, ◌&&◌, ◌⊎◌, List, [], ◌∷◌, ◌++◌, Option, Some, None, refl, sym, ap, subst, ◌∙◌, inl, inr, append_assoc}
-use Rattle.twp_grid.specs.declared.township.NorthSouth.TheVariants as ns
-use Rattle.twp_grid.specs.declared.township.EastWest.TheVariants as ew
-use Rattle.twp_grid.specs.declared.block.Corner.TheVariants as which
-use Rattle.twp_grammar.specs.declared.kind.Kind.{Kind}
-use Rattle.twp_grammar.specs.declared.kind.Kind.TheVariants as kind
+-- A sentence has one derivation. A derivation of a token and more by a grammar is made of one by the
+-- grammar's derivative, so two of them are the same where those are; and no tokens at all have one
+-- derivation.
+use Rattle.std.proofs.Common.{◌≡◌, Bool, true, false, not, cond, ◌&&◌, List, [], ◌∷◌, ◌++◌, Option, Some}
+use Rattle.std.proofs.Common.{None, refl, sym, ap, subst, ◌∙◌, inl, inr}
 use Rattle.twp_grammar.specs.declared.state.State.{State}
 use Rattle.twp_grammar.specs.declared.state.State.TheVariants.{Start}
 use Rattle.twp_grammar.specs.Tokens.{Token}
-use Rattle.twp_grammar.specs.Grammar.{Class, sec, lot, all, and, to, inclusive, of, the, t, r, north_south, east_west, corner, half, quarter, number, comma, semicolon, colon, stop, other, bad_number, bad_byte, Value, class_of, Ebnf, never, nothing, one, ◌⨾◌, ◌∣◌, many}
-use Rattle.twp_grammar.specs.Items.{Leaf, token_of, Then, ◌&◌, Tree, tokens, items}
+use Rattle.twp_grammar.specs.Grammar.{Class, sec, lot, all, and, to, inclusive, of, the, t, r, north_south}
+use Rattle.twp_grammar.specs.Grammar.{east_west, corner, half, quarter, number, comma, semicolon, colon, stop}
+use Rattle.twp_grammar.specs.Grammar.{other, bad_number, bad_byte, class_of, Ebnf, never, nothing, one, ◌⨾◌}
+use Rattle.twp_grammar.specs.Grammar.{◌∣◌, many}
+use Rattle.twp_grammar.specs.Items.{Leaf, token_of, ◌&◌, Tree, tokens, items}
 use Rattle.twp_grammar.specs.Machine.{next}
 use Rattle.twp_grammar.specs.Laws.{OneItemList, OneDerivation}
 use Rattle.twp_grammar.proofs.Derivatives.{is_nullable, seq, alt, after, derives_none, both, has_one_empty}
 use Rattle.twp_grammar.proofs.Table as table
-
--- the value of a token that is of the class
-abbrev value_at : (c : Class) → Kind → Value c
-value_at sec k = tt
-value_at lot k = tt
-value_at all k = tt
-value_at and k = tt
-value_at to k = tt
-value_at inclusive k = tt
-value_at of k = tt
-value_at the k = tt
-value_at t k = tt
-value_at r k = tt
-value_at north_south (kind.NorthSouth side) = side
-value_at north_south _ = ns.N
-value_at east_west (kind.EastWest side) = side
-value_at east_west _ = ew.E
-value_at corner (kind.Corner named) = named
-value_at corner _ = which.NE
-value_at half k = tt
-value_at quarter k = tt
-value_at number (kind.Number value) = value
-value_at number _ = 0
-value_at comma k = tt
-value_at semicolon k = tt
-value_at colon k = tt
-value_at stop k = tt
-value_at other k = tt
-value_at bad_number k = tt
-value_at bad_byte k = tt
-
-abbrev leaf_at : (c : Class) → Token → Leaf c
-leaf_at c token = record { value = value_at c token.kind; text = token.text; at = token.at }
-
--- trees of one grammar stand for those of another: each comes from one of the same tokens
-record StandFor (g h : Ebnf) : Type 0 where
-  into : Tree g → Tree h
-  out : Tree h → Tree g
-  back : (v : Tree h) → into (out v) ≡ v
-  spelt : (v : Tree h) → tokens g (out v) ≡ tokens h v
-
-themselves : (g : Ebnf) → StandFor g g
-themselves g = record { into = λ v. v; out = λ v. v; back = λ v. refl; spelt = λ v. refl }
-
--- the one or the other, where one of them has no trees
-abbrev only_left : (g : Ebnf) → Tree (g ∣ never) → Tree g
-only_left g (inl v) = v
-only_left g (inr none) = absurd none
-
-only_left_back : (g : Ebnf) (v : Tree (g ∣ never)) → inl (only_left g v) ≡ v
-only_left_back g (inl v) = refl
-only_left_back g (inr none) = absurd none
-
-only_left_spelt : (g : Ebnf) (v : Tree (g ∣ never)) → tokens g (only_left g v) ≡ tokens (g ∣ never) v
-only_left_spelt g (inl v) = refl
-only_left_spelt g (inr none) = absurd none
-
-abbrev only_right : (h : Ebnf) → Tree (never ∣ h) → Tree h
-only_right h (inl none) = absurd none
-only_right h (inr w) = w
-
-only_right_back : (h : Ebnf) (v : Tree (never ∣ h)) → inr (only_right h v) ≡ v
-only_right_back h (inl none) = absurd none
-only_right_back h (inr w) = refl
-
-only_right_spelt : (h : Ebnf) (v : Tree (never ∣ h)) → tokens h (only_right h v) ≡ tokens (never ∣ h) v
-only_right_spelt h (inl none) = absurd none
-only_right_spelt h (inr w) = refl
-
-alone_left : (g : Ebnf) → StandFor g (g ∣ never)
-alone_left g = record { into = λ v. inl v; out = only_left g; back = only_left_back g; spelt = only_left_spelt g }
-
-alone_right : (h : Ebnf) → StandFor h (never ∣ h)
-alone_right h = record { into = λ w. inr w; out = only_right h; back = only_right_back h; spelt = only_right_spelt h }
-
-alternatives : (g h : Ebnf) → StandFor (alt g h) (g ∣ h)
-alternatives never h = alone_right h
-alternatives g never = alone_left g
-alternatives g h = themselves (g ∣ h)
-
--- one after the other, where the first one has no trees, or no tokens
-abbrev behind_never : (k : Ebnf) → Tree (never ⨾ k) → ⊥
-behind_never k (none & w) = none
-
-abbrev behind_nothing : (k : Ebnf) → Tree (nothing ⨾ k) → Tree k
-behind_nothing k (_ & w) = w
-
-behind_nothing_back : (k : Ebnf) (v : Tree (nothing ⨾ k)) → tt & behind_nothing k v ≡ v
-behind_nothing_back k (_ & w) = refl
-
-behind_nothing_spelt : (k : Ebnf) (v : Tree (nothing ⨾ k)) → tokens k (behind_nothing k v) ≡ tokens (nothing ⨾ k) v
-behind_nothing_spelt k (_ & w) = refl
-
--- two and one more, or one and two more
-abbrev with_two : (g h k : Ebnf) → Tree g → Tree (h ⨾ k) → Tree ((g ⨾ h) ⨾ k)
-with_two g h k x (y & z) = (x & y) & z
-
-abbrev grouped : (g h k : Ebnf) (stand : StandFor (seq h k) (h ⨾ k)) → Tree (g ⨾ seq h k) → Tree ((g ⨾ h) ⨾ k)
-grouped g h k stand (x & u) = with_two g h k x (stand.into u)
-
-abbrev apart : (g h k : Ebnf) (stand : StandFor (seq h k) (h ⨾ k)) → Tree ((g ⨾ h) ⨾ k) → Tree (g ⨾ seq h k)
-apart g h k stand ((x & y) & z) = x & stand.out (y & z)
-
-grouped_apart : (g h k : Ebnf) (stand : StandFor (seq h k) (h ⨾ k)) (v : Tree ((g ⨾ h) ⨾ k)) → grouped g h k stand (apart g h k stand v) ≡ v
-grouped_apart g h k stand ((x & y) & z) = ap (with_two g h k x) (stand.back (y & z))
-
-apart_spelt : (g h k : Ebnf) (stand : StandFor (seq h k) (h ⨾ k)) (v : Tree ((g ⨾ h) ⨾ k)) → tokens (g ⨾ seq h k) (apart g h k stand v) ≡ tokens ((g ⨾ h) ⨾ k) v
-apart_spelt g h k stand ((x & y) & z) =
-    ap (λ us. tokens g x ++ us) (stand.spelt (y & z)) ∙ sym (append_assoc (tokens g x) (tokens h y) (tokens k z))
-
-sequences : (g k : Ebnf) → StandFor (seq g k) (g ⨾ k)
-sequences never k = record { into = λ none. absurd none; out = behind_never k; back = λ v. absurd (behind_never k v); spelt = λ v. absurd (behind_never k v) }
-sequences nothing k = record { into = λ w. tt & w; out = behind_nothing k; back = behind_nothing_back k; spelt = behind_nothing_spelt k }
-sequences (g ⨾ h) k =
-    let stand : StandFor (seq h k) (h ⨾ k) = sequences h k in
-    record { into = grouped g h k stand; out = apart g h k stand; back = grouped_apart g h k stand; spelt = apart_spelt g h k stand }
-sequences g k = themselves (g ⨾ k)
-
--- what may follow the token, and a derivation of that with the token before it again
-abbrev either : {A B C : Type 0} → (A → C) → (B → C) → A ⊎ B → C
-either f g (inl x) = f x
-either f g (inr y) = g y
-
-abbrev by_either : (g h k : Ebnf) → (Tree g → Tree k) → (Tree h → Tree k) → Tree (alt g h) → Tree k
-by_either g h k f f' u = either f f' ((alternatives g h).into u)
-
-abbrev join : {A B C : Type 0} → (A → B → C) → Then A B → C
-join f (x & y) = f x y
-
-abbrev by_both : (g h k : Ebnf) → (Tree g → Tree h → Tree k) → Tree (seq g h) → Tree k
-by_both g h k f u = join f ((sequences g h).into u)
-
-abbrev past : Token → Ebnf → Ebnf
-past token g = after (class_of token.kind) g
-
--- what may follow it in a sequence, whose first part may be nothing or not
-abbrev past_first : Token → Ebnf → Ebnf → Ebnf
-past_first token g h = seq (past token g) h
-
-abbrev past_sequence : Token → Ebnf → Ebnf → Bool → Ebnf
-past_sequence token g h b = cond b (alt (past_first token g h) (past token h)) (past_first token g h)
-
-abbrev in_front : (token : Token) (g h : Ebnf) → (Tree (past token g) → Tree g) → Tree (past_first token g h) → Tree (g ⨾ h)
-in_front token g h put_g = by_both (past token g) h (g ⨾ h) (λ x y. put_g x & y)
-
-abbrev with_none : (g h : Ebnf) → is_nullable g ≡ true → Tree h → Tree (g ⨾ h)
-with_none g h empty w = (derives_none g empty).tree & w
-
-abbrev in_sequence : (token : Token) (g h : Ebnf) (b : Bool) → is_nullable g ≡ b → (Tree (past token g) → Tree g) → (Tree (past token h) → Tree h) → Tree (past_sequence token g h b) → Tree (g ⨾ h)
-in_sequence token g h false empty put_g put_h = in_front token g h put_g
-in_sequence token g h true empty put_g put_h =
-    by_either (past_first token g h) (past token h) (g ⨾ h) (in_front token g h put_g) (λ w. with_none g h empty (put_h w))
-
-abbrev put : (token : Token) (g : Ebnf) → Tree (past token g) → Tree g
-put token never none = absurd none
-put token nothing none = absurd none
-put token (one c) _ = leaf_at c token
-put token (g ⨾ h) u = in_sequence token g h (is_nullable g) refl (put token g) (put token h) u
-put token (g ∣ h) u =
-    by_either (past token g) (past token h) (g ∣ h) (λ x. inl (put token g x)) (λ y. inr (put token h y)) u
-put token (many g) u = by_both (past token g) (many g) (many g) (λ x xs. put token g x ∷ xs) u
+use Rattle.twp_grammar.proofs.DerivedTrees.{StandFor, alternatives, sequences, either, by_either, join}
+use Rattle.twp_grammar.proofs.DerivedTrees.{by_both, past, past_first, past_sequence, in_front, with_none}
+use Rattle.twp_grammar.proofs.DerivedTrees.{in_sequence, put}
 
 -- the tree is made of one by another grammar, of these tokens
 record IsMade (g h : Ebnf) (make : Tree g → Tree h) (v : Tree h) (ts : List Token) : Type 0 where
@@ -191,11 +33,14 @@ abbrev Strips : Ebnf → Type 0
 Strips g = (token : Token) (ts : List Token) (v : Tree g) → tokens g v ≡ token ∷ ts → IsStripped token g v ts
 
 -- the same of a sequence
-abbrev IsSequenceStripped : (token : Token) (g h : Ebnf) (b : Bool) → is_nullable g ≡ b → Tree (g ⨾ h) → List Token → Type 0
+abbrev IsSequenceStripped : (token : Token) (g h : Ebnf) (b : Bool) → is_nullable g ≡ b → Tree (g ⨾ h)
+    → List Token → Type 0
 IsSequenceStripped token g h b empty v ts =
-    IsMade (past_sequence token g h b) (g ⨾ h) (in_sequence token g h b empty (put token g) (put token h)) v ts
+    IsMade (past_sequence token g h b) (g ⨾ h) (in_sequence token g h b empty (put token g) (put token h)) v
+    ts
 
-made_left : (g h k : Ebnf) (f : Tree g → Tree k) (f' : Tree h → Tree k) (v : Tree k) (ts : List Token) → IsMade g k f v ts → IsMade (alt g h) k (by_either g h k f f') v ts
+made_left : (g h k : Ebnf) (f : Tree g → Tree k) (f' : Tree h → Tree k) (v : Tree k) (ts : List Token)
+    → IsMade g k f v ts → IsMade (alt g h) k (by_either g h k f f') v ts
 made_left g h k f f' v ts made =
     let stand : StandFor (alt g h) (g ∣ h) = alternatives g h in
     record {
@@ -204,7 +49,8 @@ made_left g h k f f' v ts made =
       back = ap (either f f') (stand.back (inl made.tree)) ∙ made.back;
     }
 
-made_right : (g h k : Ebnf) (f : Tree g → Tree k) (f' : Tree h → Tree k) (v : Tree k) (ts : List Token) → IsMade h k f' v ts → IsMade (alt g h) k (by_either g h k f f') v ts
+made_right : (g h k : Ebnf) (f : Tree g → Tree k) (f' : Tree h → Tree k) (v : Tree k) (ts : List Token)
+    → IsMade h k f' v ts → IsMade (alt g h) k (by_either g h k f f') v ts
 made_right g h k f f' v ts made =
     let stand : StandFor (alt g h) (g ∣ h) = alternatives g h in
     record {
@@ -213,13 +59,15 @@ made_right g h k f f' v ts made =
       back = ap (either f f') (stand.back (inr made.tree)) ∙ made.back;
     }
 
-made_of_both : (g h k : Ebnf) (f : Tree g → Tree h → Tree k) (x : Tree g) (y : Tree h) → IsMade (seq g h) k (by_both g h k f) (f x y) (tokens g x ++ tokens h y)
+made_of_both : (g h k : Ebnf) (f : Tree g → Tree h → Tree k) (x : Tree g) (y : Tree h)
+    → IsMade (seq g h) k (by_both g h k f) (f x y) (tokens g x ++ tokens h y)
 made_of_both g h k f x y =
     let stand : StandFor (seq g h) (g ⨾ h) = sequences g h in
     record { tree = stand.out (x & y); spelt = stand.spelt (x & y); back = ap (join f) (stand.back (x & y)) }
 
 -- a token of the class has the leaf that it was made of
-its_leaf : (c : Class) (leaf : Leaf c) → IsMade (past (token_of c leaf) (one c)) (one c) (put (token_of c leaf) (one c)) leaf []
+its_leaf : (c : Class) (leaf : Leaf c)
+    → IsMade (past (token_of c leaf) (one c)) (one c) (put (token_of c leaf) (one c)) leaf []
 its_leaf sec leaf = record { tree = tt; spelt = refl; back = refl }
 its_leaf lot leaf = record { tree = tt; spelt = refl; back = refl }
 its_leaf all leaf = record { tree = tt; spelt = refl; back = refl }
@@ -252,12 +100,14 @@ abbrev but_first : List Token → List Token
 but_first [] = []
 but_first (first ∷ ts) = ts
 
-leaf_stripped : (c : Class) (leaf : Leaf c) (token : Token) (ts : List Token) → token_of c leaf ∷ [] ≡ token ∷ ts → IsStripped token (one c) leaf ts
+leaf_stripped : (c : Class) (leaf : Leaf c) (token : Token) (ts : List Token)
+    → token_of c leaf ∷ [] ≡ token ∷ ts → IsStripped token (one c) leaf ts
 leaf_stripped c leaf token ts h =
     let is_token : token_of c leaf ≡ token = ap (first_or token) h in
     let is_rest : [] ≡ ts = ap but_first h in
     subst (λ (us : List Token). IsStripped token (one c) leaf us) is_rest
-    (subst (λ (u : Token). IsMade (past u (one c)) (one c) (put u (one c)) leaf []) is_token (its_leaf c leaf))
+    (subst (λ (u : Token). IsMade (past u (one c)) (one c) (put u (one c)) leaf []) is_token
+    (its_leaf c leaf))
 
 -- no tokens at all
 none_of_two : (ts us : List Token) → ts ++ us ≡ [] → (ts ≡ []) × (us ≡ [])
@@ -278,7 +128,8 @@ nullable (g ⨾ k) (v & w) h =
     let right : is_nullable k ≡ true = nullable k w parts.1 in
     rw (left, right) refl
 nullable (g ∣ k) (inl v) h = let left : is_nullable g ≡ true = nullable g v h in rw left refl
-nullable (g ∣ k) (inr w) h = let right : is_nullable k ≡ true = nullable k w h in rw right (or_true (is_nullable g))
+nullable (g ∣ k) (inr w) h =
+    let right : is_nullable k ≡ true = nullable k w h in rw right (or_true (is_nullable g))
 nullable (many g) v h = refl
 
 not_both : (x y : Bool) → not (x && y) ≡ true → x ≡ true → y ≡ true → ⊥
@@ -291,11 +142,14 @@ never_nullable true h e = cc h
 never_nullable false h e = cc e
 
 some_tokens : (g : Ebnf) → has_one_empty (many g) ≡ true → (v : Tree g) → tokens g v ≡ [] → ⊥
-some_tokens g single v e = never_nullable (is_nullable g) (both (has_one_empty g) (not (is_nullable g)) single).1 (nullable g v e)
+some_tokens g single v e =
+    never_nullable (is_nullable g) (both (has_one_empty g) (not (is_nullable g)) single).1 (nullable g v e)
 
-of_choice : (g h : Ebnf) → has_one_empty (g ∣ h) ≡ true → (has_one_empty h ≡ true) × (not (is_nullable g && is_nullable h) ≡ true)
+of_choice : (g h : Ebnf) → has_one_empty (g ∣ h) ≡ true
+    → (has_one_empty h ≡ true) × (not (is_nullable g && is_nullable h) ≡ true)
 of_choice g h single =
-    both (has_one_empty h) (not (is_nullable g && is_nullable h)) (both (has_one_empty g) (has_one_empty h && not (is_nullable g && is_nullable h)) single).1
+    both (has_one_empty h) (not (is_nullable g && is_nullable h))
+    (both (has_one_empty g) (has_one_empty h && not (is_nullable g && is_nullable h)) single).1
 
 -- no tokens at all have one derivation
 one_empty : (g : Ebnf) → has_one_empty g ≡ true → (v w : Tree g) → tokens g v ≡ [] → tokens g w ≡ [] → v ≡ w
@@ -309,16 +163,28 @@ one_empty (g ⨾ h) single (x & y) (x' & y') e e' =
     let left : x ≡ x' = one_empty g each.0 x x' parts.0 parts'.0 in
     let right : y ≡ y' = one_empty h each.1 y y' parts.1 parts'.1 in
     rw (left, right) refl
-one_empty (g ∣ h) single (inl x) (inl x') e e' = ap (λ v. inl v) (one_empty g (both (has_one_empty g) (has_one_empty h && not (is_nullable g && is_nullable h)) single).0 x x' e e')
-one_empty (g ∣ h) single (inr y) (inr y') e e' = ap (λ w. inr w) (one_empty h (of_choice g h single).0 y y' e e')
-one_empty (g ∣ h) single (inl x) (inr y) e e' = absurd (not_both (is_nullable g) (is_nullable h) (of_choice g h single).1 (nullable g x e) (nullable h y e'))
-one_empty (g ∣ h) single (inr y) (inl x) e e' = absurd (not_both (is_nullable g) (is_nullable h) (of_choice g h single).1 (nullable g x e') (nullable h y e))
+one_empty (g ∣ h) single (inl x) (inl x') e e' =
+    ap (λ v. inl v)
+    (one_empty g (both (has_one_empty g) (has_one_empty h && not (is_nullable g && is_nullable h)) single).0
+    x x' e e')
+one_empty (g ∣ h) single (inr y) (inr y') e e' =
+    ap (λ w. inr w) (one_empty h (of_choice g h single).0 y y' e e')
+one_empty (g ∣ h) single (inl x) (inr y) e e' =
+    absurd
+    (not_both (is_nullable g) (is_nullable h) (of_choice g h single).1 (nullable g x e) (nullable h y e'))
+one_empty (g ∣ h) single (inr y) (inl x) e e' =
+    absurd
+    (not_both (is_nullable g) (is_nullable h) (of_choice g h single).1 (nullable g x e') (nullable h y e))
 one_empty (many g) single [] [] e e' = refl
-one_empty (many g) single (x ∷ xs) w e e' = absurd (some_tokens g single x (none_of_two (tokens g x) (tokens (many g) xs) e).0)
-one_empty (many g) single [] (x ∷ xs) e e' = absurd (some_tokens g single x (none_of_two (tokens g x) (tokens (many g) xs) e').0)
+one_empty (many g) single (x ∷ xs) w e e' =
+    absurd (some_tokens g single x (none_of_two (tokens g x) (tokens (many g) xs) e).0)
+one_empty (many g) single [] (x ∷ xs) e e' =
+    absurd (some_tokens g single x (none_of_two (tokens g x) (tokens (many g) xs) e').0)
 
 -- the first token is of the first tree
-front_stripped : (g h : Ebnf) → Strips g → (token : Token) (us ts : List Token) (x : Tree g) (y : Tree h) → tokens g x ≡ token ∷ us → us ++ tokens h y ≡ ts → IsMade (past_first token g h) (g ⨾ h) (in_front token g h (put token g)) (x & y) ts
+front_stripped : (g h : Ebnf) → Strips g → (token : Token) (us ts : List Token) (x : Tree g) (y : Tree h)
+    → tokens g x ≡ token ∷ us → us ++ tokens h y ≡ ts
+    → IsMade (past_first token g h) (g ⨾ h) (in_front token g h (put token g)) (x & y) ts
 front_stripped g h strips token us ts x y first rest =
     let behind : IsStripped token g x us = strips token us x first in
     let made = made_of_both (past token g) h (g ⨾ h) (λ a b. put token g a & b) behind.tree y in
@@ -328,7 +194,8 @@ front_stripped g h strips token us ts x y first rest =
       back = made.back ∙ ap (λ a. a & y) behind.back;
     }
 
-more_stripped : (g : Ebnf) → Strips g → (token : Token) (us ts : List Token) (x : Tree g) (xs : Tree (many g)) → tokens g x ≡ token ∷ us → us ++ tokens (many g) xs ≡ ts → IsStripped token (many g) (x ∷ xs) ts
+more_stripped : (g : Ebnf) → Strips g → (token : Token) (us ts : List Token) (x : Tree g) (xs : Tree (many g))
+    → tokens g x ≡ token ∷ us → us ++ tokens (many g) xs ≡ ts → IsStripped token (many g) (x ∷ xs) ts
 more_stripped g strips token us ts x xs first rest =
     let behind : IsStripped token g x us = strips token us x first in
     let made = made_of_both (past token g) (many g) (many g) (λ a b. put token g a ∷ b) behind.tree xs in
@@ -339,7 +206,10 @@ more_stripped g strips token us ts x xs first rest =
     }
 
 -- the first token is of the second tree
-second_stripped : (g h : Ebnf) → has_one_empty g ≡ true → Strips h → (empty : is_nullable g ≡ true) (token : Token) (ts : List Token) (x : Tree g) (y : Tree h) → tokens g x ≡ [] → tokens h y ≡ token ∷ ts → IsMade (past token h) (g ⨾ h) (λ w. with_none g h empty (put token h w)) (x & y) ts
+second_stripped : (g h : Ebnf) → has_one_empty g ≡ true → Strips h
+    → (empty : is_nullable g ≡ true) (token : Token) (ts : List Token) (x : Tree g) (y : Tree h)
+    → tokens g x ≡ [] → tokens h y ≡ token ∷ ts
+    → IsMade (past token h) (g ⨾ h) (λ w. with_none g h empty (put token h w)) (x & y) ts
 second_stripped g h single strips empty token ts x y none first =
     let behind : IsStripped token h y ts = strips token ts y first in
     let derived = derives_none g empty in
@@ -350,35 +220,49 @@ second_stripped g h single strips empty token ts x y none first =
       back = ap (λ b. derived.tree & b) behind.back ∙ ap (λ a. a & y) left;
     }
 
-sequence_stripped : (g h : Ebnf) → has_one_empty g ≡ true → Strips g → Strips h → (token : Token) (ts : List Token) (x : Tree g) (y : Tree h) (xs : List Token) → tokens g x ≡ xs → xs ++ tokens h y ≡ token ∷ ts → (b : Bool) (empty : is_nullable g ≡ b) → IsSequenceStripped token g h b empty (x & y) ts
+sequence_stripped : (g h : Ebnf) → has_one_empty g ≡ true → Strips g → Strips h
+    → (token : Token) (ts : List Token) (x : Tree g) (y : Tree h) (xs : List Token) → tokens g x ≡ xs
+    → xs ++ tokens h y ≡ token ∷ ts → (b : Bool) (empty : is_nullable g ≡ b)
+    → IsSequenceStripped token g h b empty (x & y) ts
 sequence_stripped g h single strips_g strips_h token ts x y [] none first true empty =
-    made_right (past_first token g h) (past token h) (g ⨾ h) (in_front token g h (put token g)) (λ w. with_none g h empty (put token h w)) (x & y) ts
+    made_right (past_first token g h) (past token h) (g ⨾ h) (in_front token g h (put token g))
+    (λ w. with_none g h empty (put token h w)) (x & y) ts
     (second_stripped g h single strips_h empty token ts x y none first)
 sequence_stripped g h single strips_g strips_h token ts x y [] none first false empty =
     let apart : true ≡ false = sym (nullable g x none) ∙ empty in cc apart
 sequence_stripped g h single strips_g strips_h token ts x y (u ∷ us) front first b empty =
     let is_token : u ≡ token = ap (first_or token) first in
-    let made = front_stripped g h strips_g token us ts x y (front ∙ ap (λ a. a ∷ us) is_token) (ap but_first first) in
+    let made =
+    front_stripped g h strips_g token us ts x y (front ∙ ap (λ a. a ∷ us) is_token) (ap but_first first) in
     either_way b empty made
   where
-    either_way : (b : Bool) (empty : is_nullable g ≡ b) → IsMade (past_first token g h) (g ⨾ h) (in_front token g h (put token g)) (x & y) ts → IsSequenceStripped token g h b empty (x & y) ts
+    either_way : (b : Bool) (empty : is_nullable g ≡ b)
+        → IsMade (past_first token g h) (g ⨾ h) (in_front token g h (put token g)) (x & y) ts
+        → IsSequenceStripped token g h b empty (x & y) ts
     either_way false empty made = made
     either_way true empty made =
-        made_left (past_first token g h) (past token h) (g ⨾ h) (in_front token g h (put token g)) (λ w. with_none g h empty (put token h w)) (x & y) ts made
+        made_left (past_first token g h) (past token h) (g ⨾ h) (in_front token g h (put token g))
+        (λ w. with_none g h empty (put token h w)) (x & y) ts made
 
-left_stripped : (g h : Ebnf) → Strips g → (token : Token) (ts : List Token) (x : Tree g) → tokens g x ≡ token ∷ ts → IsStripped token (g ∣ h) (inl x) ts
+left_stripped : (g h : Ebnf) → Strips g → (token : Token) (ts : List Token) (x : Tree g)
+    → tokens g x ≡ token ∷ ts → IsStripped token (g ∣ h) (inl x) ts
 left_stripped g h strips token ts x first =
     let behind : IsStripped token g x ts = strips token ts x first in
-    made_left (past token g) (past token h) (g ∣ h) (λ a. inl (put token g a)) (λ b. inr (put token h b)) (inl x) ts
+    made_left (past token g) (past token h) (g ∣ h) (λ a. inl (put token g a)) (λ b. inr (put token h b))
+    (inl x) ts
     (record { tree = behind.tree; spelt = behind.spelt; back = ap (λ a. inl a) behind.back })
 
-right_stripped : (g h : Ebnf) → Strips h → (token : Token) (ts : List Token) (y : Tree h) → tokens h y ≡ token ∷ ts → IsStripped token (g ∣ h) (inr y) ts
+right_stripped : (g h : Ebnf) → Strips h → (token : Token) (ts : List Token) (y : Tree h)
+    → tokens h y ≡ token ∷ ts → IsStripped token (g ∣ h) (inr y) ts
 right_stripped g h strips token ts y first =
     let behind : IsStripped token h y ts = strips token ts y first in
-    made_right (past token g) (past token h) (g ∣ h) (λ a. inl (put token g a)) (λ b. inr (put token h b)) (inr y) ts
+    made_right (past token g) (past token h) (g ∣ h) (λ a. inl (put token g a)) (λ b. inr (put token h b))
+    (inr y) ts
     (record { tree = behind.tree; spelt = behind.spelt; back = ap (λ b. inr b) behind.back })
 
-many_stripped : (g : Ebnf) → has_one_empty (many g) ≡ true → Strips g → (token : Token) (ts : List Token) (x : Tree g) (xs : Tree (many g)) (us : List Token) → tokens g x ≡ us → us ++ tokens (many g) xs ≡ token ∷ ts → IsStripped token (many g) (x ∷ xs) ts
+many_stripped : (g : Ebnf) → has_one_empty (many g) ≡ true → Strips g
+    → (token : Token) (ts : List Token) (x : Tree g) (xs : Tree (many g)) (us : List Token) → tokens g x ≡ us
+    → us ++ tokens (many g) xs ≡ token ∷ ts → IsStripped token (many g) (x ∷ xs) ts
 many_stripped g single strips token ts x xs [] none first = absurd (some_tokens g single x none)
 many_stripped g single strips token ts x xs (u ∷ us) front first =
     let is_token : u ≡ token = ap (first_or token) first in
@@ -390,19 +274,25 @@ stripped nothing single token ts v first = cc first
 stripped (one c) single token ts v first = leaf_stripped c v token ts first
 stripped (g ⨾ h) single token ts (x & y) first =
     let each = both (has_one_empty g) (has_one_empty h) single in
-    sequence_stripped g h each.0 (stripped g each.0) (stripped h each.1) token ts x y (tokens g x) refl first (is_nullable g) refl
+    sequence_stripped g h each.0 (stripped g each.0) (stripped h each.1) token ts x y (tokens g x) refl first
+    (is_nullable g) refl
 stripped (g ∣ h) single token ts (inl x) first =
-    left_stripped g h (stripped g (both (has_one_empty g) (has_one_empty h && not (is_nullable g && is_nullable h)) single).0) token ts x first
-stripped (g ∣ h) single token ts (inr y) first = right_stripped g h (stripped h (of_choice g h single).0) token ts y first
+    left_stripped g h
+    (stripped g (both (has_one_empty g) (has_one_empty h && not (is_nullable g && is_nullable h)) single).0)
+    token ts x first
+stripped (g ∣ h) single token ts (inr y) first =
+    right_stripped g h (stripped h (of_choice g h single).0) token ts y first
 stripped (many g) single token ts [] first = cc first
 stripped (many g) single token ts (x ∷ xs) first =
-    many_stripped g single (stripped g (both (has_one_empty g) (not (is_nullable g)) single).0) token ts x xs (tokens g x) refl first
+    many_stripped g single (stripped g (both (has_one_empty g) (not (is_nullable g)) single).0) token ts x xs
+    (tokens g x) refl first
 
 -- derivations of the same tokens are one
 abbrev HasOneTree : Ebnf → List Token → Type 0
 HasOneTree g ts = (v w : Tree g) → tokens g v ≡ ts → tokens g w ≡ ts → v ≡ w
 
-one_behind : (s : State) (c : Class) (ts : List Token) → ((s' : State) → HasOneTree (table.rest s') ts) → (o : Option State) → next s c ≡ o → HasOneTree (after c (table.rest s)) ts
+one_behind : (s : State) (c : Class) (ts : List Token) → ((s' : State) → HasOneTree (table.rest s') ts)
+    → (o : Option State) → next s c ≡ o → HasOneTree (after c (table.rest s)) ts
 one_behind s c ts each None stuck v w e e' = absurd (subst (λ (g : Ebnf). Tree g) (table.no_edge s c stuck) v)
 one_behind s c ts each (Some s') step v w e e' =
     subst (λ (g : Ebnf). HasOneTree g ts) (sym (table.edge s s' c step)) (each s') v w e e'
@@ -412,7 +302,8 @@ one_of_rest [] s v w e e' = one_empty (table.rest s) (table.one_empty s) v w e e
 one_of_rest (token ∷ ts) s v w e e' =
     let made = stripped (table.rest s) (table.one_empty s) token ts v e in
     let made' = stripped (table.rest s) (table.one_empty s) token ts w e' in
-    let behind : HasOneTree (past token (table.rest s)) ts = one_behind s (class_of token.kind) ts (one_of_rest ts) (next s (class_of token.kind)) refl in
+    let behind : HasOneTree (past token (table.rest s)) ts =
+    one_behind s (class_of token.kind) ts (one_of_rest ts) (next s (class_of token.kind)) refl in
     let same : made.tree ≡ made'.tree = behind made.tree made'.tree made.spelt made'.spelt in
     sym made.back ∙ ap (put token (table.rest s)) same ∙ made'.back
 

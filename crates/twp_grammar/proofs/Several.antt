@@ -25,14 +25,20 @@ record IsSeveral (ts : List Token) : Type 0 where
   spelt : tokens several tree ≡ ts
 
 as_several : (v : Tree entries) → ¬ IsOneNumber (tokens entries v) → IsSeveral (tokens entries v)
-as_several ((n & inl thru) & more) apart = record { tree = n & inl thru & more; spelt = sym (as_entries_spelt (n & inl thru & more)) }
+as_several ((n & inl thru) & more) apart =
+    record { tree = n & inl thru & more; spelt = sym (as_entries_spelt (n & inl thru & more)) }
 as_several ((n & inr tt) & []) apart = absurd (apart (n, refl))
-as_several ((n & inr tt) & ((s & e) ∷ more)) apart = record { tree = n & inr (s & e) & more; spelt = sym (as_entries_spelt (n & inr (s & e) & more)) }
+as_several ((n & inr tt) & ((s & e) ∷ more)) apart =
+    record { tree = n & inr (s & e) & more; spelt = sym (as_entries_spelt (n & inr (s & e) & more)) }
 
 pub several_are_entries : SeveralAreEntries
 several_are_entries ts = (
-  λ (v, spelt). ((as_entries v, as_entries_spelt v ∙ spelt), subst (λ (us : List Token). ¬ IsOneNumber us) spelt (not_alone v)),
+  λ (v, spelt). (
+    (as_entries v, as_entries_spelt v ∙ spelt),
+    subst (λ (us : List Token). ¬ IsOneNumber us) spelt (not_alone v),
+  ),
   λ ((v, spelt), apart).
-      let found : IsSeveral (tokens entries v) = as_several v (subst (λ (us : List Token). ¬ IsOneNumber us) (sym spelt) apart) in
+      let found : IsSeveral (tokens entries v) =
+      as_several v (subst (λ (us : List Token). ¬ IsOneNumber us) (sym spelt) apart) in
       (found.tree, found.spelt ∙ spelt),
 )

@@ -1,13 +1,18 @@
 -- The machine is the grammar's: in each state what it takes is what the grammar leaves to be read there.
-use Rattle.std.proofs.Common.{◌≡◌, ℕ, zero, suc, ◌<◌, ◌≤◌, Bool, true, false, ◌&&◌, List, [], ◌∷◌, Option, Some, None, length, get_or, refl, ap, subst, inl, inr, arith}
+use Rattle.std.proofs.Common.{◌≡◌, ℕ, zero, suc, ◌<◌, ◌≤◌, Bool, true, false, ◌&&◌, List, [], ◌∷◌, Option}
+use Rattle.std.proofs.Common.{Some, None, length, get_or, refl, ap, subst, inl, inr, arith}
 use Rattle.std.specs.List.{list_all, list_any}
 use Rattle.std.specs.Option.{is_some}
 use Rattle.twp_grammar.specs.declared.state.State.{State}
 use Rattle.twp_grammar.specs.declared.state.State.TheVariants as past
-use Rattle.twp_grammar.specs.Grammar.{Class, sec, lot, all, and, to, inclusive, of, the, t, r, north_south, east_west, corner, half, quarter, number, comma, semicolon, colon, stop, other, bad_number, bad_byte, Ebnf, never, nothing, one, ◌⨾◌, ◌∣◌, many, description}
+use Rattle.twp_grammar.specs.Grammar.{Class, sec, lot, all, and, to, inclusive, of, the, t, r, north_south}
+use Rattle.twp_grammar.specs.Grammar.{east_west, corner, half, quarter, number, comma, semicolon, colon, stop}
+use Rattle.twp_grammar.specs.Grammar.{other, bad_number, bad_byte, Ebnf, never, nothing, one, ◌⨾◌, ◌∣◌, many}
+use Rattle.twp_grammar.specs.Grammar.{description}
 use Rattle.twp_grammar.specs.Machine.{next, is_final}
 use Rattle.twp_grammar.specs.Expected.{told, named, expected_of, IsNamed}
-use Rattle.twp_grammar.proofs.Derivatives.{classes, place_of_class, class_at_place, same_class, same_class_tells, is_nullable, has_one_empty, both, after}
+use Rattle.twp_grammar.proofs.Derivatives.{classes, place_of_class, class_at_place, same_class}
+use Rattle.twp_grammar.proofs.Derivatives.{same_class_tells, is_nullable, has_one_empty, both, after}
 
 -- the state behind some classes, read from Start
 after_all : Ebnf → List Class → Ebnf
@@ -156,52 +161,71 @@ record Row (s : State) : Type 0 where
   names_all : list_all (λ c. is_among c (next s c) (named (expected_of s))) classes ≡ true
   tells_all : list_all (λ c. is_some (next s c)) (told (expected_of s)) ≡ true
 
+a_row : {s : State} → list_all (λ c. is_edge s c (next s c)) classes ≡ true → is_end s (is_final s) ≡ true
+    → has_one_empty (rest s) ≡ true → leads_out (Some s) (way_out s) ≡ true → length (way_out s) ≤ 7
+    → next s bad_byte ≡ None → next s bad_number ≡ None → next s other ≡ None
+    → list_all (λ c. is_among c (next s c) (named (expected_of s))) classes ≡ true
+    → list_all (λ c. is_some (next s c)) (told (expected_of s)) ≡ true
+    → Row s
+a_row edges end empty out few no_byte no_number no_word names_all tells_all = record {
+  edges = edges;
+  end = end;
+  empty = empty;
+  out = out;
+  few = few;
+  no_byte = no_byte;
+  no_number = no_number;
+  no_word = no_word;
+  names_all = names_all;
+  tells_all = tells_all;
+}
+
 row : (s : State) → Row s
 unfolding rest after_all
-row past.Start = record { edges = refl; end = refl; empty = refl; out = refl; few = omega arith; no_byte = refl; no_number = refl; no_word = refl; names_all = refl; tells_all = refl }
-row past.Township = record { edges = refl; end = refl; empty = refl; out = refl; few = omega arith; no_byte = refl; no_number = refl; no_word = refl; names_all = refl; tells_all = refl }
-row past.TownshipStop = record { edges = refl; end = refl; empty = refl; out = refl; few = omega arith; no_byte = refl; no_number = refl; no_word = refl; names_all = refl; tells_all = refl }
-row past.TownshipNumber = record { edges = refl; end = refl; empty = refl; out = refl; few = omega arith; no_byte = refl; no_number = refl; no_word = refl; names_all = refl; tells_all = refl }
-row past.TownshipSide = record { edges = refl; end = refl; empty = refl; out = refl; few = omega arith; no_byte = refl; no_number = refl; no_word = refl; names_all = refl; tells_all = refl }
-row past.TownshipSideStop = record { edges = refl; end = refl; empty = refl; out = refl; few = omega arith; no_byte = refl; no_number = refl; no_word = refl; names_all = refl; tells_all = refl }
-row past.TownshipComma = record { edges = refl; end = refl; empty = refl; out = refl; few = omega arith; no_byte = refl; no_number = refl; no_word = refl; names_all = refl; tells_all = refl }
-row past.Range = record { edges = refl; end = refl; empty = refl; out = refl; few = omega arith; no_byte = refl; no_number = refl; no_word = refl; names_all = refl; tells_all = refl }
-row past.RangeStop = record { edges = refl; end = refl; empty = refl; out = refl; few = omega arith; no_byte = refl; no_number = refl; no_word = refl; names_all = refl; tells_all = refl }
-row past.RangeNumber = record { edges = refl; end = refl; empty = refl; out = refl; few = omega arith; no_byte = refl; no_number = refl; no_word = refl; names_all = refl; tells_all = refl }
-row past.RangeSide = record { edges = refl; end = refl; empty = refl; out = refl; few = omega arith; no_byte = refl; no_number = refl; no_word = refl; names_all = refl; tells_all = refl }
-row past.RangeSideStop = record { edges = refl; end = refl; empty = refl; out = refl; few = omega arith; no_byte = refl; no_number = refl; no_word = refl; names_all = refl; tells_all = refl }
-row past.SectionWord = record { edges = refl; end = refl; empty = refl; out = refl; few = omega arith; no_byte = refl; no_number = refl; no_word = refl; names_all = refl; tells_all = refl }
-row past.SectionStop = record { edges = refl; end = refl; empty = refl; out = refl; few = omega arith; no_byte = refl; no_number = refl; no_word = refl; names_all = refl; tells_all = refl }
-row past.SectionNumber = record { edges = refl; end = refl; empty = refl; out = refl; few = omega arith; no_byte = refl; no_number = refl; no_word = refl; names_all = refl; tells_all = refl }
-row past.SectionComma = record { edges = refl; end = refl; empty = refl; out = refl; few = omega arith; no_byte = refl; no_number = refl; no_word = refl; names_all = refl; tells_all = refl }
-row past.Semicolon = record { edges = refl; end = refl; empty = refl; out = refl; few = omega arith; no_byte = refl; no_number = refl; no_word = refl; names_all = refl; tells_all = refl }
-row past.BeforeGroup = record { edges = refl; end = refl; empty = refl; out = refl; few = omega arith; no_byte = refl; no_number = refl; no_word = refl; names_all = refl; tells_all = refl }
-row past.End = record { edges = refl; end = refl; empty = refl; out = refl; few = omega arith; no_byte = refl; no_number = refl; no_word = refl; names_all = refl; tells_all = refl }
-row past.ListTo = record { edges = refl; end = refl; empty = refl; out = refl; few = omega arith; no_byte = refl; no_number = refl; no_word = refl; names_all = refl; tells_all = refl }
-row past.ListAnd = record { edges = refl; end = refl; empty = refl; out = refl; few = omega arith; no_byte = refl; no_number = refl; no_word = refl; names_all = refl; tells_all = refl }
-row past.ListNumber = record { edges = refl; end = refl; empty = refl; out = refl; few = omega arith; no_byte = refl; no_number = refl; no_word = refl; names_all = refl; tells_all = refl }
-row past.ListLast = record { edges = refl; end = refl; empty = refl; out = refl; few = omega arith; no_byte = refl; no_number = refl; no_word = refl; names_all = refl; tells_all = refl }
-row past.ListInclusive = record { edges = refl; end = refl; empty = refl; out = refl; few = omega arith; no_byte = refl; no_number = refl; no_word = refl; names_all = refl; tells_all = refl }
-row past.ListComma = record { edges = refl; end = refl; empty = refl; out = refl; few = omega arith; no_byte = refl; no_number = refl; no_word = refl; names_all = refl; tells_all = refl }
-row past.ListLastComma = record { edges = refl; end = refl; empty = refl; out = refl; few = omega arith; no_byte = refl; no_number = refl; no_word = refl; names_all = refl; tells_all = refl }
-row past.ListColon = record { edges = refl; end = refl; empty = refl; out = refl; few = omega arith; no_byte = refl; no_number = refl; no_word = refl; names_all = refl; tells_all = refl }
-row past.ListAll = record { edges = refl; end = refl; empty = refl; out = refl; few = omega arith; no_byte = refl; no_number = refl; no_word = refl; names_all = refl; tells_all = refl }
-row past.Lot = record { edges = refl; end = refl; empty = refl; out = refl; few = omega arith; no_byte = refl; no_number = refl; no_word = refl; names_all = refl; tells_all = refl }
-row past.LotNumber = record { edges = refl; end = refl; empty = refl; out = refl; few = omega arith; no_byte = refl; no_number = refl; no_word = refl; names_all = refl; tells_all = refl }
-row past.LotTo = record { edges = refl; end = refl; empty = refl; out = refl; few = omega arith; no_byte = refl; no_number = refl; no_word = refl; names_all = refl; tells_all = refl }
-row past.LotLast = record { edges = refl; end = refl; empty = refl; out = refl; few = omega arith; no_byte = refl; no_number = refl; no_word = refl; names_all = refl; tells_all = refl }
-row past.LotInclusive = record { edges = refl; end = refl; empty = refl; out = refl; few = omega arith; no_byte = refl; no_number = refl; no_word = refl; names_all = refl; tells_all = refl }
-row past.LotComma = record { edges = refl; end = refl; empty = refl; out = refl; few = omega arith; no_byte = refl; no_number = refl; no_word = refl; names_all = refl; tells_all = refl }
-row past.LotLastComma = record { edges = refl; end = refl; empty = refl; out = refl; few = omega arith; no_byte = refl; no_number = refl; no_word = refl; names_all = refl; tells_all = refl }
-row past.LotAnd = record { edges = refl; end = refl; empty = refl; out = refl; few = omega arith; no_byte = refl; no_number = refl; no_word = refl; names_all = refl; tells_all = refl }
-row past.BeforePart = record { edges = refl; end = refl; empty = refl; out = refl; few = omega arith; no_byte = refl; no_number = refl; no_word = refl; names_all = refl; tells_all = refl }
-row past.Side = record { edges = refl; end = refl; empty = refl; out = refl; few = omega arith; no_byte = refl; no_number = refl; no_word = refl; names_all = refl; tells_all = refl }
-row past.Corner = record { edges = refl; end = refl; empty = refl; out = refl; few = omega arith; no_byte = refl; no_number = refl; no_word = refl; names_all = refl; tells_all = refl }
-row past.All = record { edges = refl; end = refl; empty = refl; out = refl; few = omega arith; no_byte = refl; no_number = refl; no_word = refl; names_all = refl; tells_all = refl }
-row past.PartComma = record { edges = refl; end = refl; empty = refl; out = refl; few = omega arith; no_byte = refl; no_number = refl; no_word = refl; names_all = refl; tells_all = refl }
-row past.Step = record { edges = refl; end = refl; empty = refl; out = refl; few = omega arith; no_byte = refl; no_number = refl; no_word = refl; names_all = refl; tells_all = refl }
-row past.Of = record { edges = refl; end = refl; empty = refl; out = refl; few = omega arith; no_byte = refl; no_number = refl; no_word = refl; names_all = refl; tells_all = refl }
-row past.OfThe = record { edges = refl; end = refl; empty = refl; out = refl; few = omega arith; no_byte = refl; no_number = refl; no_word = refl; names_all = refl; tells_all = refl }
+row past.Start = a_row refl refl refl refl (omega arith) refl refl refl refl refl
+row past.Township = a_row refl refl refl refl (omega arith) refl refl refl refl refl
+row past.TownshipStop = a_row refl refl refl refl (omega arith) refl refl refl refl refl
+row past.TownshipNumber = a_row refl refl refl refl (omega arith) refl refl refl refl refl
+row past.TownshipSide = a_row refl refl refl refl (omega arith) refl refl refl refl refl
+row past.TownshipSideStop = a_row refl refl refl refl (omega arith) refl refl refl refl refl
+row past.TownshipComma = a_row refl refl refl refl (omega arith) refl refl refl refl refl
+row past.Range = a_row refl refl refl refl (omega arith) refl refl refl refl refl
+row past.RangeStop = a_row refl refl refl refl (omega arith) refl refl refl refl refl
+row past.RangeNumber = a_row refl refl refl refl (omega arith) refl refl refl refl refl
+row past.RangeSide = a_row refl refl refl refl (omega arith) refl refl refl refl refl
+row past.RangeSideStop = a_row refl refl refl refl (omega arith) refl refl refl refl refl
+row past.SectionWord = a_row refl refl refl refl (omega arith) refl refl refl refl refl
+row past.SectionStop = a_row refl refl refl refl (omega arith) refl refl refl refl refl
+row past.SectionNumber = a_row refl refl refl refl (omega arith) refl refl refl refl refl
+row past.SectionComma = a_row refl refl refl refl (omega arith) refl refl refl refl refl
+row past.Semicolon = a_row refl refl refl refl (omega arith) refl refl refl refl refl
+row past.BeforeGroup = a_row refl refl refl refl (omega arith) refl refl refl refl refl
+row past.End = a_row refl refl refl refl (omega arith) refl refl refl refl refl
+row past.ListTo = a_row refl refl refl refl (omega arith) refl refl refl refl refl
+row past.ListAnd = a_row refl refl refl refl (omega arith) refl refl refl refl refl
+row past.ListNumber = a_row refl refl refl refl (omega arith) refl refl refl refl refl
+row past.ListLast = a_row refl refl refl refl (omega arith) refl refl refl refl refl
+row past.ListInclusive = a_row refl refl refl refl (omega arith) refl refl refl refl refl
+row past.ListComma = a_row refl refl refl refl (omega arith) refl refl refl refl refl
+row past.ListLastComma = a_row refl refl refl refl (omega arith) refl refl refl refl refl
+row past.ListColon = a_row refl refl refl refl (omega arith) refl refl refl refl refl
+row past.ListAll = a_row refl refl refl refl (omega arith) refl refl refl refl refl
+row past.Lot = a_row refl refl refl refl (omega arith) refl refl refl refl refl
+row past.LotNumber = a_row refl refl refl refl (omega arith) refl refl refl refl refl
+row past.LotTo = a_row refl refl refl refl (omega arith) refl refl refl refl refl
+row past.LotLast = a_row refl refl refl refl (omega arith) refl refl refl refl refl
+row past.LotInclusive = a_row refl refl refl refl (omega arith) refl refl refl refl refl
+row past.LotComma = a_row refl refl refl refl (omega arith) refl refl refl refl refl
+row past.LotLastComma = a_row refl refl refl refl (omega arith) refl refl refl refl refl
+row past.LotAnd = a_row refl refl refl refl (omega arith) refl refl refl refl refl
+row past.BeforePart = a_row refl refl refl refl (omega arith) refl refl refl refl refl
+row past.Side = a_row refl refl refl refl (omega arith) refl refl refl refl refl
+row past.Corner = a_row refl refl refl refl (omega arith) refl refl refl refl refl
+row past.All = a_row refl refl refl refl (omega arith) refl refl refl refl refl
+row past.PartComma = a_row refl refl refl refl (omega arith) refl refl refl refl refl
+row past.Step = a_row refl refl refl refl (omega arith) refl refl refl refl refl
+row past.Of = a_row refl refl refl refl (omega arith) refl refl refl refl refl
+row past.OfThe = a_row refl refl refl refl (omega arith) refl refl refl refl refl
 
 same_tells : (g h : Ebnf) → same g h ≡ true → g ≡ h
 same_tells never never e = refl
@@ -221,7 +245,8 @@ same_tells (many g) (many k) e = ap (λ x. many x) (same_tells g k e)
 same_tells _ _ e = cc e
 
 -- what holds of all classes holds of each
-of_each : (p : Class → Bool) (cs : List Class) (k : ℕ) → list_all p cs ≡ true → k < length cs → p (get_or cs k sec) ≡ true
+of_each : (p : Class → Bool) (cs : List Class) (k : ℕ) → list_all p cs ≡ true → k < length cs
+    → p (get_or cs k sec) ≡ true
 of_each p [] k each below = absurd (omega arith)
 of_each p (c ∷ cs) zero each below = (both (p c) (list_all p cs) each).0
 of_each p (c ∷ cs) (suc k) each below = of_each p cs k (both (p c) (list_all p cs) each).1 (omega arith)
@@ -294,13 +319,16 @@ pub takes_no_other : (s : State) → next s other ≡ None
 takes_no_other s = (row s).no_word
 
 -- what may follow in a state is named there
-pub follows_named : (s s' : State) (c : Class) → next s c ≡ Some s' → list_any (λ d. same_class c d) (named (expected_of s)) ≡ true
+pub follows_named : (s s' : State) (c : Class) → next s c ≡ Some s'
+    → list_any (λ d. same_class c d) (named (expected_of s)) ≡ true
 follows_named s s' c e =
-    let found : is_among c (next s c) (named (expected_of s)) ≡ true = of_class (λ d. is_among d (next s d) (named (expected_of s))) c (row s).names_all in
+    let found : is_among c (next s c) (named (expected_of s)) ≡ true =
+    of_class (λ d. is_among d (next s d) (named (expected_of s))) c (row s).names_all in
     subst (λ (o : Option State). is_among c o (named (expected_of s)) ≡ true) e found
 
 -- what is told of in a state may follow there
-told_among : (s : State) (c : Class) (cs : List Class) → list_all (λ d. is_some (next s d)) cs ≡ true → IsNamed c cs → is_some (next s c) ≡ true
+told_among : (s : State) (c : Class) (cs : List Class) → list_all (λ d. is_some (next s d)) cs ≡ true
+    → IsNamed c cs → is_some (next s c) ≡ true
 told_among s c [] each is = absurd is
 told_among s c (d ∷ ds) each is =
     let parts = both (is_some (next s d)) (list_all (λ e. is_some (next s e)) ds) each in

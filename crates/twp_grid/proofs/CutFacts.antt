@@ -32,7 +32,9 @@ AreDigits [] = Unit {0}
 AreDigits (d ∷ asked) = (d < 2) × AreDigits asked
 
 same_span : (a b : Span) → a.start ≡ b.start → a.len ≡ b.len → a ≡ b
-same_span a b start len = let made : (s l : ℕ) → Span = λ s l. record { start = s; len = l } in ap (λ s. made s a.len) start ∙ ap (λ l. made b.start l) len
+same_span a b start len =
+    let made : (s l : ℕ) → Span = λ s l. record { start = s; len = l } in
+    ap (λ s. made s a.len) start ∙ ap (λ l. made b.start l) len
 
 pub len_span_of : (g : ℕ) (asked : List ℕ) → length asked ≤ g → (span_of g asked).len ≡ 2 ^ (g - length asked)
 len_span_of g [] fits = let e : g ≡ g - 0 = omega arith in ap (λ k. 2 ^ k) e
@@ -42,7 +44,8 @@ len_span_of (suc g) (d ∷ asked) fits =
     let e : g - length asked ≡ suc g - suc (length asked) = omega arith in
     len_span_of g asked less ∙ ap (λ k. 2 ^ k) e
 
-pub within_span_of : (g : ℕ) (asked : List ℕ) → AreDigits asked → length asked ≤ g → (span_of g asked).start + (span_of g asked).len ≤ 2 ^ g
+pub within_span_of : (g : ℕ) (asked : List ℕ) → AreDigits asked → length asked ≤ g
+    → (span_of g asked).start + (span_of g asked).len ≤ 2 ^ g
 within_span_of g [] digits fits = omega arith
 within_span_of zero (d ∷ asked) digits fits = absurd (omega arith)
 within_span_of (suc g) (zero ∷ asked) digits fits =
@@ -54,12 +57,14 @@ within_span_of (suc g) (suc zero ∷ asked) digits fits =
 within_span_of (suc g) (suc (suc d) ∷ asked) digits fits = absurd (omega (arith, digits.0))
 
 -- the halves of the span of some digits are those of one digit more
-lower_span_of : (g : ℕ) (asked : List ℕ) → length asked < g → lower_half (span_of g asked) ≡ span_of g (asked ++ 0 ∷ [])
+lower_span_of : (g : ℕ) (asked : List ℕ) → length asked < g
+    → lower_half (span_of g asked) ≡ span_of g (asked ++ 0 ∷ [])
 lower_span_of zero asked fits = absurd (omega arith)
 lower_span_of (suc g) [] fits = same_span _ _ (omega arith) (omega (arith, pow-succ' 2 g))
 lower_span_of (suc g) (d ∷ asked) fits = ap (λ s. moved (d * 2 ^ g) s) (lower_span_of g asked (omega arith))
 
-upper_span_of : (g : ℕ) (asked : List ℕ) → length asked < g → upper_half (span_of g asked) ≡ span_of g (asked ++ 1 ∷ [])
+upper_span_of : (g : ℕ) (asked : List ℕ) → length asked < g
+    → upper_half (span_of g asked) ≡ span_of g (asked ++ 1 ∷ [])
 upper_span_of zero asked fits = absurd (omega arith)
 upper_span_of (suc g) [] fits = same_span _ _ (omega (arith, pow-succ' 2 g)) (omega (arith, pow-succ' 2 g))
 upper_span_of (suc g) (d ∷ asked) fits =
@@ -74,11 +79,14 @@ binary_moved (suc n) times place =
     let split : place / 2 ^ n * 2 ^ n + place % 2 ^ n ≡ place = div-add-mod' place (2 ^ n) in
     let quotient = div-mul-add (2 * times + place / 2 ^ n) (2 ^ n) (place % 2 ^ n) (omega arith) in
     let product : 2 ^ suc n * times ≡ 2 * 2 ^ n * times = ap (λ p. p * times) power in
-    let whole : 2 ^ suc n * times + place ≡ (2 * times + place / 2 ^ n) * 2 ^ n + place % 2 ^ n = omega arith in
+    let whole : 2 ^ suc n * times + place ≡ (2 * times + place / 2 ^ n) * 2 ^ n + place % 2 ^ n =
+    omega arith in
     let other : 2 ^ suc n * times + place ≡ 2 ^ n * (2 * times) + place = omega arith in
     let even : (2 * times + place / 2 ^ n) % 2 ≡ place / 2 ^ n % 2 = omega arith in
-    let head : (2 ^ suc n * times + place) / 2 ^ n % 2 ≡ place / 2 ^ n % 2 = ap (λ x. x / 2 ^ n % 2) whole ∙ ap (λ q. q % 2) quotient ∙ even in
-    let tail : binary n (2 ^ suc n * times + place) ≡ binary n place = ap (λ x. binary n x) other ∙ binary_moved n (2 * times) place in
+    let head : (2 ^ suc n * times + place) / 2 ^ n % 2 ≡ place / 2 ^ n % 2 =
+    ap (λ x. x / 2 ^ n % 2) whole ∙ ap (λ q. q % 2) quotient ∙ even in
+    let tail : binary n (2 ^ suc n * times + place) ≡ binary n place =
+    ap (λ x. binary n x) other ∙ binary_moved n (2 * times) place in
     ap (λ d. d ∷ binary n (2 ^ suc n * times + place)) head ∙ ap (λ t. (place / 2 ^ n % 2) ∷ t) tail
 
 -- the highest digit
@@ -97,7 +105,8 @@ first_digit_high n place high below =
     let one_is : place / 2 ^ n ≡ 1 = rw same at quotient in
     omega arith
 
-in_moved : (span : Span) (by place less : ℕ) → place ≡ by + less → in_span (moved by span) place ≡ in_span span less
+in_moved : (span : Span) (by place less : ℕ) → place ≡ by + less
+    → in_span (moved by span) place ≡ in_span span less
 in_moved span by place less is = grind (arith, nat_tests)
 
 in_moved_below : (span : Span) (by place : ℕ) → place < by → in_span (moved by span) place ≡ false
@@ -118,10 +127,13 @@ in_span_of (suc g) (zero ∷ asked) place digits fits below =
     let less : length asked ≤ g = omega arith in
     elim (cases_lt place (2 ^ g)) [
       | inl low ↦
-          rw (first_digit_low g place low) (in_moved (span_of g asked) (0 * 2 ^ g) place place (omega arith) ∙ in_span_of g asked place digits.1 less low)
+          rw (first_digit_low g place low)
+          (in_moved (span_of g asked) (0 * 2 ^ g) place place (omega arith)
+          ∙ in_span_of g asked place digits.1 less low)
       | inr high ↦
           let ends = within_span_of g asked digits.1 less in
-          rw (first_digit_high g place high below) (in_span_above (moved (0 * 2 ^ g) (span_of g asked)) place (omega arith))
+          rw (first_digit_high g place high below)
+          (in_span_above (moved (0 * 2 ^ g) (span_of g asked)) place (omega arith))
     ]
 in_span_of (suc g) (suc zero ∷ asked) place digits fits below =
     let less : length asked ≤ g = omega arith in
@@ -134,7 +146,9 @@ in_span_of (suc g) (suc zero ∷ asked) place digits fits below =
           let same : 2 ^ g * 1 + rest ≡ place = omega arith in
           let lower = rw same at (binary_moved g 1 rest) in
           rw (first_digit_high g place high below) (
-          in_moved (span_of g asked) (1 * 2 ^ g) place rest (omega arith) ∙ in_span_of g asked rest digits.1 less (omega arith) ∙ ap (λ b. begins asked b) (sym lower)
+          in_moved (span_of g asked) (1 * 2 ^ g) place rest (omega arith)
+          ∙ in_span_of g asked rest digits.1 less (omega arith)
+          ∙ ap (λ b. begins asked b) (sym lower)
           )
     ]
 in_span_of (suc g) (suc (suc d) ∷ asked) place digits fits below = absurd (omega (arith, digits.0))
@@ -151,10 +165,13 @@ narrowed [] span = span
 narrowed (zero ∷ more) span = lower_half span
 narrowed (suc d ∷ more) span = upper_half span
 
-narrowed_span : (g : ℕ) (asked more : List ℕ) → IsDigitAtMost more → length (asked ++ more) ≤ g → narrowed more (span_of g asked) ≡ span_of g (asked ++ more)
+narrowed_span : (g : ℕ) (asked more : List ℕ) → IsDigitAtMost more → length (asked ++ more) ≤ g
+    → narrowed more (span_of g asked) ≡ span_of g (asked ++ more)
 narrowed_span g asked [] digit fits = ap (λ ds. span_of g ds) (sym (append-nil asked))
-narrowed_span g asked (zero ∷ []) digit fits = lower_span_of g asked (omega (arith, length-append asked (0 ∷ [])))
-narrowed_span g asked (suc zero ∷ []) digit fits = upper_span_of g asked (omega (arith, length-append asked (1 ∷ [])))
+narrowed_span g asked (zero ∷ []) digit fits =
+    lower_span_of g asked (omega (arith, length-append asked (0 ∷ [])))
+narrowed_span g asked (suc zero ∷ []) digit fits =
+    upper_span_of g asked (omega (arith, length-append asked (1 ∷ [])))
 narrowed_span g asked (suc (suc d) ∷ []) digit fits = absurd (omega (arith, digit))
 narrowed_span g asked (d ∷ e ∷ more) digit fits = absurd digit
 
@@ -178,7 +195,8 @@ column_digit (quarter corner.NW) = omega arith
 column_digit (quarter corner.SW) = omega arith
 column_digit (quarter corner.SE) = omega arith
 
-rows_of_part : (block : Rectangle) (cut : Cut) → (part_of block cut).rows ≡ narrowed (row_asked cut) block.rows
+rows_of_part : (block : Rectangle) (cut : Cut)
+    → (part_of block cut).rows ≡ narrowed (row_asked cut) block.rows
 rows_of_part block (half side.N) = refl
 rows_of_part block (half side.S) = refl
 rows_of_part block (half side.E) = refl
@@ -188,7 +206,8 @@ rows_of_part block (quarter corner.NW) = refl
 rows_of_part block (quarter corner.SW) = refl
 rows_of_part block (quarter corner.SE) = refl
 
-columns_of_part : (block : Rectangle) (cut : Cut) → (part_of block cut).columns ≡ narrowed (column_asked cut) block.columns
+columns_of_part : (block : Rectangle) (cut : Cut)
+    → (part_of block cut).columns ≡ narrowed (column_asked cut) block.columns
 columns_of_part block (half side.N) = refl
 columns_of_part block (half side.S) = refl
 columns_of_part block (half side.E) = refl
@@ -198,17 +217,25 @@ columns_of_part block (quarter corner.NW) = refl
 columns_of_part block (quarter corner.SW) = refl
 columns_of_part block (quarter corner.SE) = refl
 
-pub rows_reached : (g : ℕ) (cuts : List Cut) → length (rows_asked cuts) ≤ g → (reached g cuts).rows ≡ span_of g (rows_asked cuts)
+pub rows_reached : (g : ℕ) (cuts : List Cut) → length (rows_asked cuts) ≤ g
+    → (reached g cuts).rows ≡ span_of g (rows_asked cuts)
 rows_reached g [] fits = refl
 rows_reached g (cut ∷ before) fits =
-    let less : length (rows_asked before) ≤ g = omega (arith, length-append (rows_asked before) (row_asked cut)) in
-    rows_of_part (reached g before) cut ∙ ap (λ s. narrowed (row_asked cut) s) (rows_reached g before less) ∙ narrowed_span g (rows_asked before) (row_asked cut) (row_digit cut) fits
+    let less : length (rows_asked before) ≤ g =
+    omega (arith, length-append (rows_asked before) (row_asked cut)) in
+    rows_of_part (reached g before) cut
+    ∙ ap (λ s. narrowed (row_asked cut) s) (rows_reached g before less)
+    ∙ narrowed_span g (rows_asked before) (row_asked cut) (row_digit cut) fits
 
-pub columns_reached : (g : ℕ) (cuts : List Cut) → length (columns_asked cuts) ≤ g → (reached g cuts).columns ≡ span_of g (columns_asked cuts)
+pub columns_reached : (g : ℕ) (cuts : List Cut) → length (columns_asked cuts) ≤ g
+    → (reached g cuts).columns ≡ span_of g (columns_asked cuts)
 columns_reached g [] fits = refl
 columns_reached g (cut ∷ before) fits =
-    let less : length (columns_asked before) ≤ g = omega (arith, length-append (columns_asked before) (column_asked cut)) in
-    columns_of_part (reached g before) cut ∙ ap (λ s. narrowed (column_asked cut) s) (columns_reached g before less) ∙ narrowed_span g (columns_asked before) (column_asked cut) (column_digit cut) fits
+    let less : length (columns_asked before) ≤ g =
+    omega (arith, length-append (columns_asked before) (column_asked cut)) in
+    columns_of_part (reached g before) cut
+    ∙ ap (λ s. narrowed (column_asked cut) s) (columns_reached g before less)
+    ∙ narrowed_span g (columns_asked before) (column_asked cut) (column_digit cut) fits
 
 AreDigits-more : (asked more : List ℕ) → AreDigits asked → IsDigitAtMost more → AreDigits (asked ++ more)
 AreDigits-more [] [] digits digit = tt
@@ -218,25 +245,32 @@ AreDigits-more (d ∷ asked) more digits digit = (digits.0, AreDigits-more asked
 
 pub rows_are_digits : (cuts : List Cut) → AreDigits (rows_asked cuts)
 rows_are_digits [] = tt
-rows_are_digits (cut ∷ before) = AreDigits-more (rows_asked before) (row_asked cut) (rows_are_digits before) (row_digit cut)
+rows_are_digits (cut ∷ before) =
+    AreDigits-more (rows_asked before) (row_asked cut) (rows_are_digits before) (row_digit cut)
 
 pub columns_are_digits : (cuts : List Cut) → AreDigits (columns_asked cuts)
 columns_are_digits [] = tt
-columns_are_digits (cut ∷ before) = AreDigits-more (columns_asked before) (column_asked cut) (columns_are_digits before) (column_digit cut)
+columns_are_digits (cut ∷ before) =
+    AreDigits-more (columns_asked before) (column_asked cut) (columns_are_digits before) (column_digit cut)
 
 -- what cuts reach holds exactly the places whose first digits are as asked
 pub held_as_asked : (g : ℕ) (cuts : List Cut) → AreWithin g cuts → (column row : ℕ) → IsPlace g column row
-    → in_rectangle (reached g cuts) column row ≡ (begins (columns_asked cuts) (binary g column) && begins (rows_asked cuts) (binary g row))
+    → in_rectangle (reached g cuts) column row
+    ≡ (begins (columns_asked cuts) (binary g column) && begins (rows_asked cuts) (binary g row))
 held_as_asked g cuts within column row place =
     let across : in_span (reached g cuts).columns column ≡ begins (columns_asked cuts) (binary g column) =
-    ap (λ s. in_span s column) (columns_reached g cuts within.columns) ∙ in_span_of g (columns_asked cuts) column (columns_are_digits cuts) within.columns place.0 in
+    ap (λ s. in_span s column) (columns_reached g cuts within.columns)
+    ∙ in_span_of g (columns_asked cuts) column (columns_are_digits cuts) within.columns place.0 in
     let upward : in_span (reached g cuts).rows row ≡ begins (rows_asked cuts) (binary g row) =
-    ap (λ s. in_span s row) (rows_reached g cuts within.rows) ∙ in_span_of g (rows_asked cuts) row (rows_are_digits cuts) within.rows place.1 in
-    ap (λ b. b && in_span (reached g cuts).rows row) across ∙ ap (λ b. begins (columns_asked cuts) (binary g column) && b) upward
+    ap (λ s. in_span s row) (rows_reached g cuts within.rows)
+    ∙ in_span_of g (rows_asked cuts) row (rows_are_digits cuts) within.rows place.1 in
+    ap (λ b. b && in_span (reached g cuts).rows row) across
+    ∙ ap (λ b. begins (columns_asked cuts) (binary g column) && b) upward
 
 -- the lengths of its sides
 pub sides_as_asked : (g : ℕ) (cuts : List Cut) → AreWithin g cuts
-    → ((reached g cuts).columns.len ≡ 2 ^ (g - length (columns_asked cuts))) × ((reached g cuts).rows.len ≡ 2 ^ (g - length (rows_asked cuts)))
+    → ((reached g cuts).columns.len ≡ 2 ^ (g - length (columns_asked cuts)))
+    × ((reached g cuts).rows.len ≡ 2 ^ (g - length (rows_asked cuts)))
 sides_as_asked g cuts within = (
   ap (λ s. s.len) (columns_reached g cuts within.columns) ∙ len_span_of g (columns_asked cuts) within.columns,
   ap (λ s. s.len) (rows_reached g cuts within.rows) ∙ len_span_of g (rows_asked cuts) within.rows,

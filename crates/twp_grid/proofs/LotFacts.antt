@@ -25,9 +25,13 @@ each_at (suc n) test k all below =
     ]
 
 -- of three numbers
-pub each_of_three : (l m n : ℕ) (test : ℕ → ℕ → ℕ → Bool) (i j k : ℕ) → each l (λ x. each m (λ y. each n (λ z. test x y z))) ≡ true → i < l → j < m → k < n → test i j k ≡ true
+pub each_of_three : (l m n : ℕ) (test : ℕ → ℕ → ℕ → Bool) (i j k : ℕ)
+    → each l (λ x. each m (λ y. each n (λ z. test x y z))) ≡ true → i < l → j < m → k < n → test i j k ≡ true
 each_of_three l m n test i j k all in-l in-m in-n =
-    each_at n (λ z. test i j z) k (each_at m (λ y. each n (λ z. test i y z)) j (each_at l (λ x. each m (λ y. each n (λ z. test x y z))) i all in-l) in-m) in-n
+    each_at n (λ z. test i j z) k
+    (each_at m (λ y. each n (λ z. test i y z)) j
+    (each_at l (λ x. each m (λ y. each n (λ z. test x y z))) i all in-l) in-m)
+    in-n
 
 -- tests of equality
 abbrev same_number : Option ℕ → Option ℕ → Bool
@@ -60,7 +64,8 @@ same_pair_tells (Some a) None h = cc h
 
 -- the code's answers
 abbrev pub count_by_code : ℕ → ℕ
-count_by_code s = if nat_le s 6 then (if is_western_number s then 7 else 4) else (if is_western_number s then 4 else 0)
+count_by_code s =
+    if nat_le s 6 then (if is_western_number s then 7 else 4) else (if is_western_number s then 4 else 0)
 
 abbrev pub lot_by_code : ℕ → ℕ → ℕ → Option ℕ
 lot_by_code s c r =
@@ -82,11 +87,15 @@ count_test : each 37 (λ s. (s == 0) || (number_of_lots s == count_by_code s)) �
 unfolding each number_of_lots lots
 count_test = refl
 
-lot_test : each 37 (λ s. each 4 (λ c. each 4 (λ r. (s == 0) || same_number (lot_at_position s c r) (lot_by_code s c r)))) ≡ true
+lot_test : each 37
+    (λ s. each 4 (λ c. each 4 (λ r. (s == 0) || same_number (lot_at_position s c r) (lot_by_code s c r))))
+    ≡ true
 unfolding each lot_at_position lots
 lot_test = refl
 
-position_test : each 37 (λ s. each 8 (λ n. (s == 0) || same_pair (position_of_lot s n) (position_by_code s n))) ≡ true
+position_test : each 37
+    (λ s. each 8 (λ n. (s == 0) || same_pair (position_of_lot s n) (position_by_code s n)))
+    ≡ true
 unfolding each position_of_lot lots
 position_test = refl
 
@@ -98,15 +107,26 @@ pub a_section : (s : ℕ) → IsSection s → (s == 0) ≡ false
 a_section s range = ne_eqb s 0 (λ e. absurd (omega arith))
 
 pub lot_count_is : (s : ℕ) → IsSection s → number_of_lots s ≡ count_by_code s
-lot_count_is s range = eqb-true _ _ (either (s == 0) _ (each_at 37 _ s count_test (omega arith)) (a_section s range))
+lot_count_is s range =
+    eqb-true _ _ (either (s == 0) _ (each_at 37 _ s count_test (omega arith)) (a_section s range))
 
 pub lot_at_is : (s c r : ℕ) → IsSection s → c < 4 → r < 4 → lot_at_position s c r ≡ lot_by_code s c r
 lot_at_is s c r range in-c in-r =
-    same_number_tells _ _ (either (s == 0) _ (each_of_three 37 4 4 (λ s c r. (s == 0) || same_number (lot_at_position s c r) (lot_by_code s c r)) s c r lot_test (omega arith) in-c in-r) (a_section s range))
+    same_number_tells _ _
+    (either (s == 0) _
+    (each_of_three 37 4 4 (λ s c r. (s == 0) || same_number (lot_at_position s c r) (lot_by_code s c r)) s c
+    r lot_test (omega arith) in-c in-r)
+    (a_section s range))
 
 position_below : (s n : ℕ) → IsSection s → n < 8 → position_of_lot s n ≡ position_by_code s n
 position_below s n range in-n =
-    same_pair_tells _ _ (either (s == 0) _ (each_at 8 _ n (each_at 37 (λ s. each 8 (λ n. (s == 0) || same_pair (position_of_lot s n) (position_by_code s n))) s position_test (omega arith)) in-n) (a_section s range))
+    same_pair_tells _ _
+    (either (s == 0) _
+    (each_at 8 _ n
+    (each_at 37 (λ s. each 8 (λ n. (s == 0) || same_pair (position_of_lot s n) (position_by_code s n))) s
+    position_test (omega arith))
+    in-n)
+    (a_section s range))
 
 -- no lot of the table lies outside the positions, and none has a number over 7
 abbrev within : Lot → Bool
@@ -124,7 +144,8 @@ none_outside s c r (l ∷ ls) all out =
     let fails : ((l.section == s) && (l.column == c) && (l.row == r)) ≡ false = grind (arith, nat_tests) in
     rw fails (none_outside s c r ls parts.1 out)
 
-none_over : (s n : ℕ) (ls : List Lot) → list_all within ls ≡ true → 7 < n → find (λ (l : Lot). (l.section == s) && (l.number == n)) ls ≡ None
+none_over : (s n : ℕ) (ls : List Lot) → list_all within ls ≡ true → 7 < n
+    → find (λ (l : Lot). (l.section == s) && (l.number == n)) ls ≡ None
 none_over s n [] all out = refl
 none_over s n (l ∷ ls) all out =
     let parts = and_parts (within l) (list_all within ls) all in
@@ -162,7 +183,9 @@ to_lot_test : each 37 (λ s. each 8 (λ n. (s == 0) || leads_to_lot s n (positio
 unfolding each position_of_lot lot_at_position lots
 to_lot_test = refl
 
-to_position_test : each 37 (λ s. each 4 (λ c. each 4 (λ r. (s == 0) || leads_to_position s c r (lot_at_position s c r)))) ≡ true
+to_position_test : each 37
+    (λ s. each 4 (λ c. each 4 (λ r. (s == 0) || leads_to_position s c r (lot_at_position s c r))))
+    ≡ true
 unfolding each position_of_lot lot_at_position lots
 to_position_test = refl
 
@@ -170,19 +193,31 @@ no_lot_over : (s n : ℕ) → 7 < n → position_of_lot s n ≡ None
 unfolding position_of_lot
 no_lot_over s n over = rw (none_over s n lots lots_within over) refl
 
-lot_of_position : (s c r n : ℕ) → IsSection s → position_of_lot s n ≡ Some (c, r) → lot_at_position s c r ≡ Some n
+lot_of_position : (s c r n : ℕ) → IsSection s → position_of_lot s n ≡ Some (c, r)
+    → lot_at_position s c r ≡ Some n
 lot_of_position s c r n range is = elim (cases_lt n 8) [
   | inl below ↦
-      let test = either (s == 0) _ (each_at 8 _ n (each_at 37 (λ s. each 8 (λ n. (s == 0) || leads_to_lot s n (position_of_lot s n))) s to_lot_test (omega (arith, range.1))) below) (a_section s range) in
+      let test =
+      either (s == 0) _
+      (each_at 8 _ n
+      (each_at 37 (λ s. each 8 (λ n. (s == 0) || leads_to_lot s n (position_of_lot s n))) s to_lot_test
+      (omega (arith, range.1)))
+      below)
+      (a_section s range) in
       same_number_tells _ _ (rw is at test)
   | inr over ↦ let none = no_lot_over s n (omega arith) in absurd (cc (none, is))
 ]
 
-position_of_its_lot : (s c r n : ℕ) → IsSection s → lot_at_position s c r ≡ Some n → position_of_lot s n ≡ Some (c, r)
+position_of_its_lot : (s c r n : ℕ) → IsSection s → lot_at_position s c r ≡ Some n
+    → position_of_lot s n ≡ Some (c, r)
 position_of_its_lot s c r n range is = elim (cases_lt c 4) [
   | inl in-c ↦ elim (cases_lt r 4) [
     | inl in-r ↦
-        let test = either (s == 0) _ (each_of_three 37 4 4 (λ s c r. (s == 0) || leads_to_position s c r (lot_at_position s c r)) s c r to_position_test (omega (arith, range.1)) in-c in-r) (a_section s range) in
+        let test =
+        either (s == 0) _
+        (each_of_three 37 4 4 (λ s c r. (s == 0) || leads_to_position s c r (lot_at_position s c r)) s c r
+        to_position_test (omega (arith, range.1)) in-c in-r)
+        (a_section s range) in
         same_pair_tells _ _ (rw is at test)
     | inr out ↦ let none = lot_outside s c r (inr (omega arith)) in absurd (cc (none, is))
   ]
@@ -190,5 +225,6 @@ position_of_its_lot s c r n range is = elim (cases_lt c 4) [
 ]
 
 -- lots and the positions that they fill match
-pub lots_match : (s c r n : ℕ) → IsSection s → (lot_at_position s c r ≡ Some n) ↔ (position_of_lot s n ≡ Some (c, r))
+pub lots_match : (s c r n : ℕ) → IsSection s
+    → (lot_at_position s c r ≡ Some n) ↔ (position_of_lot s n ≡ Some (c, r))
 lots_match s c r n range = (position_of_its_lot s c r n range, lot_of_position s c r n range)

@@ -25,12 +25,15 @@ multiple n times len some is =
     rw same at rest
 
 -- what a length divides, its half divides
-divided : (n len half : ℕ) → 0 < half → len ≡ 2 * half → n % len ≡ 0 → (n % half ≡ 0) × ((n + half) % half ≡ 0)
+divided : (n len half : ℕ) → 0 < half → len ≡ 2 * half → n % len ≡ 0
+    → (n % half ≡ 0) × ((n + half) % half ≡ 0)
 divided n len half some twice divides =
     let times = n / len in
     let whole : times * len + n % len ≡ n = div-add-mod' n len in
-    let product : times * len ≡ times * (2 * half) = ap (λ t. times * t) twice in
-    (multiple n (2 * times) half some (omega arith), multiple (n + half) (2 * times + 1) half some (omega arith))
+    let product : times * len ≡ times * (2 * half) = ap (λ t. times * t) twice in (
+      multiple n (2 * times) half some (omega arith),
+      multiple (n + half) (2 * times + 1) half some (omega arith),
+    )
 
 -- the length of a dyadic span is twice its half
 even_length : (g : ℕ) (span : Span) → IsDyadic g span → 1 < span.len → span.len ≡ 2 * (span.len / 2)

@@ -15,12 +15,14 @@ total-next n f = let e : n + 1 ≡ suc n = omega arith in rw e refl
 pub total-ext : (n : ℕ) (f g : ℕ → ℕ) → ((k : ℕ) → k < n → f k ≡ g k) → total n f ≡ total n g
 unfolding total
 total-ext zero f g same = refl
-total-ext (suc n) f g same = omega (arith, total-ext n f g (λ k below. same k (omega arith)), same n (omega arith))
+total-ext (suc n) f g same =
+    omega (arith, total-ext n f g (λ k below. same k (omega arith)), same n (omega arith))
 
 pub total-le : (n : ℕ) (f g : ℕ → ℕ) → ((k : ℕ) → k < n → f k ≤ g k) → total n f ≤ total n g
 unfolding total
 total-le zero f g least = omega arith
-total-le (suc n) f g least = omega (arith, total-le n f g (λ k below. least k (omega arith)), least n (omega arith))
+total-le (suc n) f g least =
+    omega (arith, total-le n f g (λ k below. least k (omega arith)), least n (omega arith))
 
 -- one term for all
 pub total-same : (n c : ℕ) → total n (λ k. c) ≡ n * c
@@ -55,7 +57,8 @@ total-scale zero c f = omega arith
 total-scale (suc n) c f = omega (arith, total-scale n c f)
 
 -- the order of two sums is free
-pub total-swap : (m n : ℕ) (f : ℕ → ℕ → ℕ) → total m (λ i. total n (λ j. f i j)) ≡ total n (λ j. total m (λ i. f i j))
+pub total-swap : (m n : ℕ) (f : ℕ → ℕ → ℕ)
+    → total m (λ i. total n (λ j. f i j)) ≡ total n (λ j. total m (λ i. f i j))
 unfolding total
 total-swap zero n f = sym (total-all_zero n (λ j. 0) (λ k below. refl))
 total-swap (suc m) n f =

@@ -1,12 +1,15 @@
 -- Numbers as bits, and lists of them.
-use Rattle.std.proofs.Common.{◌≡◌, ◌==◌, ℕ, zero, suc, ◌+◌, ◌-◌, ◌*◌, ◌/◌, ◌%◌, ◌^◌, ◌<◌, ◌≤◌, ◌⊎◌, Bool, true, false, List, [], ◌∷◌, length, get_or, ap, refl, sym, ◌∙◌, inl, inr, arith, replicate}
+use Rattle.std.proofs.Common.{◌≡◌, ◌==◌, ℕ, zero, suc, ◌+◌, ◌-◌, ◌*◌, ◌/◌, ◌%◌, ◌^◌, ◌<◌, ◌≤◌, ◌⊎◌, Bool}
+use Rattle.std.proofs.Common.{true, false, List, [], ◌∷◌, length, get_or, ap, refl, sym, ◌∙◌, inl, inr, arith}
+use Rattle.std.proofs.Common.{replicate}
 use Rattle.std.specs.Int.{bit_at}
 use Rattle.std.specs.Int.Bits.{bit_or, or_zero_l}
 use Rattle.std.specs.Int.RustNames.{count_ones}
 use Rattle.std.specs.Int.Count.{ones_step}
 use Rattle.std.specs.Simd.Lanes.{fold_l, sum_l}
 use Rattle.std.proofs.lemmas.Nat.{pow-add, pow_pos, le_or_l, le_or_r, ones_le_self}
-use Rattle.std.proofs.lemmas.Nat.Bits.{bit_at_lowest, bit_at-suc, bit_at-zero, bit_at_mask_inside, bit_at_mask_below, bit_at_mask_above}
+use Rattle.std.proofs.lemmas.Nat.Bits.{bit_at_lowest, bit_at-suc, bit_at-zero, bit_at_mask_inside}
+use Rattle.std.proofs.lemmas.Nat.Bits.{bit_at_mask_below, bit_at_mask_above}
 use Rattle.std.proofs.lemmas.Bool.{cases_eq, cases_Bool, cases_lt, eqb-true}
 use Rattle.std.proofs.lemmas.Bool.Decides.{nat_tests}
 use Rattle.std.proofs.Math.Nat.{two-pow-succ, mod-eq_of_lt, mul_comm, mul-sub}
@@ -17,7 +20,8 @@ use Rattle.twp_grid.proofs.LotFacts.{each, each_of_three}
 use Rattle.twp_grid.proofs.TotalFacts.{total-zero, total-ext, total-front}
 
 -- a run of ones is a span
-pub bit_of_ones : (span : Span) (i : ℕ) → bit_at (2 ^ (span.start + span.len) - 2 ^ span.start) i ≡ one_where (in_span span i)
+pub bit_of_ones : (span : Span) (i : ℕ)
+    → bit_at (2 ^ (span.start + span.len) - 2 ^ span.start) i ≡ one_where (in_span span i)
 bit_of_ones span i = elim (cases_lt i span.start) [
   | inl below ↦
       let out : in_span span i ≡ false = grind (arith, nat_tests) in
@@ -33,13 +37,16 @@ bit_of_ones span i = elim (cases_lt i span.start) [
 ]
 
 -- what all of them have in common is 0 where each is
-pub or_of_zeros : (first : ℕ) (lanes : List ℕ) → first ≡ 0 → ((i : ℕ) → i < length lanes → get_or lanes i 0 ≡ 0) → fold_l bit_or first lanes ≡ 0
+pub or_of_zeros : (first : ℕ) (lanes : List ℕ) → first ≡ 0
+    → ((i : ℕ) → i < length lanes → get_or lanes i 0 ≡ 0) → fold_l bit_or first lanes ≡ 0
 or_of_zeros first [] none each = none
 or_of_zeros first (lane ∷ lanes) none each =
     let front : lane ≡ 0 = each 0 (omega arith) in
-    or_of_zeros (bit_or first lane) lanes (ap (λ a. bit_or a lane) none ∙ or_zero_l lane ∙ front) (λ i below. each (suc i) (omega arith))
+    or_of_zeros (bit_or first lane) lanes (ap (λ a. bit_or a lane) none ∙ or_zero_l lane ∙ front)
+    (λ i below. each (suc i) (omega arith))
 
-pub zeros_of_or : (first : ℕ) (lanes : List ℕ) → fold_l bit_or first lanes ≡ 0 → (first ≡ 0) × ((i : ℕ) → i < length lanes → get_or lanes i 0 ≡ 0)
+pub zeros_of_or : (first : ℕ) (lanes : List ℕ) → fold_l bit_or first lanes ≡ 0
+    → (first ≡ 0) × ((i : ℕ) → i < length lanes → get_or lanes i 0 ≡ 0)
 zeros_of_or first [] none = (none, λ i below. absurd (omega arith))
 zeros_of_or first (lane ∷ lanes) none =
     let rest = zeros_of_or (bit_or first lane) lanes none in
@@ -56,7 +63,9 @@ pub sum_is_total : (lanes : List ℕ) → sum_l lanes ≡ total (length lanes) (
 sum_is_total [] = sym (total-zero (λ i. get_or [] i 0))
 sum_is_total (lane ∷ lanes) =
     let front = total-front (length lanes) (λ i. get_or (lane ∷ lanes) i 0) in
-    let rest = total-ext (length lanes) (λ i. get_or (lane ∷ lanes) (i + 1) 0) (λ i. get_or lanes i 0) (λ i below. later i) in
+    let rest =
+    total-ext (length lanes) (λ i. get_or (lane ∷ lanes) (i + 1) 0) (λ i. get_or lanes i 0)
+    (λ i below. later i) in
     ap (λ s. lane + s) (sum_is_total lanes) ∙ ap (λ s. lane + s) (sym rest) ∙ sym front
   where
     later : (i : ℕ) → get_or (lane ∷ lanes) (i + 1) 0 ≡ get_or lanes i 0
@@ -79,7 +88,8 @@ ones_are_total (suc digits) n below =
     later i = let e : i + 1 ≡ suc i = omega arith in rw e (bit_at-suc n i)
 
 -- a first one that passes, or none
-pub some_or_none : (n : ℕ) (test : ℕ → Bool) → ((k : ℕ) × (k < n) × (test k ≡ true)) ⊎ ((k : ℕ) → k < n → test k ≡ false)
+pub some_or_none : (n : ℕ) (test : ℕ → Bool)
+    → ((k : ℕ) × (k < n) × (test k ≡ true)) ⊎ ((k : ℕ) → k < n → test k ≡ false)
 some_or_none zero test = inr (λ k below. absurd (omega arith))
 some_or_none (suc n) test = elim (cases_Bool (test n)) [
   | inl here ↦ inl (n, omega arith, here)
@@ -94,23 +104,31 @@ some_or_none (suc n) test = elim (cases_Bool (test n)) [
 
 -- so many ones, at their number
 abbrev ones_table : List ℕ
-ones_table = 0 ∷ 1 ∷ 3 ∷ 7 ∷ 15 ∷ 31 ∷ 63 ∷ 127 ∷ 255 ∷ 511 ∷ 1023 ∷ 2047 ∷ 4095 ∷ 8191 ∷ 16383 ∷ 32767 ∷ 65535 ∷ []
+ones_table =
+    0 ∷ 1 ∷ 3 ∷ 7 ∷ 15 ∷ 31 ∷ 63 ∷ 127 ∷ 255 ∷ 511 ∷ 1023 ∷ 2047 ∷ 4095 ∷ 8191 ∷ 16383 ∷ 32767 ∷ 65535 ∷ []
 
 ones_test : each 1 (λ a. each 1 (λ b. each 17 (λ len. get_or ones_table len 0 == 2 ^ len - 1))) ≡ true
 unfolding each
 ones_test = refl
 
 -- ones from the bit of a start on
-pub shifted_ones : (start len : ℕ) → start + len ≤ 16 → get_or ones_table len 0 * 2 ^ start % 4294967296 ≡ 2 ^ (start + len) - 2 ^ start
+pub shifted_ones : (start len : ℕ) → start + len ≤ 16
+    → get_or ones_table len 0 * 2 ^ start % 4294967296 ≡ 2 ^ (start + len) - 2 ^ start
 shifted_ones start len within =
     let ones : get_or ones_table len 0 ≡ 2 ^ len - 1 =
-    eqb-true _ _ (each_of_three 1 1 17 (λ a b len. get_or ones_table len 0 == 2 ^ len - 1) 0 0 len ones_test (omega arith) (omega arith) (omega arith)) in
+    eqb-true _ _
+    (each_of_three 1 1 17 (λ a b len. get_or ones_table len 0 == 2 ^ len - 1) 0 0 len ones_test
+    (omega arith) (omega arith) (omega arith)) in
     let product : get_or ones_table len 0 * 2 ^ start ≡ 2 ^ (start + len) - 2 ^ start =
-    ap (λ n. n * 2 ^ start) ones ∙ mul_comm (2 ^ len - 1) (2 ^ start) ∙ mul-sub (2 ^ start) (2 ^ len) 1 ∙ omega (arith, pow-add 2 start len) in
+    ap (λ n. n * 2 ^ start) ones
+    ∙ mul_comm (2 ^ len - 1) (2 ^ start)
+    ∙ mul-sub (2 ^ start) (2 ^ len) 1
+    ∙ omega (arith, pow-add 2 start len) in
     let most : 2 ^ (start + len) ≤ 2 ^ 16 = pow_mono {i = start + len} {j = 16} within in
     ap (λ n. n % 4294967296) product ∙ mod-eq_of_lt (omega arith)
 
-pub ones_fit_a_lane : (start len : ℕ) → start + len ≤ 16 → get_or ones_table len 0 * 2 ^ start % 4294967296 < 65536
+pub ones_fit_a_lane : (start len : ℕ) → start + len ≤ 16
+    → get_or ones_table len 0 * 2 ^ start % 4294967296 < 65536
 ones_fit_a_lane start len within =
     let most : 2 ^ (start + len) ≤ 2 ^ 16 = pow_mono {i = start + len} {j = 16} within in
     omega (arith, shifted_ones start len within, pow_pos start, pow_pos (start + len))

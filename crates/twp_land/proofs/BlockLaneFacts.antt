@@ -1,5 +1,7 @@
 -- The lanes of a block: of each row the columns, where the block has the row.
-use Rattle.std.proofs.Common.{◌≡◌, ◌==◌, ℕ, zero, suc, ◌+◌, ◌-◌, ◌*◌, ◌^◌, ◌<◌, ◌≤◌, ◌&&◌, Bool, true, false, List, [], ◌∷◌, length, get_or, ap, refl, sym, ◌∙◌, arith, replicate, map, cond, w16}
+use Rattle.std.proofs.Common.{◌≡◌, ◌==◌, ℕ, zero, suc, ◌+◌, ◌-◌, ◌*◌, ◌^◌, ◌<◌, ◌≤◌, ◌&&◌, Bool, true, false}
+use Rattle.std.proofs.Common.{List, [], ◌∷◌, length, get_or, ap, refl, sym, ◌∙◌, arith, replicate, map, cond}
+use Rattle.std.proofs.Common.{w16}
 use Rattle.std.proofs.Math.Pow.{pow_mono}
 use Rattle.std.specs.Int.{bit_at}
 use Rattle.std.specs.Int.Bits.{bit_and}
@@ -25,18 +27,27 @@ unfolding each
 powers_test = refl
 
 row_bit : (row : ℕ) → row < 16 → get_or row_bits row 0 ≡ 2 ^ row
-row_bit row below = eqb-true _ _ (each_of_three 1 1 16 (λ a b row. get_or row_bits row 0 == 2 ^ row) 0 0 row powers_test (omega arith) (omega arith) below)
+row_bit row below =
+    eqb-true _ _
+    (each_of_three 1 1 16 (λ a b row. get_or row_bits row 0 == 2 ^ row) 0 0 row powers_test (omega arith)
+    (omega arith) below)
 
 -- the lanes whose rows' bits are set
 abbrev chosen : ℕ → List Bool
 chosen rows = zip2 (λ a b. a == b) (zip2 bit_and (replicate 16 rows) row_bits) row_bits
 
 abbrev pub selected : ℕ → ℕ → List ℕ
-selected rows columns = sel_l (map (top 15) (zip2 (λ a b. cond (a == b) (2 ^ 16 - 1) 0) (zip2 bit_and (replicate 16 rows) row_bits) row_bits)) (replicate 16 columns) (replicate 16 0)
+selected rows columns =
+    sel_l
+    (map (top 15)
+    (zip2 (λ a b. cond (a == b) (2 ^ 16 - 1) 0) (zip2 bit_and (replicate 16 rows) row_bits) row_bits))
+    (replicate 16 columns) (replicate 16 0)
 
-selected_is : (rows columns : ℕ) → selected rows columns ≡ sel_l (chosen rows) (replicate 16 columns) (replicate 16 0)
+selected_is : (rows columns : ℕ)
+    → selected rows columns ≡ sel_l (chosen rows) (replicate 16 columns) (replicate 16 0)
 selected_is rows columns =
-    ap (λ tests. sel_l tests (replicate 16 columns) (replicate 16 0)) (tops_compared w16 (λ a b. a == b) (zip2 bit_and (replicate 16 rows) row_bits) row_bits)
+    ap (λ tests. sel_l tests (replicate 16 columns) (replicate 16 0))
+    (tops_compared w16 (λ a b. a == b) (zip2 bit_and (replicate 16 rows) row_bits) row_bits)
 
 length_chosen : (rows : ℕ) → length (chosen rows) ≡ 16
 length_chosen rows = refl
@@ -44,7 +55,9 @@ length_chosen rows = refl
 chosen_at : (rows row : ℕ) → row < 16 → get_or (chosen rows) row false ≡ (bit_at rows row == 1)
 chosen_at rows row below =
     get_or-zip2 (λ a b. a == b) (zip2 bit_and (replicate 16 rows) row_bits) row_bits row 0 0 false below below
-    ∙ ap (λ n. n == get_or row_bits row 0) (get_or-zip2 bit_and (replicate 16 rows) row_bits row 0 0 0 below below ∙ ap (λ n. bit_and n (get_or row_bits row 0)) (get_or-replicate 16 row rows 0 below))
+    ∙ ap (λ n. n == get_or row_bits row 0)
+    (get_or-zip2 bit_and (replicate 16 rows) row_bits row 0 0 0 below below
+    ∙ ap (λ n. bit_and n (get_or row_bits row 0)) (get_or-replicate 16 row rows 0 below))
     ∙ ap (λ power. bit_and rows power == power) (row_bit row below)
     ∙ ap (λ n. n == 2 ^ row) (and_pow rows row)
     ∙ test (bit_at rows row) (2 ^ row) (bit_at-lt rows row) (pow_pos row)
@@ -54,21 +67,28 @@ chosen_at rows row below =
     test (suc zero) power small some = eq-eqb _ _ (omega arith)
     test (suc (suc bit)) power small some = absurd (omega arith)
 
-selected_at : (rows columns row : ℕ) → row < 16 → get_or (selected rows columns) row 0 ≡ cond (bit_at rows row == 1) columns 0
+selected_at : (rows columns row : ℕ) → row < 16
+    → get_or (selected rows columns) row 0 ≡ cond (bit_at rows row == 1) columns 0
 selected_at rows columns row below =
     ap (λ lanes. get_or lanes row 0) (selected_is rows columns)
     ∙ get_or-sel_l (chosen rows) (replicate 16 columns) (replicate 16 0) row 0 below below below
-    ∙ ap (λ test. cond test (get_or (replicate 16 columns) row 0) (get_or (replicate 16 0) row 0)) (chosen_at rows row below)
-    ∙ ap (λ n. cond (bit_at rows row == 1) n (get_or (replicate 16 0) row 0)) (get_or-replicate 16 row columns 0 below)
+    ∙ ap (λ test. cond test (get_or (replicate 16 columns) row 0) (get_or (replicate 16 0) row 0))
+    (chosen_at rows row below)
+    ∙ ap (λ n. cond (bit_at rows row == 1) n (get_or (replicate 16 0) row 0))
+    (get_or-replicate 16 row columns 0 below)
     ∙ ap (λ n. cond (bit_at rows row == 1) columns n) (get_or-replicate 16 row 0 0 below)
 
 pub are_block_lanes : (block : Rectangle) (rows columns : ℕ) → InSection block
-    → rows ≡ 2 ^ (block.rows.start + block.rows.len) - 2 ^ block.rows.start → columns ≡ 2 ^ (block.columns.start + block.columns.len) - 2 ^ block.columns.start
+    → rows ≡ 2 ^ (block.rows.start + block.rows.len) - 2 ^ block.rows.start
+    → columns ≡ 2 ^ (block.columns.start + block.columns.len) - 2 ^ block.columns.start
     → AreBlockLanes block (selected rows columns)
 are_block_lanes block rows columns lies rows-are columns-are = record {
   count = ap (λ lanes. length lanes) (selected_is rows columns);
   below = λ row below. rw (selected_at rows columns row below) (small (bit_at rows row == 1));
-  bits = λ column row below. ap (λ n. bit_at n column) (selected_at rows columns row below) ∙ ap (λ bit. bit_at (cond (bit == 1) columns 0) column) (row_is row) ∙ bit (in_span block.rows row) column (sym (and_is column row));
+  bits = λ column row below.
+      ap (λ n. bit_at n column) (selected_at rows columns row below)
+      ∙ ap (λ bit. bit_at (cond (bit == 1) columns 0) column) (row_is row)
+      ∙ bit (in_span block.rows row) column (sym (and_is column row));
 }
   where
     and_true : (b : Bool) → (b && true) ≡ b
@@ -77,7 +97,8 @@ are_block_lanes block rows columns lies rows-are columns-are = record {
 
     small : (test : Bool) → cond test columns 0 < 2 ^ 16
     small true =
-        let most : 2 ^ (block.columns.start + block.columns.len) ≤ 2 ^ 16 = pow_mono {i = block.columns.start + block.columns.len} {j = 16} lies.columns in
+        let most : 2 ^ (block.columns.start + block.columns.len) ≤ 2 ^ 16 =
+        pow_mono {i = block.columns.start + block.columns.len} {j = 16} lies.columns in
         omega (arith, columns-are, pow_pos block.columns.start, pow_pos 16)
     small false = omega arith
 
@@ -87,9 +108,14 @@ are_block_lanes block rows columns lies rows-are columns-are = record {
     column_is : (column : ℕ) → bit_at columns column ≡ one_where (in_span block.columns column)
     column_is column = ap (λ n. bit_at n column) columns-are ∙ bit_of_ones block.columns column
 
-    and_is : (column row : ℕ) → in_rectangle block column row ≡ (in_span block.columns column && in_span block.rows row)
+    and_is : (column row : ℕ)
+        → in_rectangle block column row ≡ (in_span block.columns column && in_span block.rows row)
     and_is column row = refl
 
-    bit : (in_rows : Bool) (column : ℕ) {whole : Bool} → (in_span block.columns column && in_rows) ≡ whole → bit_at (cond (one_where in_rows == 1) columns 0) column ≡ one_where whole
-    bit true column is = column_is column ∙ ap (λ t. one_where t) (sym (and_true (in_span block.columns column)) ∙ is)
-    bit false column is = bit_at-zero column ∙ ap (λ t. one_where t) (sym (and_right (in_span block.columns column) false refl) ∙ is)
+    bit : (in_rows : Bool) (column : ℕ) {whole : Bool} → (in_span block.columns column && in_rows) ≡ whole
+        → bit_at (cond (one_where in_rows == 1) columns 0) column ≡ one_where whole
+    bit true column is =
+        column_is column ∙ ap (λ t. one_where t) (sym (and_true (in_span block.columns column)) ∙ is)
+    bit false column is =
+        bit_at-zero column
+        ∙ ap (λ t. one_where t) (sym (and_right (in_span block.columns column) false refl) ∙ is)

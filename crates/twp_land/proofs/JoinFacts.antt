@@ -1,5 +1,7 @@
 -- What two sets of one section's places share, and hold together, as they are kept.
-use Rattle.std.proofs.Common.{◌≡◌, ◌↔◌, IsTrue, ◌≢◌, ◌==◌, ℕ, zero, suc, ◌+◌, ◌^◌, ◌<◌, ◌≤◌, ◌||◌, Bool, true, false, not, List, [], length, get_or, nat_lt, ap, refl, sym, ◌∙◌, inl, inr, arith, min, max}
+use Rattle.std.proofs.Common.{◌≡◌, ◌↔◌, IsTrue, ◌≢◌, ◌==◌, ℕ, zero, suc, ◌+◌, ◌^◌, ◌<◌, ◌≤◌, ◌||◌, Bool, true}
+use Rattle.std.proofs.Common.{false, not, List, [], length, get_or, nat_lt, ap, refl, sym, ◌∙◌, inl, inr}
+use Rattle.std.proofs.Common.{arith, min, max}
 use Rattle.std.proofs.Math.Path.{fun_ext}
 use Rattle.std.proofs.Math.ListN.{set}
 use Rattle.std.specs.Int.{bit_at}
@@ -12,20 +14,25 @@ use Rattle.std.proofs.lemmas.Nat.Bits.{bit_at_and, bit_at_or, bit_at-lt, bit_at-
 use Rattle.std.proofs.lemmas.Bool.{cases_Bool, cases_eq, and_parts, eqb-true, eq-eqb, ne_eqb, not-false}
 use Rattle.std.proofs.lemmas.Bool.Decides.{nat_tests}
 use Rattle.twp_grid.specs.Places.{PLACE_DIGITS, places_across, is_place}
-use Rattle.twp_land.specs.Storage.{held_by_row, held_by_lane, held_by_either, ShareHeld, ShareInRow, IsJoined, AreLanes}
+use Rattle.twp_land.specs.Storage.{held_by_row, held_by_lane, held_by_either, ShareHeld, ShareInRow, IsJoined}
+use Rattle.twp_land.specs.Storage.{AreLanes}
 use Rattle.twp_land.proofs.BitFacts.{or_of_zeros, zeros_of_or, some_or_none}
 
 -- a place of the section
-in_place : (column row : ℕ) → column < places_across PLACE_DIGITS → row < places_across PLACE_DIGITS → is_place PLACE_DIGITS column row ≡ true
+in_place : (column row : ℕ) → column < places_across PLACE_DIGITS → row < places_across PLACE_DIGITS
+    → is_place PLACE_DIGITS column row ≡ true
 in_place column row in-column in-row = grind (arith, nat_tests)
 
-of_place : (column row : ℕ) → is_place PLACE_DIGITS column row ≡ true → (column < places_across PLACE_DIGITS) × (row < places_across PLACE_DIGITS)
+of_place : (column row : ℕ) → is_place PLACE_DIGITS column row ≡ true
+    → (column < places_across PLACE_DIGITS) × (row < places_across PLACE_DIGITS)
 of_place column row place =
-    let parts = and_parts (nat_lt column (places_across PLACE_DIGITS)) (nat_lt row (places_across PLACE_DIGITS)) place in
+    let parts =
+    and_parts (nat_lt column (places_across PLACE_DIGITS)) (nat_lt row (places_across PLACE_DIGITS)) place in
     (grind (arith, nat_tests), grind (arith, nat_tests))
 
 -- what rows share
-pub share_of_rows : (rows others : List (List Bool)) (row : ℕ) → row < places_across PLACE_DIGITS → ShareInRow (get_or rows row []) (get_or others row [])
+pub share_of_rows : (rows others : List (List Bool)) (row : ℕ) → row < places_across PLACE_DIGITS
+    → ShareInRow (get_or rows row []) (get_or others row [])
     → ShareHeld (held_by_row rows) (held_by_row others)
 share_of_rows rows others row below shared =
     let place = in_place shared.0 row shared.1 below in
@@ -43,23 +50,32 @@ rows_apart rows others apart shared =
 -- the first so many rows are joined, and the others as they were
 pub record AreJoined (rows others : List (List Bool)) (count : ℕ) (joined : List (List Bool)) : Type 0 where
   pub all : length joined ≡ places_across PLACE_DIGITS
-  pub below : (row : ℕ) → row < count → IsJoined (get_or rows row []) (get_or others row []) (get_or joined row [])
+  pub below : (row : ℕ) → row < count
+      → IsJoined (get_or rows row []) (get_or others row []) (get_or joined row [])
   pub from : (row : ℕ) → count ≤ row → get_or joined row [] ≡ get_or rows row []
 
-pub joined_row : (rows others now : List (List Bool)) (row : ℕ) (joined : List Bool) → row < places_across PLACE_DIGITS
-    → AreJoined rows others row now → IsJoined (get_or now row []) (get_or others row []) joined → length (set now row joined) ≡ length now
+pub joined_row : (rows others now : List (List Bool)) (row : ℕ) (joined : List Bool)
+    → row < places_across PLACE_DIGITS
+    → AreJoined rows others row now → IsJoined (get_or now row []) (get_or others row []) joined
+    → length (set now row joined) ≡ length now
     → AreJoined rows others (row + 1) (set now row joined)
 joined_row rows others now row joined inside are is same =
     record {
       all = same ∙ are.all;
       below = λ k lt. elim (cases_eq k row) [
-        | inl here ↦ rw (here, get_or-set_same now row joined [] (omega (arith, are.all)), ← are.from row (omega arith)) is
+        | inl here ↦ rw (
+          here,
+          get_or-set_same now row joined [] (omega (arith, are.all)),
+          ← are.from row (omega arith),
+        ) is
         | inr other ↦ rw (get_or-set_other now row k joined [] other) (are.below k (omega arith))
       ];
-      from = λ k least. get_or-set_other now row k joined [] (λ e. absurd (omega arith)) ∙ are.from k (omega arith);
+      from = λ k least.
+          get_or-set_other now row k joined [] (λ e. absurd (omega arith)) ∙ are.from k (omega arith);
     }
 
-pub held_after_joining : (rows others joined : List (List Bool)) → AreJoined rows others (places_across PLACE_DIGITS) joined
+pub held_after_joining : (rows others joined : List (List Bool))
+    → AreJoined rows others (places_across PLACE_DIGITS) joined
     → held_by_row joined ≡ held_by_either (held_by_row rows) (held_by_row others)
 held_after_joining rows others joined are =
     fun_ext (λ column. fun_ext (λ row. elim (cases_Bool (is_place PLACE_DIGITS column row)) [
@@ -70,31 +86,39 @@ held_after_joining rows others joined are =
     ]))
 
 -- The lanes of two sets, of the same length.
-module _ (lanes others : List ℕ) (count : length lanes ≡ places_across PLACE_DIGITS) (same : length others ≡ places_across PLACE_DIGITS) where
+module _ (lanes others : List ℕ) (count : length lanes ≡ places_across PLACE_DIGITS)
+    (same : length others ≡ places_across PLACE_DIGITS) where
   abbrev both : List ℕ
   both = zip2 bit_and lanes others
 
   length_both : length both ≡ places_across PLACE_DIGITS
   length_both = length-zip2 bit_and lanes others (count ∙ sym same) ∙ count
 
-  lane_of_both : (row : ℕ) → row < places_across PLACE_DIGITS → get_or both row 0 ≡ bit_and (get_or lanes row 0) (get_or others row 0)
-  lane_of_both row below = get_or-zip2 bit_and lanes others row 0 0 0 (omega (arith, count)) (omega (arith, same))
+  lane_of_both : (row : ℕ) → row < places_across PLACE_DIGITS
+      → get_or both row 0 ≡ bit_and (get_or lanes row 0) (get_or others row 0)
+  lane_of_both row below =
+      get_or-zip2 bit_and lanes others row 0 0 0 (omega (arith, count)) (omega (arith, same))
 
   bit_of_both : (column row : ℕ) → row < places_across PLACE_DIGITS
-      → bit_at (get_or both row 0) column ≡ min (bit_at (get_or lanes row 0) column) (bit_at (get_or others row 0) column)
+      → bit_at (get_or both row 0) column
+      ≡ min (bit_at (get_or lanes row 0) column) (bit_at (get_or others row 0) column)
   bit_of_both column row below =
-      ap (λ n. bit_at n column) (lane_of_both row below) ∙ bit_at_and (get_or lanes row 0) (get_or others row 0) column
+      ap (λ n. bit_at n column) (lane_of_both row below)
+      ∙ bit_at_and (get_or lanes row 0) (get_or others row 0) column
 
-  both_below : AreLanes others → (row : ℕ) → row < places_across PLACE_DIGITS → get_or both row 0 < 2 ^ places_across PLACE_DIGITS
+  both_below : AreLanes others → (row : ℕ) → row < places_across PLACE_DIGITS
+      → get_or both row 0 < 2 ^ places_across PLACE_DIGITS
   both_below are row below =
       let least = and_le_r (get_or lanes row 0) (get_or others row 0) in
       omega (arith, lane_of_both row below, are row (omega (arith, same)))
 
   empty_lane : AreLanes others → (row : ℕ) → row < places_across PLACE_DIGITS
-      → ((column : ℕ) → column < places_across PLACE_DIGITS → (bit_at (get_or both row 0) column == 1) ≡ false)
+      → ((column : ℕ) → column < places_across PLACE_DIGITS
+      → (bit_at (get_or both row 0) column == 1) ≡ false)
       → get_or both row 0 ≡ 0
   empty_lane are row below none =
-      same_from_bits_below (places_across PLACE_DIGITS) (get_or both row 0) 0 (both_below are row below) (omega arith) (λ column within.
+      same_from_bits_below (places_across PLACE_DIGITS) (get_or both row 0) 0 (both_below are row below)
+      (omega arith) (λ column within.
       zero_bit (bit_at (get_or both row 0) column) (bit_at-lt (get_or both row 0) column) (none column within)
       ∙ sym (bit_at-zero column))
     where
@@ -103,14 +127,19 @@ module _ (lanes others : List ℕ) (count : length lanes ≡ places_across PLACE
       zero_bit (suc zero) below no_one = cc no_one
       zero_bit (suc (suc bit)) below no_one = absurd (omega arith)
 
-  held_of_bit : (kept : List ℕ) (column row : ℕ) → column < places_across PLACE_DIGITS → row < places_across PLACE_DIGITS
+  held_of_bit : (kept : List ℕ) (column row : ℕ) → column < places_across PLACE_DIGITS
+      → row < places_across PLACE_DIGITS
       → bit_at (get_or kept row 0) column ≡ 1 → held_by_lane kept column row ≡ true
-  held_of_bit kept column row in-column in-row bit = rw (in_place column row in-column in-row) (eq-eqb _ _ bit)
+  held_of_bit kept column row in-column in-row bit =
+      rw (in_place column row in-column in-row) (eq-eqb _ _ bit)
 
-  share_at : (column row : ℕ) → column < places_across PLACE_DIGITS → row < places_across PLACE_DIGITS → bit_at (get_or both row 0) column ≡ 1
+  share_at : (column row : ℕ) → column < places_across PLACE_DIGITS → row < places_across PLACE_DIGITS
+      → bit_at (get_or both row 0) column ≡ 1
       → ShareHeld (held_by_lane lanes) (held_by_lane others)
   share_at column row in-column in-row is =
-      let bits = both_set (bit_at (get_or lanes row 0) column) (bit_at (get_or others row 0) column) (sym (bit_of_both column row in-row) ∙ is)
+      let bits =
+      both_set (bit_at (get_or lanes row 0) column) (bit_at (get_or others row 0) column)
+      (sym (bit_of_both column row in-row) ∙ is)
       (bit_at-lt (get_or lanes row 0) column) (bit_at-lt (get_or others row 0) column) in
       record {
         column = column;
@@ -128,17 +157,22 @@ module _ (lanes others : List ℕ) (count : length lanes ≡ places_across PLACE
       both_set (suc zero) (suc (suc other)) is small small' = absurd (omega arith)
       both_set (suc (suc bit)) other is small small' = absurd (omega arith)
 
-  share_of_some : AreLanes others → fold_l bit_or 0 both ≢ 0 → ShareHeld (held_by_lane lanes) (held_by_lane others)
-  share_of_some are some = elim (some_or_none (places_across PLACE_DIGITS) (λ row. not (get_or both row 0 == 0))) [
-    | inl found ↦ in_row found.0 found.1 found.2
-    | inr none ↦ absurd (some (or_of_zeros 0 both refl (λ row below. eqb-true (get_or both row 0) 0 (not-false _ (none row (omega (arith, length_both)))))))
-  ]
-    where
-      in_row : (row : ℕ) → row < places_across PLACE_DIGITS → not (get_or both row 0 == 0) ≡ true → ShareHeld (held_by_lane lanes) (held_by_lane others)
-      in_row row below some_there = elim (some_or_none (places_across PLACE_DIGITS) (λ column. bit_at (get_or both row 0) column == 1)) [
-        | inl found ↦ share_at found.0 row found.1 below (eqb-true _ 1 found.2)
-        | inr none ↦ cc (sym some_there ∙ ap (λ n. not (n == 0)) (empty_lane are row below none))
+  share_of_some : AreLanes others → fold_l bit_or 0 both ≢ 0
+      → ShareHeld (held_by_lane lanes) (held_by_lane others)
+  share_of_some are some =
+      elim (some_or_none (places_across PLACE_DIGITS) (λ row. not (get_or both row 0 == 0))) [
+        | inl found ↦ in_row found.0 found.1 found.2
+        | inr none ↦ absurd (some (or_of_zeros 0 both refl (λ row below.
+            eqb-true (get_or both row 0) 0 (not-false _ (none row (omega (arith, length_both)))))))
       ]
+    where
+      in_row : (row : ℕ) → row < places_across PLACE_DIGITS → not (get_or both row 0 == 0) ≡ true
+          → ShareHeld (held_by_lane lanes) (held_by_lane others)
+      in_row row below some_there = elim (some_or_none (places_across PLACE_DIGITS) (λ column.
+          bit_at (get_or both row 0) column == 1)) [
+            | inl found ↦ share_at found.0 row found.1 below (eqb-true _ 1 found.2)
+            | inr none ↦ cc (sym some_there ∙ ap (λ n. not (n == 0)) (empty_lane are row below none))
+          ]
 
   some_of_share : ShareHeld (held_by_lane lanes) (held_by_lane others) → fold_l bit_or 0 both ≡ 0 → ⊥
   some_of_share shared none =
@@ -148,28 +182,36 @@ module _ (lanes others : List ℕ) (count : length lanes ≡ places_across PLACE
       let lane = (zeros_of_or 0 both none).1 shared.row (omega (arith, length_both, place.1)) in
       let bit : bit_at (get_or both shared.row 0) shared.column ≡ 1 =
       bit_of_both shared.column shared.row place.1 ∙ rw (eqb-true _ _ first.1, eqb-true _ _ second.1) refl in
-      let empty : bit_at (get_or both shared.row 0) shared.column ≡ 0 = ap (λ n. bit_at n shared.column) lane ∙ bit_at-zero shared.column in
+      let empty : bit_at (get_or both shared.row 0) shared.column ≡ 0 =
+      ap (λ n. bit_at n shared.column) lane ∙ bit_at-zero shared.column in
       omega arith
 
-  pub lanes_share : AreLanes others → IsTrue (not (fold_l bit_or 0 both == 0)) ↔ ShareHeld (held_by_lane lanes) (held_by_lane others)
+  pub lanes_share : AreLanes others
+      → IsTrue (not (fold_l bit_or 0 both == 0)) ↔ ShareHeld (held_by_lane lanes) (held_by_lane others)
   lanes_share are = (
     λ some. share_of_some are (λ none. cc (sym some ∙ ap (λ n. not (n == 0)) none)),
     λ shared. ap (λ t. not t) (ne_eqb _ 0 (some_of_share shared)),
   )
 
   bit_of_either : (column row : ℕ) → row < places_across PLACE_DIGITS
-      → bit_at (get_or (zip2 bit_or lanes others) row 0) column ≡ max (bit_at (get_or lanes row 0) column) (bit_at (get_or others row 0) column)
+      → bit_at (get_or (zip2 bit_or lanes others) row 0) column
+      ≡ max (bit_at (get_or lanes row 0) column) (bit_at (get_or others row 0) column)
   bit_of_either column row below =
-      ap (λ n. bit_at n column) (get_or-zip2 bit_or lanes others row 0 0 0 (omega (arith, count)) (omega (arith, same)))
+      ap (λ n. bit_at n column)
+      (get_or-zip2 bit_or lanes others row 0 0 0 (omega (arith, count)) (omega (arith, same)))
       ∙ bit_at_or (get_or lanes row 0) (get_or others row 0) column
 
-  pub lanes_joined : held_by_lane (put_chunk 0 lanes (zip2 bit_or lanes others)) ≡ held_by_either (held_by_lane lanes) (held_by_lane others)
+  pub lanes_joined : held_by_lane (put_chunk 0 lanes (zip2 bit_or lanes others))
+      ≡ held_by_either (held_by_lane lanes) (held_by_lane others)
   lanes_joined =
-      ap held_by_lane (put_chunk_whole lanes (zip2 bit_or lanes others) (sym (length-zip2 bit_or lanes others (count ∙ sym same))))
+      ap held_by_lane
+      (put_chunk_whole lanes (zip2 bit_or lanes others)
+      (sym (length-zip2 bit_or lanes others (count ∙ sym same))))
       ∙ fun_ext (λ column. fun_ext (λ row. elim (cases_Bool (is_place PLACE_DIGITS column row)) [
         | inl place ↦
             rw (place, bit_of_either column row (of_place column row place).1)
-            (either (bit_at (get_or lanes row 0) column) (bit_at (get_or others row 0) column) (bit_at-lt (get_or lanes row 0) column) (bit_at-lt (get_or others row 0) column))
+            (either (bit_at (get_or lanes row 0) column) (bit_at (get_or others row 0) column)
+            (bit_at-lt (get_or lanes row 0) column) (bit_at-lt (get_or others row 0) column))
         | inr outside ↦ rw outside refl
       ]))
     where

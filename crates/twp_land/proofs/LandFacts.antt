@@ -1,62 +1,76 @@
 -- Sets of places as they are kept by section.
-use Rattle.std.proofs.Common.{get_or, sym, subst, ◌∙◌, if◌then◌else◌, ◌≡◌, ◌≢◌, ◌==◌, ℕ, zero, suc}
-use Rattle.std.proofs.Common.{◌-◌, ◌<◌, ◌≤◌, ◌+◌, ◌&&◌, ◌||◌, ◌⊎◌, nat_le, Bool, true, false, List}
-use Rattle.std.proofs.Common.{[], ◌∷◌, length, Some, ap, refl, inl, inr, arith, replicate}
+use Rattle.std.proofs.Common.{get_or, sym, ◌∙◌, if◌then◌else◌, ◌≡◌, ◌≢◌, ◌==◌, ℕ, zero, suc, ◌-◌, ◌<◌, ◌≤◌}
+use Rattle.std.proofs.Common.{◌+◌, ◌&&◌, ◌||◌, nat_le, Bool, true, false, List, [], ◌∷◌, length, Some, ap}
+use Rattle.std.proofs.Common.{refl, inl, inr, arith, replicate}
 use Rattle.std.proofs.Math.Path.{fun_ext}
 use Rattle.std.proofs.Math.ListN.{set}
 use Rattle.std.specs.List.{slice_get}
 use Rattle.std.specs.Option.{option_map_or}
-use Rattle.std.proofs.lemmas.Bool.{cases_eq, cases_Bool, ne_eqb, eq-eqb, eqb-true, and_right}
-use Rattle.std.proofs.lemmas.Bool.{and_parts}
+use Rattle.std.proofs.lemmas.Bool.{cases_eq, ne_eqb, eq-eqb, and_right, and_parts}
 use Rattle.std.proofs.lemmas.Bool.Decides.{nat_tests}
 use Rattle.twp_grid.specs.Winding.{SECTION_COUNT, IsSection}
 use Rattle.twp_grid.specs.Spans.{Rectangle}
 use Rattle.twp_land.specs.Lands.{no_places, union, difference, block_places, SharePlace, SamePlaces}
 use Rattle.twp_land.specs.Lands.{LieWithin}
-use Rattle.twp_land.specs.Storage.{is_section, held_by_section, with_block, without_block}
-use Rattle.twp_land.specs.Storage.{nothing_held, held_by_either, ShareHeld, SameHeld}
+use Rattle.twp_land.specs.Storage.{is_section, held_by_section, with_block, without_block, nothing_held}
+use Rattle.twp_land.specs.Storage.{ShareHeld, SameHeld}
 
 -- the set with one section's part exchanged
-abbrev exchanged : (ℕ → ℕ → ℕ → Bool) → ℕ → (ℕ → ℕ → Bool) → ℕ → ℕ → ℕ → Bool
+abbrev pub exchanged : (ℕ → ℕ → ℕ → Bool) → ℕ → (ℕ → ℕ → Bool) → ℕ → ℕ → ℕ → Bool
 exchanged places section held other column row =
     if section == other then held column row else places other column row
 
 number_is : (section : ℕ) → IsSection section → is_section section ≡ true
 number_is section range = grind (arith, nat_tests)
 
-slice_get-set_same : {P : Type 0} (plots : List P) (i : ℕ) (plot : P) → i < length plots → slice_get (set plots i plot) i ≡ Some plot
+slice_get-set_same : {P : Type 0} (plots : List P) (i : ℕ) (plot : P) → i < length plots
+    → slice_get (set plots i plot) i ≡ Some plot
 slice_get-set_same [] i plot inside = absurd (omega arith)
 slice_get-set_same (p ∷ plots) zero plot inside = refl
 slice_get-set_same (p ∷ plots) (suc i) plot inside = slice_get-set_same plots i plot (omega arith)
 
-slice_get-set_other : {P : Type 0} (plots : List P) (i j : ℕ) (plot : P) → j ≢ i → slice_get (set plots i plot) j ≡ slice_get plots j
+slice_get-set_other : {P : Type 0} (plots : List P) (i j : ℕ) (plot : P) → j ≢ i
+    → slice_get (set plots i plot) j ≡ slice_get plots j
 slice_get-set_other [] i j plot other = refl
 slice_get-set_other (p ∷ plots) zero zero plot other = absurd (other refl)
 slice_get-set_other (p ∷ plots) zero (suc j) plot other = refl
 slice_get-set_other (p ∷ plots) (suc i) zero plot other = refl
-slice_get-set_other (p ∷ plots) (suc i) (suc j) plot other = slice_get-set_other plots i j plot (λ e. other (ap (λ k. suc k) e))
+slice_get-set_other (p ∷ plots) (suc i) (suc j) plot other =
+    slice_get-set_other plots i j plot (λ e. other (ap (λ k. suc k) e))
 
 -- an exchange in the list is an exchange in the set
-held_after : {P : Type 0} (held : P → ℕ → ℕ → Bool) (plots : List P) (section : ℕ) (plot : P) → IsSection section
-    → length plots ≡ SECTION_COUNT → held_by_section held (set plots (section - 1) plot) ≡ exchanged (held_by_section held plots) section (held plot)
+pub held_after : {P : Type 0} (held : P → ℕ → ℕ → Bool) (plots : List P) (section : ℕ) (plot : P)
+    → IsSection section
+    → length plots ≡ SECTION_COUNT
+    → held_by_section held (set plots (section - 1) plot)
+    ≡ exchanged (held_by_section held plots) section (held plot)
 held_after held plots section plot range all =
     fun_ext (λ other. fun_ext (λ column. fun_ext (λ row. elim (cases_eq section other) [
       | inl same ↦
           let test : (section == other) ≡ true = eq-eqb section other same in
-          rw (test, ← same, number_is section range, slice_get-set_same plots (section - 1) plot (omega (arith, range.0))) refl
+          rw (
+            test,
+            ← same,
+            number_is section range,
+            slice_get-set_same plots (section - 1) plot (omega (arith, range.0)),
+          ) refl
       | inr apart ↦
           let test : (section == other) ≡ false = ne_eqb section other apart in
           rw test (at_other other column row apart)
     ])))
   where
     keeps : (other column row : ℕ) (number : Bool) → (number ≡ true → other - 1 ≢ section - 1)
-        → (number && option_map_or (λ p. held p column row) (slice_get (set plots (section - 1) plot) (other - 1)) false)
+        → (number
+        && option_map_or (λ p. held p column row) (slice_get (set plots (section - 1) plot) (other - 1))
+        false)
         ≡ (number && option_map_or (λ p. held p column row) (slice_get plots (other - 1)) false)
-    keeps other column row true differ = rw (slice_get-set_other plots (section - 1) (other - 1) plot (differ refl)) refl
+    keeps other column row true differ =
+        rw (slice_get-set_other plots (section - 1) (other - 1) plot (differ refl)) refl
     keeps other column row false differ = refl
 
     at_other : (other column row : ℕ) → section ≢ other
-        → held_by_section held (set plots (section - 1) plot) other column row ≡ held_by_section held plots other column row
+        → held_by_section held (set plots (section - 1) plot) other column row
+        ≡ held_by_section held plots other column row
     at_other other column row apart =
         keeps other column row (is_section other) (λ number e. apart (grind (arith, nat_tests)))
 
@@ -79,7 +93,8 @@ exchanged_is_union places section block =
 
 -- to exchange it for itself without a block is to take the block away
 exchanged_is_difference : (places : ℕ → ℕ → ℕ → Bool) (section : ℕ) (block : Rectangle)
-    → exchanged places section (without_block (places section) block) ≡ difference places (block_places section block)
+    → exchanged places section (without_block (places section) block)
+    ≡ difference places (block_places section block)
 exchanged_is_difference places section block =
     fun_ext (λ other. fun_ext (λ column. fun_ext (λ row. elim (cases_eq section other) [
       | inl same ↦
@@ -98,20 +113,26 @@ exchanged_is_difference places section block =
 pub held_nowhere : {P : Type 0} (held : P → ℕ → ℕ → Bool) (plot : P) (n : ℕ) → held plot ≡ nothing_held
     → held_by_section held (replicate n plot) ≡ no_places
 held_nowhere {P = P} held plot n none =
-    fun_ext (λ section. fun_ext (λ column. fun_ext (λ row. and_right (is_section section) _ (no_part n (section - 1) column row))))
+    fun_ext (λ section. fun_ext (λ column. fun_ext (λ row.
+    and_right (is_section section) _ (no_part n (section - 1) column row))))
   where
-    no_part : (n i column row : ℕ) → option_map_or (λ p. held p column row) (slice_get (replicate n plot) i) false ≡ false
+    no_part : (n i column row : ℕ)
+        → option_map_or (λ p. held p column row) (slice_get (replicate n plot) i) false ≡ false
     no_part zero i column row = refl
     no_part (suc n) zero column row = ap (λ h. h column row) none
     no_part (suc n) (suc i) column row = no_part n i column row
 
 -- a section's part, changed where it is kept
-changed_where_kept : {P : Type 0} (held : P → ℕ → ℕ → Bool) (change : (ℕ → ℕ → Bool) → ℕ → ℕ → Bool) (plots : List P) (section : ℕ) (plot plot' : P)
-    → IsSection section → length plots ≡ SECTION_COUNT → held plot' ≡ change (held (get_or plots (section - 1) plot))
-    → held_by_section held (set plots (section - 1) plot') ≡ exchanged (held_by_section held plots) section (change (held_by_section held plots section))
+changed_where_kept : {P : Type 0} (held : P → ℕ → ℕ → Bool) (change : (ℕ → ℕ → Bool) → ℕ → ℕ → Bool)
+    (plots : List P) (section : ℕ) (plot plot' : P)
+    → IsSection section → length plots ≡ SECTION_COUNT
+    → held plot' ≡ change (held (get_or plots (section - 1) plot))
+    → held_by_section held (set plots (section - 1) plot')
+    ≡ exchanged (held_by_section held plots) section (change (held_by_section held plots section))
 changed_where_kept {P = P} held change plots section plot plot' range all changed =
     held_after held plots section plot' range all
-    ∙ ap (λ part. exchanged (held_by_section held plots) section part) (changed ∙ ap (λ part. change part) (sym kept))
+    ∙ ap (λ part. exchanged (held_by_section held plots) section part)
+    (changed ∙ ap (λ part. change part) (sym kept))
   where
     found : (plots : List P) (i : ℕ) → i < length plots → slice_get plots i ≡ Some (get_or plots i plot)
     found [] i inside = absurd (omega arith)
@@ -119,72 +140,32 @@ changed_where_kept {P = P} held change plots section plot plot' range all change
     found (p ∷ plots) (suc i) inside = found plots i (omega arith)
 
     kept : held_by_section held plots section ≡ held (get_or plots (section - 1) plot)
-    kept = fun_ext (λ column. fun_ext (λ row. rw (number_is section range, found plots (section - 1) (omega (arith, range.0))) refl))
+    kept = fun_ext (λ column. fun_ext (λ row.
+        rw (number_is section range, found plots (section - 1) (omega (arith, range.0))) refl))
 
-pub added_where_kept : {P : Type 0} (held : P → ℕ → ℕ → Bool) (plots : List P) (section : ℕ) (block : Rectangle) (plot plot' : P) → IsSection section
+pub added_where_kept : {P : Type 0} (held : P → ℕ → ℕ → Bool) (plots : List P) (section : ℕ)
+    (block : Rectangle) (plot plot' : P)
+    → IsSection section
     → length plots ≡ SECTION_COUNT → held plot' ≡ with_block (held (get_or plots (section - 1) plot)) block
-    → held_by_section held (set plots (section - 1) plot') ≡ union (held_by_section held plots) (block_places section block)
+    → held_by_section held (set plots (section - 1) plot')
+    ≡ union (held_by_section held plots) (block_places section block)
 added_where_kept held plots section block plot plot' range all added =
     changed_where_kept held (λ part. with_block part block) plots section plot plot' range all added
     ∙ exchanged_is_union (held_by_section held plots) section block
 
-pub removed_where_kept : {P : Type 0} (held : P → ℕ → ℕ → Bool) (plots : List P) (section : ℕ) (block : Rectangle) (plot plot' : P) → IsSection section
+pub removed_where_kept : {P : Type 0} (held : P → ℕ → ℕ → Bool) (plots : List P) (section : ℕ)
+    (block : Rectangle) (plot plot' : P)
+    → IsSection section
     → length plots ≡ SECTION_COUNT → held plot' ≡ without_block (held (get_or plots (section - 1) plot)) block
-    → held_by_section held (set plots (section - 1) plot') ≡ difference (held_by_section held plots) (block_places section block)
+    → held_by_section held (set plots (section - 1) plot')
+    ≡ difference (held_by_section held plots) (block_places section block)
 removed_where_kept held plots section block plot plot' range all removed =
     changed_where_kept held (λ part. without_block part block) plots section plot plot' range all removed
     ∙ exchanged_is_difference (held_by_section held plots) section block
 
--- a set without any place has none elsewhere
-pub nothing_within : (places : ℕ → ℕ → ℕ → Bool) (first last : ℕ) → places ≡ no_places → LieWithin places first last
-nothing_within places first last none section column row held = cc (ap (λ p. p section column row) none, held)
-
--- where no section is left there is no place
-pub none_within : (places : ℕ → ℕ → ℕ → Bool) (first last : ℕ) → LieWithin places first last → last < first → places ≡ no_places
-none_within places first last within none =
-    fun_ext (λ section. fun_ext (λ column. fun_ext (λ row. elim (cases_Bool (places section column row)) [
-      | inl held ↦ let lies = within section column row held in absurd (omega (arith, lies.0, lies.1))
-      | inr not ↦ not
-    ])))
-
--- the places of one section
-block_within : (section : ℕ) (block : Rectangle) → LieWithin (block_places section block) section section
-block_within section block other column row held =
-    let same : section ≡ other = eqb-true section other (and_parts (section == other) _ held).0 in
-    (omega arith, omega arith)
-
--- in a wider range
-pub within_wider : (places : ℕ → ℕ → ℕ → Bool) (first last first' last' : ℕ) → first' ≤ first → last ≤ last' → LieWithin places first last
-    → LieWithin places first' last'
-within_wider places first last first' last' down up is section column row held =
-    let lies = is section column row held in
-    (omega (arith, lies.0), omega (arith, lies.1))
-
--- the places of two sets
-union_within : (places more : ℕ → ℕ → ℕ → Bool) (first last : ℕ) → LieWithin places first last → LieWithin more first last
-    → LieWithin (union places more) first last
-union_within places more first last is is' section column row held = elim (cases_Bool (places section column row)) [
-  | inl there ↦ is section column row there
-  | inr not ↦ is' section column row (rw not at held)
-]
-
--- a block is added, and the range made as wide
-pub added_within : (places now : ℕ → ℕ → ℕ → Bool) (section : ℕ) (block : Rectangle) (first last first' last' : ℕ)
-    → now ≡ union places (block_places section block) → first' ≤ first → last ≤ last' → first' ≤ section → section ≤ last'
-    → LieWithin places first last → LieWithin now first' last'
-added_within places now section block first last first' last' is down up below above before =
-    subst (λ p. LieWithin p first' last') (sym is)
-    (union_within places (block_places section block) first' last' (within_wider places first last first' last' down up before)
-    (within_wider (block_places section block) section section first' last' below above (block_within section block)))
-
--- a block is taken away
-pub removed_within : (places now less : ℕ → ℕ → ℕ → Bool) (first last : ℕ) → now ≡ difference places less → LieWithin places first last
-    → LieWithin now first last
-removed_within places now less first last is before section column row held =
-    before section column row (and_parts (places section column row) _ (sym (ap (λ p. p section column row) is) ∙ held)).0
-
 -- what is kept at an index is the part of the section behind it
-kept_at : {P : Type 0} (held : P → ℕ → ℕ → Bool) (plots : List P) (index : ℕ) (plot : P) → index < SECTION_COUNT → length plots ≡ SECTION_COUNT
+pub kept_at : {P : Type 0} (held : P → ℕ → ℕ → Bool) (plots : List P) (index : ℕ) (plot : P)
+    → index < SECTION_COUNT → length plots ≡ SECTION_COUNT
     → held_by_section held plots (index + 1) ≡ held (get_or plots index plot)
 kept_at {P = P} held plots index plot below all =
     let back : index + 1 - 1 ≡ index = omega arith in
@@ -196,23 +177,29 @@ kept_at {P = P} held plots index plot below all =
     found (p ∷ plots) zero inside = refl
     found (p ∷ plots) (suc i) inside = found plots i (omega arith)
 
-section_held : {P : Type 0} (held : P → ℕ → ℕ → Bool) (plots : List P) (section column row : ℕ) → held_by_section held plots section column row ≡ true → IsSection section
+section_held : {P : Type 0} (held : P → ℕ → ℕ → Bool) (plots : List P) (section column row : ℕ)
+    → held_by_section held plots section column row ≡ true → IsSection section
 section_held held plots section column row is =
     let parts = and_parts (is_section section) _ is in
     let sides = and_parts (nat_le 1 section) (nat_le section SECTION_COUNT) parts.0 in
     (grind (arith, nat_tests), grind (arith, nat_tests))
 
 -- two sets share a place where two parts at one index do
-pub share_found : {P : Type 0} (held : P → ℕ → ℕ → Bool) (plots others : List P) (index : ℕ) (plot other : P) → index < SECTION_COUNT
-    → length plots ≡ SECTION_COUNT → length others ≡ SECTION_COUNT → ShareHeld (held (get_or plots index plot)) (held (get_or others index other))
+pub share_found : {P : Type 0} (held : P → ℕ → ℕ → Bool) (plots others : List P) (index : ℕ) (plot other : P)
+    → index < SECTION_COUNT
+    → length plots ≡ SECTION_COUNT → length others ≡ SECTION_COUNT
+    → ShareHeld (held (get_or plots index plot)) (held (get_or others index other))
     → SharePlace (held_by_section held plots) (held_by_section held others)
 share_found held plots others index plot other below all all-others shared =
     record {
       section = index + 1;
       column = shared.column;
       row = shared.row;
-      in_first = ap (λ h. h shared.column shared.row) (kept_at held plots index plot below all) ∙ shared.in_first;
-      in_second = ap (λ h. h shared.column shared.row) (kept_at held others index other below all-others) ∙ shared.in_second;
+      in_first =
+          ap (λ h. h shared.column shared.row) (kept_at held plots index plot below all) ∙ shared.in_first;
+      in_second =
+          ap (λ h. h shared.column shared.row) (kept_at held others index other below all-others)
+          ∙ shared.in_second;
     }
 
 -- up to a section no place is in both sets
@@ -220,137 +207,73 @@ abbrev pub AreApartTo : ℕ → (ℕ → ℕ → ℕ → Bool) → (ℕ → ℕ 
 AreApartTo most places more = (section column row : ℕ) → section ≤ most
     → places section column row ≡ true → more section column row ≡ true → ⊥
 
-pub apart_next : {P : Type 0} (held : P → ℕ → ℕ → Bool) (plots others : List P) (index : ℕ) (plot other : P) → index < SECTION_COUNT
+pub apart_next : {P : Type 0} (held : P → ℕ → ℕ → Bool) (plots others : List P) (index : ℕ) (plot other : P)
+    → index < SECTION_COUNT
     → length plots ≡ SECTION_COUNT → length others ≡ SECTION_COUNT
     → (ShareHeld (held (get_or plots index plot)) (held (get_or others index other)) → ⊥)
     → AreApartTo index (held_by_section held plots) (held_by_section held others)
     → AreApartTo (index + 1) (held_by_section held plots) (held_by_section held others)
-apart_next held plots others index plot other below all all-others apart before section column row most is is' = elim (cases_eq section (index + 1)) [
-  | inl here ↦
-      let first : held_by_section held plots (index + 1) column row ≡ true = ap (λ s. held_by_section held plots s column row) (sym here) ∙ is in
-      let second : held_by_section held others (index + 1) column row ≡ true = ap (λ s. held_by_section held others s column row) (sym here) ∙ is' in
-      apart (record {
-        column = column;
-        row = row;
-        in_first = sym (ap (λ h. h column row) (kept_at held plots index plot below all)) ∙ first;
-        in_second = sym (ap (λ h. h column row) (kept_at held others index other below all-others)) ∙ second;
-      })
-  | inr earlier ↦ before section column row (omega arith) is is'
-]
+apart_next held plots others index plot other below all all-others apart before section column row most is
+    is' = elim (cases_eq section (index + 1)) [
+      | inl here ↦
+          let first : held_by_section held plots (index + 1) column row ≡ true =
+          ap (λ s. held_by_section held plots s column row) (sym here) ∙ is in
+          let second : held_by_section held others (index + 1) column row ≡ true =
+          ap (λ s. held_by_section held others s column row) (sym here) ∙ is' in
+          apart (record {
+            column = column;
+            row = row;
+            in_first = sym (ap (λ h. h column row) (kept_at held plots index plot below all)) ∙ first;
+            in_second =
+                sym (ap (λ h. h column row) (kept_at held others index other below all-others)) ∙ second;
+          })
+      | inr earlier ↦ before section column row (omega arith) is is'
+    ]
 
 -- up to a section the same places are in both sets
 abbrev pub AreSameTo : ℕ → (ℕ → ℕ → ℕ → Bool) → (ℕ → ℕ → ℕ → Bool) → Type 0
-AreSameTo most places more = (section column row : ℕ) → section ≤ most → places section column row ≡ more section column row
+AreSameTo most places more =
+    (section column row : ℕ) → section ≤ most → places section column row ≡ more section column row
 
-pub same_next : {P : Type 0} (held : P → ℕ → ℕ → Bool) (plots others : List P) (index : ℕ) (plot other : P) → index < SECTION_COUNT
+pub same_next : {P : Type 0} (held : P → ℕ → ℕ → Bool) (plots others : List P) (index : ℕ) (plot other : P)
+    → index < SECTION_COUNT
     → length plots ≡ SECTION_COUNT → length others ≡ SECTION_COUNT
     → SameHeld (held (get_or plots index plot)) (held (get_or others index other))
     → AreSameTo index (held_by_section held plots) (held_by_section held others)
     → AreSameTo (index + 1) (held_by_section held plots) (held_by_section held others)
-same_next held plots others index plot other below all all-others same before section column row most = elim (cases_eq section (index + 1)) [
-  | inl here ↦
-      ap (λ s. held_by_section held plots s column row) here
-      ∙ ap (λ h. h column row) (kept_at held plots index plot below all) ∙ same column row
-      ∙ sym (ap (λ h. h column row) (kept_at held others index other below all-others))
-      ∙ sym (ap (λ s. held_by_section held others s column row) here)
-  | inr earlier ↦ before section column row (omega arith)
-]
+same_next held plots others index plot other below all all-others same before section column row most =
+    elim (cases_eq section (index + 1)) [
+      | inl here ↦
+          ap (λ s. held_by_section held plots s column row) here
+          ∙ ap (λ h. h column row) (kept_at held plots index plot below all) ∙ same column row
+          ∙ sym (ap (λ h. h column row) (kept_at held others index other below all-others))
+          ∙ sym (ap (λ s. held_by_section held others s column row) here)
+      | inr earlier ↦ before section column row (omega arith)
+    ]
 
 -- where the sets are the same, so are the parts at one index
-pub same_at : {P : Type 0} (held : P → ℕ → ℕ → Bool) (plots others : List P) (index : ℕ) (plot other : P) → index < SECTION_COUNT
-    → length plots ≡ SECTION_COUNT → length others ≡ SECTION_COUNT → SamePlaces (held_by_section held plots) (held_by_section held others)
+pub same_at : {P : Type 0} (held : P → ℕ → ℕ → Bool) (plots others : List P) (index : ℕ) (plot other : P)
+    → index < SECTION_COUNT
+    → length plots ≡ SECTION_COUNT → length others ≡ SECTION_COUNT
+    → SamePlaces (held_by_section held plots) (held_by_section held others)
     → SameHeld (held (get_or plots index plot)) (held (get_or others index other))
 same_at held plots others index plot other below all all-others same column row =
     sym (ap (λ h. h column row) (kept_at held plots index plot below all)) ∙ same (index + 1) column row
     ∙ ap (λ h. h column row) (kept_at held others index other below all-others)
 
--- the places of both sets up to a section, and behind it those of the first
-abbrev pub joined_to : ℕ → (ℕ → ℕ → ℕ → Bool) → (ℕ → ℕ → ℕ → Bool) → ℕ → ℕ → ℕ → Bool
-joined_to most places more section column row = places section column row || (nat_le section most && more section column row)
-
-pub joined_first : (places more : ℕ → ℕ → ℕ → Bool) (before first last : ℕ) → LieWithin more first last → before < first
-    → places ≡ joined_to before places more
-joined_first places more before first last within behind =
-    fun_ext (λ section. fun_ext (λ column. fun_ext (λ row. none section column row (cases_Bool (more section column row)) (places section column row))))
-  where
-    none : (section column row : ℕ) → (more section column row ≡ true) ⊎ (more section column row ≡ false) → (b : Bool)
-        → b ≡ (b || (nat_le section before && more section column row))
-    none section column row held true = refl
-    none section column row (inl held) false =
-        let lies = within section column row held in
-        let above : nat_le section before ≡ false = grind (arith, nat_tests) in
-        rw above refl
-    none section column row (inr not) false = rw not (sym (and_right (nat_le section before) false refl))
-
-pub joined_all : (places more : ℕ → ℕ → ℕ → Bool) (first last most : ℕ) → LieWithin more first last → last ≤ most
-    → joined_to most places more ≡ union places more
-joined_all places more first last most within all =
-    fun_ext (λ section. fun_ext (λ column. fun_ext (λ row. ap (λ b. places section column row || b) (inside section column row (cases_Bool (more section column row))))))
-  where
-    inside : (section column row : ℕ) → (more section column row ≡ true) ⊎ (more section column row ≡ false)
-        → (nat_le section most && more section column row) ≡ more section column row
-    inside section column row (inl held) =
-        let lies = within section column row held in
-        let below : nat_le section most ≡ true = grind (arith, nat_tests) in
-        rw below refl
-    inside section column row (inr not) = rw not (and_right (nat_le section most) false refl)
-
--- joined in a range that is as wide
-pub joined_within : (places more now : ℕ → ℕ → ℕ → Bool) (most first last first' last' : ℕ) → now ≡ joined_to most places more
-    → first ≤ first' → last' ≤ last → LieWithin places first last → LieWithin more first' last' → LieWithin now first last
-joined_within places more now most first last first' last' is down up before added section column row held = elim (cases_Bool (places section column row)) [
-  | inl there ↦ before section column row there
-  | inr not ↦
-      let joined : joined_to most places more section column row ≡ true = sym (ap (λ p. p section column row) is) ∙ held in
-      let lies = added section column row (and_parts (nat_le section most) _ (rw not at joined)).1 in
-      (omega (arith, lies.0), omega (arith, lies.1))
-]
-
-pub joined_next : {P : Type 0} (held : P → ℕ → ℕ → Bool) (plots others now : List P) (index : ℕ) (plot other joined : P) → index < SECTION_COUNT
-    → length now ≡ SECTION_COUNT → length others ≡ SECTION_COUNT
-    → held joined ≡ held_by_either (held (get_or now index plot)) (held (get_or others index other))
-    → held_by_section held now ≡ joined_to index (held_by_section held plots) (held_by_section held others)
-    → held_by_section held (set now index joined) ≡ joined_to (index + 1) (held_by_section held plots) (held_by_section held others)
-joined_next held plots others now index plot other joined below all all-others is before =
-    let back : index + 1 - 1 ≡ index = omega arith in
-    let range : IsSection (index + 1) = (omega arith, omega arith) in
-    let put : held_by_section held (set now index joined) ≡ exchanged (held_by_section held now) (index + 1) (held joined) =
-    ap (λ i. held_by_section held (set now i joined)) (sym back) ∙ held_after held now (index + 1) joined range all in
-    let part : held joined ≡ held_by_either (held_by_section held now (index + 1)) (held_by_section held others (index + 1)) =
-    is ∙ (λ i. held_by_either (sym (kept_at held now index plot below all) i) (sym (kept_at held others index other below all-others) i)) in
-    put ∙ ap (λ h. exchanged (held_by_section held now) (index + 1) h) part
-    ∙ ap (λ p. exchanged p (index + 1) (held_by_either (p (index + 1)) (held_by_section held others (index + 1)))) before
-    ∙ exchange (held_by_section held plots) (held_by_section held others) index
-  where
-    both : (a b c : Bool) → c ≡ false → ((a || (c && b)) || b) ≡ (a || (true && b))
-    both true b c none = refl
-    both false b c none = rw none refl
-
-    exchange : (places more : ℕ → ℕ → ℕ → Bool) (index : ℕ)
-        → exchanged (joined_to index places more) (index + 1) (held_by_either (joined_to index places more (index + 1)) (more (index + 1)))
-        ≡ joined_to (index + 1) places more
-    exchange places more index =
-        fun_ext (λ section. fun_ext (λ column. fun_ext (λ row. elim (cases_eq (index + 1) section) [
-          | inl same ↦
-              let test : (index + 1 == section) ≡ true = eq-eqb (index + 1) section same in
-              let above : nat_le (index + 1) index ≡ false = grind (arith, nat_tests) in
-              let within : nat_le (index + 1) (index + 1) ≡ true = grind (arith, nat_tests) in
-              rw (test, ← same, within) (both (places (index + 1) column row) (more (index + 1) column row) (nat_le (index + 1) index) above)
-          | inr apart ↦
-              let test : (index + 1 == section) ≡ false = ne_eqb (index + 1) section apart in
-              let same : nat_le section index ≡ nat_le section (index + 1) = grind (arith, nat_tests) in
-              rw test (ap (λ b. places section column row || (b && more section column row)) same)
-        ])))
-
 -- one section's part is emptied
-pub cleared_next : {P : Type 0} (held : P → ℕ → ℕ → Bool) (now : List P) (index last : ℕ) (empty : P) → index < SECTION_COUNT → length now ≡ SECTION_COUNT
+pub cleared_next : {P : Type 0} (held : P → ℕ → ℕ → Bool) (now : List P) (index last : ℕ) (empty : P)
+    → index < SECTION_COUNT → length now ≡ SECTION_COUNT
     → held empty ≡ nothing_held → LieWithin (held_by_section held now) (index + 1) last
     → LieWithin (held_by_section held (set now index empty)) (index + 1 + 1) last
 cleared_next held now index last empty below all none before section column row is =
     let back : index + 1 - 1 ≡ index = omega arith in
-    let put : held_by_section held (set now index empty) ≡ exchanged (held_by_section held now) (index + 1) (held empty) =
-    ap (λ i. held_by_section held (set now i empty)) (sym back) ∙ held_after held now (index + 1) empty (omega arith, omega arith) all in
-    let there : exchanged (held_by_section held now) (index + 1) (held empty) section column row ≡ true = sym (ap (λ p. p section column row) put) ∙ is in
+    let put : held_by_section held (set now index empty)
+    ≡ exchanged (held_by_section held now) (index + 1) (held empty) =
+    ap (λ i. held_by_section held (set now i empty)) (sym back)
+    ∙ held_after held now (index + 1) empty (omega arith, omega arith) all in
+    let there : exchanged (held_by_section held now) (index + 1) (held empty) section column row ≡ true =
+    sym (ap (λ p. p section column row) put) ∙ is in
     elim (cases_eq (index + 1) section) [
       | inl same ↦
           let test : (index + 1 == section) ≡ true = eq-eqb (index + 1) section same in

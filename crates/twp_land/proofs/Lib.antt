@@ -2,6 +2,8 @@ pub mod BitFacts
 pub mod BlockFacts
 pub mod BlockLaneFacts
 pub mod LandFacts
+pub mod LandRanges
+pub mod JoinedLands
 pub mod JoinFacts
 pub mod LaneFacts
 pub mod LotBlocks

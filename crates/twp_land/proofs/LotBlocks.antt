@@ -1,5 +1,6 @@
 -- Blocks that share a place, and the blocks of lots.
-use Rattle.std.proofs.Common.{◌≡◌, ◌==◌, ℕ, ◌+◌, ◌<◌, ◌≤◌, ◌⊎◌, true, Some, ◌∙◌, arith, ◌/◌, ◌%◌, ◌↔◌, Bool, Option, None, refl, sym, ap, inl, inr, nat_le, nat_lt, is_some, IsSome, IsTrue}
+use Rattle.std.proofs.Common.{◌≡◌, ◌==◌, ℕ, ◌+◌, ◌<◌, ◌≤◌, ◌⊎◌, true, Some, ◌∙◌, arith, ◌/◌, ◌%◌, ◌↔◌, Bool}
+use Rattle.std.proofs.Common.{Option, None, refl, sym, ap, inl, inr, nat_le, nat_lt, is_some, IsSome, IsTrue}
 use Rattle.std.proofs.lemmas.Bool.Decides.{nat_tests}
 use Rattle.twp_grid.specs.Winding.{IsSection}
 use Rattle.twp_grid.specs.Places.{PLACE_DIGITS, is_place, position_along}
@@ -11,7 +12,8 @@ use Rattle.twp_grid.specs.Spans.{Span, in_span, IsDyadic, Rectangle, in_rectangl
 use Rattle.twp_land.specs.Lands.{Meets, block_places, SharePlace}
 
 -- a place of a lot is a place
-pub lot_is_place : (s n c r : ℕ) → IsSection s → lot_of_place PLACE_DIGITS s c r ≡ Some n → is_place PLACE_DIGITS c r ≡ true
+pub lot_is_place : (s n c r : ℕ) → IsSection s → lot_of_place PLACE_DIGITS s c r ≡ Some n
+    → is_place PLACE_DIGITS c r ≡ true
 lot_is_place s n c r range is =
     let there = fills s (position_along PLACE_DIGITS c) (position_along PLACE_DIGITS r) n range is in
     let in-column : position_along PLACE_DIGITS c < 4 = there.in_column in
@@ -26,8 +28,10 @@ record Common (a b : Span) : Type 0 where
 
 common : (a b : Span) → 0 < a.len → 0 < b.len → Cross a b → Common a b
 common a b some some' over = elim (cases_lt a.start b.start) [
-  | inl before ↦ record { at = b.start; in_first = grind (arith, nat_tests); in_second = grind (arith, nat_tests) }
-  | inr behind ↦ record { at = a.start; in_first = grind (arith, nat_tests); in_second = grind (arith, nat_tests) }
+  | inl before ↦
+      record { at = b.start; in_first = grind (arith, nat_tests); in_second = grind (arith, nat_tests) }
+  | inr behind ↦
+      record { at = a.start; in_first = grind (arith, nat_tests); in_second = grind (arith, nat_tests) }
 ]
 
 crossing : (a b : Span) (n : ℕ) → in_span a n ≡ true → in_span b n ≡ true → Cross a b
@@ -42,7 +46,12 @@ pub share_place : (a b : Rectangle) → 0 < a.columns.len → 0 < b.columns.len 
 share_place a b h h' k k' across upward =
     let column = common a.columns b.columns h h' across in
     let row = common a.rows b.rows k k' upward in
-    record { column = column.at; row = row.at; inside = rw (column.in_second, row.in_second) refl; is_held = rw (column.in_first, row.in_first) refl }
+    record {
+      column = column.at;
+      row = row.at;
+      inside = rw (column.in_second, row.in_second) refl;
+      is_held = rw (column.in_first, row.in_first) refl;
+    }
 
 pub sharing : (a b : Rectangle) → Meets (in_rectangle a) b → Cross a.columns b.columns × Cross a.rows b.rows
 sharing a b meets =
@@ -51,11 +60,15 @@ sharing a b meets =
     (crossing a.columns b.columns meets.column x.0 y.0, crossing a.rows b.rows meets.row x.1 y.1)
 
 -- a lot's block holds the places of the lot
-pub in_lot_block : (s n : ℕ) (block : Rectangle) → IsSection s → n ≤ number_of_lots s → block_of (position_of_lot s n) ≡ Some block
-    → (column row : ℕ) → (in_rectangle block column row ≡ true) ↔ (lot_of_place PLACE_DIGITS s column row ≡ Some n)
-in_lot_block s n block range most is column row = (forth (position_of_lot s n) refl is, in_lot s n column row block range is)
+pub in_lot_block : (s n : ℕ) (block : Rectangle) → IsSection s → n ≤ number_of_lots s
+    → block_of (position_of_lot s n) ≡ Some block
+    → (column row : ℕ)
+    → (in_rectangle block column row ≡ true) ↔ (lot_of_place PLACE_DIGITS s column row ≡ Some n)
+in_lot_block s n block range most is column row =
+    (forth (position_of_lot s n) refl is, in_lot s n column row block range is)
   where
-    forth : (position : Option (ℕ × ℕ)) → position_of_lot s n ≡ position → block_of position ≡ Some block → in_rectangle block column row ≡ true → lot_of_place PLACE_DIGITS s column row ≡ Some n
+    forth : (position : Option (ℕ × ℕ)) → position_of_lot s n ≡ position → block_of position ≡ Some block
+        → in_rectangle block column row ≡ true → lot_of_place PLACE_DIGITS s column row ≡ Some n
     forth None is there inside = cc there
     forth (Some (c, r)) is there inside =
         let same : position_block PLACE_DIGITS c r ≡ block = cc there in
@@ -65,7 +78,8 @@ in_lot_block s n block range most is column row = (forth (position_of_lot s n) r
 pub same_section : (n : ℕ) → (n == n) ≡ true
 same_section n = grind (arith, nat_tests)
 
-pub share_of_meets : (places : ℕ → ℕ → ℕ → Bool) (section : ℕ) (block : Rectangle) → Meets (places section) block → SharePlace places (block_places section block)
+pub share_of_meets : (places : ℕ → ℕ → ℕ → Bool) (section : ℕ) (block : Rectangle)
+    → Meets (places section) block → SharePlace places (block_places section block)
 share_of_meets places section block meets = record {
   section = section;
   column = meets.column;
@@ -74,14 +88,22 @@ share_of_meets places section block meets = record {
   in_second = rw (same_section section, meets.inside) refl;
 }
 
-pub meets_of_share : (places : ℕ → ℕ → ℕ → Bool) (section : ℕ) (block : Rectangle) → SharePlace places (block_places section block) → Meets (places section) block
+pub meets_of_share : (places : ℕ → ℕ → ℕ → Bool) (section : ℕ) (block : Rectangle)
+    → SharePlace places (block_places section block) → Meets (places section) block
 meets_of_share places section block shared =
-    let parts = and_parts (section == shared.section) (in_rectangle block shared.column shared.row) shared.in_second in
+    let parts =
+    and_parts (section == shared.section) (in_rectangle block shared.column shared.row) shared.in_second in
     let same : section ≡ shared.section = eqb-true section shared.section parts.0 in
-    record { column = shared.column; row = shared.row; inside = parts.1; is_held = ap (λ s. places s shared.column shared.row) same ∙ shared.in_first }
+    record {
+      column = shared.column;
+      row = shared.row;
+      inside = parts.1;
+      is_held = ap (λ s. places s shared.column shared.row) same ∙ shared.in_first;
+    }
 
 -- a block that shares a place with a lot's block holds a place of the lot
-pub lot_place_of : (s n : ℕ) (lot_block block : Rectangle) → IsSection s → n ≤ number_of_lots s → block_of (position_of_lot s n) ≡ Some lot_block
+pub lot_place_of : (s n : ℕ) (lot_block block : Rectangle) → IsSection s → n ≤ number_of_lots s
+    → block_of (position_of_lot s n) ≡ Some lot_block
     → Meets (in_rectangle lot_block) block → HoldsLotPlace PLACE_DIGITS s block
 lot_place_of s n lot_block block range most is meets =
     let lot = (in_lot_block s n lot_block range most is meets.column meets.row).0 meets.is_held in
@@ -89,14 +111,17 @@ lot_place_of s n lot_block block range most is meets =
 
 -- each lot of a section is looked at
 pub lot_is_below : (s end : ℕ) (block : Rectangle) → IsSection s → number_of_lots s < end
-    → ((lot column row : ℕ) → 1 ≤ lot → lot < end → in_rectangle block column row ≡ true → lot_of_place PLACE_DIGITS s column row ≡ Some lot → ⊥)
+    → ((lot column row : ℕ) → 1 ≤ lot → lot < end → in_rectangle block column row ≡ true
+    → lot_of_place PLACE_DIGITS s column row ≡ Some lot → ⊥)
     → HoldsLotPlace PLACE_DIGITS s block → ⊥
-lot_is_below s end block range all none held = go (lot_of_place PLACE_DIGITS s held.column held.row) refl held.of_lot
+lot_is_below s end block range all none held =
+    go (lot_of_place PLACE_DIGITS s held.column held.row) refl held.of_lot
   where
     go : (lot : Option ℕ) → lot_of_place PLACE_DIGITS s held.column held.row ≡ lot → IsSome lot → ⊥
     go None is some = cc some
     go (Some n) is some =
-        let there = fills s (position_along PLACE_DIGITS held.column) (position_along PLACE_DIGITS held.row) n range is in
+        let there =
+        fills s (position_along PLACE_DIGITS held.column) (position_along PLACE_DIGITS held.row) n range is in
         let most : n ≤ number_of_lots s = there.most in
         none n held.column held.row there.least (omega arith) held.inside is
 
@@ -113,7 +138,8 @@ size_of n some most = elim (cases_lt n 2) [
   ]
 ]
 
-in_position : (n start place : ℕ) → 0 < n → n ≤ 4 → 16 % n ≡ 0 → start % n ≡ 0 → start ≤ place → place < start + n → place / 4 ≡ start / 4
+in_position : (n start place : ℕ) → 0 < n → n ≤ 4 → 16 % n ≡ 0 → start % n ≡ 0 → start ≤ place
+    → place < start + n → place / 4 ≡ start / 4
 in_position n start place some most divides aligned least less = elim (size_of n some most) [
   | inl one ↦ omega arith
   | inr (inl two) ↦ let even : start % 2 ≡ 0 = rw two at aligned in omega arith
@@ -121,16 +147,20 @@ in_position n start place some most divides aligned least less = elim (size_of n
   | inr (inr (inr four)) ↦ let fourth : start % 4 ≡ 0 = rw four at aligned in omega arith
 ]
 
-along_position : (span : Span) (place : ℕ) → IsDyadic PLACE_DIGITS span → span.len ≤ 4 → in_span span place ≡ true → position_along PLACE_DIGITS place ≡ position_along PLACE_DIGITS span.start
+along_position : (span : Span) (place : ℕ) → IsDyadic PLACE_DIGITS span → span.len ≤ 4
+    → in_span span place ≡ true → position_along PLACE_DIGITS place ≡ position_along PLACE_DIGITS span.start
 along_position span place dyadic most inside =
     let both = and_parts (nat_le span.start place) (nat_lt place (span.start + span.len)) inside in
-    in_position span.len span.start place dyadic.some most dyadic.divides dyadic.aligned (grind (arith, nat_tests)) (grind (arith, nat_tests))
+    in_position span.len span.start place dyadic.some most dyadic.divides dyadic.aligned
+    (grind (arith, nat_tests)) (grind (arith, nat_tests))
 
 first_in : (span : Span) → 0 < span.len → in_span span span.start ≡ true
 first_in span some = grind (arith, nat_tests)
 
-pub small_holds : (section : ℕ) (block : Rectangle) → IsDyadic PLACE_DIGITS block.columns → IsDyadic PLACE_DIGITS block.rows → block.columns.len ≤ 4 → block.rows.len ≤ 4
-    → IsTrue (is_some (lot_at_position section (block.columns.start / 4) (block.rows.start / 4))) ↔ HoldsLotPlace PLACE_DIGITS section block
+pub small_holds : (section : ℕ) (block : Rectangle) → IsDyadic PLACE_DIGITS block.columns
+    → IsDyadic PLACE_DIGITS block.rows → block.columns.len ≤ 4 → block.rows.len ≤ 4
+    → IsTrue (is_some (lot_at_position section (block.columns.start / 4) (block.rows.start / 4)))
+    ↔ HoldsLotPlace PLACE_DIGITS section block
 small_holds section block columns rows wide high = (
   λ is. record {
     column = block.columns.start;
@@ -140,8 +170,11 @@ small_holds section block columns rows wide high = (
   },
   λ held.
       let both = and_parts (in_span block.columns held.column) (in_span block.rows held.row) held.inside in
-      let there : lot_of_place PLACE_DIGITS section held.column held.row ≡ lot_at_position section (block.columns.start / 4) (block.rows.start / 4) =
-      ap (λ n. lot_at_position section n (position_along PLACE_DIGITS held.row)) (along_position block.columns held.column columns wide both.0)
-      ∙ ap (λ n. lot_at_position section (block.columns.start / 4) n) (along_position block.rows held.row rows high both.1) in
+      let there : lot_of_place PLACE_DIGITS section held.column held.row
+      ≡ lot_at_position section (block.columns.start / 4) (block.rows.start / 4) =
+      ap (λ n. lot_at_position section n (position_along PLACE_DIGITS held.row))
+      (along_position block.columns held.column columns wide both.0)
+      ∙ ap (λ n. lot_at_position section (block.columns.start / 4) n)
+      (along_position block.rows held.row rows high both.1) in
       ap is_some (sym there) ∙ held.of_lot,
 )

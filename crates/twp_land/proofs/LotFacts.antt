@@ -1,5 +1,6 @@
 -- Lots and the places in them. The finitely many cases of the table are computed.
-use Rattle.std.proofs.Common.{◌≡◌, ◌==◌, ℕ, ◌<◌, ◌≤◌, ◌&&◌, ◌||◌, ◌⊎◌, Bool, true, false, Option, Some, None, ap, refl, sym, ◌∙◌, inl, inr, arith, nat_le, option_map, if◌then◌else◌}
+use Rattle.std.proofs.Common.{◌≡◌, ◌==◌, ℕ, ◌<◌, ◌≤◌, ◌&&◌, ◌||◌, ◌⊎◌, Bool, true, false, Option, Some, None}
+use Rattle.std.proofs.Common.{ap, refl, sym, ◌∙◌, inl, inr, arith, nat_le, option_map, if◌then◌else◌}
 use Rattle.std.specs.Option.{SomeIff}
 use Rattle.std.proofs.lemmas.Bool.{eqb-true, cases_lt}
 use Rattle.std.proofs.lemmas.Bool.Decides.{nat_tests}
@@ -44,18 +45,21 @@ is_lot_tells (Some n') n h = ap (λ k. Some k) (eqb-true n' n h)
 -- the lot at a position fills that position
 abbrev lot_fills : ℕ → ℕ → ℕ → Option ℕ → Bool
 lot_fills s c r None = true
-lot_fills s c r (Some n) = nat_le 1 n && (nat_le n (number_of_lots s) && is_position (position_of_lot s n) c r)
+lot_fills s c r (Some n) =
+    nat_le 1 n && (nat_le n (number_of_lots s) && is_position (position_of_lot s n) c r)
 
 -- the position of a lot has that lot
 abbrev position_has : ℕ → ℕ → Option (ℕ × ℕ) → Bool
 position_has s n None = true
 position_has s n (Some (c, r)) = is_lot (lot_at_position s c r) n
 
-fills_test : each 37 (λ s. each 4 (λ c. each 4 (λ r. (s == 0) || lot_fills s c r (lot_at_position s c r)))) ≡ true
+fills_test : each 37 (λ s. each 4 (λ c. each 4 (λ r. (s == 0) || lot_fills s c r (lot_at_position s c r))))
+    ≡ true
 unfolding each number_of_lots lot_at_position position_of_lot lots
 fills_test = refl
 
-has_test : each 37 (λ s. each 8 (λ n. each 1 (λ z. (s == 0) || position_has s n (position_of_lot s n)))) ≡ true
+has_test : each 37 (λ s. each 8 (λ n. each 1 (λ z. (s == 0) || position_has s n (position_of_lot s n))))
+    ≡ true
 unfolding each lot_at_position position_of_lot lots
 has_test = refl
 
@@ -79,7 +83,11 @@ inside s c r n is = elim (cases_lt c 4) [
 pub fills : (s c r n : ℕ) → IsSection s → lot_at_position s c r ≡ Some n → Fills s c r n
 fills s c r n range is =
     let within = inside s c r n is in
-    let test = either (s == 0) _ (each_of_three 37 4 4 (λ s c r. (s == 0) || lot_fills s c r (lot_at_position s c r)) s c r fills_test (omega (arith, range.1)) within.0 within.1) (a_section s range) in
+    let test =
+    either (s == 0) _
+    (each_of_three 37 4 4 (λ s c r. (s == 0) || lot_fills s c r (lot_at_position s c r)) s c r fills_test
+    (omega (arith, range.1)) within.0 within.1)
+    (a_section s range) in
     let there : lot_fills s c r (Some n) ≡ true = rw is at test in
     let first = both (nat_le 1 n) _ there in
     let second = both (nat_le n (number_of_lots s)) _ first.1 in
@@ -102,28 +110,40 @@ few_lots s range = rw (lot_count_is s range) (few (nat_le s 6) (is_western_numbe
     few false false = omega arith
 
 -- the position of a lot has that lot
-pub has_lot : (s n c r : ℕ) → IsSection s → n ≤ number_of_lots s → position_of_lot s n ≡ Some (c, r) → lot_at_position s c r ≡ Some n
+pub has_lot : (s n c r : ℕ) → IsSection s → n ≤ number_of_lots s → position_of_lot s n ≡ Some (c, r)
+    → lot_at_position s c r ≡ Some n
 has_lot s n c r range most is =
     let few = few_lots s range in
-    let test = either (s == 0) _ (each_of_three 37 8 1 (λ s n z. (s == 0) || position_has s n (position_of_lot s n)) s n 0 has_test (omega (arith, range.1)) (omega arith) (omega arith)) (a_section s range) in
+    let test =
+    either (s == 0) _
+    (each_of_three 37 8 1 (λ s n z. (s == 0) || position_has s n (position_of_lot s n)) s n 0 has_test
+    (omega (arith, range.1)) (omega arith) (omega arith))
+    (a_section s range) in
     let there : position_has s n (Some (c, r)) ≡ true = rw is at test in
     is_lot_tells _ n there
 
 -- a place lies in its position
-pub in_own_position : (column row : ℕ) → in_rectangle (position_block PLACE_DIGITS (position_along PLACE_DIGITS column) (position_along PLACE_DIGITS row)) column row ≡ true
+pub in_own_position : (column row : ℕ)
+    → in_rectangle
+    (position_block PLACE_DIGITS (position_along PLACE_DIGITS column) (position_along PLACE_DIGITS row))
+    column row
+    ≡ true
 in_own_position column row = rw (along column, along row) refl
   where
-    along : (place : ℕ) → in_span (position_span PLACE_DIGITS (position_along PLACE_DIGITS place)) place ≡ true
+    along : (place : ℕ)
+        → in_span (position_span PLACE_DIGITS (position_along PLACE_DIGITS place)) place ≡ true
     along place = grind (arith, nat_tests)
 
 -- a place of a position lies in no other
-pub position_of_inside : (c r column row : ℕ) → in_rectangle (position_block PLACE_DIGITS c r) column row ≡ true
+pub position_of_inside : (c r column row : ℕ)
+    → in_rectangle (position_block PLACE_DIGITS c r) column row ≡ true
     → (position_along PLACE_DIGITS column ≡ c) × (position_along PLACE_DIGITS row ≡ r)
 position_of_inside c r column row is =
     let parts = both (in_span (position_span PLACE_DIGITS c) column) _ is in
     (along c column parts.0, along r row parts.1)
   where
-    along : (position place : ℕ) → in_span (position_span PLACE_DIGITS position) place ≡ true → position_along PLACE_DIGITS place ≡ position
+    along : (position place : ℕ) → in_span (position_span PLACE_DIGITS position) place ≡ true
+        → position_along PLACE_DIGITS place ≡ position
     along position place there = grind (arith, nat_tests)
 
 -- the positions' blocks of the positions
@@ -131,31 +151,54 @@ abbrev pub block_of : Option (ℕ × ℕ) → Option Rectangle
 block_of position = option_map (λ (column, row). position_block PLACE_DIGITS column row) position
 
 -- a place of a lot lies in the lot's block
-pub in_lot : (s n column row : ℕ) (block : Rectangle) → IsSection s → block_of (position_of_lot s n) ≡ Some block
+pub in_lot : (s n column row : ℕ) (block : Rectangle) → IsSection s
+    → block_of (position_of_lot s n) ≡ Some block
     → lot_of_place PLACE_DIGITS s column row ≡ Some n → in_rectangle block column row ≡ true
 in_lot s n column row block range is lot =
     let there = fills s (position_along PLACE_DIGITS column) (position_along PLACE_DIGITS row) n range lot in
-    let same : Some (position_block PLACE_DIGITS (position_along PLACE_DIGITS column) (position_along PLACE_DIGITS row)) ≡ Some block = rw there.position at is in
-    let equal : position_block PLACE_DIGITS (position_along PLACE_DIGITS column) (position_along PLACE_DIGITS row) ≡ block = cc in
+    let same : Some
+    (position_block PLACE_DIGITS (position_along PLACE_DIGITS column) (position_along PLACE_DIGITS row))
+    ≡ Some block = rw there.position at is in
+    let equal : position_block PLACE_DIGITS (position_along PLACE_DIGITS column)
+    (position_along PLACE_DIGITS row)
+    ≡ block = cc in
     rw (← equal) (in_own_position column row)
 
 -- a lot's block that is full, or that the land doesn't meet
-pub whole_of_block : (s n : ℕ) (held : ℕ → ℕ → Bool) (block : Rectangle) → IsSection s → block_of (position_of_lot s n) ≡ Some block
+pub whole_of_block : (s n : ℕ) (held : ℕ → ℕ → Bool) (block : Rectangle) → IsSection s
+    → block_of (position_of_lot s n) ≡ Some block
     → (Meets held block → HoldsAll held block) → IsWholeOrNot PLACE_DIGITS s n held
-whole_of_block s n held block range is whole = record { alike = λ column row column' row' lot lot'. go column row column' row' lot lot' (cases_bool (held column row)) (cases_bool (held column' row')) }
+whole_of_block s n held block range is whole = record {
+  alike = λ column row column' row' lot lot'.
+      go column row column' row' lot lot' (cases_bool (held column row)) (cases_bool (held column' row'));
+}
   where
-    meets : (column row : ℕ) → lot_of_place PLACE_DIGITS s column row ≡ Some n → held column row ≡ true → Meets held block
-    meets column row lot there = record { column = column; row = row; inside = in_lot s n column row block range is lot; is_held = there }
+    meets : (column row : ℕ) → lot_of_place PLACE_DIGITS s column row ≡ Some n → held column row ≡ true
+        → Meets held block
+    meets column row lot there = record {
+      column = column;
+      row = row;
+      inside = in_lot s n column row block range is lot;
+      is_held = there;
+    }
 
-    go : (column row column' row' : ℕ) → lot_of_place PLACE_DIGITS s column row ≡ Some n → lot_of_place PLACE_DIGITS s column' row' ≡ Some n
-        → (held column row ≡ true) ⊎ (held column row ≡ false) → (held column' row' ≡ true) ⊎ (held column' row' ≡ false) → held column row ≡ held column' row'
-    go column row column' row' lot lot' (inl there) other = there ∙ sym (whole (meets column row lot there) column' row' (in_lot s n column' row' block range is lot'))
-    go column row column' row' lot lot' (inr not) (inl there) = whole (meets column' row' lot' there) column row (in_lot s n column row block range is lot) ∙ sym there
+    go : (column row column' row' : ℕ) → lot_of_place PLACE_DIGITS s column row ≡ Some n
+        → lot_of_place PLACE_DIGITS s column' row' ≡ Some n
+        → (held column row ≡ true) ⊎ (held column row ≡ false)
+        → (held column' row' ≡ true) ⊎ (held column' row' ≡ false) → held column row ≡ held column' row'
+    go column row column' row' lot lot' (inl there) other =
+        there
+        ∙ sym (whole (meets column row lot there) column' row' (in_lot s n column' row' block range is lot'))
+    go column row column' row' lot lot' (inr not) (inl there) =
+        whole (meets column' row' lot' there) column row (in_lot s n column row block range is lot)
+        ∙ sym there
     go column row column' row' lot lot' (inr not) (inr not') = not ∙ sym not'
 
 -- the lot of a place in its block
-pub lot_inside : (s n c r column row : ℕ) → IsSection s → n ≤ number_of_lots s → position_of_lot s n ≡ Some (c, r)
-    → in_rectangle (position_block PLACE_DIGITS c r) column row ≡ true → lot_of_place PLACE_DIGITS s column row ≡ Some n
+pub lot_inside : (s n c r column row : ℕ) → IsSection s → n ≤ number_of_lots s
+    → position_of_lot s n ≡ Some (c, r)
+    → in_rectangle (position_block PLACE_DIGITS c r) column row ≡ true
+    → lot_of_place PLACE_DIGITS s column row ≡ Some n
 lot_inside s n c r column row range most position inside =
     let at = position_of_inside c r column row inside in
     let e : position_along PLACE_DIGITS column ≡ c = at.0 in
@@ -163,23 +206,40 @@ lot_inside s n c r column row range most position inside =
     rw (e, e') (has_lot s n c r range most position)
 
 -- the block of a lot that is held whole or not at all
-pub block_of_whole : (s n : ℕ) (held : ℕ → ℕ → Bool) (block : Rectangle) (position : Option (ℕ × ℕ)) → IsSection s → n ≤ number_of_lots s
-    → position_of_lot s n ≡ position → block_of position ≡ Some block → IsWholeOrNot PLACE_DIGITS s n held → Meets held block → HoldsAll held block
+pub block_of_whole : (s n : ℕ) (held : ℕ → ℕ → Bool) (block : Rectangle) (position : Option (ℕ × ℕ))
+    → IsSection s → n ≤ number_of_lots s
+    → position_of_lot s n ≡ position → block_of position ≡ Some block → IsWholeOrNot PLACE_DIGITS s n held
+    → Meets held block → HoldsAll held block
 block_of_whole s n held block None range most is there whole meets = cc there
 block_of_whole s n held block (Some (c, r)) range most is there whole meets =
     let same : position_block PLACE_DIGITS c r ≡ block = cc there in
-    let first : in_rectangle (position_block PLACE_DIGITS c r) meets.column meets.row ≡ true = ap (λ b. in_rectangle b meets.column meets.row) same ∙ meets.inside in
-    λ column row inside. let second : in_rectangle (position_block PLACE_DIGITS c r) column row ≡ true = ap (λ b. in_rectangle b column row) same ∙ inside in
-    whole.alike column row meets.column meets.row (lot_inside s n c r column row range most is second) (lot_inside s n c r meets.column meets.row range most is first) ∙ meets.is_held
+    let first : in_rectangle (position_block PLACE_DIGITS c r) meets.column meets.row ≡ true =
+    ap (λ b. in_rectangle b meets.column meets.row) same ∙ meets.inside in
+    λ column row inside.
+    let second : in_rectangle (position_block PLACE_DIGITS c r) column row ≡ true =
+    ap (λ b. in_rectangle b column row) same ∙ inside in
+    whole.alike column row meets.column meets.row (lot_inside s n c r column row range most is second)
+    (lot_inside s n c r meets.column meets.row range most is first)
+    ∙ meets.is_held
 
 -- no lot has number 0, or one over their count
-pub no_such_lot : (s n : ℕ) (held : ℕ → ℕ → Bool) → IsSection s → (n < 1) ⊎ (number_of_lots s < n) → IsWholeOrNot PLACE_DIGITS s n held
-no_such_lot s n held range out = record { alike = λ column row column' row' lot lot'. absurd (none column row lot out) }
+pub no_such_lot : (s n : ℕ) (held : ℕ → ℕ → Bool) → IsSection s → (n < 1) ⊎ (number_of_lots s < n)
+    → IsWholeOrNot PLACE_DIGITS s n held
+no_such_lot s n held range out =
+    record { alike = λ column row column' row' lot lot'. absurd (none column row lot out) }
   where
-    none : (column row : ℕ) → lot_of_place PLACE_DIGITS s column row ≡ Some n → (n < 1) ⊎ (number_of_lots s < n) → ⊥
-    none column row lot (inl below) = let there = fills s (position_along PLACE_DIGITS column) (position_along PLACE_DIGITS row) n range lot in omega (arith, there.least)
-    none column row lot (inr above) = let there = fills s (position_along PLACE_DIGITS column) (position_along PLACE_DIGITS row) n range lot in omega (arith, there.most)
+    none : (column row : ℕ) → lot_of_place PLACE_DIGITS s column row ≡ Some n
+        → (n < 1) ⊎ (number_of_lots s < n) → ⊥
+    none column row lot (inl below) =
+        let there =
+        fills s (position_along PLACE_DIGITS column) (position_along PLACE_DIGITS row) n range lot in
+        omega (arith, there.least)
+    none column row lot (inr above) =
+        let there =
+        fills s (position_along PLACE_DIGITS column) (position_along PLACE_DIGITS row) n range lot in
+        omega (arith, there.most)
 
 -- the section of a number has this number
-pub section_is : (number section : ℕ) (found : Option ℕ) → SomeIff found (IsSection number) number → found ≡ Some section → section ≡ number
+pub section_is : (number section : ℕ) (found : Option ℕ) → SomeIff found (IsSection number) number
+    → found ≡ Some section → section ≡ number
 section_is number section found is there = (rw there at is).1

@@ -12,16 +12,19 @@ use Rattle.twp_measure.specs.LengthTexts.{point, place_of_point, before_point, b
 use Rattle.twp_measure.specs.LengthTexts.{fraction_of, IsLengthText}
 
 -- a digit is no point
-not_point : (digits : List ℕ) (k : ℕ) → AllDigits 10 digits → k < length digits → (get_or digits k 0 == point) ≡ false
+not_point : (digits : List ℕ) (k : ℕ) → AllDigits 10 digits → k < length digits
+    → (get_or digits k 0 == point) ≡ false
 not_point digits k all in_range =
     let range : IsInRange 48 57 (get_or digits k 0) = digit_at digits k all in_range in
     ne_eqb (get_or digits k 0) point (λ same. absurd (omega arith))
 
 pub place_in_digits : (digits : List ℕ) → AllDigits 10 digits → place_of_point digits ≡ length digits
 place_in_digits digits all =
-    position_or_len_is (λ byte. byte == point) digits (length digits) 0 (omega arith) (λ k below. not_point digits k all below) (λ over. absurd (omega arith))
+    position_or_len_is (λ byte. byte == point) digits (length digits) 0 (omega arith)
+    (λ k below. not_point digits k all below) (λ over. absurd (omega arith))
 
-pub place_after_digits : (whole decimals : List ℕ) → AllDigits 10 whole → place_of_point (whole ++ point ∷ decimals) ≡ length whole
+pub place_after_digits : (whole decimals : List ℕ) → AllDigits 10 whole
+    → place_of_point (whole ++ point ∷ decimals) ≡ length whole
 place_after_digits whole decimals all =
     position_or_len_is (λ byte. byte == point) (whole ++ point ∷ decimals) (length whole) 0
     (rw (length-append whole (point ∷ decimals)) (omega arith))
@@ -37,7 +40,8 @@ pub record HasParts (text : List ℕ) (v : ℕ) : Type 0 where
   pub whole : IsNumeral 10 (before_point text)
   pub few : length (before_point text) ≤ 2
   pub rest : ((place_of_point text ≡ length text) × (v ≡ 1000 * digits_value 10 (before_point text)))
-      ⊎ ((place_of_point text < length text) × IsNumeral 10 (behind_point text) × (length (behind_point text) ≤ 3)
+      ⊎ ((place_of_point text < length text) × IsNumeral 10 (behind_point text)
+      × (length (behind_point text) ≤ 3)
       × (v ≡ 1000 * digits_value 10 (before_point text) + fraction_of (behind_point text)))
 
 pub parts_of : (text : List ℕ) (v : ℕ) → IsLengthText text v → HasParts text v
@@ -51,12 +55,18 @@ parts_of text v (inl (chains, is, value)) =
     }
 parts_of text v (inr p) =
     let here = p.whole ++ point ∷ p.decimals in
-    let place : place_of_point here ≡ length p.whole = place_after_digits p.whole p.decimals p.before.numeral.1 in
-    let before : before_point here ≡ p.whole = rw place (take_at p.whole (point ∷ p.decimals) (length p.whole) refl) in
+    let place : place_of_point here ≡ length p.whole =
+    place_after_digits p.whole p.decimals p.before.numeral.1 in
+    let before : before_point here ≡ p.whole =
+    rw place (take_at p.whole (point ∷ p.decimals) (length p.whole) refl) in
     let behind : behind_point here ≡ p.decimals = rw place (one_past p.whole p.decimals point) in
-    let long : length here ≡ length p.whole + (1 + length p.decimals) = rw (length-append p.whole (point ∷ p.decimals)) (omega arith) in
+    let long : length here ≡ length p.whole + (1 + length p.decimals) =
+    rw (length-append p.whole (point ∷ p.decimals)) (omega arith) in
     let value : v ≡ 1000 * digits_value 10 (before_point here) + fraction_of (behind_point here) =
-    rw (before, behind) (p.value ∙ ap (λ n. 1000 * n + p.thousandths) p.before.value ∙ ap (λ n. 1000 * digits_value 10 p.whole + n) p.behind.value) in
+    rw (before, behind)
+    (p.value
+    ∙ ap (λ n. 1000 * n + p.thousandths) p.before.value
+    ∙ ap (λ n. 1000 * digits_value 10 p.whole + n) p.behind.value) in
     let parts : HasParts here v = record {
       whole = rw before p.before.numeral;
       few = rw before p.before.places;
@@ -81,7 +91,10 @@ text_of_parts text v parts = elim parts.rest [
         thousandths = fraction_of (behind_point text);
         before = record { numeral = parts.whole; places = parts.few; value = refl };
         behind = record { numeral = numeral; places = places; value = refl };
-        text_is = split_at_first (λ byte. byte == point) text 0 place ∙ ap (λ b. before_point text ++ b ∷ behind_point text) (eqb-true _ _ (passes_at_first (λ byte. byte == point) text 0 place));
+        text_is =
+            split_at_first (λ byte. byte == point) text 0 place
+            ∙ ap (λ b. before_point text ++ b ∷ behind_point text)
+            (eqb-true _ _ (passes_at_first (λ byte. byte == point) text 0 place));
         value = value;
       })
 ]

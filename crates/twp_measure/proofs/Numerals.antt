@@ -33,11 +33,13 @@ pub record OneMoreDigit (digits : List ℕ) (i v : ℕ) : Type 0 where
   pub value : 10 * v + (get_or digits i 0 - 48) ≡ digits_value 10 (take (i + 1) digits)
   pub bound : 10 * v + (get_or digits i 0 - 48) < 10 ^ (i + 1)
 
-pub one_more_digit : (digits : List ℕ) (i v : ℕ) → AllDigits 10 digits → i < length digits → v ≡ digits_value 10 (take i digits) → v < 10 ^ i → OneMoreDigit digits i v
+pub one_more_digit : (digits : List ℕ) (i v : ℕ) → AllDigits 10 digits → i < length digits
+    → v ≡ digits_value 10 (take i digits) → v < 10 ^ i → OneMoreDigit digits i v
 one_more_digit digits i v all in_range is small =
     let digit = get_or digits i 0 in
     let range : IsInRange 48 57 digit = digit_at digits i all in_range in
     let worth : digit_value digit + 48 ≡ digit = digit_value_digit digit range in
-    let more = ap (digits_value 10) (take_more digits i 0 in_range) ∙ digits_value_push 10 (take i digits) digit in
+    let more =
+    ap (digits_value 10) (take_more digits i 0 in_range) ∙ digits_value_push 10 (take i digits) digit in
     let power : 10 ^ (i + 1) ≡ 10 ^ i * 10 = rw add-one (pow-suc 10 i) in
     record { byte = omega arith; value = omega arith; bound = omega arith }

@@ -53,7 +53,8 @@ bounds : (area : Fraction) (h more : ℕ) → IsRounded area h → Reaches area 
 bounds area h more is reached =
     bound_by h more (2 * area.units) (100000 * area.over) is.most (rw (regrouped more area.over) at reached)
 
-greatest_is : (area : Fraction) (h : ℕ) → Reaches area h → ((more : ℕ) → Reaches area more → more ≤ h) → IsRounded area h
+greatest_is : (area : Fraction) (h : ℕ) → Reaches area h → ((more : ℕ) → Reaches area more → more ≤ h)
+    → IsRounded area h
 greatest_is area h reached greatest = record {
   least = least_by h (2 * area.units) (100000 * area.over) (rw (regrouped h area.over) at reached);
   most = elim (cases_lt (2 * area.units) (2 * h * (100000 * area.over) + 100000 * area.over)) [
@@ -67,7 +68,8 @@ greatest_is area h reached greatest = record {
 }
 
 -- the rounding is the greatest number that the area reaches
-pub rounding_is_greatest : (area : Fraction) (h : ℕ) → IsRounded area h ↔ (Reaches area h × ((more : ℕ) → Reaches area more → more ≤ h))
+pub rounding_is_greatest : (area : Fraction) (h : ℕ)
+    → IsRounded area h ↔ (Reaches area h × ((more : ℕ) → Reaches area more → more ≤ h))
 rounding_is_greatest area h =
     (λ is. (reaches area h is, λ more. bounds area h more is), λ is. greatest_is area h is.0 is.1)
 

@@ -10,7 +10,8 @@ use Rattle.twp_measure.specs.LengthTexts.{IsDecimals, IsLengthText}
 
 digit_value-byte : (digit : ℕ) → digit < 10 → digit_value (digit_byte digit) ≡ digit
 digit_value-byte digit small =
-    let worth : digit_value (digit_byte digit) + 48 ≡ digit_byte digit = digit_value_digit (digit_byte digit) (omega arith) in
+    let worth : digit_value (digit_byte digit) + 48 ≡ digit_byte digit =
+    digit_value_digit (digit_byte digit) (omega arith) in
     omega arith
 
 -- two decimals, or three
@@ -18,22 +19,38 @@ two_decimals : (a b : ℕ) → a < 10 → b < 10 → IsDecimals (digit_byte a �
 two_decimals a b small-a small-b =
     let first : digit_value (digit_byte a) ≡ a = digit_value-byte a small-a in
     let second : digit_value (digit_byte b) ≡ b = digit_value-byte b small-b in
-    record { numeral = (omega arith, (omega arith, (omega arith, tt))); places = omega arith; value = omega arith }
+    record {
+      numeral = (omega arith, (omega arith, (omega arith, tt)));
+      places = omega arith;
+      value = omega arith;
+    }
 
-three_decimals : (a b c : ℕ) → a < 10 → b < 10 → c < 10 → IsDecimals (digit_byte a ∷ digit_byte b ∷ digit_byte c ∷ []) (100 * a + 10 * b + c)
+three_decimals : (a b c : ℕ) → a < 10 → b < 10 → c < 10
+    → IsDecimals (digit_byte a ∷ digit_byte b ∷ digit_byte c ∷ []) (100 * a + 10 * b + c)
 three_decimals a b c small-a small-b small-c =
     let first : digit_value (digit_byte a) ≡ a = digit_value-byte a small-a in
     let second : digit_value (digit_byte b) ≡ b = digit_value-byte b small-b in
     let third : digit_value (digit_byte c) ≡ c = digit_value-byte c small-c in
-    record { numeral = (omega arith, (omega arith, (omega arith, (omega arith, tt)))); places = omega arith; value = omega arith }
+    record {
+      numeral = (omega arith, (omega arith, (omega arith, (omega arith, tt))));
+      places = omega arith;
+      value = omega arith;
+    }
 
 whole_chains : (chains : ℕ) → chains < 100 → IsShortNumber (decimal chains) chains
 whole_chains chains small =
     let numeral = decimal_is_IsNumeral chains (omega arith) in
-    record { numeral = numeral.0; places = length-decimal-le 2 chains (omega arith) small (omega arith); value = sym numeral.1 }
+    record {
+      numeral = numeral.0;
+      places = length-decimal-le 2 chains (omega arith) small (omega arith);
+      value = sym numeral.1;
+    }
 
 written_by : (v : ℕ) (third : Bool) → IsLength v → (v % 10 == 0) ≡ third
-    → IsLengthText (decimal (v / 1000) ++ point ∷ digit_byte (v / 100 % 10) ∷ digit_byte (v / 10 % 10) ∷ (if third then [] else digit_byte (v % 10) ∷ [])) v
+    → IsLengthText
+    (decimal (v / 1000) ++ point ∷ digit_byte (v / 100 % 10) ∷ digit_byte (v / 10 % 10)
+    ∷ (if third then [] else digit_byte (v % 10) ∷ []))
+    v
 written_by v true bound none =
     let zero_third : v % 10 ≡ 0 = eqb-true _ _ none in
     inr (record {

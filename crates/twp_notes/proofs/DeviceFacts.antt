@@ -8,7 +8,8 @@ use Rattle.std.proofs.KnownBytes.{Consumes-trans}
 use Rattle.twp_grid.specs.Devices.{Tells, TakesAtMost}
 
 -- what was read and what is left are the bytes of the source
-pub tells_read : (old new : Option (List ℕ)) (read : List ℕ) → Consumes old new read → Tells old (read ++ unwrap_or new [])
+pub tells_read : (old new : Option (List ℕ)) (read : List ℕ) → Consumes old new read
+    → Tells old (read ++ unwrap_or new [])
 tells_read None new read h = tt
 tells_read (Some xs) None read h = absurd h
 tells_read (Some xs) (Some ys) read h = h
@@ -21,15 +22,20 @@ none_left (Some ys) h = h
 pub read_most : (read rest : List ℕ) (most : ℕ) → length read ≡ most → read ≡ take most (read ++ rest)
 read_most read rest most long = sym (take_at read rest most long)
 
-pub read_end : (read : List ℕ) (new : Option (List ℕ)) (most : ℕ) → IsAtEnd new → length read ≤ most → read ≡ take most (read ++ unwrap_or new [])
+pub read_end : (read : List ℕ) (new : Option (List ℕ)) (most : ℕ) → IsAtEnd new → length read ≤ most
+    → read ≡ take most (read ++ unwrap_or new [])
 read_end read new most end within = rw (none_left new end, append-nil read) (sym (take_all most read within))
 
 -- the pieces that were taken, with the last one, are within what is asked for
-pub most_taken : (old mid new : Option (List ℕ)) (read piece : List ℕ) (count room most : ℕ) → Consumes old mid read → Consumes mid new (take count piece)
+pub most_taken : (old mid new : Option (List ℕ)) (read piece : List ℕ) (count room most : ℕ)
+    → Consumes old mid read → Consumes mid new (take count piece)
     → count ≤ room → length read + room ≤ most → TakesAtMost old new most
 most_taken old mid new read piece count room most before more within fits =
-    let short : length (take count piece) ≤ count = rw (length-take count piece) (omega arith) in
-    (read ++ take count piece, Consumes-trans old mid new read (take count piece) before more, rw (length-append read (take count piece)) (omega arith))
+    let short : length (take count piece) ≤ count = rw (length-take count piece) (omega arith) in (
+      read ++ take count piece,
+      Consumes-trans old mid new read (take count piece) before more,
+      rw (length-append read (take count piece)) (omega arith),
+    )
 
 -- a source has bytes, told or not
 pub tells_some : (known : Option (List ℕ)) → Tells known (unwrap_or known [])

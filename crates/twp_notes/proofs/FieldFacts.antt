@@ -29,11 +29,17 @@ pub record IsTwoDigits (text : List ℕ) : Type 0 where
 pub two_digits : (text : List ℕ) → length text ≡ 2 → IsTwoDigits text
 two_digits [] h = absurd (omega arith)
 two_digits (a ∷ []) h = absurd (omega arith)
-two_digits (a ∷ b ∷ []) h = record { first = λ all. all.0; second = λ all. all.1.0; all = λ is is'. (is, (is', tt)); value = omega arith }
+two_digits (a ∷ b ∷ []) h = record {
+  first = λ all. all.0;
+  second = λ all. all.1.0;
+  all = λ is is'. (is, (is', tt));
+  value = omega arith;
+}
 two_digits (a ∷ b ∷ c ∷ rest) h = absurd (omega arith)
 
 -- a record of five fields
-pub five_fields : (fields : Fields) → length fields ≡ 5 → fields ≡ field fields 0 ∷ field fields 1 ∷ field fields 2 ∷ field fields 3 ∷ field fields 4 ∷ []
+pub five_fields : (fields : Fields) → length fields ≡ 5
+    → fields ≡ field fields 0 ∷ field fields 1 ∷ field fields 2 ∷ field fields 3 ∷ field fields 4 ∷ []
 five_fields [] h = absurd (omega arith)
 five_fields (a ∷ []) h = absurd (omega arith)
 five_fields (a ∷ b ∷ []) h = absurd (omega arith)

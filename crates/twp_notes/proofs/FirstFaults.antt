@@ -1,20 +1,15 @@
 -- The first fault of notes whose records were looked at one after another.
-use Rattle.std.proofs.Common.{◌≡◌, ◌≢◌, ◌⊎◌, ℕ, ◌+◌, ◌-◌, ◌≤◌, ◌<◌, List, ◌∷◌, length, inl, inr}
-use Rattle.std.proofs.Common.{suc, Option, Some, None, IsSome, IfSome, Err, refl, ap, subst, sym}
-use Rattle.std.proofs.Common.{◌∙◌, arith}
+use Rattle.std.proofs.Common.{◌≡◌, ◌≢◌, ◌⊎◌, ℕ, ◌+◌, ◌≤◌, ◌<◌, List, length, inl, inr, suc, Option, Some}
+use Rattle.std.proofs.Common.{None, IsSome, IfSome, Err, refl, ap, subst, sym, ◌∙◌, arith}
 use Rattle.std.proofs.lemmas.Bool.{cases_lt, cases_eq}
 use Rattle.std.specs.Prelude.{slice_index_or}
 use Rattle.std.proofs.lemmas.List.{get_or_past}
 use Rattle.twp_grid.specs.Lines.{LINE_COUNT, IsLine}
-use Rattle.twp_grid.specs.Townships.{Designation}
 use Rattle.twp_notes.specs.Records.{Fields, records_of, record_at, record_numbered}
-use Rattle.twp_notes.specs.FieldNotes.{NOTES_MOST, FIELDS, heading, IsTownshipRecord, IsLineNumber}
-use Rattle.twp_notes.specs.FieldNotes.{IsNamed, NamesLine, AreNotes, nothing_returned}
+use Rattle.twp_notes.specs.FieldNotes.{FIELDS, IsLineNumber, IsNamed, NamesLine, AreNotes, nothing_returned}
 use Rattle.twp_notes.specs.NotesFaults.{HasNoRun, HasNoSection, NamesNoLine, HasNoLength, HasOnLine}
-use Rattle.twp_notes.specs.NotesFaults.{IsRepeated, HasFault, IsFrom, IsFirstFault, AnswersNotes}
-use Rattle.twp_notes.specs.NotesFaults.{refusal_of}
-use Rattle.twp_notes.specs.Tables.{entry_of, AreEntries, IsTaken, IsNamedBy, AreTaken}
-use Rattle.twp_notes.specs.Tables.{IsLeastMissing}
+use Rattle.twp_notes.specs.NotesFaults.{IsRepeated, HasFault, IsFrom, IsFirstFault, AnswersNotes, refusal_of}
+use Rattle.twp_notes.specs.Tables.{entry_of, AreEntries, IsTaken, IsNamedBy, AreTaken, IsLeastMissing}
 use Rattle.twp_notes.specs.LineFaults.{IsRefusedNext, IsRefusedAfter}
 use Rattle.twp_notes.specs.declared.fault.NotesFault.{NotesFault}
 use Rattle.twp_notes.specs.declared.fault.NotesFault.TheVariants as fault
@@ -24,60 +19,7 @@ use Rattle.twp_notes.specs.declared.reading.ReadFault.TheVariants as reading
 use Rattle.twp_notes.specs.declared.returned.Returned.{Returned}
 use Rattle.twp_notes.proofs.NameFacts.{names_one, has_run, has_section}
 use Rattle.twp_notes.proofs.FieldFacts.{has_lengths}
-
--- the bytes are few enough, and behind the heading and the township's record stand these
-pub record AreBehind (bytes : List ℕ) (rows : List Fields) : Type 0 where
-  pub size : length bytes ≤ NOTES_MOST
-  pub first : Fields
-  pub second : Fields
-  pub township : Designation
-  pub split : records_of bytes ≡ first ∷ second ∷ rows
-  pub heading_is : first ≡ heading
-  pub township_is : IsTownshipRecord second township
-
--- the first two records were read, and are right
-abbrev pub behind_of : (bytes : List ℕ) (first second : Fields) (start after rest : List Fields) (township : Designation) → length bytes ≤ NOTES_MOST → start ≡ records_of bytes
-    → start ≡ first ∷ after → after ≡ second ∷ rest → first ≡ heading → IsTownshipRecord second township → AreBehind bytes rest
-behind_of bytes first second start after rest township size all one two heading_is township_is = record {
-  size = size;
-  first = first;
-  second = second;
-  township = township;
-  split = sym all ∙ one ∙ ap (λ (more : List Fields). first ∷ more) two;
-  heading_is = heading_is;
-  township_is = township_is;
-}
-
--- a line's record by its place behind the first two
-pub record IsPlaced (bytes : List ℕ) (rows : List Fields) (number : ℕ) : Type 0 where
-  pub place : ℕ
-  pub number_is : number ≡ place + 3
-  pub within : place < length rows
-  pub is : record_numbered (records_of bytes) number ≡ record_at rows place
-
-numbered : (first second : Fields) (rows : List Fields) (place : ℕ) → record_numbered (first ∷ second ∷ rows) (place + 3) ≡ record_at rows place
-numbered first second rows place =
-    let e : place + 3 - 1 ≡ suc (suc place) = omega arith in
-    rw e refl
-
-pub placed : (bytes : List ℕ) (rows : List Fields) (number : ℕ) → AreBehind bytes rows → IsLineNumber (records_of bytes) number → IsPlaced bytes rows number
-placed bytes rows number behind is =
-    let long : length (records_of bytes) ≡ suc (suc (length rows)) = ap length behind.split in
-    let from : 3 ≤ number = is.0 in
-    let to : number ≤ length (records_of bytes) = is.1 in
-    let e : number ≡ number - 3 + 3 = omega arith in
-    record {
-      place = number - 3;
-      number_is = e;
-      within = omega arith;
-      is = rw behind.split (subst (λ n. record_numbered (behind.first ∷ behind.second ∷ rows) n ≡ record_at rows (number - 3)) (sym e) (numbered behind.first behind.second rows (number - 3)));
-    }
-
--- the place of a line's record is that of its number
-on_line : (Bad : Fields → Type 0) (bytes : List ℕ) (rows : List Fields) (place : ℕ) → AreBehind bytes rows → place < length rows → Bad (record_at rows place) → HasOnLine bytes (place + 3) Bad
-on_line Bad bytes rows place behind within bad =
-    let long : length (records_of bytes) ≡ suc (suc (length rows)) = ap length behind.split in
-    ((omega arith, omega arith), rw behind.split (subst Bad (sym (numbered behind.first behind.second rows place)) bad))
+use Rattle.twp_notes.proofs.RecordPlaces.{AreBehind, IsPlaced, placed, on_line}
 
 -- a place behind this one, or this one with a number that isn't less
 abbrev IsBehind : ℕ → ℕ → ℕ → ℕ → Type 0
@@ -86,7 +28,8 @@ IsBehind place number at own =
     (once < once) ⊎ ((once ≡ once) × (place < at)) ⊎ ((once ≡ once) × (place ≡ at) × (number ≤ own))
 
 -- a fault that none of the records so far has, nor the next one where it comes before `number`
-from_here : (Bad : Fields → Type 0) (bytes : List ℕ) (rows : List Fields) (count number own at : ℕ) → AreBehind bytes rows
+from_here : (Bad : Fields → Type 0) (bytes : List ℕ) (rows : List Fields) (count number own at : ℕ)
+    → AreBehind bytes rows
     → ((place : ℕ) → place < count → Bad (record_at rows place) → ⊥)
     → (own < number → Bad (record_at rows count) → ⊥)
     → HasOnLine bytes at Bad → IsBehind (count + 3) number at own
@@ -113,12 +56,16 @@ pub record IsGoodBefore (fields : Fields) (number : ℕ) : Type 0 where
   pub lengths : 9 < number → HasNoLength fields → ⊥
 
 -- a record that was taken down before is of no other's line
-not_repeated : (bytes : List ℕ) (rows : List Fields) (count number at : ℕ) (table : List (Option Returned)) → AreBehind bytes rows → AreTaken rows count table → number ≤ 10
-    → IsLineNumber (records_of bytes) at → IsRepeated (records_of bytes) at → IsBehind (count + 3) number at 10
+not_repeated : (bytes : List ℕ) (rows : List Fields) (count number at : ℕ) (table : List (Option Returned))
+    → AreBehind bytes rows → AreTaken rows count table → number ≤ 10
+    → IsLineNumber (records_of bytes) at → IsRepeated (records_of bytes) at
+    → IsBehind (count + 3) number at 10
 not_repeated bytes rows count number at table behind taken most is again =
     let at_is : IsPlaced bytes rows at = placed bytes rows at behind is in
-    let earlier : IsPlaced bytes rows again.earlier = placed bytes rows again.earlier behind again.earlier_is_of_a_line in
-    let order : earlier.place < at_is.place = omega (arith, at_is.number_is, earlier.number_is, again.is_earlier) in
+    let earlier : IsPlaced bytes rows again.earlier =
+    placed bytes rows again.earlier behind again.earlier_is_of_a_line in
+    let order : earlier.place < at_is.place =
+    omega (arith, at_is.number_is, earlier.number_is, again.is_earlier) in
     elim (cases_lt at_is.place count) [
       | inl below ↦
           let same : earlier.place ≡ at_is.place =
@@ -133,38 +80,56 @@ not_repeated bytes rows count number at table behind taken most is again =
     ]
 
 -- no fault comes before the next record's, and of this one none before `number`
-none_before : (bytes : List ℕ) (rows : List Fields) (count number : ℕ) (table : List (Option Returned)) → AreBehind bytes rows → AreTaken rows count table
-    → IsGoodBefore (record_at rows count) number → number ≤ 10 → (other : NotesFault) → HasFault bytes other → IsFrom 1 (count + 3) number other
-none_before bytes rows count number table behind taken good most fault.TooLarge has = absurd (omega (arith, behind.size))
-none_before bytes rows count number table behind taken good most fault.Empty has = absurd (cc (sym behind.split ∙ has))
-none_before bytes rows count number table behind taken good most fault.Heading has = absurd (has (rw behind.split behind.heading_is))
-none_before bytes rows count number table behind taken good most (fault.Columns at) (from, to, wrong) = elim (cases_lt at 3) [
-  | inl second ↦
-      let e : at ≡ 2 = omega arith in
-      absurd (subst (λ n. length (record_numbered (records_of bytes) n) ≢ FIELDS) e wrong (rw behind.split behind.township_is.columns))
-  | inr line ↦
-      from_here (λ (f : Fields). length f ≢ FIELDS) bytes rows count number 4 at behind
-      (λ place below wrong'. wrong' (taken.each place below).is.names.columns) good.columns ((line, to), wrong)
-]
-none_before bytes rows count number table behind taken good most fault.Township has = absurd (has behind.township (rw behind.split behind.township_is))
+none_before : (bytes : List ℕ) (rows : List Fields) (count number : ℕ) (table : List (Option Returned))
+    → AreBehind bytes rows → AreTaken rows count table
+    → IsGoodBefore (record_at rows count) number → number ≤ 10 → (other : NotesFault) → HasFault bytes other
+    → IsFrom 1 (count + 3) number other
+none_before bytes rows count number table behind taken good most fault.TooLarge has =
+    absurd (omega (arith, behind.size))
+none_before bytes rows count number table behind taken good most fault.Empty has =
+    absurd (cc (sym behind.split ∙ has))
+none_before bytes rows count number table behind taken good most fault.Heading has =
+    absurd (has (rw behind.split behind.heading_is))
+none_before bytes rows count number table behind taken good most (fault.Columns at) (from, to, wrong) =
+    elim (cases_lt at 3) [
+      | inl second ↦
+          let e : at ≡ 2 = omega arith in
+          absurd
+          (subst (λ n. length (record_numbered (records_of bytes) n) ≢ FIELDS) e wrong
+          (rw behind.split behind.township_is.columns))
+      | inr line ↦
+          from_here (λ (f : Fields). length f ≢ FIELDS) bytes rows count number 4 at behind
+          (λ place below wrong'. wrong' (taken.each place below).is.names.columns) good.columns
+          ((line, to), wrong)
+    ]
+none_before bytes rows count number table behind taken good most fault.Township has =
+    absurd (has behind.township (rw behind.split behind.township_is))
 none_before bytes rows count number table behind taken good most (fault.Run at) has =
-    from_here HasNoRun bytes rows count number 6 at behind (λ place below. has_run _ _ (taken.each place below).is.names) good.run has
+    from_here HasNoRun bytes rows count number 6 at behind
+    (λ place below. has_run _ _ (taken.each place below).is.names) good.run has
 none_before bytes rows count number table behind taken good most (fault.Section at) has =
-    from_here HasNoSection bytes rows count number 7 at behind (λ place below. has_section _ _ (taken.each place below).is.names) good.section has
+    from_here HasNoSection bytes rows count number 7 at behind
+    (λ place below. has_section _ _ (taken.each place below).is.names) good.section has
 none_before bytes rows count number table behind taken good most (fault.NoLine at) has =
-    from_here NamesNoLine bytes rows count number 8 at behind (λ place below none. none _ (taken.each place below).is.names) good.names has
+    from_here NamesNoLine bytes rows count number 8 at behind
+    (λ place below none. none _ (taken.each place below).is.names) good.names has
 none_before bytes rows count number table behind taken good most (fault.Length at) has =
-    from_here HasNoLength bytes rows count number 9 at behind (λ place below. has_lengths _ _ (taken.each place below).is.returns) good.lengths has
-none_before bytes rows count number table behind taken good most (fault.Repeated at) (is, again) = not_repeated bytes rows count number at table behind taken most is again
+    from_here HasNoLength bytes rows count number 9 at behind
+    (λ place below. has_lengths _ _ (taken.each place below).is.returns) good.lengths has
+none_before bytes rows count number table behind taken good most (fault.Repeated at) (is, again) =
+    not_repeated bytes rows count number at table behind taken most is again
 none_before bytes rows count number table behind taken good most (fault.Missing line) has = inl (omega arith)
 none_before bytes rows count number table behind taken good most fault.Read has = absurd has
 none_before bytes rows count number table behind taken good most fault.Memory has = absurd has
 
 -- the record that names the line of an entry stands before the next one
-repeated_is : (bytes : List ℕ) (rows : List Fields) (count line : ℕ) → AreBehind bytes rows → count < length rows → IsNamedBy rows count line
+repeated_is : (bytes : List ℕ) (rows : List Fields) (count line : ℕ) → AreBehind bytes rows
+    → count < length rows → IsNamedBy rows count line
     → NamesLine (record_at rows count) line → IsRepeated (records_of bytes) (count + 3)
 repeated_is bytes rows count line behind within earlier names =
-    let before = on_line (λ (f : Fields). NamesLine f line) bytes rows earlier.place behind (omega (arith, earlier.within)) earlier.names in
+    let before =
+    on_line (λ (f : Fields). NamesLine f line) bytes rows earlier.place behind
+    (omega (arith, earlier.within)) earlier.names in
     let here = on_line (λ (f : Fields). NamesLine f line) bytes rows count behind within names in
     record {
       earlier = earlier.place + 3;
@@ -176,10 +141,17 @@ repeated_is bytes rows count line behind within earlier names =
     }
 
 -- the record that isn't taken down has the first fault
-pub first_of_next : (bytes : List ℕ) (rows : List Fields) (is : NotesFault) → AreBehind bytes rows → IsRefusedNext rows is → IsFirstFault bytes is
+pub first_of_next : (bytes : List ℕ) (rows : List Fields) (is : NotesFault) → AreBehind bytes rows
+    → IsRefusedNext rows is → IsFirstFault bytes is
 first_of_next bytes rows (fault.Columns at) behind next =
     let (at_is, wrong) = next.not_taken in
-    let good : IsGoodBefore (record_at rows next.count) 4 = record { columns = λ h. absurd (omega arith); run = λ h. absurd (omega arith); section = λ h. absurd (omega arith); names = λ h. absurd (omega arith); lengths = λ h. absurd (omega arith) } in
+    let good : IsGoodBefore (record_at rows next.count) 4 = record {
+      columns = λ h. absurd (omega arith);
+      run = λ h. absurd (omega arith);
+      section = λ h. absurd (omega arith);
+      names = λ h. absurd (omega arith);
+      lengths = λ h. absurd (omega arith);
+    } in
     let has = on_line (λ (f : Fields). length f ≢ FIELDS) bytes rows next.count behind next.within wrong in
     subst (λ n. IsFirstFault bytes (fault.Columns n)) (sym at_is) (record {
       is = (omega arith, has.0.1, has.1);
@@ -187,21 +159,39 @@ first_of_next bytes rows (fault.Columns at) behind next =
     })
 first_of_next bytes rows (fault.Run at) behind next =
     let (five, (at_is, wrong)) = next.not_taken in
-    let good : IsGoodBefore (record_at rows next.count) 6 = record { columns = λ h not. not five; run = λ h. absurd (omega arith); section = λ h. absurd (omega arith); names = λ h. absurd (omega arith); lengths = λ h. absurd (omega arith) } in
+    let good : IsGoodBefore (record_at rows next.count) 6 = record {
+      columns = λ h not. not five;
+      run = λ h. absurd (omega arith);
+      section = λ h. absurd (omega arith);
+      names = λ h. absurd (omega arith);
+      lengths = λ h. absurd (omega arith);
+    } in
     subst (λ n. IsFirstFault bytes (fault.Run n)) (sym at_is) (record {
       is = on_line HasNoRun bytes rows next.count behind next.within wrong;
       first = none_before bytes rows next.count 6 next.table behind next.taken good (omega arith);
     })
 first_of_next bytes rows (fault.Section at) behind next =
     let (five, (at_is, wrong, run)) = next.not_taken in
-    let good : IsGoodBefore (record_at rows next.count) 7 = record { columns = λ h not. not five; run = λ h. run; section = λ h. absurd (omega arith); names = λ h. absurd (omega arith); lengths = λ h. absurd (omega arith) } in
+    let good : IsGoodBefore (record_at rows next.count) 7 = record {
+      columns = λ h not. not five;
+      run = λ h. run;
+      section = λ h. absurd (omega arith);
+      names = λ h. absurd (omega arith);
+      lengths = λ h. absurd (omega arith);
+    } in
     subst (λ n. IsFirstFault bytes (fault.Section n)) (sym at_is) (record {
       is = on_line HasNoSection bytes rows next.count behind next.within wrong;
       first = none_before bytes rows next.count 7 next.table behind next.taken good (omega arith);
     })
 first_of_next bytes rows (fault.NoLine at) behind next =
     let (five, (at_is, wrong, run, section)) = next.not_taken in
-    let good : IsGoodBefore (record_at rows next.count) 8 = record { columns = λ h not. not five; run = λ h. run; section = λ h. section; names = λ h. absurd (omega arith); lengths = λ h. absurd (omega arith) } in
+    let good : IsGoodBefore (record_at rows next.count) 8 = record {
+      columns = λ h not. not five;
+      run = λ h. run;
+      section = λ h. section;
+      names = λ h. absurd (omega arith);
+      lengths = λ h. absurd (omega arith);
+    } in
     subst (λ n. IsFirstFault bytes (fault.NoLine n)) (sym at_is) (record {
       is = on_line NamesNoLine bytes rows next.count behind next.within wrong;
       first = none_before bytes rows next.count 8 next.table behind next.taken good (omega arith);
@@ -228,27 +218,40 @@ first_of_next bytes rows (fault.Repeated at) behind next =
       names = λ h none. none _ again.names;
       lengths = λ h. lengths;
     } in
-    let has = on_line (λ (f : Fields). NamesLine f again.line) bytes rows next.count behind next.within again.names in
+    let has =
+    on_line (λ (f : Fields). NamesLine f again.line) bytes rows next.count behind next.within again.names in
     subst (λ n. IsFirstFault bytes (fault.Repeated n)) (sym at_is) (record {
-      is = (has.0, repeated_is bytes rows next.count again.line behind next.within (next.taken.named again.line again.before) again.names);
+      is = (
+        has.0,
+        repeated_is bytes rows next.count again.line behind next.within
+            (next.taken.named again.line again.before) again.names,
+      );
       first = none_before bytes rows next.count 10 next.table behind next.taken good (omega arith);
     })
 first_of_next bytes rows _ behind next = absurd next.not_taken
 
 -- the answer where the records of lines were refused
-pub answer_refused : (bytes : List ℕ) (rows : List Fields) (is : NotesFault) → AreBehind bytes rows → IsRefusedAfter rows is → IfSome (refusal_of is) (λ _. IsFirstFault bytes is)
+pub answer_refused : (bytes : List ℕ) (rows : List Fields) (is : NotesFault) → AreBehind bytes rows
+    → IsRefusedAfter rows is → IfSome (refusal_of is) (λ _. IsFirstFault bytes is)
 answer_refused bytes rows fault.Memory behind refused = tt
 answer_refused bytes rows fault.Read behind refused = tt
-answer_refused bytes rows (fault.Columns at) behind refused = first_of_next bytes rows (fault.Columns at) behind refused
-answer_refused bytes rows (fault.Run at) behind refused = first_of_next bytes rows (fault.Run at) behind refused
-answer_refused bytes rows (fault.Section at) behind refused = first_of_next bytes rows (fault.Section at) behind refused
-answer_refused bytes rows (fault.NoLine at) behind refused = first_of_next bytes rows (fault.NoLine at) behind refused
-answer_refused bytes rows (fault.Length at) behind refused = first_of_next bytes rows (fault.Length at) behind refused
-answer_refused bytes rows (fault.Repeated at) behind refused = first_of_next bytes rows (fault.Repeated at) behind refused
+answer_refused bytes rows (fault.Columns at) behind refused =
+    first_of_next bytes rows (fault.Columns at) behind refused
+answer_refused bytes rows (fault.Run at) behind refused =
+    first_of_next bytes rows (fault.Run at) behind refused
+answer_refused bytes rows (fault.Section at) behind refused =
+    first_of_next bytes rows (fault.Section at) behind refused
+answer_refused bytes rows (fault.NoLine at) behind refused =
+    first_of_next bytes rows (fault.NoLine at) behind refused
+answer_refused bytes rows (fault.Length at) behind refused =
+    first_of_next bytes rows (fault.Length at) behind refused
+answer_refused bytes rows (fault.Repeated at) behind refused =
+    first_of_next bytes rows (fault.Repeated at) behind refused
 answer_refused bytes rows _ behind refused = absurd refused.not_taken
 
 -- no fault of a record is left where all were taken down
-not_further : (bytes : List ℕ) (rows : List Fields) (number at own : ℕ) → AreBehind bytes rows → at ≤ length (records_of bytes) → IsBehind (length rows + 3) number at own → ⊥
+not_further : (bytes : List ℕ) (rows : List Fields) (number at own : ℕ) → AreBehind bytes rows
+    → at ≤ length (records_of bytes) → IsBehind (length rows + 3) number at own → ⊥
 not_further bytes rows number at own behind within (inl never) = absurd (omega arith)
 not_further bytes rows number at own behind within (inr (inl further)) =
     let long : length (records_of bytes) ≡ suc (suc (length rows)) = ap length behind.split in
@@ -258,7 +261,8 @@ not_further bytes rows number at own behind within (inr (inr here)) =
     absurd (omega arith)
 
 -- a line of an entry is named
-named_of : (bytes : List ℕ) (rows : List Fields) (table : List (Option Returned)) (line : ℕ) → AreBehind bytes rows → AreTaken rows (length rows) table
+named_of : (bytes : List ℕ) (rows : List Fields) (table : List (Option Returned)) (line : ℕ)
+    → AreBehind bytes rows → AreTaken rows (length rows) table
     → IsSome (entry_of table line) → IsNamed (records_of bytes) line
 named_of bytes rows table line behind taken some =
     let by : IsNamedBy rows (length rows) line = taken.named line some in
@@ -266,41 +270,63 @@ named_of bytes rows table line behind taken some =
     (by.place + 3, is.0, is.1)
 
 -- a line without an entry isn't named
-unnamed_of : (bytes : List ℕ) (rows : List Fields) (table : List (Option Returned)) (line : ℕ) → AreBehind bytes rows → AreTaken rows (length rows) table
+unnamed_of : (bytes : List ℕ) (rows : List Fields) (table : List (Option Returned)) (line : ℕ)
+    → AreBehind bytes rows → AreTaken rows (length rows) table
     → entry_of table line ≡ None → IsNamed (records_of bytes) line → ⊥
 unnamed_of bytes rows table line behind taken none (number, is, names) =
     let at : IsPlaced bytes rows number = placed bytes rows number behind is in
     let entry : IsTaken (record_at rows at.place) table = taken.each at.place at.within in
-    let same : entry.line ≡ line = names_one _ _ _ entry.is.names (subst (λ (f : Fields). NamesLine f line) at.is names) in
+    let same : entry.line ≡ line =
+    names_one _ _ _ entry.is.names (subst (λ (f : Fields). NamesLine f line) at.is names) in
     absurd (cc (sym entry.taken ∙ ap (λ l. entry_of table l) same ∙ none))
 
 -- of the lines that are missing the least is answered
-missing_first : (bytes : List ℕ) (rows : List Fields) (table : List (Option Returned)) (line : ℕ) → AreBehind bytes rows → AreTaken rows (length rows) table
-    → IsLeastMissing table line → (other : NotesFault) → HasFault bytes other → IsFrom 1 (length rows + 3) 4 other → IsFrom 2 line 11 other
-missing_first bytes rows table line behind taken least (fault.Columns at) (_, to, _) from = absurd (not_further bytes rows 4 at 4 behind to from)
-missing_first bytes rows table line behind taken least (fault.Run at) ((_, to), _) from = absurd (not_further bytes rows 4 at 6 behind to from)
-missing_first bytes rows table line behind taken least (fault.Section at) ((_, to), _) from = absurd (not_further bytes rows 4 at 7 behind to from)
-missing_first bytes rows table line behind taken least (fault.NoLine at) ((_, to), _) from = absurd (not_further bytes rows 4 at 8 behind to from)
-missing_first bytes rows table line behind taken least (fault.Length at) ((_, to), _) from = absurd (not_further bytes rows 4 at 9 behind to from)
-missing_first bytes rows table line behind taken least (fault.Repeated at) ((_, to), _) from = absurd (not_further bytes rows 4 at 10 behind to from)
-missing_first bytes rows table line behind taken least (fault.Missing other) (is, not) from = elim (cases_lt other line) [
-  | inl before ↦ absurd (not (named_of bytes rows table other behind taken (least.before other before)))
-  | inr over ↦ elim (cases_eq other line) [
-    | inl same ↦ inr (inr (refl, sym same, omega arith))
-    | inr more ↦ inr (inl (refl, omega arith))
-  ]
-]
-missing_first bytes rows table line behind taken least fault.TooLarge has from = absurd (omega (arith, behind.size))
-missing_first bytes rows table line behind taken least fault.Empty has from = absurd (cc (sym behind.split ∙ has))
-missing_first bytes rows table line behind taken least fault.Heading has from = absurd (has (rw behind.split behind.heading_is))
-missing_first bytes rows table line behind taken least fault.Township has from = absurd (has behind.township (rw behind.split behind.township_is))
+missing_first : (bytes : List ℕ) (rows : List Fields) (table : List (Option Returned)) (line : ℕ)
+    → AreBehind bytes rows → AreTaken rows (length rows) table
+    → IsLeastMissing table line → (other : NotesFault) → HasFault bytes other
+    → IsFrom 1 (length rows + 3) 4 other → IsFrom 2 line 11 other
+missing_first bytes rows table line behind taken least (fault.Columns at) (_, to, _) from =
+    absurd (not_further bytes rows 4 at 4 behind to from)
+missing_first bytes rows table line behind taken least (fault.Run at) ((_, to), _) from =
+    absurd (not_further bytes rows 4 at 6 behind to from)
+missing_first bytes rows table line behind taken least (fault.Section at) ((_, to), _) from =
+    absurd (not_further bytes rows 4 at 7 behind to from)
+missing_first bytes rows table line behind taken least (fault.NoLine at) ((_, to), _) from =
+    absurd (not_further bytes rows 4 at 8 behind to from)
+missing_first bytes rows table line behind taken least (fault.Length at) ((_, to), _) from =
+    absurd (not_further bytes rows 4 at 9 behind to from)
+missing_first bytes rows table line behind taken least (fault.Repeated at) ((_, to), _) from =
+    absurd (not_further bytes rows 4 at 10 behind to from)
+missing_first bytes rows table line behind taken least (fault.Missing other) (is, not) from =
+    elim (cases_lt other line) [
+      | inl before ↦ absurd (not (named_of bytes rows table other behind taken (least.before other before)))
+      | inr over ↦ elim (cases_eq other line) [
+        | inl same ↦ inr (inr (refl, sym same, omega arith))
+        | inr more ↦ inr (inl (refl, omega arith))
+      ]
+    ]
+missing_first bytes rows table line behind taken least fault.TooLarge has from =
+    absurd (omega (arith, behind.size))
+missing_first bytes rows table line behind taken least fault.Empty has from =
+    absurd (cc (sym behind.split ∙ has))
+missing_first bytes rows table line behind taken least fault.Heading has from =
+    absurd (has (rw behind.split behind.heading_is))
+missing_first bytes rows table line behind taken least fault.Township has from =
+    absurd (has behind.township (rw behind.split behind.township_is))
 missing_first bytes rows table line behind taken least fault.Read has from = absurd has
 missing_first bytes rows table line behind taken least fault.Memory has from = absurd has
 
-pub missing_is_first : (bytes : List ℕ) (rows : List Fields) (table : List (Option Returned)) (line : ℕ) → AreBehind bytes rows → AreTaken rows (length rows) table
+pub missing_is_first : (bytes : List ℕ) (rows : List Fields) (table : List (Option Returned)) (line : ℕ)
+    → AreBehind bytes rows → AreTaken rows (length rows) table
     → IsLeastMissing table line → IsFirstFault bytes (fault.Missing line)
 missing_is_first bytes rows table line behind taken least =
-    let good : IsGoodBefore (record_at rows (length rows)) 4 = record { columns = λ h. absurd (omega arith); run = λ h. absurd (omega arith); section = λ h. absurd (omega arith); names = λ h. absurd (omega arith); lengths = λ h. absurd (omega arith) } in
+    let good : IsGoodBefore (record_at rows (length rows)) 4 = record {
+      columns = λ h. absurd (omega arith);
+      run = λ h. absurd (omega arith);
+      section = λ h. absurd (omega arith);
+      names = λ h. absurd (omega arith);
+      lengths = λ h. absurd (omega arith);
+    } in
     record {
       is = (least.is_line, unnamed_of bytes rows table line behind taken least.missing);
       first = λ other has. missing_first bytes rows table line behind taken least other has
@@ -308,14 +334,17 @@ missing_is_first bytes rows table line behind taken least =
     }
 
 -- only lines have entries
-entry_is_line : (table : List (Option Returned)) (line : ℕ) (returned : Returned) → length table ≡ LINE_COUNT → entry_of table line ≡ Some returned → IsLine line
+entry_is_line : (table : List (Option Returned)) (line : ℕ) (returned : Returned) → length table ≡ LINE_COUNT
+    → entry_of table line ≡ Some returned → IsLine line
 entry_is_line table line returned size some = elim (cases_lt line 84) [
   | inl below ↦ below
   | inr over ↦ absurd (cc (sym some ∙ get_or_past table line None (omega arith)))
 ]
 
 -- where all lines were taken down, the records are notes
-pub notes_of_table : (bytes : List ℕ) (rows : List Fields) (table : List (Option Returned)) (lines : List Returned) (behind : AreBehind bytes rows) → AreTaken rows (length rows) table
+pub notes_of_table : (bytes : List ℕ) (rows : List Fields) (table : List (Option Returned))
+    (lines : List Returned) (behind : AreBehind bytes rows)
+    → AreTaken rows (length rows) table
     → AreEntries table lines → AreNotes bytes (record { township = behind.township; lines = lines })
 notes_of_table bytes rows table lines behind taken entries = record {
   size = behind.size;
@@ -326,13 +355,15 @@ notes_of_table bytes rows table lines behind taken entries = record {
         let at : IsPlaced bytes rows number = placed bytes rows number behind is in
         let entry : IsTaken (record_at rows at.place) table = taken.each at.place at.within in
         let line : IsLine entry.line = entry_is_line table entry.line entry.returned taken.size entry.taken in
-        let same : entry.returned ≡ slice_index_or lines entry.line nothing_returned = cc (sym entry.taken ∙ entries.each entry.line line) in
+        let same : entry.returned ≡ slice_index_or lines entry.line nothing_returned =
+        cc (sym entry.taken ∙ entries.each entry.line line) in
         (entry.line, rw at.is (rw same at entry.is));
     once = λ number other line is is' names names'.
         let at : IsPlaced bytes rows number = placed bytes rows number behind is in
         let at' : IsPlaced bytes rows other = placed bytes rows other behind is' in
         let same : at.place ≡ at'.place = taken.once at.place at'.place line at.within at'.within
-        (subst (λ (f : Fields). NamesLine f line) at.is names) (subst (λ (f : Fields). NamesLine f line) at'.is names') in
+        (subst (λ (f : Fields). NamesLine f line) at.is names)
+        (subst (λ (f : Fields). NamesLine f line) at'.is names') in
         omega (arith, at.number_is, at'.number_is);
     all = λ line is. named_of bytes rows table line behind taken (rw (entries.each line is) refl);
     lines = entries.count;

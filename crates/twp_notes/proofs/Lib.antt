@@ -4,6 +4,7 @@ pub mod FieldFacts
 pub mod TableFacts
 pub mod NameFacts
 pub mod Taking
+pub mod RecordPlaces
 pub mod FirstFaults
 pub mod OneAnswer
 pub mod TextFacts

@@ -32,12 +32,16 @@ one_neighbour text None (Some b) is is' = absurd (not_section b (rw is at is'))
 one_neighbour text (Some a) None is is' = absurd (not_section a (rw is' at is))
 
 -- a record names one line
-pub names_one : (fields : Fields) (line line' : ℕ) → NamesLine fields line → NamesLine fields line' → line ≡ line'
+pub names_one : (fields : Fields) (line line' : ℕ) → NamesLine fields line → NamesLine fields line'
+    → line ≡ line'
 names_one fields line line' is is' =
     let same_run : is'.run ≡ is.run = one_run is'.run is.run (sym is'.run_is ∙ is.run_is) in
-    let same_section : is'.section ≡ is.section = one_section (field fields 1) is'.section is.section is'.section_is is.section_is in
-    let same_other : is'.other ≡ is.other = one_neighbour (field fields 2) is'.other is.other is'.other_is is.other_is in
-    one_line is.run is.section is.other line line' is.line_is (rw (same_run, same_section, same_other) at is'.line_is)
+    let same_section : is'.section ≡ is.section =
+    one_section (field fields 1) is'.section is.section is'.section_is is.section_is in
+    let same_other : is'.other ≡ is.other =
+    one_neighbour (field fields 2) is'.other is.other is'.other_is is.other_is in
+    one_line is.run is.section is.other line line' is.line_is
+    (rw (same_run, same_section, same_other) at is'.line_is)
 
 -- a record that names a line has a run and sections
 pub has_run : (fields : Fields) (line : ℕ) → NamesLine fields line → HasNoRun fields → ⊥

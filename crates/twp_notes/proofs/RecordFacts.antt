@@ -15,7 +15,8 @@ use Rattle.csv.specs.declared.parser.State.TheVariants as st
 use Rattle.twp_notes.specs.Records.{Fields, records_of, records_left, bytes_ahead, IsReading}
 use Rattle.twp_notes.specs.declared.records.Records.{Records}
 
-either_way : {A : Type 0} (b : Bool) (x y z : A) → (if b then x else y) ≡ z → ((b ≡ true) × (x ≡ z)) ⊎ ((b ≡ false) × (y ≡ z))
+either_way : {A : Type 0} (b : Bool) (x y z : A) → (if b then x else y) ≡ z
+    → ((b ≡ true) × (x ≡ z)) ⊎ ((b ≡ false) × (y ≡ z))
 either_way true x y z h = inl (refl, h)
 either_way false x y z h = inr (refl, h)
 
@@ -28,7 +29,8 @@ option_cases None = inl refl
 option_cases (Some x) = inr (x, refl)
 
 -- the byte that ends a record leaves the reader between records
-step_ends : (s : State) (c : ℕ) → is_end (step default_config s c).1 ≡ true → ends_at_end (step default_config s c).0 ≡ false
+step_ends : (s : State) (c : ℕ) → is_end (step default_config s c).1 ≡ true
+    → ends_at_end (step default_config s c).0 ≡ false
 step_ends st.StartRecord c h = grind arith
 step_ends st.StartField c h = grind arith
 step_ends st.InField c h = grind arith
@@ -39,95 +41,120 @@ step_ends st.InComment c h = grind arith
 step_ends st.AfterCr c h = grind arith
 
 -- a record that was read leaves no more bytes than there were, and the reader between records
-read_on : (s : State) (fields : Fields) (partial : List ℕ) (bytes : List ℕ) (q : Read) → next_record default_config s fields partial bytes ≡ Some q
+read_on : (s : State) (fields : Fields) (partial : List ℕ) (bytes : List ℕ) (q : Read)
+    → next_record default_config s fields partial bytes ≡ Some q
     → (length q.2 ≤ length bytes) × (ends_at_end q.1 ≡ false)
 unfolding next_record
-read_on s fields partial [] q h = elim (either_way (ends_at_end s) (Some (fields ++ (partial ∷ []), st.StartRecord, [])) None (Some q) h) [
-  | inl (at_end, is) ↦
-      let rest : [] ≡ q.2 = cc is in
-      let state : st.StartRecord ≡ q.1 = cc is in
-      (rw (← rest) (omega arith), rw (← state) refl)
-  | inr (between, is) ↦ cc is
-]
-read_on s fields partial (c ∷ rest) q h = elim (either_way (is_end (step default_config s c).1) _ _ (Some q) h) [
-  | inl (ended, is) ↦
-      let left : rest ≡ q.2 = cc is in
-      let state : (step default_config s c).0 ≡ q.1 = cc is in
-      (rw (← left) (omega arith), rw (← state) (step_ends s c ended))
-  | inr (goes_on, is) ↦
-      let more = read_on (step default_config s c).0 (fields_after (step default_config s c).1 fields partial) (field_after (step default_config s c).1 c partial) rest q is in
-      (omega arith, more.1)
-]
+read_on s fields partial [] q h =
+    elim (either_way (ends_at_end s) (Some (fields ++ (partial ∷ []), st.StartRecord, [])) None (Some q) h) [
+      | inl (at_end, is) ↦
+          let rest : [] ≡ q.2 = cc is in
+          let state : st.StartRecord ≡ q.1 = cc is in
+          (rw (← rest) (omega arith), rw (← state) refl)
+      | inr (between, is) ↦ cc is
+    ]
+read_on s fields partial (c ∷ rest) q h =
+    elim (either_way (is_end (step default_config s c).1) _ _ (Some q) h) [
+      | inl (ended, is) ↦
+          let left : rest ≡ q.2 = cc is in
+          let state : (step default_config s c).0 ≡ q.1 = cc is in
+          (rw (← left) (omega arith), rw (← state) (step_ends s c ended))
+      | inr (goes_on, is) ↦
+          let more =
+          read_on (step default_config s c).0 (fields_after (step default_config s c).1 fields partial)
+          (field_after (step default_config s c).1 c partial) rest q is in
+          (omega arith, more.1)
+    ]
 
 -- from between two records a record takes at least one byte
-read_one : (s : State) (bytes : List ℕ) (q : Read) → ends_at_end s ≡ false → next_record default_config s [] [] bytes ≡ Some q
+read_one : (s : State) (bytes : List ℕ) (q : Read) → ends_at_end s ≡ false
+    → next_record default_config s [] [] bytes ≡ Some q
     → (length q.2 < length bytes) × (ends_at_end q.1 ≡ false)
 unfolding next_record
-read_one s [] q between h = elim (either_way (ends_at_end s) (Some ([] ++ ([] ∷ []), st.StartRecord, [])) None (Some q) h) [
-  | inl (at_end, is) ↦ absurd (false≢true (sym between ∙ at_end))
-  | inr (_, is) ↦ cc is
-]
+read_one s [] q between h =
+    elim (either_way (ends_at_end s) (Some ([] ++ ([] ∷ []), st.StartRecord, [])) None (Some q) h) [
+      | inl (at_end, is) ↦ absurd (false≢true (sym between ∙ at_end))
+      | inr (_, is) ↦ cc is
+    ]
 read_one s (c ∷ rest) q between h = elim (either_way (is_end (step default_config s c).1) _ _ (Some q) h) [
   | inl (ended, is) ↦
       let left : rest ≡ q.2 = cc is in
       let state : (step default_config s c).0 ≡ q.1 = cc is in
       (rw (← left) (omega arith), rw (← state) (step_ends s c ended))
   | inr (goes_on, is) ↦
-      let more = read_on (step default_config s c).0 (fields_after (step default_config s c).1 [] []) (field_after (step default_config s c).1 c []) rest q is in
+      let more =
+      read_on (step default_config s c).0 (fields_after (step default_config s c).1 [] [])
+      (field_after (step default_config s c).1 c []) rest q is in
       (omega arith, more.1)
 ]
 
 -- a count above the bytes that are left is enough for all the records
-same_records : (n m : ℕ) (s : State) (bytes : List ℕ) → ends_at_end s ≡ false → length bytes < n → length bytes < m
+same_records : (n m : ℕ) (s : State) (bytes : List ℕ) → ends_at_end s ≡ false → length bytes < n
+    → length bytes < m
     → records_from default_config n s bytes ≡ records_from default_config m s bytes
 unfolding records_from
 same_records zero m s bytes between over-n over-m = absurd (omega arith)
 same_records (suc n) zero s bytes between over-n over-m = absurd (omega arith)
-same_records (suc n) (suc m) s bytes between over-n over-m = elim (option_cases (next_record default_config s [] [] bytes)) [
-  | inl none ↦ rw none refl
-  | inr (q, e) ↦
-      let less = read_one s bytes q between e in
-      rw e (ap (λ more. q.0 ∷ more) (same_records n m q.1 q.2 less.1 (omega arith) (omega arith)))
-]
+same_records (suc n) (suc m) s bytes between over-n over-m =
+    elim (option_cases (next_record default_config s [] [] bytes)) [
+      | inl none ↦ rw none refl
+      | inr (q, e) ↦
+          let less = read_one s bytes q between e in
+          rw e (ap (λ more. q.0 ∷ more) (same_records n m q.1 q.2 less.1 (omega arith) (omega arith)))
+    ]
 
-pub records_after : (s : State) (bytes : List ℕ) (q : Read) → ends_at_end s ≡ false → next_record default_config s [] [] bytes ≡ Some q
-    → (records_from default_config (length bytes + 1) s bytes ≡ q.0 ∷ records_from default_config (length q.2 + 1) q.1 q.2) × (ends_at_end q.1 ≡ false)
+pub records_after : (s : State) (bytes : List ℕ) (q : Read) → ends_at_end s ≡ false
+    → next_record default_config s [] [] bytes ≡ Some q
+    → (records_from default_config (length bytes + 1) s bytes
+    ≡ q.0 ∷ records_from default_config (length q.2 + 1) q.1 q.2)
+    × (ends_at_end q.1 ≡ false)
 unfolding records_from
 records_after s bytes q between e =
     let less = read_one s bytes q between e in
-    let same : records_from default_config (length bytes) q.1 q.2 ≡ records_from default_config (length q.2 + 1) q.1 q.2 =
+    let same : records_from default_config (length bytes) q.1 q.2
+    ≡ records_from default_config (length q.2 + 1) q.1 q.2 =
     same_records (length bytes) (length q.2 + 1) q.1 q.2 less.1 less.0 (omega arith) in
     (rw (add-one, e) (ap (λ more. q.0 ∷ more) same), less.1)
 
-pub no_records : (s : State) (bytes : List ℕ) → next_record default_config s [] [] bytes ≡ None → records_from default_config (length bytes + 1) s bytes ≡ []
+pub no_records : (s : State) (bytes : List ℕ) → next_record default_config s [] [] bytes ≡ None
+    → records_from default_config (length bytes + 1) s bytes ≡ []
 unfolding records_from
 no_records s bytes e = rw (add-one, e) refl
 
 -- what a read says of the next record, where the bytes are known
-next_given : (s s2 : State) (bytes : List ℕ) (after : Option (List ℕ)) (found : Bool) (row : Fields) → ReadsNext default_config s (Some bytes) after found row s2
-    → (rest : List ℕ) × (after ≡ Some rest) × MatchBool found (next_record default_config s [] [] bytes ≡ Some (row, s2, rest)) (next_record default_config s [] [] bytes ≡ None)
+next_given : (s s2 : State) (bytes : List ℕ) (after : Option (List ℕ)) (found : Bool) (row : Fields)
+    → ReadsNext default_config s (Some bytes) after found row s2
+    → (rest : List ℕ) × (after ≡ Some rest)
+    × MatchBool found (next_record default_config s [] [] bytes ≡ Some (row, s2, rest))
+    (next_record default_config s [] [] bytes ≡ None)
 next_given s s2 bytes None found row h = absurd h
-next_given s s2 bytes (Some rest) found row h = elim (option_cases (next_record default_config s [] [] bytes)) [
-  | inl none ↦
-      let absent : found ≡ false = rw none at h in
-      (rest, refl, rw absent none)
-  | inr (q, e) ↦
-      let given = rw e at h in
-      let (there, fields, state, left) = given in
-      (rest, refl, rw (there, fields, state, left) e)
-]
+next_given s s2 bytes (Some rest) found row h =
+    elim (option_cases (next_record default_config s [] [] bytes)) [
+      | inl none ↦
+          let absent : found ≡ false = rw none at h in
+          (rest, refl, rw absent none)
+      | inr (q, e) ↦
+          let given = rw e at h in
+          let (there, fields, state, left) = given in
+          (rest, refl, rw (there, fields, state, left) e)
+    ]
 
 -- the bytes of a slice are known
 abbrev known : Bor (List ℕ) → Option (List ℕ)
 known s = Some s.now
 
 -- a read takes the first of the records that are left, or finds none
-pub reads_first : (a b : Records) (found : Bool) (row : Fields) → IsReading a → ReadRecord known a.reader b.reader found row
+pub reads_first : (a b : Records) (found : Bool) (row : Fields) → IsReading a
+    → ReadRecord known a.reader b.reader found row
     → took_first b.reader ≡ true → is_flexible b.reader ≡ is_flexible a.reader
     → MatchBool found ((records_left a ≡ row ∷ records_left b) × IsReading b) (records_left a ≡ [])
 reads_first a b true row reading reads first flexible =
-    let next = next_given (reader_state a.reader) (reader_state b.reader) (bytes_ahead a) _ true row (rw (reading.config, reading.known) at reads.0) in
-    let after = records_after (reader_state a.reader) (bytes_ahead a) (row, reader_state b.reader, next.0) reading.between next.2 in
+    let next =
+    next_given (reader_state a.reader) (reader_state b.reader) (bytes_ahead a) _ true row
+    (rw (reading.config, reading.known) at reads.0) in
+    let after =
+    records_after (reader_state a.reader) (bytes_ahead a) (row, reader_state b.reader, next.0)
+    reading.between next.2 in
     let source : source_of known b.reader ≡ Some next.0 = rw reads.1 next.1 in
     let left : bytes_ahead b ≡ next.0 = ap (λ o. unwrap_or o []) source in (
       rw left after.0,
@@ -141,11 +168,14 @@ reads_first a b true row reading reads first flexible =
       },
     )
 reads_first a b false row reading reads first flexible =
-    let next = next_given (reader_state a.reader) (reader_state b.reader) (bytes_ahead a) _ false row (rw (reading.config, reading.known) at reads.0) in
+    let next =
+    next_given (reader_state a.reader) (reader_state b.reader) (bytes_ahead a) _ false row
+    (rw (reading.config, reading.known) at reads.0) in
     no_records (reader_state a.reader) (bytes_ahead a) next.2
 
 -- the field at a place
-pub field_at_is : (fields : Fields) (i : ℕ) → i < length fields → field_at fields i ≡ Some (get_or fields i [])
+pub field_at_is : (fields : Fields) (i : ℕ) → i < length fields
+    → field_at fields i ≡ Some (get_or fields i [])
 unfolding field_at
 field_at_is [] i below = absurd (omega arith)
 field_at_is (f ∷ fs) zero below = refl

@@ -19,7 +19,8 @@ pub record IsNextRecord (rows : List Fields) (k : ℕ) (fields : Fields) (rest :
   pub is : record_at rows k ≡ fields
   pub after : rest ≡ drop (k + 1) rows
 
-pub next_record_is : (rows : List Fields) (k : ℕ) (fields : Fields) (rest : List Fields) → drop k rows ≡ fields ∷ rest → IsNextRecord rows k fields rest
+pub next_record_is : (rows : List Fields) (k : ℕ) (fields : Fields) (rest : List Fields)
+    → drop k rows ≡ fields ∷ rest → IsNextRecord rows k fields rest
 next_record_is rows k fields rest e =
     let long : length rows - k ≡ suc (length rest) = sym (length-drop k rows) ∙ ap length e in
     let within : k < length rows = omega arith in
@@ -32,26 +33,34 @@ no_record_left rows k e =
     omega arith
 
 -- what was taken down stays when another line is
-still_taken : (fields next : Fields) (old new : List (Option Returned)) → IsTaken fields old → TakesDown next old new → IsTaken fields new
+still_taken : (fields next : Fields) (old new : List (Option Returned)) → IsTaken fields old
+    → TakesDown next old new → IsTaken fields new
 still_taken fields next old new is takes =
-    let other : is.line ≢ takes.line = λ same. absurd (cc (sym is.taken ∙ ap (λ line. entry_of old line) same ∙ takes.first)) in
+    let other : is.line ≢ takes.line =
+    λ same. absurd (cc (sym is.taken ∙ ap (λ line. entry_of old line) same ∙ takes.first)) in
     record {
       line = is.line;
       returned = is.returned;
       is = is.is;
-      taken = rw takes.new_is (get_or-set_other old takes.line is.line (Some takes.returned) None other ∙ is.taken);
+      taken =
+          rw takes.new_is
+          (get_or-set_other old takes.line is.line (Some takes.returned) None other ∙ is.taken);
     }
 
 -- the next record's line is none of those that were taken down
-not_before : (rows : List Fields) (count : ℕ) (old new : List (Option Returned)) → AreTaken rows count old → TakesDown (record_at rows count) old new
-    → (place line : ℕ) → place < count → NamesLine (record_at rows place) line → NamesLine (record_at rows count) line → ⊥
+not_before : (rows : List Fields) (count : ℕ) (old new : List (Option Returned)) → AreTaken rows count old
+    → TakesDown (record_at rows count) old new
+    → (place line : ℕ) → place < count → NamesLine (record_at rows place) line
+    → NamesLine (record_at rows count) line → ⊥
 not_before rows count old new taken takes place line below names names' =
     let is : IsTaken (record_at rows place) old = taken.each place below in
-    let here : is.line ≡ takes.line = names_one _ _ _ is.is.names names ∙ names_one _ _ _ names' takes.is.names in
+    let here : is.line ≡ takes.line =
+    names_one _ _ _ is.is.names names ∙ names_one _ _ _ names' takes.is.names in
     absurd (cc (sym is.taken ∙ ap (λ line. entry_of old line) here ∙ takes.first))
 
 -- one more record was taken down
-pub taken_more : (rows : List Fields) (count : ℕ) (old new : List (Option Returned)) → AreTaken rows count old → TakesDown (record_at rows count) old new
+pub taken_more : (rows : List Fields) (count : ℕ) (old new : List (Option Returned)) → AreTaken rows count old
+    → TakesDown (record_at rows count) old new
     → AreTaken rows (count + 1) new
 taken_more rows count old new taken takes = record {
   each = λ place below. elim (cases_lt place count) [
@@ -62,7 +71,10 @@ taken_more rows count old new taken takes = record {
           line = takes.line;
           returned = takes.returned;
           is = takes.is;
-          taken = rw takes.new_is (get_or-set_same old takes.line (Some takes.returned) None (omega (arith, taken.size, takes.is_line)));
+          taken =
+              rw takes.new_is
+              (get_or-set_same old takes.line (Some takes.returned) None
+              (omega (arith, taken.size, takes.is_line)));
         })
   ];
   once = λ place other line below below' names names'. elim (cases_lt place count) [
@@ -75,21 +87,27 @@ taken_more rows count old new taken takes = record {
     | inr over ↦
         let last : place ≡ count = omega arith in
         elim (cases_lt other count) [
-          | inl before' ↦ absurd (not_before rows count old new taken takes other line before' names' (rw last at names))
+          | inl before' ↦
+              absurd (not_before rows count old new taken takes other line before' names' (rw last at names))
           | inr over' ↦ omega arith
         ]
   ];
   named = λ line some. elim (cases_eq line takes.line) [
     | inl same ↦ record { place = count; within = omega arith; names = rw same takes.is.names }
     | inr other ↦
-        let before : IsNamedBy rows count line = taken.named line (rw (takes.new_is, get_or-set_other old takes.line line (Some takes.returned) None other) at some) in
+        let before : IsNamedBy rows count line = taken.named line (rw (
+          takes.new_is,
+          get_or-set_other old takes.line line (Some takes.returned) None other,
+        ) at some) in
         record { place = before.place; within = omega (arith, before.within); names = before.names }
   ];
   size = rw takes.new_is (length-set old takes.line (Some takes.returned) ∙ taken.size);
 }
 
 -- the next record isn't taken down
-pub refused_next : (rows : List Fields) (count : ℕ) (table : List (Option Returned)) (is : NotesFault) → count < length rows → AreTaken rows count table
+pub refused_next : (rows : List Fields) (count : ℕ) (table : List (Option Returned)) (is : NotesFault)
+    → count < length rows → AreTaken rows count table
     → IsNotTaken (record_at rows count) table (count + 3) is → IsRefusedAfter rows is
 refused_next rows count table fault.Memory within taken not = tt
-refused_next rows count table _ within taken not = record { count = count; table = table; within = within; taken = taken; not_taken = not }
+refused_next rows count table _ within taken not =
+    record { count = count; table = table; within = within; taken = taken; not_taken = not }

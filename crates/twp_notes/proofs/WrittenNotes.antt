@@ -34,7 +34,11 @@ use Rattle.twp_notes.proofs.WrittenRecords.{plain_decimal, plain_length, length_
 short_number : (n : ℕ) → n < 100 → IsShortNumber (decimal n) n
 short_number n small =
     let numeral = decimal_is_IsNumeral n (omega arith) in
-    record { numeral = numeral.0; places = length-decimal-le 2 n (omega arith) small (omega arith); value = sym numeral.1 }
+    record {
+      numeral = numeral.0;
+      places = length-decimal-le 2 n (omega arith) small (omega arith);
+      value = sym numeral.1;
+    }
 
 short_text : (n : ℕ) → n < 100 → length (decimal n) ≤ 2
 short_text n small = length-decimal-le 2 n (omega arith) small (omega arith)
@@ -42,8 +46,14 @@ short_text n small = length-decimal-le 2 n (omega arith) small (omega arith)
 -- a section that has sides is one
 section_range : (section line : ℕ) → IsSide section line → IsSection section
 section_range section line side = elim side.stands.winds [
-  | inl even ↦ (omega (arith, side.stands.row_range, side.stands.column_range), omega (arith, side.stands.row_range, side.stands.column_range))
-  | inr odd ↦ (omega (arith, side.stands.row_range, side.stands.column_range), omega (arith, side.stands.row_range, side.stands.column_range))
+  | inl even ↦ (
+    omega (arith, side.stands.row_range, side.stands.column_range),
+    omega (arith, side.stands.row_range, side.stands.column_range),
+  )
+  | inr odd ↦ (
+    omega (arith, side.stands.row_range, side.stands.column_range),
+    omega (arith, side.stands.row_range, side.stands.column_range),
+  )
 ]
 
 section_text : (section line : ℕ) → IsSide section line → IsSectionText (decimal section) section
@@ -56,7 +66,8 @@ first_side : (section : ℕ) (other : Option ℕ) (line : ℕ) → LiesBeside se
 first_side section (Some other) line beside = beside.1
 first_side section None line beside = beside.0
 
-neighbour_is : (section : ℕ) (other : Option ℕ) (line : ℕ) → LiesBeside section other line → IsNeighbourText (neighbour_text other) other
+neighbour_is : (section : ℕ) (other : Option ℕ) (line : ℕ) → LiesBeside section other line
+    → IsNeighbourText (neighbour_text other) other
 neighbour_is section (Some other) line beside = section_text other line beside.2
 neighbour_is section None line beside = refl
 
@@ -73,7 +84,8 @@ section_plain section line side =
     let range : IsSection section = section_range section line side in
     short_plain section (omega arith)
 
-neighbour_plain : (section : ℕ) (other : Option ℕ) (line : ℕ) → LiesBeside section other line → IsShortPlain (neighbour_text other) 2
+neighbour_plain : (section : ℕ) (other : Option ℕ) (line : ℕ) → LiesBeside section other line
+    → IsShortPlain (neighbour_text other) 2
 neighbour_plain section (Some other) line beside = section_plain other line beside.2
 neighbour_plain section None line beside = record { plain = tt; short = omega arith }
 
@@ -90,11 +102,13 @@ east_west_plain ew.E = record { plain = (omega arith, tt); short = omega arith }
 east_west_plain ew.W = record { plain = (omega arith, tt); short = omega arith }
 
 -- a record of five plain fields
-five_plain : (a b c d e : List ℕ) → IsPlain a → IsPlain b → IsPlain c → IsPlain d → IsPlain e → IsPlainRecord (a ∷ b ∷ c ∷ d ∷ e ∷ [])
+five_plain : (a b c d e : List ℕ) → IsPlain a → IsPlain b → IsPlain c → IsPlain d → IsPlain e
+    → IsPlainRecord (a ∷ b ∷ c ∷ d ∷ e ∷ [])
 five_plain a b c d e pa pb pc pd pe = fields_of a b (c ∷ d ∷ e ∷ []) refl (pa, (pb, (pc, (pd, (pe, tt)))))
 
 -- and its length
-five_long : (a b c d e : List ℕ) → length (record_text (a ∷ b ∷ c ∷ d ∷ e ∷ [])) ≡ length a + length b + length c + length d + length e + 5
+five_long : (a b c d e : List ℕ)
+    → length (record_text (a ∷ b ∷ c ∷ d ∷ e ∷ [])) ≡ length a + length b + length c + length d + length e + 5
 five_long a b c d e = simp length-append (omega arith)
 
 -- what the record of a line is
@@ -103,7 +117,8 @@ record IsWrittenLine (line : ℕ) (returned : Returned) (fields : Fields) : Type
   plain : IsPlainRecord fields
   short : length (record_text fields) ≤ 22
 
-written_line : (line : ℕ) (returned : Returned) (fields : Fields) → IsLength returned.quarter → IsLength returned.corner
+written_line : (line : ℕ) (returned : Returned) (fields : Fields) → IsLength returned.quarter
+    → IsLength returned.corner
     → AreLineFields line returned fields → IsWrittenLine line returned fields
 written_line line returned fields quarter corner are =
     let beside = are.names.is_line.1 in
@@ -124,10 +139,18 @@ written_line line returned fields quarter corner are =
           other_is = neighbour_is are.section are.other line beside;
           line_is = are.names.is_line;
         };
-        returns = record { quarter = written_is_length returned.quarter quarter; corner = written_is_length returned.corner corner };
+        returns = record {
+          quarter = written_is_length returned.quarter quarter;
+          corner = written_is_length returned.corner corner;
+        };
       };
-      plain = five_plain _ _ _ _ _ run.plain section.plain other.plain (plain_length returned.quarter quarter) (plain_length returned.corner corner);
-      short = rw (five_long (run_text are.run) (decimal are.section) (neighbour_text are.other) (length_text returned.quarter) (length_text returned.corner))
+      plain =
+          five_plain _ _ _ _ _ run.plain section.plain other.plain (plain_length returned.quarter quarter)
+          (plain_length returned.corner corner);
+      short =
+          rw
+          (five_long (run_text are.run) (decimal are.section) (neighbour_text are.other)
+          (length_text returned.quarter) (length_text returned.corner))
           (omega (arith, run.short, section.short, other.short));
     })
 
@@ -137,7 +160,8 @@ record IsWrittenTownship (township : Designation) : Type 0 where
   plain : IsPlainRecord (township_fields township)
   short : length (record_text (township_fields township)) ≤ 22
 
-written_township : (township : Designation) → IsTownshipNumber township.number → IsTownshipNumber township.range → IsWrittenTownship township
+written_township : (township : Designation) → IsTownshipNumber township.number
+    → IsTownshipNumber township.range → IsWrittenTownship township
 written_township township number range =
     let plain-number = short_plain township.number (omega arith) in
     let plain-range = short_plain township.range (omega arith) in
@@ -152,13 +176,19 @@ written_township township number range =
         range = (short_number township.range (omega arith), range);
         east_west = refl;
       };
-      plain = five_plain _ _ _ _ _ (omega arith, tt) plain-number.plain north_south.plain plain-range.plain east_west.plain;
-      short = rw (five_long (codes "T") (decimal township.number) (north_south_letter township.north_south) (decimal township.range) (east_west_letter township.east_west))
+      plain =
+          five_plain _ _ _ _ _ (omega arith, tt) plain-number.plain north_south.plain plain-range.plain
+          east_west.plain;
+      short =
+          rw
+          (five_long (codes "T") (decimal township.number) (north_south_letter township.north_south)
+          (decimal township.range) (east_west_letter township.east_west))
           (omega (arith, plain-number.short, plain-range.short, north_south.short, east_west.short));
     }
 
 -- what holds of the record at each place holds of all
-all_at : (P : Fields → Type 0) (rows : List Fields) → ((i : ℕ) → i < length rows → P (record_at rows i)) → AllByRecursion P rows
+all_at : (P : Fields → Type 0) (rows : List Fields) → ((i : ℕ) → i < length rows → P (record_at rows i))
+    → AllByRecursion P rows
 all_at P [] at = tt
 all_at P (row ∷ rows) at = (at 0 (omega arith), all_at P rows (λ i below. at (suc i) (omega arith)))
 
@@ -167,7 +197,8 @@ record AreRowsOf (notes : FieldNotes) (rows : List Fields) : Type 0 where
   count : length rows ≡ LINE_COUNT
   each : (line : ℕ) → line < LINE_COUNT → IsWrittenLine line (returned_of notes line) (record_at rows line)
 
-rows_of : (notes : FieldNotes) (rows : List Fields) → AreWithinLimits notes → AreLineRecords notes LINE_COUNT rows → AreRowsOf notes rows
+rows_of : (notes : FieldNotes) (rows : List Fields) → AreWithinLimits notes
+    → AreLineRecords notes LINE_COUNT rows → AreRowsOf notes rows
 rows_of notes rows within are = record {
   count = are.count_is;
   each = λ line below.
@@ -176,15 +207,18 @@ rows_of notes rows within are = record {
 }
 
 -- the numbered record of a line is that of its index
-numbered : (first second : Fields) (rows : List Fields) (line : ℕ) → record_numbered (first ∷ second ∷ rows) (line + 3) ≡ record_at rows line
+numbered : (first second : Fields) (rows : List Fields) (line : ℕ)
+    → record_numbered (first ∷ second ∷ rows) (line + 3) ≡ record_at rows line
 numbered first second rows line =
     let e : line + 3 - 1 ≡ suc (suc line) = omega arith in
     rw e refl
 
-numbered_back : (first second : Fields) (rows : List Fields) (number : ℕ) → 3 ≤ number → record_numbered (first ∷ second ∷ rows) number ≡ record_at rows (number - 3)
+numbered_back : (first second : Fields) (rows : List Fields) (number : ℕ) → 3 ≤ number
+    → record_numbered (first ∷ second ∷ rows) number ≡ record_at rows (number - 3)
 numbered_back first second rows number from =
     let e : number ≡ number - 3 + 3 = omega arith in
-    subst (λ n. record_numbered (first ∷ second ∷ rows) n ≡ record_at rows (number - 3)) (sym e) (numbered first second rows (number - 3))
+    subst (λ n. record_numbered (first ∷ second ∷ rows) n ≡ record_at rows (number - 3)) (sym e)
+    (numbered first second rows (number - 3))
 
 -- the records are those of the notes
 are_records : (notes : FieldNotes) (rows : List Fields) → AreWithinLimits notes → AreRowsOf notes rows
@@ -192,11 +226,14 @@ are_records : (notes : FieldNotes) (rows : List Fields) → AreWithinLimits note
 are_records notes rows within are =
     let all = heading ∷ township_fields notes.township ∷ rows in
     let count : length rows ≡ 84 = are.count in
-    let below : (number : ℕ) → IsLineNumber all number → number - 3 < 84 = λ number is. omega (arith, is.0, is.1) in
-    let line_of : (number : ℕ) → IsLineNumber all number → IsLineRecord (record_numbered all number) (number - 3) (returned_of notes (number - 3)) =
+    let below : (number : ℕ) → IsLineNumber all number → number - 3 < 84 =
+    λ number is. omega (arith, is.0, is.1) in
+    let line_of : (number : ℕ) → IsLineNumber all number
+    → IsLineRecord (record_numbered all number) (number - 3) (returned_of notes (number - 3)) =
     λ number is.
     subst (λ (f : Fields). IsLineRecord f (number - 3) (returned_of notes (number - 3)))
-    (sym (numbered_back heading (township_fields notes.township) rows number is.0)) (are.each (number - 3) (below number is)).is in
+    (sym (numbered_back heading (township_fields notes.township) rows number is.0))
+    (are.each (number - 3) (below number is)).is in
     record {
       heading_is = refl;
       township_is = (written_township notes.township within.township.0 within.township.1).is;
@@ -211,7 +248,9 @@ are_records notes rows within are =
           let number : IsLineNumber all (line + 3) = (omega arith, omega arith) in (
             line + 3,
             number,
-            subst (λ (f : Fields). NamesLine f line) (sym (numbered heading (township_fields notes.township) rows line)) (are.each line is).is.names,
+            subst (λ (f : Fields). NamesLine f line)
+                (sym (numbered heading (township_fields notes.township) rows line))
+                (are.each line is).is.names,
           );
       lines = within.count;
     }
@@ -220,14 +259,19 @@ are_records notes rows within are =
 heading_plain : IsPlainRecord heading
 heading_plain =
     five_plain (codes "line") (codes "between") (codes "and") (codes "quarter") (codes "corner")
-    (omega arith, (omega arith, (omega arith, (omega arith, tt))))
-    (omega arith, (omega arith, (omega arith, (omega arith, (omega arith, (omega arith, (omega arith, tt)))))))
-    (omega arith, (omega arith, (omega arith, tt)))
-    (omega arith, (omega arith, (omega arith, (omega arith, (omega arith, (omega arith, (omega arith, tt)))))))
+    (omega arith, (omega arith, (omega arith, (omega arith, tt)))) (
+      omega arith,
+      (omega arith, (omega arith, (omega arith, (omega arith, (omega arith, (omega arith, tt)))))),
+    )
+    (omega arith, (omega arith, (omega arith, tt))) (
+      omega arith,
+      (omega arith, (omega arith, (omega arith, (omega arith, (omega arith, (omega arith, tt)))))),
+    )
     (omega arith, (omega arith, (omega arith, (omega arith, (omega arith, (omega arith, tt))))))
 
 -- the text begins with no byte order mark
-no_mark : (notes : FieldNotes) (rows : List Fields) → strip_bom (text_before notes rows) ≡ text_before notes rows
+no_mark : (notes : FieldNotes) (rows : List Fields)
+    → strip_bom (text_before notes rows) ≡ text_before notes rows
 unfolding strip_bom
 no_mark notes rows = refl
 
@@ -237,20 +281,29 @@ records_are : (notes : FieldNotes) (rows : List Fields) → AreWithinLimits note
 records_are notes rows within are =
     let township = written_township notes.township within.township.0 within.township.1 in
     let below : (line : ℕ) → line < length rows → line < 84 = λ line short. omega (arith, are.count) in
-    rw (no_mark notes rows) (records_back (heading ∷ township_fields notes.township ∷ rows)
-    (heading_plain, (township.plain, all_at IsPlainRecord rows (λ line short. (are.each line (below line short)).plain))))
+    rw (no_mark notes rows) (records_back (heading ∷ township_fields notes.township ∷ rows) (
+      heading_plain,
+      (township.plain, all_at IsPlainRecord rows (λ line short. (are.each line (below line short)).plain)),
+    ))
 
 -- the text is short enough
-short_enough : (notes : FieldNotes) (rows : List Fields) → AreWithinLimits notes → AreRowsOf notes rows → length (text_before notes rows) ≤ NOTES_MOST
+short_enough : (notes : FieldNotes) (rows : List Fields) → AreWithinLimits notes → AreRowsOf notes rows
+    → length (text_before notes rows) ≤ NOTES_MOST
 short_enough notes rows within are =
     let township = written_township notes.township within.township.0 within.township.1 in
     let below : (line : ℕ) → line < length rows → line < 84 = λ line short. omega (arith, are.count) in
     let lines : length (flat_map record_text rows) ≤ 22 * length rows =
-    texts_short rows 22 (all_at (λ (fields : Fields). length (record_text fields) ≤ 22) rows (λ line short. (are.each line (below line short)).short)) in
+    texts_short rows 22
+    (all_at (λ (fields : Fields). length (record_text fields) ≤ 22) rows
+    (λ line short. (are.each line (below line short)).short)) in
     let count : length rows ≡ 84 = are.count in
-    let all : length (text_before notes rows) ≡ length (record_text heading) + (length (record_text (township_fields notes.township)) + length (flat_map record_text rows)) =
-    length-append (record_text heading) (record_text (township_fields notes.township) ++ flat_map record_text rows)
-    ∙ ap (λ n. length (record_text heading) + n) (length-append (record_text (township_fields notes.township)) (flat_map record_text rows)) in
+    let all : length (text_before notes rows)
+    ≡ length (record_text heading)
+    + (length (record_text (township_fields notes.township)) + length (flat_map record_text rows)) =
+    length-append (record_text heading)
+    (record_text (township_fields notes.township) ++ flat_map record_text rows)
+    ∙ ap (λ n. length (record_text heading) + n)
+    (length-append (record_text (township_fields notes.township)) (flat_map record_text rows)) in
     let few : length (record_text (township_fields notes.township)) ≤ 22 = township.short in
     let head : length (record_text heading) ≡ 32 = refl in
     omega arith

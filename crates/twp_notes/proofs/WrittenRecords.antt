@@ -25,7 +25,8 @@ IsPlain text = AllByRecursion (λ byte. 46 ≤ byte) text
 
 -- a record of at least two fields, all plain
 pub data IsPlainRecord (fields : Fields) : Type 0 where
-  fields_of : (first second : List ℕ) (rest : Fields) → fields ≡ first ∷ second ∷ rest → AllByRecursion IsPlain fields → IsPlainRecord fields
+  fields_of : (first second : List ℕ) (rest : Fields) → fields ≡ first ∷ second ∷ rest
+      → AllByRecursion IsPlain fields → IsPlainRecord fields
 
 plain_byte : (byte : ℕ) → 46 ≤ byte → needs_byte default_writer byte ≡ false
 plain_byte byte over =
@@ -43,7 +44,8 @@ no_mark (byte ∷ rest) plain = rw (plain_byte byte plain.0, no_mark rest plain.
 unquoted : (text : List ℕ) → IsPlain text → field_text default_writer text ≡ text
 unquoted text plain = rw (no_mark text plain) refl
 
-unquoted_rest : (fields : Fields) → AllByRecursion IsPlain fields → rest_text fields ≡ fields_text default_writer fields ++ (10 ∷ [])
+unquoted_rest : (fields : Fields) → AllByRecursion IsPlain fields
+    → rest_text fields ≡ fields_text default_writer fields ++ (10 ∷ [])
 unfolding fields_text
 unquoted_rest [] plain = refl
 unquoted_rest (field ∷ rest) plain =
@@ -59,7 +61,8 @@ unquoted_record first second rest plain =
 
 -- a record is read back, and leaves what is behind it
 reads_back : (fields : Fields) (tail : List ℕ) → IsPlainRecord fields
-    → next_record default_config st.StartRecord [] [] (record_text fields ++ tail) ≡ Some (fields, st.StartRecord, tail)
+    → next_record default_config st.StartRecord [] [] (record_text fields ++ tail)
+    ≡ Some (fields, st.StartRecord, tail)
 reads_back fields tail (fields_of first second rest is plain) =
     rw is (rw (unquoted_record first second rest (rw is at plain)) (read-write-many first second rest tail))
 
@@ -69,10 +72,14 @@ none_left = refl
 
 -- all records are read back
 pub records_back : (rows : List Fields) → AllByRecursion IsPlainRecord rows
-    → records_from default_config (length (flat_map record_text rows) + 1) st.StartRecord (flat_map record_text rows) ≡ rows
+    → records_from default_config (length (flat_map record_text rows) + 1) st.StartRecord
+    (flat_map record_text rows)
+    ≡ rows
 records_back [] plain = no_records st.StartRecord [] none_left
 records_back (row ∷ rows) plain =
-    let after = records_after st.StartRecord (flat_map record_text (row ∷ rows)) (row, st.StartRecord, flat_map record_text rows) refl
+    let after =
+    records_after st.StartRecord (flat_map record_text (row ∷ rows))
+    (row, st.StartRecord, flat_map record_text rows) refl
     (reads_back row (flat_map record_text rows) plain.0) in
     after.0 ∙ ap (λ (more : List Fields). row ∷ more) (records_back rows plain.1)
 
@@ -106,12 +113,14 @@ third_short digit false = omega arith
 
 pub length_short : (v : ℕ) → IsLength v → length (length_text v) ≤ 6
 length_short v bound =
-    let whole : length (decimal (v / 1000)) ≤ 2 = length-decimal-le 2 (v / 1000) (omega arith) (omega arith) (omega arith) in
+    let whole : length (decimal (v / 1000)) ≤ 2 =
+    length-decimal-le 2 (v / 1000) (omega arith) (omega arith) (omega arith) in
     let third : length (third_decimal v) ≤ 1 = third_short (v % 10) (v % 10 == 0) in
     simp length-append (omega arith)
 
 -- short records make a short text
-pub texts_short : (rows : List Fields) (most : ℕ) → AllByRecursion (λ (fields : Fields). length (record_text fields) ≤ most) rows
+pub texts_short : (rows : List Fields) (most : ℕ)
+    → AllByRecursion (λ (fields : Fields). length (record_text fields) ≤ most) rows
     → length (flat_map record_text rows) ≤ most * length rows
 texts_short [] most short = omega arith
 texts_short (row ∷ rows) most short =

@@ -15,7 +15,8 @@ use Rattle.twp_plat.specs.declared.fault.PlatFault.{PlatFault}
 use Rattle.twp_plat.specs.declared.fault.PlatFault.TheVariants as fault
 
 -- a line within its limits has no fault
-pub no_line_fault : (line : ℕ) (returned : Returned) (fault : PlatFault) → IsInLimits line returned → HasLineFault line returned fault → ⊥
+pub no_line_fault : (line : ℕ) (returned : Returned) (fault : PlatFault) → IsInLimits line returned
+    → HasLineFault line returned fault → ⊥
 no_line_fault line returned (fault.Irregular at half.First) is has = has is.first
 no_line_fault line returned (fault.Irregular at half.Second) is has = has.1 (is.second has.0)
 no_line_fault line returned (fault.ClosingShort at) is has =
@@ -36,7 +37,10 @@ first_here notes index fault is_line before here = record {
   first = λ other has. rw here.place (elim (cases_lt index (place_of other)) [
     | inl behind ↦ inl behind
     | inr not_behind ↦ elim (cases_lt (place_of other) index) [
-      | inl ahead ↦ absurd (no_line_fault (place_of other) (returned_of notes (place_of other)) other (before (place_of other) ahead) has.1)
+      | inl ahead ↦
+          absurd
+          (no_line_fault (place_of other) (returned_of notes (place_of other)) other
+          (before (place_of other) ahead) has.1)
       | inr not_ahead ↦
           let same : place_of other ≡ index = omega arith in
           let on_line : HasLineFault index (returned_of notes index) other = rw same at has.1 in
@@ -46,11 +50,14 @@ first_here notes index fault is_line before here = record {
 }
 
 -- one more line's closing quarter is taken down
-pub taken_down : (notes : FieldNotes) (quarters : List ℕ) (index place quarter : ℕ) → place ≡ index → index < length quarters
+pub taken_down : (notes : FieldNotes) (quarters : List ℕ) (index place quarter : ℕ) → place ≡ index
+    → index < length quarters
     → ((line : ℕ) → line < index → AnswersLine line (returned_of notes line) (Ok (get_or quarters line 0)))
     → AnswersLine index (returned_of notes index) (Ok quarter)
-    → (line : ℕ) → line < index + 1 → AnswersLine line (returned_of notes line) (Ok (get_or (set quarters place quarter) line 0))
+    → (line : ℕ) → line < index + 1
+    → AnswersLine line (returned_of notes line) (Ok (get_or (set quarters place quarter) line 0))
 taken_down notes quarters index place quarter is within before here =
     below_more _ _
-    (λ line below. rw (get_or-set_other quarters place line quarter 0 (λ same. absurd (omega arith))) (before line below))
+    (λ line below.
+    rw (get_or-set_other quarters place line quarter 0 (λ same. absurd (omega arith))) (before line below))
     (rw (is, get_or-set_same quarters index quarter 0 within) here)

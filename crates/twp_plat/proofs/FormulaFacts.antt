@@ -17,19 +17,25 @@ under_four P (suc (suc (suc zero))) _ first second third fourth = fourth
 under_four P (suc (suc (suc (suc n)))) below first second third fourth = absurd (omega arith)
 
 -- both ends of a quarter mile are within its line
-pub reach_within : (closing number : ℕ) → number < 4 → (reach closing number ≤ 60000 + closing) × (reach closing (number + 1) ≤ 60000 + closing)
+pub reach_within : (closing number : ℕ) → number < 4
+    → (reach closing number ≤ 60000 + closing) × (reach closing (number + 1) ≤ 60000 + closing)
 reach_within closing number below =
-    under_four (λ n. (reach closing n ≤ 60000 + closing) × (reach closing (n + 1) ≤ 60000 + closing)) number below
-    (omega arith, omega arith) (omega arith, omega arith) (omega arith, omega arith) (omega arith, omega arith)
+    under_four (λ n. (reach closing n ≤ 60000 + closing) × (reach closing (n + 1) ≤ 60000 + closing)) number
+    below
+    (omega arith, omega arith) (omega arith, omega arith) (omega arith, omega arith)
+    (omega arith, omega arith)
 
 -- how far they are from its start
-ends_are : (closing number : ℕ) → number < 4 → reach closing number + reach closing (number + 1) ≡ both_ends (60000 + closing) number
+ends_are : (closing number : ℕ) → number < 4
+    → reach closing number + reach closing (number + 1) ≡ both_ends (60000 + closing) number
 ends_are closing number below =
-    under_four (λ n. reach closing n + reach closing (n + 1) ≡ both_ends (60000 + closing) n) number below refl refl refl refl
+    under_four (λ n. reach closing n + reach closing (n + 1) ≡ both_ends (60000 + closing) n) number below
+    refl refl refl refl
 
 -- What runs from one closing quarter to another in the last column or row, and is a quarter mile in the
 -- others: its lengths at two distances from the start, behind which k and k' are left.
-pub both_are : (a b k x k' x' along ends number : ℕ) → number < 4 → k + x ≡ along → k' + x' ≡ along → x + x' ≡ ends
+pub both_are : (a b k x k' x' along ends number : ℕ) → number < 4 → k + x ≡ along → k' + x' ≡ along
+    → x + x' ≡ ends
     → (if number == 3 then pos (2 * a * along) +ℤ (pos b -ℤ pos a) *ℤ pos ends else pos (40000 * along))
     ≡ pos (quarter_mile a number * (k + k') + quarter_mile b number * (x + x'))
 both_are a b k x k' x' along ends number below parts parts' whole =
@@ -38,7 +44,8 @@ both_are a b k x k' x' along ends number below parts parts' whole =
     let twice : a * ((k + k') + (x + x')) ≡ 2 * a * along = rw total (omega arith) in
     let last : pos (2 * a * along) +ℤ (pos b -ℤ pos a) *ℤ pos ends ≡ pos (a * (k + k') + b * (x + x')) =
     rw (sym whole, sym twice) (sym (weighted a b (k + k') (x + x'))) in
-    under_four (λ n. (if n == 3 then pos (2 * a * along) +ℤ (pos b -ℤ pos a) *ℤ pos ends else pos (40000 * along))
+    under_four
+    (λ n. (if n == 3 then pos (2 * a * along) +ℤ (pos b -ℤ pos a) *ℤ pos ends else pos (40000 * along))
     ≡ pos (quarter_mile a n * (k + k') + quarter_mile b n * (x + x'))) number below
     (ap pos even) (ap pos even) (ap pos even) last
 
@@ -59,8 +66,12 @@ widths_are q column row in_column in_row =
     let parts' : k' + x' ≡ line_length q.west = omega (arith, within.1) in
     record {
       parts = quarter_mile q.south column * (k + k') + quarter_mile q.north column * (x + x');
-      sum_is = both_are q.south q.north k x k' x' (west_length q) (both_ends (west_length q) row) column in_column parts parts' (ends_are q.west row in_row);
-      is_mean = mean_straight (quarter_mile q.south column) (quarter_mile q.north column) k x k' x' (line_length q.west) parts parts';
+      sum_is =
+          both_are q.south q.north k x k' x' (west_length q) (both_ends (west_length q) row) column in_column
+          parts parts' (ends_are q.west row in_row);
+      is_mean =
+          mean_straight (quarter_mile q.south column) (quarter_mile q.north column) k x k' x'
+          (line_length q.west) parts parts';
     }
 
 -- its heights likewise
@@ -80,29 +91,37 @@ heights_are q column row in_column in_row =
     let parts' : k' + x' ≡ line_length q.north = omega (arith, within.1) in
     record {
       parts = quarter_mile q.east row * (k + k') + quarter_mile q.west row * (x + x');
-      sum_is = both_are q.east q.west k x k' x' (north_length q) (both_ends (north_length q) column) row in_row parts parts' (ends_are q.north column in_column);
-      is_mean = mean_straight (quarter_mile q.east row) (quarter_mile q.west row) k x k' x' (line_length q.north) parts parts';
+      sum_is =
+          both_are q.east q.west k x k' x' (north_length q) (both_ends (north_length q) column) row in_row
+          parts parts' (ends_are q.north column in_column);
+      is_mean =
+          mean_straight (quarter_mile q.east row) (quarter_mile q.west row) k x k' x' (line_length q.north)
+          parts parts';
     }
 
 -- two means multiplied
-product_is : (w h : Ratio) (p q m n : ℕ) → IsMeanOf w p m → IsMeanOf h q n → IsSame (times w h) (ratio (pos m *ℤ pos n) (4 * p * q))
+product_is : (w h : Ratio) (p q m n : ℕ) → IsMeanOf w p m → IsMeanOf h q n
+    → IsSame (times w h) (ratio (pos m *ℤ pos n) (4 * p * q))
 product_is w h p q m n mean-w mean-h =
     rw (mean-w.numerator, mean-w.denominator, mean-h.numerator, mean-h.denominator) (ap pos (omega arith))
 
-pub piece_is_formula : (q : ClosingQuarters) (column row : ℕ) → column < 4 → row < 4 → IsSame (piece q column row) (formula q column row)
+pub piece_is_formula : (q : ClosingQuarters) (column row : ℕ) → column < 4 → row < 4
+    → IsSame (piece q column row) (formula q column row)
 unfolding piece
 piece_is_formula q column row in_column in_row =
     let widths = widths_are q column row in_column in_row in
     let heights = heights_are q column row in_column in_row in
     rw (widths.sum_is, heights.sum_is)
-    (product_is (mean_width q column row) (mean_height q column row) (line_length q.west) (line_length q.north) widths.parts heights.parts widths.is_mean heights.is_mean)
+    (product_is (mean_width q column row) (mean_height q column row) (line_length q.west)
+    (line_length q.north) widths.parts heights.parts widths.is_mean heights.is_mean)
 
 -- a piece's terms: so many parts of as many as its section has to a unit; none of its numbers is negative
 pub record PieceTerms (q : ClosingQuarters) (column row : ℕ) : Type 0 where
   pub top : ℕ
   pub numerator : (piece q column row).numerator ≡ pos top
   pub parts : ℕ
-  pub in_parts : IsSame (piece q column row) (ratio (pos parts) (4 * line_length q.north * line_length q.west))
+  pub in_parts : IsSame (piece q column row)
+      (ratio (pos parts) (4 * line_length q.north * line_length q.west))
   pub some : 0 < (piece q column row).denominator
 
 positive : (p q : ℕ) → 0 < 2 * ((60000 + p) * (60000 + p)) * (2 * ((60000 + q) * (60000 + q)))
@@ -114,7 +133,8 @@ piece_terms q column row in_column in_row =
     let widths = widths_are q column row in_column in_row in
     let heights = heights_are q column row in_column in_row in
     let same = piece_is_formula q column row in_column in_row in
-    let order : 4 * line_length q.west * line_length q.north ≡ 4 * line_length q.north * line_length q.west = omega arith in
+    let order : 4 * line_length q.west * line_length q.north ≡ 4 * line_length q.north * line_length q.west =
+    omega arith in
     record {
       top = (line_length q.west * widths.parts) * (line_length q.north * heights.parts);
       numerator = rw (widths.is_mean.numerator, heights.is_mean.numerator) refl;

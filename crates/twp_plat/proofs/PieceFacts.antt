@@ -13,7 +13,8 @@ use Rattle.twp_plat.proofs.WholeFacts.{whole_piece}
 
 -- twice the mean of what runs straight, between two points
 pub doubled_mean_is : (start end length ends s e : ℕ) → ends ≤ 2 * length → s ≡ start → e ≡ end
-    → pos (s * (2 * length - ends) + e * ends) ≡ pos (2 * start * length) +ℤ (pos end -ℤ pos start) *ℤ pos ends
+    → pos (s * (2 * length - ends) + e * ends)
+    ≡ pos (2 * start * length) +ℤ (pos end -ℤ pos start) *ℤ pos ends
 doubled_mean_is start end length ends s e within s_is e_is =
     let total : 2 * length - ends + ends ≡ 2 * length = omega arith in
     let twice : start * (2 * length - ends + ends) ≡ 2 * start * length = rw total (omega arith) in
@@ -22,10 +23,12 @@ doubled_mean_is start end length ends s e within s_is e_is =
 -- a piece in parts, by the sums of its widths and of its heights
 pub piece_in_parts : (q : ClosingQuarters) (column row widths heights : ℕ) → column < 4 → row < 4
     → pos widths ≡ both_widths q column row → pos heights ≡ both_heights q column row
-    → IsSame (piece q column row) (ratio (pos (widths * heights)) (4 * line_length q.north * line_length q.west))
+    → IsSame (piece q column row)
+    (ratio (pos (widths * heights)) (4 * line_length q.north * line_length q.west))
 piece_in_parts q column row widths heights in_column in_row widths_are heights_are =
     let same = piece_is_formula q column row in_column in_row in
-    let order : 4 * line_length q.west * line_length q.north ≡ 4 * line_length q.north * line_length q.west = omega arith in
+    let order : 4 * line_length q.west * line_length q.north ≡ 4 * line_length q.north * line_length q.west =
+    omega arith in
     rw (sym order) (rw (sym widths_are, sym heights_are) at same)
 
 -- a position has at most 25 by 25 chains
@@ -37,11 +40,14 @@ parts_most west north widths heights below below' =
     omega arith
 
 -- what the parts of a piece with regular lines come to
-pub whole_quotient : (q : ClosingQuarters) (column row parts divisor : ℕ) → column < 4 → row < 4 → HaveRegularLines q
-    → 0 < divisor → IsSame (piece q column row) (ratio (pos parts) divisor) → IsSame (piece q column row) (whole (parts / divisor))
+pub whole_quotient : (q : ClosingQuarters) (column row parts divisor : ℕ) → column < 4 → row < 4
+    → HaveRegularLines q
+    → 0 < divisor → IsSame (piece q column row) (ratio (pos parts) divisor)
+    → IsSame (piece q column row) (whole (parts / divisor))
 whole_quotient q column row parts divisor in_column in_row regular some in_parts =
     let units = whole_piece q column row in_column in_row regular in
     let terms = piece_terms q column row in_column in_row in
-    let product : parts ≡ units.0 * divisor = parts_of_whole (piece q column row) units.0 parts divisor terms.some units.1 in_parts in
+    let product : parts ≡ units.0 * divisor =
+    parts_of_whole (piece q column row) units.0 parts divisor terms.some units.1 in_parts in
     let quotient : parts / divisor ≡ units.0 = rw product (mul-div_cancel units.0 some) in
     rw quotient units.1

@@ -8,7 +8,8 @@ use Rattle.twp_plat.proofs.RatioFacts.{whole_in_parts}
 use Rattle.twp_plat.proofs.SideFacts.{regular_outside_six, over_is}
 use Rattle.twp_plat.proofs.WholeFacts.{whole_piece}
 
-pub piece_is_whole : (plat : TownshipPlat) (section column row : ℕ) (q : ClosingQuarters) → IsPlat plat → AreClosingQuarters plat section q → section ≢ 6
+pub piece_is_whole : (plat : TownshipPlat) (section column row : ℕ) (q : ClosingQuarters) → IsPlat plat
+    → AreClosingQuarters plat section q → section ≢ 6
     → column < 4 → row < 4 → (units : ℕ) × IsSame (piece q column row) (whole units)
 piece_is_whole plat section column row q is are other in_column in_row =
     whole_piece q column row in_column in_row (regular_outside_six plat section q is are other)
@@ -16,7 +17,8 @@ piece_is_whole plat section column row q is are other in_column in_row =
 is_six : (section : ℕ) → (section ≡ 6) ⊎ (section ≢ 6)
 is_six section = grind arith
 
-pub piece_is_over : (plat : TownshipPlat) (section column row : ℕ) (q : ClosingQuarters) → IsPlat plat → AreClosingQuarters plat section q
+pub piece_is_over : (plat : TownshipPlat) (section column row : ℕ) (q : ClosingQuarters) → IsPlat plat
+    → AreClosingQuarters plat section q
     → column < 4 → row < 4 → (units : ℕ) × IsSame (piece q column row) (ratio (pos units) (over_of plat))
 piece_is_over plat section column row q is are in_column in_row = elim (is_six section) [
   | inl six ↦

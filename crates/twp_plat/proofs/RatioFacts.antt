@@ -19,10 +19,12 @@ whole_numerator : (r : Ratio) (units : ℕ) → IsSame r (whole units) → r.num
 whole_numerator r units is = sym (once r.numerator) ∙ is
 
 -- so many parts make that whole number
-pub parts_of_whole : (r : Ratio) (units parts d : ℕ) → 0 < r.denominator → IsSame r (whole units) → IsSame r (ratio (pos parts) d) → parts ≡ units * d
+pub parts_of_whole : (r : Ratio) (units parts d : ℕ) → 0 < r.denominator → IsSame r (whole units)
+    → IsSame r (ratio (pos parts) d) → parts ≡ units * d
 parts_of_whole r units parts d some is in_parts =
     let numerator = whole_numerator r units is in
-    let same : pos (units * r.denominator) *ℤ pos d ≡ pos (parts * r.denominator) = rw numerator at in_parts in
+    let same : pos (units * r.denominator) *ℤ pos d ≡ pos (parts * r.denominator) =
+    rw numerator at in_parts in
     let crossed : units * r.denominator * d ≡ parts * r.denominator = numbers_same _ _ same in
     sym (cancelled (units * d) parts r.denominator some (omega arith))
 
@@ -33,7 +35,8 @@ whole_in_parts r units d is =
     rw numerator (ap pos (omega arith))
 
 -- parts that make whole units
-pub whole_of_parts : (r : Ratio) (units d m : ℕ) → 0 < d → r.numerator ≡ pos m → IsSame r (ratio (pos (units * d)) d) → IsSame r (whole units)
+pub whole_of_parts : (r : Ratio) (units d m : ℕ) → 0 < d → r.numerator ≡ pos m
+    → IsSame r (ratio (pos (units * d)) d) → IsSame r (whole units)
 whole_of_parts r units d m some numerator in_parts =
     let same : pos (m * d) ≡ pos (units * d * r.denominator) = rw numerator at in_parts in
     let crossed : m * d ≡ units * d * r.denominator = numbers_same _ _ same in

@@ -22,8 +22,13 @@ record Stands (section : ℕ) : Type 0 where
 
 standing : (section : ℕ) → IsSection section → Stands section
 standing section range = elim (parity ((section - 1) / 6)) [
-  | inl even ↦ record { row = (section - 1) / 6; column = (section - 1) % 6; stands = stands_even section range even }
-  | inr odd ↦ record { row = (section - 1) / 6; column = 5 - (section - 1) % 6; stands = stands_odd section range (λ e. absurd (omega arith)) }
+  | inl even ↦
+      record { row = (section - 1) / 6; column = (section - 1) % 6; stands = stands_even section range even }
+  | inr odd ↦ record {
+    row = (section - 1) / 6;
+    column = 5 - (section - 1) % 6;
+    stands = stands_odd section range (λ e. absurd (omega arith));
+  }
 ]
 
 -- a section's closing quarters
@@ -36,7 +41,12 @@ quarters_of plat section range =
     let at = standing section range in
     let line : ℕ → ℕ = closing_quarter_of plat in
     record {
-      quarters = record { east = line (north_run at.row at.column); west = line (north_run at.row (at.column + 1)); north = line (west_run at.row at.column); south = line (west_run (at.row + 1) at.column) };
+      quarters = record {
+        east = line (north_run at.row at.column);
+        west = line (north_run at.row (at.column + 1));
+        north = line (west_run at.row at.column);
+        south = line (west_run (at.row + 1) at.column);
+      };
       are = record {
         east_line = north_run at.row at.column;
         west_line = north_run at.row (at.column + 1);
@@ -70,18 +80,27 @@ in_township section column row = elim (cases_lt 0 section) [
 ]
 
 -- the units of a position's piece over the plat's denominator
-unfoldable units_of : (plat : TownshipPlat) → IsPlat plat → (section column row : ℕ) → InTownship section column row ⊎ (InTownship section column row → ⊥) → ℕ
+unfoldable units_of : (plat : TownshipPlat) → IsPlat plat → (section column row : ℕ)
+    → InTownship section column row ⊎ (InTownship section column row → ⊥) → ℕ
 units_of plat is section column row (inl (range, position)) =
     let q = quarters_of plat section range in
     (piece_is_over plat section column row q.quarters is q.are position.0 position.1).0
 units_of plat is section column row (inr outside) = 0
 
-units_are : (plat : TownshipPlat) (is : IsPlat plat) (section column row : ℕ) (at : InTownship section column row ⊎ (InTownship section column row → ⊥))
-    → IsSection section → IsPosition column row → IsPieceArea plat section column row (record { units = units_of plat is section column row at; over = over_of plat })
+units_are : (plat : TownshipPlat) (is : IsPlat plat) (section column row : ℕ)
+    (at : InTownship section column row ⊎ (InTownship section column row → ⊥))
+    → IsSection section → IsPosition column row → IsPieceArea plat section column row (record {
+      units = units_of plat is section column row at;
+      over = over_of plat;
+    })
 unfolding units_of
 units_are plat is section column row (inl (range, position)) range' position' =
     let q = quarters_of plat section range in
-    record { quarters = q.quarters; are = q.are; area_is = sym (piece_is_over plat section column row q.quarters is q.are position.0 position.1).1 }
+    record {
+      quarters = q.quarters;
+      are = q.are;
+      area_is = sym (piece_is_over plat section column row q.quarters is q.are position.0 position.1).1;
+    }
 units_are plat is section column row (inr outside) range' position' = absurd (outside (range', position'))
 
 -- the pieces of a plat
@@ -92,19 +111,30 @@ pub record HasPieces (plat : TownshipPlat) : Type 0 where
 pub pieces_of : (plat : TownshipPlat) → IsPlat plat → HasPieces plat
 pieces_of plat is = record {
   pieces = λ section column row. units_of plat is section column row (in_township section column row);
-  are = record { is_piece = λ section column row range position. units_are plat is section column row (in_township section column row) range position };
+  are = record {
+    is_piece = λ section column row range position.
+        units_are plat is section column row (in_township section column row) range position;
+  };
 }
 
 -- they are one
-pub same_pieces : (plat : TownshipPlat) (pieces pieces' : ℕ → ℕ → ℕ → ℕ) → ArePieces plat pieces → ArePieces plat pieces'
-    → (section column row : ℕ) → IsSection section → IsPosition column row → pieces section column row ≡ pieces' section column row
+pub same_pieces : (plat : TownshipPlat) (pieces pieces' : ℕ → ℕ → ℕ → ℕ) → ArePieces plat pieces
+    → ArePieces plat pieces'
+    → (section column row : ℕ) → IsSection section → IsPosition column row
+    → pieces section column row ≡ pieces' section column row
 same_pieces plat pieces pieces' are are' section column row range position =
-    ap (λ (a : Fraction). a.units) (one_area plat section column row (record { units = pieces section column row; over = over_of plat }) (record { units = pieces' section column row; over = over_of plat })
-    position.0 position.1 (are.is_piece section column row range position) (are'.is_piece section column row range position) refl)
+    ap (λ (a : Fraction). a.units)
+    (one_area plat section column row (record { units = pieces section column row; over = over_of plat })
+    (record { units = pieces' section column row; over = over_of plat })
+    position.0 position.1 (are.is_piece section column row range position)
+    (are'.is_piece section column row range position) refl)
 
 -- the piece that a function of the plat gives
-pub piece_at : (plat : TownshipPlat) (pieces : ℕ → ℕ → ℕ → ℕ) (section column row : ℕ) (area : Fraction) → ArePieces plat pieces → IsSection section → IsPosition column row
-    → IsPieceArea plat section column row area → area.over ≡ over_of plat → area.units ≡ pieces section column row
+pub piece_at : (plat : TownshipPlat) (pieces : ℕ → ℕ → ℕ → ℕ) (section column row : ℕ) (area : Fraction)
+    → ArePieces plat pieces → IsSection section → IsPosition column row
+    → IsPieceArea plat section column row area → area.over ≡ over_of plat
+    → area.units ≡ pieces section column row
 piece_at plat pieces section column row area are range position is over =
-    ap (λ (a : Fraction). a.units) (one_area plat section column row area (record { units = pieces section column row; over = over_of plat })
+    ap (λ (a : Fraction). a.units)
+    (one_area plat section column row area (record { units = pieces section column row; over = over_of plat })
     position.0 position.1 is (are.is_piece section column row range position) over)

@@ -21,7 +21,8 @@ pub record Lines (section east west north south : ℕ) : Type 0 where
   pub north_is : north ≡ west_run row column
   pub south_is : south ≡ west_run (row + 1) column
 
-pub lines_of : (section east west north south : ℕ) → AreSides section (east ∷ west ∷ north ∷ south ∷ []) → Lines section east west north south
+pub lines_of : (section east west north south : ℕ) → AreSides section (east ∷ west ∷ north ∷ south ∷ [])
+    → Lines section east west north south
 lines_of section east west north south are = record {
   row = are.row;
   column = are.column;
@@ -35,7 +36,8 @@ lines_of section east west north south are = record {
 -- the sides of a section one by one
 pub sides_by_one : (section : ℕ) (sides : List ℕ) (e w n s : ℕ) → AreSides section sides
     → AreSides section (get_or sides 0 e ∷ get_or sides 1 w ∷ get_or sides 2 n ∷ get_or sides 3 s ∷ [])
-sides_by_one section sides e w n s are = record { row = are.row; column = are.column; stands = are.stands; sides_are = rw are.sides_are refl }
+sides_by_one section sides e w n s are =
+    record { row = are.row; column = are.column; stands = are.stands; sides_are = rw are.sides_are refl }
 
 -- a line outside the western column is no closing one if it is run west, and outside the northern row if
 -- it is run north
@@ -48,15 +50,18 @@ north_run_regular row place south below in_place (inl (place', below', is)) = om
 north_run_regular row place south below in_place (inr (tier, below', is)) = omega arith
 
 -- the north-western section is section 6
-pub corner_is_six : (section row column : ℕ) → StandsAt section row column → row ≡ 0 → column ≡ 5 → section ≡ 6
+pub corner_is_six : (section row column : ℕ) → StandsAt section row column → row ≡ 0 → column ≡ 5
+    → section ≡ 6
 corner_is_six section row column stands top west = omega arith
 
 -- a line that doesn't close is regular
-pub regular_quarter : (plat : TownshipPlat) (line : ℕ) → IsPlat plat → line < 84 → ¬ IsClosing line → closing_quarter_of plat line ≡ QUARTER_MILE
+pub regular_quarter : (plat : TownshipPlat) (line : ℕ) → IsPlat plat → line < 84 → ¬ IsClosing line
+    → closing_quarter_of plat line ≡ QUARTER_MILE
 regular_quarter plat line is is_line regular = (is.within line is_line).regular regular
 
 -- Outside section 6 a section's north and south lines are regular, or its east and west lines are.
-pub regular_outside_six : (plat : TownshipPlat) (section : ℕ) (q : ClosingQuarters) → IsPlat plat → AreClosingQuarters plat section q → section ≢ 6 → HaveRegularLines q
+pub regular_outside_six : (plat : TownshipPlat) (section : ℕ) (q : ClosingQuarters) → IsPlat plat
+    → AreClosingQuarters plat section q → section ≢ 6 → HaveRegularLines q
 regular_outside_six plat section q is are other =
     let lines = lines_of section are.east_line are.west_line are.north_line are.south_line are.sides in
     let row : ℕ = lines.row in
@@ -66,23 +71,29 @@ regular_outside_six plat section q is are other =
     elim (cases_lt column 5) [
       | inl east ↦ inl (
         are.north ∙ ap (closing_quarter_of plat) lines.north_is
-            ∙ regular_quarter plat (west_run row column) is (omega arith) (west_run_regular row column (omega arith) east),
+            ∙ regular_quarter plat (west_run row column) is (omega arith)
+            (west_run_regular row column (omega arith) east),
         are.south ∙ ap (closing_quarter_of plat) lines.south_is
-            ∙ regular_quarter plat (west_run (row + 1) column) is (omega arith) (west_run_regular (row + 1) column (omega arith) east),
+            ∙ regular_quarter plat (west_run (row + 1) column) is (omega arith)
+            (west_run_regular (row + 1) column (omega arith) east),
       )
       | inr west ↦ elim (cases_lt 0 row) [
         | inl south ↦ inr (
           are.east ∙ ap (closing_quarter_of plat) lines.east_is
-              ∙ regular_quarter plat (north_run row column) is (omega arith) (north_run_regular row column south in_row (omega arith)),
+              ∙ regular_quarter plat (north_run row column) is (omega arith)
+              (north_run_regular row column south in_row (omega arith)),
           are.west ∙ ap (closing_quarter_of plat) lines.west_is
-              ∙ regular_quarter plat (north_run row (column + 1)) is (omega arith) (north_run_regular row (column + 1) south in_row (omega arith)),
+              ∙ regular_quarter plat (north_run row (column + 1)) is (omega arith)
+              (north_run_regular row (column + 1) south in_row (omega arith)),
         )
-        | inr north ↦ absurd (other (corner_is_six section row column lines.stands (omega arith) (omega arith)))
+        | inr north ↦
+            absurd (other (corner_is_six section row column lines.stands (omega arith) (omega arith)))
       ]
     ]
 
 -- a plat's closing quarters are within its limits
-pub in_limits : (plat : TownshipPlat) (section : ℕ) (q : ClosingQuarters) → IsPlat plat → AreClosingQuarters plat section q → AreInLimits q
+pub in_limits : (plat : TownshipPlat) (section : ℕ) (q : ClosingQuarters) → IsPlat plat
+    → AreClosingQuarters plat section q → AreInLimits q
 in_limits plat section q is are =
     let lines = lines_of section are.east_line are.west_line are.north_line are.south_line are.sides in
     let in_row : lines.row < 6 = lines.stands.row_range in
@@ -99,11 +110,13 @@ in_limits plat section q is are =
     }
 
 -- the lines of a section on a plat are four
-pub one_quarters : (plat : TownshipPlat) (section : ℕ) (q q' : ClosingQuarters) → AreClosingQuarters plat section q → AreClosingQuarters plat section q' → q ≡ q'
+pub one_quarters : (plat : TownshipPlat) (section : ℕ) (q q' : ClosingQuarters)
+    → AreClosingQuarters plat section q → AreClosingQuarters plat section q' → q ≡ q'
 one_quarters plat section q q' are are' =
     let lines = lines_of section are.east_line are.west_line are.north_line are.south_line are.sides in
     let lines' = lines_of section are'.east_line are'.west_line are'.north_line are'.south_line are'.sides in
-    let same = same_standing section lines.row lines.column lines'.row lines'.column lines.stands lines'.stands in
+    let same =
+    same_standing section lines.row lines.column lines'.row lines'.column lines.stands lines'.stands in
     let same_row : lines.row ≡ lines'.row = same.0 in
     let same_column : lines.column ≡ lines'.column = same.1 in
     let east : are.east_line ≡ are'.east_line = omega (arith, lines.east_is, lines'.east_is) in
@@ -114,16 +127,19 @@ one_quarters plat section q q' are are' =
     let by_west : q.west ≡ q'.west = are.west ∙ ap (closing_quarter_of plat) west ∙ sym are'.west in
     let by_north : q.north ≡ q'.north = are.north ∙ ap (closing_quarter_of plat) north ∙ sym are'.north in
     let by_south : q.south ≡ q'.south = are.south ∙ ap (closing_quarter_of plat) south ∙ sym are'.south in
-    let four : ℕ → ℕ → ℕ → ℕ → ClosingQuarters = λ e w n s. record { east = e; west = w; north = n; south = s } in
+    let four : ℕ → ℕ → ℕ → ℕ → ClosingQuarters =
+    λ e w n s. record { east = e; west = w; north = n; south = s } in
     ap (λ e. four e q.west q.north q.south) by_east ∙ ap (λ w. four q'.east w q.north q.south) by_west
     ∙ ap (λ n. four q'.east q'.west n q.south) by_north ∙ ap (λ s. four q'.east q'.west q'.north s) by_south
 
 -- the denominator of a plat, by the closing quarters of section 6
-pub over_is : (plat : TownshipPlat) (q : ClosingQuarters) → AreClosingQuarters plat 6 q → over_of plat ≡ 4 * line_length q.north * line_length q.west
+pub over_is : (plat : TownshipPlat) (q : ClosingQuarters) → AreClosingQuarters plat 6 q
+    → over_of plat ≡ 4 * line_length q.north * line_length q.west
 unfolding over_of
 over_is plat q are =
     let lines = lines_of 6 are.east_line are.west_line are.north_line are.south_line are.sides in
-    let corner : StandsAt 6 0 5 = record { row_range = omega arith; column_range = omega arith; winds = inl (refl, refl) } in
+    let corner : StandsAt 6 0 5 =
+    record { row_range = omega arith; column_range = omega arith; winds = inl (refl, refl) } in
     let same = same_standing 6 lines.row lines.column 0 5 lines.stands corner in
     let north : are.north_line ≡ 47 = omega (arith, lines.north_is, same.0, same.1) in
     let west : are.west_line ≡ 6 = omega (arith, lines.west_is, same.0, same.1) in
@@ -132,5 +148,6 @@ over_is plat q are =
     rw (by_north, by_west) refl
 
 -- the line of an index has this index
-pub line_at : (index line : ℕ) (found : Option ℕ) → SomeIff found (IsLine index) index → found ≡ Some line → line ≡ index
+pub line_at : (index line : ℕ) (found : Option ℕ) → SomeIff found (IsLine index) index → found ≡ Some line
+    → line ≡ index
 line_at index line found is there = (rw there at is).1

@@ -23,7 +23,8 @@ straight_is a b k x along parts =
     rw (sym parts) (omega (arith, ints))
 
 -- the mean of two over one denominator
-mean_is : (r s : Ratio) (m n d : ℕ) → r.numerator ≡ pos m → s.numerator ≡ pos n → r.denominator ≡ d → s.denominator ≡ d
+mean_is : (r s : Ratio) (m n d : ℕ) → r.numerator ≡ pos m → s.numerator ≡ pos n → r.denominator ≡ d
+    → s.denominator ≡ d
     → ((mean r s).numerator ≡ pos (d * (m + n))) × ((mean r s).denominator ≡ 2 * (d * d))
 mean_is r s m n d r_is s_is r_over s_over =
     (rw (r_is, s_is, r_over, s_over) (ap pos (omega arith)), rw (r_over, s_over) refl)

@@ -1,5 +1,6 @@
 -- What the reader takes at the front of a description leads it on as if it were cut token by token.
-use Rattle.std.proofs.Common.{◌≡◌, ℕ, ◌+◌, ◌<◌, ◌≤◌, true, false, List, [], ◌∷◌, ◌++◌, Some, length, drop, refl, ap, subst, ◌∙◌, arith, codes}
+use Rattle.std.proofs.Common.{◌≡◌, ℕ, ◌+◌, ◌<◌, ◌≤◌, true, false, List, [], ◌∷◌, ◌++◌, Some, length, drop}
+use Rattle.std.proofs.Common.{refl, ap, subst, ◌∙◌, arith, codes}
 use Rattle.std.specs.Char.{is_ascii_alphabetic}
 use Rattle.std.specs.List.{AllPass, prefix_len}
 use Rattle.std.proofs.lemmas.List.Sums.{AllPass-from_list_all}
@@ -12,7 +13,8 @@ use Rattle.twp_grammar.specs.declared.item.Item.{Item}
 use Rattle.twp_grammar.specs.declared.item.Item.TheVariants.{Sections}
 use Rattle.twp_grammar.specs.declared.item.Numeral.{Numeral}
 use Rattle.twp_grammar.specs.declared.kind.Kind.{Kind}
-use Rattle.twp_grammar.specs.declared.kind.Kind.TheVariants.{T, R, NorthSouth, EastWest, Sec, Lot, Stop, Comma, Colon, Number}
+use Rattle.twp_grammar.specs.declared.kind.Kind.TheVariants.{T, R, NorthSouth, EastWest, Sec, Lot, Stop}
+use Rattle.twp_grammar.specs.declared.kind.Kind.TheVariants.{Comma, Colon, Number}
 use Rattle.twp_grammar.specs.declared.state.State.{State}
 use Rattle.twp_grammar.specs.declared.state.State.TheVariants as past
 use Rattle.twp_grammar.specs.Cutting.{IsFirstIn}
@@ -24,37 +26,52 @@ use Rattle.twp_grammar.specs.Grammar.{class_of, sec, lot, stop, comma, number}
 use Rattle.twp_grammar.specs.Machine.{next}
 use Rattle.twp_read.specs.TokenSteps.{take_token, take_township, take_number, before_parts, with_newest}
 use Rattle.twp_read.specs.Usual.{Leads, IsNumberBehind}
-use Rattle.twp_read.proofs.UsualFacts.{IsMark, the_comma, mark_leads, made, leads_token, leads_space, leads_then, left_behind, white_leads}
+use Rattle.twp_read.proofs.Leading.{IsMark, the_comma, mark_leads, made, leads_token, leads_space, leads_then}
+use Rattle.twp_read.proofs.Leading.{left_behind, white_leads}
 
 pub a_full_stop : IsMark 46 Stop
 a_full_stop = record { is = λ rest. a_stop refl refl; kept = λ state at its. refl }
 
 -- a full stop, and the space behind it
-pub stop_leads : (text : List ℕ) (at : ℕ) (state behind : State) (its : List Item) → next state stop ≡ Some behind → drop at text ≡ codes ". " ++ drop (at + 2) text → at + 2 ≤ length text → Leads text at state its (at + 2) behind its
+pub stop_leads : (text : List ℕ) (at : ℕ) (state behind : State) (its : List Item)
+    → next state stop ≡ Some behind → drop at text ≡ codes ". " ++ drop (at + 2) text → at + 2 ≤ length text
+    → Leads text at state its (at + 2) behind its
 stop_leads text at state behind its is spelt within =
-    let space : drop (at + 1) text ≡ codes " " ++ drop (at + 2) text = left_behind text at 1 (codes ". " ++ drop (at + 2) text) spelt in
+    let space : drop (at + 1) text ≡ codes " " ++ drop (at + 2) text =
+    left_behind text at 1 (codes ". " ++ drop (at + 2) text) spelt in
     let end : (at + 1) + 1 ≡ at + 2 = omega arith in
     leads_then text at state its (at + 1) behind its (at + 2) behind its
     (mark_leads text at 46 Stop state behind its a_full_stop is (rw space spelt) (omega arith))
-    (subst (λ (n : ℕ). Leads text (at + 1) behind its n behind its) end (leads_space text (at + 1) behind its (rw end space) (omega arith)))
+    (subst (λ (n : ℕ). Leads text (at + 1) behind its n behind its) end
+    (leads_space text (at + 1) behind its (rw end space) (omega arith)))
 
 -- a full stop and a comma
-pub stop_comma_leads : (text : List ℕ) (at : ℕ) (state between behind : State) (its : List Item) → next state stop ≡ Some between → next between comma ≡ Some behind → drop at text ≡ codes ".," ++ drop (at + 2) text → at + 2 ≤ length text → Leads text at state its (at + 2) behind its
+pub stop_comma_leads : (text : List ℕ) (at : ℕ) (state between behind : State) (its : List Item)
+    → next state stop ≡ Some between → next between comma ≡ Some behind
+    → drop at text ≡ codes ".," ++ drop (at + 2) text → at + 2 ≤ length text
+    → Leads text at state its (at + 2) behind its
 stop_comma_leads text at state between behind its is is_behind spelt within =
-    let left : drop (at + 1) text ≡ codes "," ++ drop (at + 2) text = left_behind text at 1 (codes ".," ++ drop (at + 2) text) spelt in
+    let left : drop (at + 1) text ≡ codes "," ++ drop (at + 2) text =
+    left_behind text at 1 (codes ".," ++ drop (at + 2) text) spelt in
     let end : (at + 1) + 1 ≡ at + 2 = omega arith in
     leads_then text at state its (at + 1) between its (at + 2) behind its
     (mark_leads text at 46 Stop state between its a_full_stop is (rw left spelt) (omega arith))
-    (subst (λ (n : ℕ). Leads text (at + 1) between its n behind its) end (mark_leads text (at + 1) 44 Comma between behind its the_comma is_behind (rw end left) (omega arith)))
+    (subst (λ (n : ℕ). Leads text (at + 1) between its n behind its) end
+    (mark_leads text (at + 1) 44 Comma between behind its the_comma is_behind (rw end left) (omega arith)))
 
 -- a full stop and a comma, and the space behind them
-pub stop_comma_space_leads : (text : List ℕ) (at : ℕ) (state between behind : State) (its : List Item) → next state stop ≡ Some between → next between comma ≡ Some behind → drop at text ≡ codes "., " ++ drop (at + 3) text → at + 3 ≤ length text → Leads text at state its (at + 3) behind its
+pub stop_comma_space_leads : (text : List ℕ) (at : ℕ) (state between behind : State) (its : List Item)
+    → next state stop ≡ Some between → next between comma ≡ Some behind
+    → drop at text ≡ codes "., " ++ drop (at + 3) text → at + 3 ≤ length text
+    → Leads text at state its (at + 3) behind its
 stop_comma_space_leads text at state between behind its is is_behind spelt within =
-    let space : drop (at + 2) text ≡ codes " " ++ drop (at + 3) text = left_behind text at 2 (codes "., " ++ drop (at + 3) text) spelt in
+    let space : drop (at + 2) text ≡ codes " " ++ drop (at + 3) text =
+    left_behind text at 2 (codes "., " ++ drop (at + 3) text) spelt in
     let end : (at + 2) + 1 ≡ at + 3 = omega arith in
     leads_then text at state its (at + 2) behind its (at + 3) behind its
     (stop_comma_leads text at state between behind its is is_behind (rw space spelt) (omega arith))
-    (subst (λ (n : ℕ). Leads text (at + 2) behind its n behind its) end (leads_space text (at + 2) behind its (rw end space) (omega arith)))
+    (subst (λ (n : ℕ). Leads text (at + 2) behind its n behind its) end
+    (leads_space text (at + 2) behind its (rw end space) (omega arith)))
 
 -- letters that are a word of this kind
 record IsWord (letters : List ℕ) (kind : Kind) : Type 0 where
@@ -63,15 +80,23 @@ record IsWord (letters : List ℕ) (kind : Kind) : Type 0 where
   is : kind ≡ kind_of_word letters
 
 -- a word behind white space, before what isn't a letter
-word_leads : (text : List ℕ) (at place end : ℕ) (space letters rest : List ℕ) (kind : Kind) (state behind : State) (its : List Item)
+word_leads : (text : List ℕ) (at place end : ℕ) (space letters rest : List ℕ) (kind : Kind)
+    (state behind : State) (its : List Item)
     → AllPass is_white space → IsWord letters kind → begins_with is_ascii_alphabetic rest ≡ false
     → drop at text ≡ space ++ (letters ++ rest) → drop end text ≡ rest
     → place ≡ at + length space → place + length letters ≡ end → end ≤ length text
     → next state (class_of kind) ≡ Some behind
     → Leads text at state its end behind (take_token state kind place its)
-word_leads text at place end space letters rest kind state behind its white word ends spelt left here size within is =
+word_leads text at place end space letters rest kind state behind its white word ends spelt left here size
+    within is =
     let starts : StartsWith at (drop at text) (made kind letters place) (drop end text) =
-    rw left (record { space = space; white = white; spelt = spelt; place = here; is = good (a_word (record { some = word.some; all = word.all; ends = ends }) word.is) }) in
+    rw left (record {
+      space = space;
+      white = white;
+      spelt = spelt;
+      place = here;
+      is = good (a_word (record { some = word.some; all = word.all; ends = ends }) word.is);
+    }) in
     leads_token text at state its (made kind letters place) end behind starts size within is
 
 no_space : AllPass is_white []
@@ -81,43 +106,64 @@ one_space : AllPass is_white (codes " ")
 one_space = AllPass-from_list_all is_white (codes " ") refl
 
 one_t : IsWord (codes "T") T
-one_t = record { some = omega arith; all = AllPass-from_list_all is_ascii_alphabetic (codes "T") refl; is = refl }
+one_t =
+    record { some = omega arith; all = AllPass-from_list_all is_ascii_alphabetic (codes "T") refl; is = refl }
 
 one_r : IsWord (codes "R") R
-one_r = record { some = omega arith; all = AllPass-from_list_all is_ascii_alphabetic (codes "R") refl; is = refl }
+one_r =
+    record { some = omega arith; all = AllPass-from_list_all is_ascii_alphabetic (codes "R") refl; is = refl }
 
 one_sec : IsWord (codes "sec") Sec
-one_sec = record { some = omega arith; all = AllPass-from_list_all is_ascii_alphabetic (codes "sec") refl; is = refl }
+one_sec = record {
+  some = omega arith;
+  all = AllPass-from_list_all is_ascii_alphabetic (codes "sec") refl;
+  is = refl;
+}
 
 one_section : IsWord (codes "Section") Sec
-one_section = record { some = omega arith; all = AllPass-from_list_all is_ascii_alphabetic (codes "Section") refl; is = refl }
+one_section = record {
+  some = omega arith;
+  all = AllPass-from_list_all is_ascii_alphabetic (codes "Section") refl;
+  is = refl;
+}
 
 one_n : IsWord (codes "N") (NorthSouth ns.N)
-one_n = record { some = omega arith; all = AllPass-from_list_all is_ascii_alphabetic (codes "N") refl; is = refl }
+one_n =
+    record { some = omega arith; all = AllPass-from_list_all is_ascii_alphabetic (codes "N") refl; is = refl }
 
 one_s : IsWord (codes "S") (NorthSouth ns.S)
-one_s = record { some = omega arith; all = AllPass-from_list_all is_ascii_alphabetic (codes "S") refl; is = refl }
+one_s =
+    record { some = omega arith; all = AllPass-from_list_all is_ascii_alphabetic (codes "S") refl; is = refl }
 
 one_e : IsWord (codes "E") (EastWest ew.E)
-one_e = record { some = omega arith; all = AllPass-from_list_all is_ascii_alphabetic (codes "E") refl; is = refl }
+one_e =
+    record { some = omega arith; all = AllPass-from_list_all is_ascii_alphabetic (codes "E") refl; is = refl }
 
 one_w : IsWord (codes "W") (EastWest ew.W)
-one_w = record { some = omega arith; all = AllPass-from_list_all is_ascii_alphabetic (codes "W") refl; is = refl }
+one_w =
+    record { some = omega arith; all = AllPass-from_list_all is_ascii_alphabetic (codes "W") refl; is = refl }
 
 -- `T. `
-pub township_leads : (text : List ℕ) (at : ℕ) (its : List Item) → drop at text ≡ codes "T. " ++ drop (at + 3) text → at + 3 ≤ length text → Leads text at past.Start its (at + 3) past.TownshipStop (take_township at its)
+pub township_leads : (text : List ℕ) (at : ℕ) (its : List Item)
+    → drop at text ≡ codes "T. " ++ drop (at + 3) text → at + 3 ≤ length text
+    → Leads text at past.Start its (at + 3) past.TownshipStop (take_township at its)
 township_leads text at its spelt within =
     let more : List ℕ = drop (at + 3) text in
-    let behind : drop (at + 1) text ≡ codes ". " ++ more = left_behind text at 1 (codes "T. " ++ more) spelt in
+    let behind : drop (at + 1) text ≡ codes ". " ++ more =
+    left_behind text at 1 (codes "T. " ++ more) spelt in
     let end : (at + 1) + 2 ≡ at + 3 = omega arith in
     let begun : List Item = take_township at its in
     leads_then text at past.Start its (at + 1) past.Township begun (at + 3) past.TownshipStop begun
-    (word_leads text at at (at + 1) [] (codes "T") (codes ". " ++ more) T past.Start past.Township its no_space one_t refl spelt behind (omega arith) refl (omega arith) refl)
+    (word_leads text at at (at + 1) [] (codes "T") (codes ". " ++ more) T past.Start past.Township its
+    no_space one_t refl spelt behind (omega arith) refl (omega arith) refl)
     (subst (λ (n : ℕ). Leads text (at + 1) past.Township begun n past.TownshipStop begun) end
     (stop_leads text (at + 1) past.Township past.TownshipStop begun refl (rw end behind) (omega arith)))
 
 -- ` N., R. ` and ` S., R. `
-side_leads : (text : List ℕ) (at letter : ℕ) (side : NorthOrSouth) (its : List Item) → IsWord (letter ∷ []) (NorthSouth side) → drop at text ≡ 32 ∷ letter ∷ (codes "., R. " ++ drop (at + 8) text) → at + 8 ≤ length text → Leads text at past.TownshipNumber its (at + 8) past.RangeStop (with_newest (TownshipSide side) its)
+side_leads : (text : List ℕ) (at letter : ℕ) (side : NorthOrSouth) (its : List Item)
+    → IsWord (letter ∷ []) (NorthSouth side)
+    → drop at text ≡ 32 ∷ letter ∷ (codes "., R. " ++ drop (at + 8) text) → at + 8 ≤ length text
+    → Leads text at past.TownshipNumber its (at + 8) past.RangeStop (with_newest (TownshipSide side) its)
 side_leads text at letter side its word spelt within =
     let more : List ℕ = drop (at + 8) text in
     let whole : List ℕ = 32 ∷ letter ∷ (codes "., R. " ++ more) in
@@ -129,77 +175,120 @@ side_leads text at letter side its word spelt within =
     let sided : List Item = with_newest (TownshipSide side) its in
     leads_then text at past.TownshipNumber its (at + 6) past.Range sided (at + 8) past.RangeStop sided
     (leads_then text at past.TownshipNumber its (at + 5) past.TownshipComma sided (at + 6) past.Range sided
-    (leads_then text at past.TownshipNumber its (at + 2) past.TownshipSide sided (at + 5) past.TownshipComma sided
-    (word_leads text at (at + 1) (at + 2) (codes " ") (letter ∷ []) (codes "., R. " ++ more) (NorthSouth side) past.TownshipNumber past.TownshipSide its one_space word refl spelt marks refl (omega arith) (omega arith) refl)
+    (leads_then text at past.TownshipNumber its (at + 2) past.TownshipSide sided (at + 5) past.TownshipComma
+    sided
+    (word_leads text at (at + 1) (at + 2) (codes " ") (letter ∷ []) (codes "., R. " ++ more)
+    (NorthSouth side) past.TownshipNumber past.TownshipSide its one_space word refl spelt marks refl
+    (omega arith) (omega arith) refl)
     (subst (λ (n : ℕ). Leads text (at + 2) past.TownshipSide sided n past.TownshipComma sided) marks_end
-    (stop_comma_space_leads text (at + 2) past.TownshipSide past.TownshipSideStop past.TownshipComma sided refl refl (rw (marks_end, range) marks) (omega arith))))
-    (word_leads text (at + 5) (at + 5) (at + 6) [] (codes "R") (codes ". " ++ more) R past.TownshipComma past.Range sided no_space one_r refl range mark (omega arith) (omega arith) (omega arith) refl))
+    (stop_comma_space_leads text (at + 2) past.TownshipSide past.TownshipSideStop past.TownshipComma sided
+    refl refl (rw (marks_end, range) marks) (omega arith))))
+    (word_leads text (at + 5) (at + 5) (at + 6) [] (codes "R") (codes ". " ++ more) R past.TownshipComma
+    past.Range sided no_space one_r refl range mark (omega arith) (omega arith) (omega arith) refl))
     (subst (λ (n : ℕ). Leads text (at + 6) past.Range sided n past.RangeStop sided) mark_end
     (stop_leads text (at + 6) past.Range past.RangeStop sided refl (rw mark_end mark) (omega arith)))
 
-pub north_leads : (text : List ℕ) (at : ℕ) (its : List Item) → drop at text ≡ codes " N., R. " ++ drop (at + 8) text → at + 8 ≤ length text → Leads text at past.TownshipNumber its (at + 8) past.RangeStop (with_newest (TownshipSide ns.N) its)
+pub north_leads : (text : List ℕ) (at : ℕ) (its : List Item)
+    → drop at text ≡ codes " N., R. " ++ drop (at + 8) text → at + 8 ≤ length text
+    → Leads text at past.TownshipNumber its (at + 8) past.RangeStop (with_newest (TownshipSide ns.N) its)
 north_leads text at its spelt within = side_leads text at 78 ns.N its one_n spelt within
 
-pub south_leads : (text : List ℕ) (at : ℕ) (its : List Item) → drop at text ≡ codes " S., R. " ++ drop (at + 8) text → at + 8 ≤ length text → Leads text at past.TownshipNumber its (at + 8) past.RangeStop (with_newest (TownshipSide ns.S) its)
+pub south_leads : (text : List ℕ) (at : ℕ) (its : List Item)
+    → drop at text ≡ codes " S., R. " ++ drop (at + 8) text → at + 8 ≤ length text
+    → Leads text at past.TownshipNumber its (at + 8) past.RangeStop (with_newest (TownshipSide ns.S) its)
 south_leads text at its spelt within = side_leads text at 83 ns.S its one_s spelt within
 
 -- ` E.,` and ` W.,`
-way_leads : (text : List ℕ) (at letter : ℕ) (way : EastOrWest) (its : List Item) → IsWord (letter ∷ []) (EastWest way) → drop at text ≡ 32 ∷ letter ∷ (codes ".," ++ drop (at + 4) text) → at + 4 ≤ length text → Leads text at past.RangeNumber its (at + 4) past.BeforeGroup (with_newest (RangeSide way) its)
+way_leads : (text : List ℕ) (at letter : ℕ) (way : EastOrWest) (its : List Item)
+    → IsWord (letter ∷ []) (EastWest way) → drop at text ≡ 32 ∷ letter ∷ (codes ".," ++ drop (at + 4) text)
+    → at + 4 ≤ length text
+    → Leads text at past.RangeNumber its (at + 4) past.BeforeGroup (with_newest (RangeSide way) its)
 way_leads text at letter way its word spelt within =
     let more : List ℕ = drop (at + 4) text in
-    let marks : drop (at + 2) text ≡ codes ".," ++ more = left_behind text at 2 (32 ∷ letter ∷ (codes ".," ++ more)) spelt in
+    let marks : drop (at + 2) text ≡ codes ".," ++ more =
+    left_behind text at 2 (32 ∷ letter ∷ (codes ".," ++ more)) spelt in
     let end : (at + 2) + 2 ≡ at + 4 = omega arith in
     let sided : List Item = with_newest (RangeSide way) its in
     leads_then text at past.RangeNumber its (at + 2) past.RangeSide sided (at + 4) past.BeforeGroup sided
-    (word_leads text at (at + 1) (at + 2) (codes " ") (letter ∷ []) (codes ".," ++ more) (EastWest way) past.RangeNumber past.RangeSide its one_space word refl spelt marks refl (omega arith) (omega arith) refl)
+    (word_leads text at (at + 1) (at + 2) (codes " ") (letter ∷ []) (codes ".," ++ more) (EastWest way)
+    past.RangeNumber past.RangeSide its one_space word refl spelt marks refl (omega arith) (omega arith) refl)
     (subst (λ (n : ℕ). Leads text (at + 2) past.RangeSide sided n past.BeforeGroup sided) end
-    (stop_comma_leads text (at + 2) past.RangeSide past.RangeSideStop past.BeforeGroup sided refl refl (rw end marks) (omega arith)))
+    (stop_comma_leads text (at + 2) past.RangeSide past.RangeSideStop past.BeforeGroup sided refl refl
+    (rw end marks) (omega arith)))
 
-pub east_leads : (text : List ℕ) (at : ℕ) (its : List Item) → drop at text ≡ codes " E.," ++ drop (at + 4) text → at + 4 ≤ length text → Leads text at past.RangeNumber its (at + 4) past.BeforeGroup (with_newest (RangeSide ew.E) its)
+pub east_leads : (text : List ℕ) (at : ℕ) (its : List Item)
+    → drop at text ≡ codes " E.," ++ drop (at + 4) text → at + 4 ≤ length text
+    → Leads text at past.RangeNumber its (at + 4) past.BeforeGroup (with_newest (RangeSide ew.E) its)
 east_leads text at its spelt within = way_leads text at 69 ew.E its one_e spelt within
 
-pub west_leads : (text : List ℕ) (at : ℕ) (its : List Item) → drop at text ≡ codes " W.," ++ drop (at + 4) text → at + 4 ≤ length text → Leads text at past.RangeNumber its (at + 4) past.BeforeGroup (with_newest (RangeSide ew.W) its)
+pub west_leads : (text : List ℕ) (at : ℕ) (its : List Item)
+    → drop at text ≡ codes " W.," ++ drop (at + 4) text → at + 4 ≤ length text
+    → Leads text at past.RangeNumber its (at + 4) past.BeforeGroup (with_newest (RangeSide ew.W) its)
 west_leads text at its spelt within = way_leads text at 87 ew.W its one_w spelt within
 
 -- `sec. ` and `Section `, behind white space
-pub sec_leads : (text : List ℕ) (from at : ℕ) (state : State) (its : List Item) → next state sec ≡ Some past.SectionWord → at ≡ from + prefix_len is_white (drop from text) → drop at text ≡ codes "sec. " ++ drop (at + 5) text → at + 5 ≤ length text → Leads text from state its (at + 5) past.SectionStop its
+pub sec_leads : (text : List ℕ) (from at : ℕ) (state : State) (its : List Item)
+    → next state sec ≡ Some past.SectionWord → at ≡ from + prefix_len is_white (drop from text)
+    → drop at text ≡ codes "sec. " ++ drop (at + 5) text → at + 5 ≤ length text
+    → Leads text from state its (at + 5) past.SectionStop its
 sec_leads text from at state its is here spelt within =
     let more : List ℕ = drop (at + 5) text in
-    let mark : drop (at + 3) text ≡ codes ". " ++ more = left_behind text at 3 (codes "sec. " ++ more) spelt in
+    let mark : drop (at + 3) text ≡ codes ". " ++ more =
+    left_behind text at 3 (codes "sec. " ++ more) spelt in
     let end : (at + 3) + 2 ≡ at + 5 = omega arith in
     leads_then text from state its at state its (at + 5) past.SectionStop its
     (white_leads text from at state its here (omega arith))
     (leads_then text at state its (at + 3) past.SectionWord its (at + 5) past.SectionStop its
-    (word_leads text at at (at + 3) [] (codes "sec") (codes ". " ++ more) Sec state past.SectionWord its no_space one_sec refl spelt mark (omega arith) refl (omega arith) is)
+    (word_leads text at at (at + 3) [] (codes "sec") (codes ". " ++ more) Sec state past.SectionWord its
+    no_space one_sec refl spelt mark (omega arith) refl (omega arith) is)
     (subst (λ (n : ℕ). Leads text (at + 3) past.SectionWord its n past.SectionStop its) end
     (stop_leads text (at + 3) past.SectionWord past.SectionStop its refl (rw end mark) (omega arith))))
 
-pub section_leads : (text : List ℕ) (from at : ℕ) (state : State) (its : List Item) → next state sec ≡ Some past.SectionWord → at ≡ from + prefix_len is_white (drop from text) → drop at text ≡ codes "Section " ++ drop (at + 8) text → at + 8 ≤ length text → Leads text from state its (at + 8) past.SectionWord its
+pub section_leads : (text : List ℕ) (from at : ℕ) (state : State) (its : List Item)
+    → next state sec ≡ Some past.SectionWord → at ≡ from + prefix_len is_white (drop from text)
+    → drop at text ≡ codes "Section " ++ drop (at + 8) text → at + 8 ≤ length text
+    → Leads text from state its (at + 8) past.SectionWord its
 section_leads text from at state its is here spelt within =
     let more : List ℕ = drop (at + 8) text in
-    let space : drop (at + 7) text ≡ codes " " ++ more = left_behind text at 7 (codes "Section " ++ more) spelt in
+    let space : drop (at + 7) text ≡ codes " " ++ more =
+    left_behind text at 7 (codes "Section " ++ more) spelt in
     let end : (at + 7) + 1 ≡ at + 8 = omega arith in
     leads_then text from state its at state its (at + 8) past.SectionWord its
     (white_leads text from at state its here (omega arith))
     (leads_then text at state its (at + 7) past.SectionWord its (at + 8) past.SectionWord its
-    (word_leads text at at (at + 7) [] (codes "Section") (codes " " ++ more) Sec state past.SectionWord its no_space one_section refl spelt space (omega arith) refl (omega arith) is)
+    (word_leads text at at (at + 7) [] (codes "Section") (codes " " ++ more) Sec state past.SectionWord its
+    no_space one_section refl spelt space (omega arith) refl (omega arith) is)
     (subst (λ (n : ℕ). Leads text (at + 7) past.SectionWord its n past.SectionWord its) end
     (leads_space text (at + 7) past.SectionWord its (rw end space) (omega arith))))
 
 -- the colon behind a section's number
-pub colon_leads : (text : List ℕ) (at : ℕ) (its : List Item) → drop at text ≡ codes ":" ++ drop (at + 1) text → at + 1 ≤ length text → Leads text at past.SectionNumber its (at + 1) past.BeforePart (before_parts past.SectionNumber its)
+pub colon_leads : (text : List ℕ) (at : ℕ) (its : List Item) → drop at text ≡ codes ":" ++ drop (at + 1) text
+    → at + 1 ≤ length text
+    → Leads text at past.SectionNumber its (at + 1) past.BeforePart (before_parts past.SectionNumber its)
 colon_leads text at its spelt within =
     let starts : StartsWith at (drop at text) (made Colon (codes ":") at) (drop (at + 1) text) =
-    record { space = []; white = no_space; spelt = spelt; place = omega arith; is = good (a_colon refl refl) } in
-    leads_token text at past.SectionNumber its (made Colon (codes ":") at) (at + 1) past.BeforePart starts refl within refl
+    record {
+      space = [];
+      white = no_space;
+      spelt = spelt;
+      place = omega arith;
+      is = good (a_colon refl refl);
+    } in
+    leads_token text at past.SectionNumber its (made Colon (codes ":") at) (at + 1) past.BeforePart starts
+    refl within refl
 
 -- a number that is the next token
-pub number_leads : (text : List ℕ) (from : ℕ) (token : Token) (it : Numeral) (end : ℕ) → IsFirstIn text from token → token.kind ≡ Number it.value → token.at ≡ it.at → token.at + length token.text ≡ end → IsNumberBehind text from it end
+pub number_leads : (text : List ℕ) (from : ℕ) (token : Token) (it : Numeral) (end : ℕ)
+    → IsFirstIn text from token → token.kind ≡ Number it.value → token.at ≡ it.at
+    → token.at + length token.text ≡ end → IsNumberBehind text from it end
 number_leads text from token it end first kind_is at_is ends state behind its is =
-    let step_is : next state (class_of token.kind) ≡ Some behind = ap (λ k. next state (class_of k)) kind_is ∙ is in
+    let step_is : next state (class_of token.kind) ≡ Some behind =
+    ap (λ k. next state (class_of k)) kind_is ∙ is in
     let grown_is : take_token state token.kind token.at its ≡ take_number state it its =
-    ap (λ k. take_token state k token.at its) kind_is ∙ ap (λ n. take_token state (Number it.value) n its) at_is in
-    let starts : StartsWith from (drop from text) token (drop end text) = subst (λ (n : ℕ). StartsWith from (drop from text) token (drop n text)) ends first.starts in
+    ap (λ k. take_token state k token.at its) kind_is
+    ∙ ap (λ n. take_token state (Number it.value) n its) at_is in
+    let starts : StartsWith from (drop from text) token (drop end text) =
+    subst (λ (n : ℕ). StartsWith from (drop from text) token (drop n text)) ends first.starts in
     let within : end ≤ length text = subst (λ (n : ℕ). n ≤ length text) ends first.within in
     subst (λ (js : List Item). Leads text from state its end behind js) grown_is
     (leads_token text from state its token end behind starts ends within step_is)
@@ -216,37 +305,53 @@ lots_begin past.PartComma h = refl
 lots_begin _ h = cc h
 
 one_lots : IsWord (codes "lots") Lot
-one_lots = record { some = omega arith; all = AllPass-from_list_all is_ascii_alphabetic (codes "lots") refl; is = refl }
+one_lots = record {
+  some = omega arith;
+  all = AllPass-from_list_all is_ascii_alphabetic (codes "lots") refl;
+  is = refl;
+}
 
 -- `lots `
-pub lots_leads : (text : List ℕ) (at : ℕ) (state : State) (its : List Item) → true ≡ is_some (next state lot) → drop at text ≡ codes "lots " ++ drop (at + 5) text → at + 5 ≤ length text → Leads text at state its (at + 5) past.Lot (before_parts state its)
+pub lots_leads : (text : List ℕ) (at : ℕ) (state : State) (its : List Item) → true ≡ is_some (next state lot)
+    → drop at text ≡ codes "lots " ++ drop (at + 5) text → at + 5 ≤ length text
+    → Leads text at state its (at + 5) past.Lot (before_parts state its)
 lots_leads text at state its begins spelt within =
     let more : List ℕ = drop (at + 5) text in
     let begun : List Item = before_parts state its in
-    let space : drop (at + 4) text ≡ codes " " ++ more = left_behind text at 4 (codes "lots " ++ more) spelt in
+    let space : drop (at + 4) text ≡ codes " " ++ more =
+    left_behind text at 4 (codes "lots " ++ more) spelt in
     let end : (at + 4) + 1 ≡ at + 5 = omega arith in
     leads_then text at state its (at + 4) past.Lot begun (at + 5) past.Lot begun
-    (word_leads text at at (at + 4) [] (codes "lots") (codes " " ++ more) Lot state past.Lot its no_space one_lots refl spelt space (omega arith) refl (omega arith) (lots_begin state begins))
+    (word_leads text at at (at + 4) [] (codes "lots") (codes " " ++ more) Lot state past.Lot its no_space
+    one_lots refl spelt space (omega arith) refl (omega arith) (lots_begin state begins))
     (subst (λ (n : ℕ). Leads text (at + 4) past.Lot begun n past.Lot begun) end
     (leads_space text (at + 4) past.Lot begun (rw end space) (omega arith)))
 
 -- `, lots ` behind the number of a section
-pub comma_lots_leads : (text : List ℕ) (at : ℕ) (its : List Item) → drop at text ≡ codes ", lots " ++ drop (at + 7) text → at + 7 ≤ length text → Leads text at past.SectionNumber its (at + 7) past.Lot (before_parts past.SectionNumber its)
+pub comma_lots_leads : (text : List ℕ) (at : ℕ) (its : List Item)
+    → drop at text ≡ codes ", lots " ++ drop (at + 7) text → at + 7 ≤ length text
+    → Leads text at past.SectionNumber its (at + 7) past.Lot (before_parts past.SectionNumber its)
 comma_lots_leads text at its spelt within =
     let more : List ℕ = drop (at + 7) text in
     let begun : List Item = before_parts past.SectionNumber its in
-    let word : drop (at + 1) text ≡ codes " lots " ++ more = left_behind text at 1 (codes ", lots " ++ more) spelt in
-    let space : drop (at + 6) text ≡ codes " " ++ more = left_behind text at 6 (codes ", lots " ++ more) spelt in
+    let word : drop (at + 1) text ≡ codes " lots " ++ more =
+    left_behind text at 1 (codes ", lots " ++ more) spelt in
+    let space : drop (at + 6) text ≡ codes " " ++ more =
+    left_behind text at 6 (codes ", lots " ++ more) spelt in
     let end : (at + 6) + 1 ≡ at + 7 = omega arith in
     leads_then text at past.SectionNumber its (at + 1) past.SectionComma its (at + 7) past.Lot begun
-    (mark_leads text at 44 Comma past.SectionNumber past.SectionComma its the_comma refl (rw word spelt) (omega arith))
+    (mark_leads text at 44 Comma past.SectionNumber past.SectionComma its the_comma refl (rw word spelt)
+    (omega arith))
     (leads_then text (at + 1) past.SectionComma its (at + 6) past.Lot begun (at + 7) past.Lot begun
-    (word_leads text (at + 1) (at + 2) (at + 6) (codes " ") (codes "lots") (codes " " ++ more) Lot past.SectionComma past.Lot its one_space one_lots refl word space (omega arith) (omega arith) (omega arith) refl)
+    (word_leads text (at + 1) (at + 2) (at + 6) (codes " ") (codes "lots") (codes " " ++ more) Lot
+    past.SectionComma past.Lot its one_space one_lots refl word space (omega arith) (omega arith)
+    (omega arith) refl)
     (subst (λ (n : ℕ). Leads text (at + 6) past.Lot begun n past.Lot begun) end
     (leads_space text (at + 6) past.Lot begun (rw end space) (omega arith))))
 
 -- the number behind a section's word is its own
-pub section_taken : (state : State) (it : Numeral) (its : List Item) → next state number ≡ Some past.SectionNumber → take_number state it its ≡ Sections it it true ∷ its
+pub section_taken : (state : State) (it : Numeral) (its : List Item)
+    → next state number ≡ Some past.SectionNumber → take_number state it its ≡ Sections it it true ∷ its
 section_taken past.Township it its h = cc h
 section_taken past.TownshipStop it its h = cc h
 section_taken past.Range it its h = cc h

@@ -1,5 +1,6 @@
 -- A letter as a small one, by its bit: the 256 bytes are computed.
-use Rattle.std.proofs.Common.{◌≡◌, ◌==◌, ℕ, zero, suc, ◌<◌, Bool, true, false, cond, ◌&&◌, Option, Some, None, bit_or, refl, ap, inl, inr, arith}
+use Rattle.std.proofs.Common.{◌≡◌, ◌==◌, ℕ, zero, suc, ◌<◌, Bool, true, false, cond, ◌&&◌, Option, Some, None}
+use Rattle.std.proofs.Common.{bit_or, refl, ap, inl, inr, arith}
 use Rattle.std.specs.Char.{is_ascii_lowercase}
 use Rattle.std.proofs.lemmas.Bool.{eqb-true, cases_lt}
 use Rattle.twp_grammar.specs.Cutting.{small_letter}
@@ -41,7 +42,9 @@ unfolding each
 every_byte = refl
 
 pub by_its_bit : (byte : ℕ) → byte < 256 → by_bit byte ≡ small_letter byte
-by_its_bit byte small = same_tells (by_bit byte) (small_letter byte) (each_at 256 (λ b. same_option (by_bit b) (small_letter b)) byte every_byte small)
+by_its_bit byte small =
+    same_tells (by_bit byte) (small_letter byte)
+    (each_at 256 (λ b. same_option (by_bit b) (small_letter b)) byte every_byte small)
 
 -- a letter isn't 0
 pub letter_counts : (byte small : ℕ) → small_letter byte ≡ Some small → 0 < byte

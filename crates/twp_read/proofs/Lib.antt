@@ -1,9 +1,13 @@
 pub mod NewestItem
+pub mod ListWalk
+pub mod PartWalk
 pub mod Walk
 pub mod Reading
 pub mod WordFacts
 pub mod WhiteFacts
 pub mod ReaderFacts
+pub mod Leading
+pub mod StandingSteps
 pub mod UsualFacts
 pub mod FrontFacts
 pub mod NumberFacts

@@ -1,5 +1,7 @@
 -- The newest of the items is the last of the vector.
-use Rattle.std.proofs.Common.{◌≡◌, ℕ, ◌-◌, ◌<◌, List, [], ◌∷◌, ◌++◌, length, get_or, reverse, OnOk, IfOk, IfSome, Option, Some, None, Result, Ok, Err, refl, sym, ap, subst, ◌∙◌, arith, length-append}
+use Rattle.std.proofs.Common.{◌≡◌, ℕ, ◌-◌, ◌<◌, List, [], ◌∷◌, ◌++◌, length, get_or, reverse, OnOk, IfOk}
+use Rattle.std.proofs.Common.{IfSome, Option, Some, None, Result, Ok, Err, refl, sym, ap, subst, ◌∙◌, arith}
+use Rattle.std.proofs.Common.{length-append}
 use Rattle.std.proofs.Math.ListN.{set}
 use Rattle.std.proofs.Math.Seq.{get_or-append_seam, set-append_seam}
 use Rattle.std.proofs.lemmas.List.{reverse-append}
@@ -20,41 +22,82 @@ has_last first (second ∷ more) =
     let rest : HasLast (second ∷ more) = has_last second more in
     record { front = first ∷ rest.front; last = rest.last; is = ap (λ xs. first ∷ xs) rest.is }
 
-changes_last : (change : Change) (items : List Item) (last new : Item) → 0 < length items → last ≡ get_or items (length items - 1) last → new ≡ changed change last → reverse (set items (length items - 1) new) ≡ with_newest change (reverse items)
+changes_last : (change : Change) (items : List Item) (last new : Item) → 0 < length items
+    → last ≡ get_or items (length items - 1) last → new ≡ changed change last
+    → reverse (set items (length items - 1) new) ≡ with_newest change (reverse items)
 changes_last change [] last new some is made = absurd (omega arith)
 changes_last change (first ∷ more) last new some is made =
     let parts : HasLast (first ∷ more) = has_last first more in
-    let P : List Item → Type 0 = λ items. last ≡ get_or items (length items - 1) last → reverse (set items (length items - 1) new) ≡ with_newest change (reverse items) in
+    let P : List Item → Type 0 = λ items.
+    last ≡ get_or items (length items - 1) last
+    → reverse (set items (length items - 1) new) ≡ with_newest change (reverse items) in
     subst P (sym parts.is) (at_last parts.front parts.last) is
   where
-    at_last : (front : List Item) (z : Item) → last ≡ get_or (front ++ z ∷ []) (length (front ++ z ∷ []) - 1) last → reverse (set (front ++ z ∷ []) (length (front ++ z ∷ []) - 1) new) ≡ with_newest change (reverse (front ++ z ∷ []))
+    at_last : (front : List Item) (z : Item)
+        → last ≡ get_or (front ++ z ∷ []) (length (front ++ z ∷ []) - 1) last
+        → reverse (set (front ++ z ∷ []) (length (front ++ z ∷ []) - 1) new)
+        ≡ with_newest change (reverse (front ++ z ∷ []))
     at_last front z same =
-        let long : length (front ++ z ∷ []) - 1 ≡ length front = rw (length-append front (z ∷ [])) (omega arith) in
+        let long : length (front ++ z ∷ []) - 1 ≡ length front =
+        rw (length-append front (z ∷ [])) (omega arith) in
         let it : last ≡ z = (rw long at same) ∙ get_or-append_seam front z [] last in
-        rw (long, set-append_seam front z [] new, reverse-append front (new ∷ []), reverse-append front (z ∷ []), made, it) refl
+        rw (
+          long,
+          set-append_seam front z [] new,
+          reverse-append front (new ∷ []),
+          reverse-append front (z ∷ []),
+          made,
+          it,
+        ) refl
 
-pub changes_newest : (change : Change) (items : List Item) (n : ℕ) (last new : Item) → n ≡ length items → 0 < n → last ≡ get_or items (n - 1) last → new ≡ changed change last → reverse (set items (n - 1) new) ≡ with_newest change (reverse items)
+pub changes_newest : (change : Change) (items : List Item) (n : ℕ) (last new : Item) → n ≡ length items
+    → 0 < n → last ≡ get_or items (n - 1) last → new ≡ changed change last
+    → reverse (set items (n - 1) new) ≡ with_newest change (reverse items)
 changes_newest change items n last new long some is made =
-    let P : ℕ → Type 0 = λ n. 0 < n → last ≡ get_or items (n - 1) last → reverse (set items (n - 1) new) ≡ with_newest change (reverse items) in
+    let P : ℕ → Type 0 = λ n.
+    0 < n → last ≡ get_or items (n - 1) last
+    → reverse (set items (n - 1) new) ≡ with_newest change (reverse items) in
     subst P (sym long) (λ some is. changes_last change items last new some is made) some is
 
 -- what leads on with the newest item changed, whatever stands before it
-leads_by_last : (text : List ℕ) (at : ℕ) (state : State) (to : ℕ) (behind : State) (items : List Item) (last new : Item) → 0 < length items → last ≡ get_or items (length items - 1) last → ((before : List Item) → Leads text at state (last ∷ before) to behind (new ∷ before)) → Leads text at state (reverse items) to behind (reverse (set items (length items - 1) new))
+leads_by_last : (text : List ℕ) (at : ℕ) (state : State) (to : ℕ) (behind : State) (items : List Item)
+    (last new : Item)
+    → 0 < length items → last ≡ get_or items (length items - 1) last
+    → ((before : List Item) → Leads text at state (last ∷ before) to behind (new ∷ before))
+    → Leads text at state (reverse items) to behind (reverse (set items (length items - 1) new))
 leads_by_last text at state to behind [] last new some is leads = absurd (omega arith)
 leads_by_last text at state to behind (first ∷ more) last new some is leads =
     let parts : HasLast (first ∷ more) = has_last first more in
-    let P : List Item → Type 0 = λ items. last ≡ get_or items (length items - 1) last → Leads text at state (reverse items) to behind (reverse (set items (length items - 1) new)) in
+    let P : List Item → Type 0 = λ items.
+    last ≡ get_or items (length items - 1) last
+    → Leads text at state (reverse items) to behind (reverse (set items (length items - 1) new)) in
     subst P (sym parts.is) (at_last parts.front parts.last) is
   where
-    at_last : (front : List Item) (z : Item) → last ≡ get_or (front ++ z ∷ []) (length (front ++ z ∷ []) - 1) last → Leads text at state (reverse (front ++ z ∷ [])) to behind (reverse (set (front ++ z ∷ []) (length (front ++ z ∷ []) - 1) new))
+    at_last : (front : List Item) (z : Item)
+        → last ≡ get_or (front ++ z ∷ []) (length (front ++ z ∷ []) - 1) last
+        → Leads text at state (reverse (front ++ z ∷ [])) to behind
+        (reverse (set (front ++ z ∷ []) (length (front ++ z ∷ []) - 1) new))
     at_last front z same =
-        let long : length (front ++ z ∷ []) - 1 ≡ length front = rw (length-append front (z ∷ [])) (omega arith) in
+        let long : length (front ++ z ∷ []) - 1 ≡ length front =
+        rw (length-append front (z ∷ [])) (omega arith) in
         let it : last ≡ z = (rw long at same) ∙ get_or-append_seam front z [] last in
-        rw (long, set-append_seam front z [] new, reverse-append front (new ∷ []), reverse-append front (z ∷ []), sym it) (leads (reverse front))
+        rw (
+          long,
+          set-append_seam front z [] new,
+          reverse-append front (new ∷ []),
+          reverse-append front (z ∷ []),
+          sym it,
+        ) (leads (reverse front))
 
-pub leads_by_newest : (text : List ℕ) (at : ℕ) (state : State) (to : ℕ) (behind : State) (items : List Item) (n : ℕ) (last new : Item) → n ≡ length items → 0 < n → last ≡ get_or items (n - 1) last → ((before : List Item) → Leads text at state (last ∷ before) to behind (new ∷ before)) → Leads text at state (reverse items) to behind (reverse (set items (n - 1) new))
+pub leads_by_newest : (text : List ℕ) (at : ℕ) (state : State) (to : ℕ) (behind : State) (items : List Item)
+    (n : ℕ) (last new : Item)
+    → n ≡ length items → 0 < n → last ≡ get_or items (n - 1) last
+    → ((before : List Item) → Leads text at state (last ∷ before) to behind (new ∷ before))
+    → Leads text at state (reverse items) to behind (reverse (set items (n - 1) new))
 leads_by_newest text at state to behind items n last new long some is leads =
-    let P : ℕ → Type 0 = λ n. 0 < n → last ≡ get_or items (n - 1) last → Leads text at state (reverse items) to behind (reverse (set items (n - 1) new)) in
+    let P : ℕ → Type 0 = λ n.
+    0 < n → last ≡ get_or items (n - 1) last
+    → Leads text at state (reverse items) to behind (reverse (set items (n - 1) new)) in
     subst P (sym long) (λ some is. leads_by_last text at state to behind items last new some is leads) some is
 
 pub if_ok : {T E : Type 0} (r : Result T E) (P Q : T → Type 0) → ((x : T) → P x → Q x) → IfOk r P → IfOk r Q

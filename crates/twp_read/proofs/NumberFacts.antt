@@ -1,5 +1,6 @@
 -- A number as the next token of a text, and as the next one of a list.
-use Rattle.std.proofs.Common.{◌≡◌, ℕ, ◌+◌, ◌<◌, ◌≤◌, true, false, List, [], ◌∷◌, Some, length, take, drop, slice_index, codes, ◌++◌, refl, ap, sym, subst, ◌∙◌, ◌-◌, arith, length-drop}
+use Rattle.std.proofs.Common.{◌≡◌, ℕ, ◌+◌, ◌<◌, ◌≤◌, true, false, List, [], ◌∷◌, Some, length, take, drop}
+use Rattle.std.proofs.Common.{slice_index, codes, ◌++◌, refl, ap, sym, subst, ◌∙◌, ◌-◌, arith, length-drop}
 use Rattle.std.proofs.lemmas.List.{length-take-le}
 use Rattle.std.specs.Char.{is_ascii_digit}
 use Rattle.std.specs.List.{prefix_len}
@@ -18,11 +19,13 @@ use Rattle.twp_grammar.specs.Grammar.{class_of, comma, number}
 use Rattle.twp_grammar.specs.Machine.{next}
 use Rattle.twp_read.specs.TokenSteps.{take_number, take_token, with_newest}
 use Rattle.twp_read.specs.declared.change.Change.TheVariants.{Last}
-use Rattle.twp_read.specs.Usual.{Leads, IsNumberBehind, IsBehindWhite, entry_of, state_behind, last_state_behind, listed_in, listed_behind_and, listed_behind_to}
-use Rattle.twp_grammar.proofs.Cuts.{IsFirstToken, cut_of_digit, digit_no_space}
+use Rattle.twp_read.specs.Usual.{Leads, IsNumberBehind, IsBehindWhite, entry_of, state_behind}
+use Rattle.twp_read.specs.Usual.{last_state_behind, listed_in, listed_behind_and, listed_behind_to}
+use Rattle.twp_grammar.proofs.ByteRuns.{digit_no_space}
+use Rattle.twp_grammar.proofs.Cuts.{IsFirstToken, cut_of_digit}
 use Rattle.twp_grammar.proofs.TokenFacts.{first_at, first_in}
 use Rattle.twp_read.proofs.FrontFacts.{number_leads}
-use Rattle.twp_read.proofs.UsualFacts.{the_comma, mark_leads, leads_token, leads_then, white_leads}
+use Rattle.twp_read.proofs.Leading.{the_comma, mark_leads, leads_token, leads_then, white_leads}
 
 -- what is said of a number that begins at a place, behind white space
 pub record BeginsHere (text : List ℕ) (from : ℕ) (it : Numeral) (end : ℕ) : Type 0 where
@@ -97,7 +100,8 @@ word_leads text from at l kind state behind here below is kind_is step kept item
     ap (λ k. take_token state k at items) kind_is ∙ kept at items in
     subst (λ (js : List Item). Leads text from state items (at + l.size) behind js) same
     (leads_token text from state items (token_of text at l) (at + l.size) behind
-    (subst (λ (n : ℕ). StartsWith from (drop from text) (token_of text at l) (drop n text)) it.ends it.first.starts)
+    (subst (λ (n : ℕ). StartsWith from (drop from text) (token_of text at l) (drop n text)) it.ends
+    it.first.starts)
     it.ends (subst (λ (n : ℕ). n ≤ length text) it.ends it.first.within)
     (ap (λ k. next state (class_of k)) kind_is ∙ step))
 
@@ -106,18 +110,22 @@ no_white : (bytes : List ℕ) → is_white (slice_index bytes 0) ≡ false → p
 no_white [] h = refl
 no_white (x ∷ xs) h = rw h refl
 
-pub right_here : (text : List ℕ) (at : ℕ) → is_white (slice_index (drop at text) 0) ≡ false → at ≡ at + prefix_len is_white (drop at text)
+pub right_here : (text : List ℕ) (at : ℕ) → is_white (slice_index (drop at text) 0) ≡ false
+    → at ≡ at + prefix_len is_white (drop at text)
 right_here text at h = rw (no_white (drop at text) h) (omega arith)
 
-no_white_digit : (bytes : List ℕ) → is_ascii_digit (slice_index bytes 0) ≡ true → prefix_len is_white bytes ≡ 0
+no_white_digit : (bytes : List ℕ) → is_ascii_digit (slice_index bytes 0) ≡ true
+    → prefix_len is_white bytes ≡ 0
 no_white_digit [] h = refl
 no_white_digit (x ∷ xs) h = rw (digit_no_space x h) refl
 
-pub digit_here : (text : List ℕ) (at : ℕ) → is_ascii_digit (slice_index (drop at text) 0) ≡ true → at ≡ at + prefix_len is_white (drop at text)
+pub digit_here : (text : List ℕ) (at : ℕ) → is_ascii_digit (slice_index (drop at text) 0) ≡ true
+    → at ≡ at + prefix_len is_white (drop at text)
 digit_here text at h = rw (no_white_digit (drop at text) h) (omega arith)
 
 -- a number behind white space
-pub number_ahead : (text : List ℕ) (from at : ℕ) (it : Numeral) (end : ℕ) → IsBehindWhite text from at → IsNumberBehind text at it end → IsNumberBehind text from it end
+pub number_ahead : (text : List ℕ) (from at : ℕ) (it : Numeral) (end : ℕ) → IsBehindWhite text from at
+    → IsNumberBehind text at it end → IsNumberBehind text from it end
 number_ahead text from at it end white leads state behind items is =
     leads_then text from state items at state items end behind (take_number state it items)
     (white_leads text from at state items white.0 white.1) (leads state behind items is)
@@ -139,17 +147,25 @@ record GoesOn (state : State) (list : Listed) : Type 0 where
   taken : (it : Numeral) (items : List Item) → take_number between it items ≡ entry_of list it ∷ items
 
 goes_on : (state : State) (list : Listed) → listed_in state ≡ Some list → GoesOn state list
-goes_on past.LotNumber listed.Lots h = record { between = past.LotComma; comma_is = refl; number_is = refl; taken = λ it items. refl }
-goes_on past.LotLast listed.Lots h = record { between = past.LotLastComma; comma_is = refl; number_is = refl; taken = λ it items. refl }
-goes_on past.LotInclusive listed.Lots h = record { between = past.LotComma; comma_is = refl; number_is = refl; taken = λ it items. refl }
-goes_on past.SectionNumber listed.Sections h = record { between = past.SectionComma; comma_is = refl; number_is = refl; taken = λ it items. refl }
-goes_on past.ListNumber listed.Sections h = record { between = past.ListComma; comma_is = refl; number_is = refl; taken = λ it items. refl }
-goes_on past.ListLast listed.Sections h = record { between = past.ListLastComma; comma_is = refl; number_is = refl; taken = λ it items. refl }
-goes_on past.ListInclusive listed.Sections h = record { between = past.ListComma; comma_is = refl; number_is = refl; taken = λ it items. refl }
+goes_on past.LotNumber listed.Lots h =
+    record { between = past.LotComma; comma_is = refl; number_is = refl; taken = λ it items. refl }
+goes_on past.LotLast listed.Lots h =
+    record { between = past.LotLastComma; comma_is = refl; number_is = refl; taken = λ it items. refl }
+goes_on past.LotInclusive listed.Lots h =
+    record { between = past.LotComma; comma_is = refl; number_is = refl; taken = λ it items. refl }
+goes_on past.SectionNumber listed.Sections h =
+    record { between = past.SectionComma; comma_is = refl; number_is = refl; taken = λ it items. refl }
+goes_on past.ListNumber listed.Sections h =
+    record { between = past.ListComma; comma_is = refl; number_is = refl; taken = λ it items. refl }
+goes_on past.ListLast listed.Sections h =
+    record { between = past.ListLastComma; comma_is = refl; number_is = refl; taken = λ it items. refl }
+goes_on past.ListInclusive listed.Sections h =
+    record { between = past.ListComma; comma_is = refl; number_is = refl; taken = λ it items. refl }
 goes_on _ _ h = cc h
 
 -- one more number of a list leads on, behind a comma
-pub entry_leads : (text : List ℕ) (at to : ℕ) (state : State) (items : List Item) (list : Listed) (it : Numeral) (end : ℕ)
+pub entry_leads : (text : List ℕ) (at to : ℕ) (state : State) (items : List Item) (list : Listed)
+    (it : Numeral) (end : ℕ)
     → listed_in state ≡ Some list
     → drop at text ≡ codes "," ++ drop (at + 1) text → at + 1 ≤ length text → IsBehindWhite text (at + 1) to
     → IsNumberBehind text to it end
@@ -157,7 +173,8 @@ pub entry_leads : (text : List ℕ) (at to : ℕ) (state : State) (items : List 
 entry_leads text at to state items list it end is spelt within white leads =
     let by : GoesOn state list = goes_on state list is in
     subst (λ (its : List Item). Leads text at state items end (state_behind list) its) (by.taken it items)
-    (leads_then text at state items to by.between items end (state_behind list) (take_number by.between it items)
+    (leads_then text at state items to by.between items end (state_behind list)
+    (take_number by.between it items)
     (comma_leads text at to state by.between items spelt within white by.comma_is)
     (leads by.between (state_behind list) items by.number_is))
 
@@ -171,7 +188,8 @@ is_entry past.LotAnd listed.Lots h = record { number_is = refl; taken = λ it it
 is_entry past.ListAnd listed.Sections h = record { number_is = refl; taken = λ it items. refl }
 is_entry _ _ h = cc h
 
-pub joined_leads : (text : List ℕ) (from : ℕ) (state : State) (items : List Item) (list : Listed) (it : Numeral) (end : ℕ)
+pub joined_leads : (text : List ℕ) (from : ℕ) (state : State) (items : List Item) (list : Listed)
+    (it : Numeral) (end : ℕ)
     → listed_behind_and state ≡ Some list → IsNumberBehind text from it end
     → Leads text from state items end (state_behind list) (entry_of list it ∷ items)
 joined_leads text from state items list it end is leads =
@@ -189,12 +207,14 @@ is_last past.LotTo listed.Lots h = record { number_is = refl; taken = λ it item
 is_last past.ListTo listed.Sections h = record { number_is = refl; taken = λ it items. refl }
 is_last _ _ h = cc h
 
-pub last_leads : (text : List ℕ) (from : ℕ) (state : State) (items : List Item) (list : Listed) (it : Numeral) (end : ℕ)
+pub last_leads : (text : List ℕ) (from : ℕ) (state : State) (items : List Item) (list : Listed) (it : Numeral)
+    (end : ℕ)
     → listed_behind_to state ≡ Some list → IsNumberBehind text from it end
     → Leads text from state items end (last_state_behind list) (with_newest (Last it) items)
 last_leads text from state items list it end is leads =
     let by : IsLast state list = is_last state list is in
-    subst (λ (its : List Item). Leads text from state items end (last_state_behind list) its) (by.taken it items)
+    subst (λ (its : List Item). Leads text from state items end (last_state_behind list) its)
+    (by.taken it items)
     (leads state (last_state_behind list) items by.number_is)
 
 -- and the list goes on there

@@ -1,5 +1,7 @@
 -- What the reader knows between two tokens, and what follows from it where it ends.
-use Rattle.std.proofs.Common.{◌≡◌, ◌<◌, ℕ, ◌+◌, ◌≤◌, true, false, List, [], ◌∷◌, ◌++◌, Option, Some, None, IsSomeAnd, length, reverse, refl, sym, ap, subst, ◌∙◌, append_assoc, arith, drop, length-append, length-drop}
+use Rattle.std.proofs.Common.{◌≡◌, ◌<◌, ℕ, ◌+◌, ◌≤◌, true, false, List, [], ◌∷◌, ◌++◌, Option, Some, None}
+use Rattle.std.proofs.Common.{IsSomeAnd, length, reverse, refl, sym, ap, subst, ◌∙◌, append_assoc, arith}
+use Rattle.std.proofs.Common.{drop, length-append, length-drop}
 use Rattle.std.specs.List.{AllPass}
 use Rattle.std.proofs.lemmas.List.{append-nil, reverse-append, take_all}
 use Rattle.std.proofs.Math.Seq.{take-append_seam}
@@ -19,14 +21,16 @@ use Rattle.twp_read.specs.declared.fault.TextFault.{TextFault}
 use Rattle.twp_read.specs.declared.fault.TextFault.TheVariants as faults
 use Rattle.twp_grammar.specs.declared.expected.Expected.{Expected}
 use Rattle.twp_grammar.specs.Expected.{expected_of}
-use Rattle.twp_read.specs.TextFaults.{refusal_of, fault_of_bad, refusal, number_of_bad, NoneBad, place_of, IsBadToken, IsSyntaxFault, GoesWrong, Helps, HasNoneBad}
+use Rattle.twp_read.specs.TextFaults.{refusal_of, fault_of_bad, refusal, number_of_bad, NoneBad, place_of}
+use Rattle.twp_read.specs.TextFaults.{IsBadToken, IsSyntaxFault, GoesWrong, Helps, HasNoneBad}
 use Rattle.twp_grammar.specs.Sentences.{TEXT_LIMIT, IsReadAs}
 use Rattle.twp_read.specs.Usual.{HasNoneBadBefore}
 use Rattle.twp_grammar.proofs.Table.{takes_no_bad_byte, takes_no_bad_number}
 use Rattle.twp_grammar.proofs.TokenFacts.{one_token_list, has_token_list}
 use Rattle.twp_grammar.proofs.TreeFacts.{tree_begins}
-use Rattle.twp_read.proofs.Walk.{newest_first}
-use Rattle.twp_read.proofs.Reading.{ended, go_on, run-append, accepted, fault_here, fault_at_end, what_follows, what_is_told}
+use Rattle.twp_read.proofs.ListWalk.{newest_first}
+use Rattle.twp_read.proofs.Reading.{ended, go_on, run-append, accepted, fault_here, fault_at_end}
+use Rattle.twp_read.proofs.Reading.{what_follows, what_is_told}
 
 -- the tokens before some place: those behind it are the rest of the text's
 pub record Before (text : List ℕ) (at : ℕ) (bytes : List ℕ) (before : List Token) : Type 0 where
@@ -35,8 +39,12 @@ pub record Before (text : List ℕ) (at : ℕ) (bytes : List ℕ) (before : List
 pub at_front : (text : List ℕ) → Before text 0 text []
 at_front text = record { joins = λ left has. has }
 
-pub one_behind : (text : List ℕ) (at : ℕ) (bytes : List ℕ) (before : List Token) (token : Token) (rest : List ℕ) → Before text at bytes before → StartsWith at bytes token rest → Before text (token.at + length token.text) rest (before ++ token ∷ [])
-one_behind text at bytes before token rest b starts = record { joins = λ left has. rw append_assoc (b.joins (token ∷ left) (rest, starts, has)) }
+pub one_behind : (text : List ℕ) (at : ℕ) (bytes : List ℕ) (before : List Token) (token : Token)
+    (rest : List ℕ)
+    → Before text at bytes before → StartsWith at bytes token rest
+    → Before text (token.at + length token.text) rest (before ++ token ∷ [])
+one_behind text at bytes before token rest b starts =
+    record { joins = λ left has. rw append_assoc (b.joins (token ∷ left) (rest, starts, has)) }
 
 -- what the reader knows
 pub record Front (text : List ℕ) (at : ℕ) (bytes : List ℕ) (state : State) (its : List Item) : Type 0 where
@@ -52,25 +60,39 @@ front_start text = record { tokens = []; before = at_front text; walked = refl; 
 pub record IsWithin (at : ℕ) (bytes : List ℕ) (token : Token) (rest : List ℕ) : Type 0 where
   pub sum : (token.at + length token.text) + length rest ≡ at + length bytes
 
-pub is_within : (at : ℕ) (bytes : List ℕ) (token : Token) (rest : List ℕ) → StartsWith at bytes token rest → IsWithin at bytes token rest
+pub is_within : (at : ℕ) (bytes : List ℕ) (token : Token) (rest : List ℕ) → StartsWith at bytes token rest
+    → IsWithin at bytes token rest
 is_within at bytes token rest s =
-    let whole : length bytes ≡ length s.space + (length token.text + length rest) = ap length s.spelt ∙ length-append s.space (token.text ++ rest) ∙ ap (λ n. length s.space + n) (length-append token.text rest) in
+    let whole : length bytes ≡ length s.space + (length token.text + length rest) =
+    ap length s.spelt
+    ∙ length-append s.space (token.text ++ rest)
+    ∙ ap (λ n. length s.space + n) (length-append token.text rest) in
     let place : token.at ≡ at + length s.space = s.place in
     record { sum = omega arith }
 
-pub front_next : (text : List ℕ) (at : ℕ) (bytes : List ℕ) (state behind : State) (its : List Item) (token : Token) (at' : ℕ) (rest : List ℕ) → Front text at bytes state its → StartsWith at bytes token rest → at' ≡ token.at + length token.text → next state (class_of token.kind) ≡ Some behind → Front text at' rest behind (take_token state token.kind token.at its)
+pub front_next : (text : List ℕ) (at : ℕ) (bytes : List ℕ) (state behind : State) (its : List Item)
+    (token : Token) (at' : ℕ) (rest : List ℕ)
+    → Front text at bytes state its → StartsWith at bytes token rest → at' ≡ token.at + length token.text
+    → next state (class_of token.kind) ≡ Some behind
+    → Front text at' rest behind (take_token state token.kind token.at its)
 front_next text at bytes state behind its token at' rest f starts place step =
     let inside : IsWithin at bytes token rest = is_within at bytes token rest starts in
     let sum : (token.at + length token.text) + length rest ≡ at + length bytes = inside.sum in
     let within : at + length bytes ≤ length text = f.within in
     record {
       tokens = f.tokens ++ token ∷ [];
-      before = subst (λ n. Before text n rest (f.tokens ++ token ∷ [])) (sym place) (one_behind text at bytes f.tokens token rest f.before starts);
-      walked = run-append (Some Start) [] f.tokens (token ∷ []) ∙ ap (λ o. go_on o (token ∷ [])) f.walked ∙ ap (λ o. run o (take_token state token.kind token.at its) []) step;
+      before =
+          subst (λ n. Before text n rest (f.tokens ++ token ∷ [])) (sym place)
+          (one_behind text at bytes f.tokens token rest f.before starts);
+      walked =
+          run-append (Some Start) [] f.tokens (token ∷ [])
+          ∙ ap (λ o. go_on o (token ∷ [])) f.walked
+          ∙ ap (λ o. run o (take_token state token.kind token.at its) []) step;
       within = omega arith;
     }
 
-place_here : (before after_it : List Token) (token : Token) (end : ℕ) → place_of (before ++ token ∷ after_it) (length before) end ≡ token.at
+place_here : (before after_it : List Token) (token : Token) (end : ℕ)
+    → place_of (before ++ token ∷ after_it) (length before) end ≡ token.at
 place_here [] after_it token end = refl
 place_here (first ∷ before) after_it token end = place_here before after_it token end
 
@@ -78,7 +100,10 @@ place_at_end : (tokens : List Token) (end : ℕ) → place_of tokens (length tok
 place_at_end [] end = refl
 place_at_end (token ∷ tokens) end = place_at_end tokens end
 
-pub wrong_here : (text : List ℕ) (at : ℕ) (bytes : List ℕ) (state : State) (its : List Item) (token : Token) (rest : List ℕ) → Front text at bytes state its → StartsWith at bytes token rest → next state (class_of token.kind) ≡ None → GoesWrong text token.at (expected_of state)
+pub wrong_here : (text : List ℕ) (at : ℕ) (bytes : List ℕ) (state : State) (its : List Item) (token : Token)
+    (rest : List ℕ)
+    → Front text at bytes state its → StartsWith at bytes token rest → next state (class_of token.kind) ≡ None
+    → GoesWrong text token.at (expected_of state)
 wrong_here text at bytes state its token rest f starts stuck =
     let left = has_token_list (token.at + length token.text) rest in
     record {
@@ -88,15 +113,21 @@ wrong_here text at bytes state its token rest f starts stuck =
       fault = fault_here f.tokens left.0 token state its f.walked stuck;
       place = sym (place_here f.tokens left.0 token (length text));
       named_is = λ other more is. what_follows f.tokens other more state its f.walked
-          (subst (λ (ts : List Token). IsSentence (ts ++ other ∷ more)) (take-append_seam f.tokens (token ∷ left.0)) is);
-      told_is = λ class is. subst (λ (ts : List Token). MayFollow ts class) (sym (take-append_seam f.tokens (token ∷ left.0)))
+          (subst (λ (ts : List Token). IsSentence (ts ++ other ∷ more))
+          (take-append_seam f.tokens (token ∷ left.0)) is);
+      told_is = λ class is.
+          subst (λ (ts : List Token). MayFollow ts class) (sym (take-append_seam f.tokens (token ∷ left.0)))
           (what_is_told f.tokens state its f.walked class is);
     }
 
-all_tokens : (text : List ℕ) (at : ℕ) (bytes : List ℕ) (tokens : List Token) → Before text at bytes tokens → AllPass is_white bytes → HasTokens 0 text tokens
-all_tokens text at bytes tokens b white = subst (λ (ts : List Token). HasTokens 0 text ts) (append-nil tokens) (b.joins [] white)
+all_tokens : (text : List ℕ) (at : ℕ) (bytes : List ℕ) (tokens : List Token) → Before text at bytes tokens
+    → AllPass is_white bytes → HasTokens 0 text tokens
+all_tokens text at bytes tokens b white =
+    subst (λ (ts : List Token). HasTokens 0 text ts) (append-nil tokens) (b.joins [] white)
 
-pub wrong_at_end : (text : List ℕ) (at : ℕ) (bytes : List ℕ) (state : State) (its : List Item) → Front text at bytes state its → AllPass is_white bytes → is_final state ≡ false → GoesWrong text (length text) (expected_of state)
+pub wrong_at_end : (text : List ℕ) (at : ℕ) (bytes : List ℕ) (state : State) (its : List Item)
+    → Front text at bytes state its → AllPass is_white bytes → is_final state ≡ false
+    → GoesWrong text (length text) (expected_of state)
 wrong_at_end text at bytes state its f white final = record {
   tokens = f.tokens;
   cut = all_tokens text at bytes f.tokens f.before white;
@@ -104,8 +135,11 @@ wrong_at_end text at bytes state its f white final = record {
   fault = fault_at_end f.tokens state its f.walked final;
   place = sym (place_at_end f.tokens (length text));
   named_is = λ other more is. what_follows f.tokens other more state its f.walked
-      (subst (λ (ts : List Token). IsSentence (ts ++ other ∷ more)) (take_all (length f.tokens) f.tokens (omega arith)) is);
-  told_is = λ class is. subst (λ (ts : List Token). MayFollow ts class) (sym (take_all (length f.tokens) f.tokens (omega arith)))
+      (subst (λ (ts : List Token). IsSentence (ts ++ other ∷ more))
+      (take_all (length f.tokens) f.tokens (omega arith)) is);
+  told_is = λ class is.
+      subst (λ (ts : List Token). MayFollow ts class)
+      (sym (take_all (length f.tokens) f.tokens (omega arith)))
       (what_is_told f.tokens state its f.walked class is);
 }
 
@@ -113,18 +147,25 @@ wrong_at_end text at bytes state its f white final = record {
 turned_round : (xs ys : List Item) → newest_first xs ys ≡ reverse xs ++ ys
 turned_round [] ys = refl
 turned_round (it ∷ xs) ys =
-    turned_round xs (it ∷ ys) ∙ sym (append_assoc (reverse xs) (it ∷ []) ys) ∙ ap (λ zs. zs ++ ys) (sym (reverse-append (it ∷ []) xs))
+    turned_round xs (it ∷ ys)
+    ∙ sym (append_assoc (reverse xs) (it ∷ []) ys)
+    ∙ ap (λ zs. zs ++ ys) (sym (reverse-append (it ∷ []) xs))
 
-pub read_whole : (text : List ℕ) (at : ℕ) (bytes : List ℕ) (state : State) (its : List Item) → Front text at bytes state its → AllPass is_white bytes → is_final state ≡ true → length text ≤ TEXT_LIMIT → IsReadAs text (reverse its)
+pub read_whole : (text : List ℕ) (at : ℕ) (bytes : List ℕ) (state : State) (its : List Item)
+    → Front text at bytes state its → AllPass is_white bytes → is_final state ≡ true
+    → length text ≤ TEXT_LIMIT → IsReadAs text (reverse its)
 read_whole text at bytes state its f white final limit = record {
   within = limit;
   tokens = f.tokens;
   cut = all_tokens text at bytes f.tokens f.before white;
-  named = subst (λ (js : List Item). HasItems f.tokens js) (turned_round its [] ∙ append-nil (reverse its)) (accepted f.tokens state its f.walked final);
+  named =
+      subst (λ (js : List Item). HasItems f.tokens js) (turned_round its [] ∙ append-nil (reverse its))
+      (accepted f.tokens state its f.walked final);
 }
 
 pub begins : (text : List ℕ) (its : List Item) → IsReadAs text its → BeginWithSections its
-begins text its read = subst (λ (js : List Item). BeginWithSections js) read.named.read_off (tree_begins read.named.tree)
+begins text its read =
+    subst (λ (js : List Item). BeginWithSections js) read.named.read_off (tree_begins read.named.tree)
 
 -- the search for a bad token
 pub record Search (text : List ℕ) (at : ℕ) (bytes : List ℕ) : Type 0 where
@@ -134,33 +175,44 @@ pub record Search (text : List ℕ) (at : ℕ) (bytes : List ℕ) : Type 0 where
   pub within : at + length bytes ≤ length text
 
 -- what the machine takes is no bad token
-not_taken : (state behind : State) (class : Class) → next state class ≡ None → next state class ≡ Some behind → ⊥
+not_taken : (state behind : State) (class : Class) → next state class ≡ None → next state class ≡ Some behind
+    → ⊥
 not_taken state behind class none is =
     let both : ◌≡◌ {A = Option State} None (Some behind) = sym none ∙ is in
     cc both
 
-taken_is_good : (state : State) (kind : Kind) (behind : State) → next state (class_of kind) ≡ Some behind → number_of_bad kind ≡ None
+taken_is_good : (state : State) (kind : Kind) (behind : State) → next state (class_of kind) ≡ Some behind
+    → number_of_bad kind ≡ None
 taken_is_good state BadByte behind is = absurd (not_taken state behind bad_byte (takes_no_bad_byte state) is)
-taken_is_good state BadNumber behind is = absurd (not_taken state behind bad_number (takes_no_bad_number state) is)
+taken_is_good state BadNumber behind is =
+    absurd (not_taken state behind bad_number (takes_no_bad_number state) is)
 taken_is_good state _ behind is = refl
 
-one_more_taken : (token : Token) (tokens : List Token) (state : State) (its : List Item) (last : State) (grown : List Item) (o : Option State)
+one_more_taken : (token : Token) (tokens : List Token) (state : State) (its : List Item) (last : State)
+    (grown : List Item) (o : Option State)
     → ((behind : State) → run (Some behind) its tokens ≡ Some (last, grown) → NoneBad tokens)
     → next state (class_of token.kind) ≡ o → run o its tokens ≡ Some (last, grown) → NoneBad (token ∷ tokens)
 one_more_taken token tokens state its last grown None more is walked = cc walked
 one_more_taken token tokens state its last grown (Some behind) more is walked =
     (taken_is_good state token.kind behind is, more behind walked)
 
-taken_are_good : (tokens : List Token) (state : State) (its : List Item) (last : State) (grown : List Item) → run (Some state) its tokens ≡ Some (last, grown) → NoneBad tokens
+taken_are_good : (tokens : List Token) (state : State) (its : List Item) (last : State) (grown : List Item)
+    → run (Some state) its tokens ≡ Some (last, grown) → NoneBad tokens
 taken_are_good [] state its last grown walked = tt
 taken_are_good (token ∷ tokens) state its last grown walked =
     let taken : List Item = take_token state token.kind token.at its in
     one_more_taken token tokens state taken last grown (next state (class_of token.kind))
     (λ behind more. taken_are_good tokens behind taken last grown more) refl walked
 
-pub none_bad_before : (text : List ℕ) (at : ℕ) (state : State) (its : List Item) → at ≤ length text → Front text at (drop at text) state its → HasNoneBadBefore text at
+pub none_bad_before : (text : List ℕ) (at : ℕ) (state : State) (its : List Item) → at ≤ length text
+    → Front text at (drop at text) state its → HasNoneBadBefore text at
 none_bad_before text at state its within f =
-    record { tokens = f.tokens; joins = f.before.joins; none_bad = taken_are_good f.tokens Start [] state its f.walked; within = within }
+    record {
+      tokens = f.tokens;
+      joins = f.before.joins;
+      none_bad = taken_are_good f.tokens Start [] state its f.walked;
+      within = within;
+    }
 
 pub search_start : (text : List ℕ) (at : ℕ) → HasNoneBadBefore text at → Search text at (drop at text)
 search_start text at g =
@@ -172,23 +224,30 @@ search_start text at g =
       within = rw (length-drop at text) (omega arith);
     }
 
-one_more_good : (tokens : List Token) (token : Token) → NoneBad tokens → number_of_bad token.kind ≡ None → NoneBad (tokens ++ token ∷ [])
+one_more_good : (tokens : List Token) (token : Token) → NoneBad tokens → number_of_bad token.kind ≡ None
+    → NoneBad (tokens ++ token ∷ [])
 one_more_good [] token none_bad is = (is, tt)
 one_more_good (first ∷ tokens) token none_bad is = (none_bad.0, one_more_good tokens token none_bad.1 is)
 
-pub search_next : (text : List ℕ) (at : ℕ) (bytes : List ℕ) (token : Token) (at' : ℕ) (rest : List ℕ) → Search text at bytes → StartsWith at bytes token rest → at' ≡ token.at + length token.text → number_of_bad token.kind ≡ None → Search text at' rest
+pub search_next : (text : List ℕ) (at : ℕ) (bytes : List ℕ) (token : Token) (at' : ℕ) (rest : List ℕ)
+    → Search text at bytes → StartsWith at bytes token rest → at' ≡ token.at + length token.text
+    → number_of_bad token.kind ≡ None → Search text at' rest
 search_next text at bytes token at' rest f starts place is =
     let inside : IsWithin at bytes token rest = is_within at bytes token rest starts in
     let sum : (token.at + length token.text) + length rest ≡ at + length bytes = inside.sum in
     let within : at + length bytes ≤ length text = f.within in
     record {
       tokens = f.tokens ++ token ∷ [];
-      before = subst (λ n. Before text n rest (f.tokens ++ token ∷ [])) (sym place) (one_behind text at bytes f.tokens token rest f.before starts);
+      before =
+          subst (λ n. Before text n rest (f.tokens ++ token ∷ [])) (sym place)
+          (one_behind text at bytes f.tokens token rest f.before starts);
       none_bad = one_more_good f.tokens token f.none_bad is;
       within = omega arith;
     }
 
-pub search_found : (text : List ℕ) (at : ℕ) (bytes : List ℕ) (token : Token) (rest : List ℕ) (number : ℕ) → Search text at bytes → StartsWith at bytes token rest → number_of_bad token.kind ≡ Some number → IsBadToken text (refusal number token.at)
+pub search_found : (text : List ℕ) (at : ℕ) (bytes : List ℕ) (token : Token) (rest : List ℕ) (number : ℕ)
+    → Search text at bytes → StartsWith at bytes token rest → number_of_bad token.kind ≡ Some number
+    → IsBadToken text (refusal number token.at)
 search_found text at bytes token rest number f starts is =
     let left = has_token_list (token.at + length token.text) rest in
     record {
@@ -200,13 +259,20 @@ search_found text at bytes token rest number f starts is =
       place = refl;
     }
 
-pub search_none : (text : List ℕ) (at : ℕ) (bytes : List ℕ) → Search text at bytes → AllPass is_white bytes → HasNoneBad text
-search_none text at bytes f white = record { tokens = f.tokens; cut = all_tokens text at bytes f.tokens f.before white; none_bad = f.none_bad }
+pub search_none : (text : List ℕ) (at : ℕ) (bytes : List ℕ) → Search text at bytes → AllPass is_white bytes
+    → HasNoneBad text
+search_none text at bytes f white = record {
+  tokens = f.tokens;
+  cut = all_tokens text at bytes f.tokens f.before white;
+  none_bad = f.none_bad;
+}
 
 -- where there is no bad token, the text's fault is one of syntax
-pub syntax_fault : (text : List ℕ) (at : ℕ) (expected : Expected) → HasNoneBad text → GoesWrong text at expected → IsSyntaxFault text (refusal 44 at)
+pub syntax_fault : (text : List ℕ) (at : ℕ) (expected : Expected) → HasNoneBad text
+    → GoesWrong text at expected → IsSyntaxFault text (refusal 44 at)
 syntax_fault text at expected none wrong =
-    let same : none.tokens ≡ wrong.tokens = one_token_list 0 text none.tokens wrong.tokens none.cut wrong.cut in
+    let same : none.tokens ≡ wrong.tokens =
+    one_token_list 0 text none.tokens wrong.tokens none.cut wrong.cut in
     record {
       tokens = wrong.tokens;
       cut = wrong.cut;
@@ -218,7 +284,8 @@ syntax_fault text at expected none wrong =
     }
 
 -- a place in the text is below 2 ^ 32
-pub token_within : (text : List ℕ) (at : ℕ) (bytes : List ℕ) (token : Token) (rest : List ℕ) → at + length bytes ≤ length text → StartsWith at bytes token rest → token.at ≤ length text
+pub token_within : (text : List ℕ) (at : ℕ) (bytes : List ℕ) (token : Token) (rest : List ℕ)
+    → at + length bytes ≤ length text → StartsWith at bytes token rest → token.at ≤ length text
 token_within text at bytes token rest within s =
     let inside : IsWithin at bytes token rest = is_within at bytes token rest s in
     let sum : (token.at + length token.text) + length rest ≡ at + length bytes = inside.sum in
@@ -232,17 +299,22 @@ none_tells _ at h = refl
 
 abbrev Tells : Kind → ℕ → Option TextFault → Type 0
 Tells kind at None = Unit {0}
-Tells kind at (Some fault) = (number : ℕ) × (number_of_bad kind ≡ Some number) × (refusal_of fault ≡ Some (refusal number at))
+Tells kind at (Some fault) =
+    (number : ℕ) × (number_of_bad kind ≡ Some number) × (refusal_of fault ≡ Some (refusal number at))
 
 some_tells : (kind : Kind) (at : ℕ) → Tells kind at (fault_of_bad kind at)
 some_tells BadByte at = (42, refl, refl)
 some_tells BadNumber at = (43, refl, refl)
 some_tells _ at = tt
 
-pub found_bad : (text : List ℕ) (at : ℕ) (bytes : List ℕ) (token : Token) (rest : List ℕ) (fault : TextFault) → Search text at bytes → StartsWith at bytes token rest → fault_of_bad token.kind token.at ≡ Some fault → IsSomeAnd (refusal_of fault) (IsBadToken text)
+pub found_bad : (text : List ℕ) (at : ℕ) (bytes : List ℕ) (token : Token) (rest : List ℕ) (fault : TextFault)
+    → Search text at bytes → StartsWith at bytes token rest → fault_of_bad token.kind token.at ≡ Some fault
+    → IsSomeAnd (refusal_of fault) (IsBadToken text)
 found_bad text at bytes token rest fault f starts is =
-    let told : Tells token.kind token.at (Some fault) = subst (λ (o : Option TextFault). Tells token.kind token.at o) is (some_tells token.kind token.at) in
-    subst (λ (o : Option Refusal). IsSomeAnd o (IsBadToken text)) (sym told.2) (search_found text at bytes token rest told.0 f starts told.1)
+    let told : Tells token.kind token.at (Some fault) =
+    subst (λ (o : Option TextFault). Tells token.kind token.at o) is (some_tells token.kind token.at) in
+    subst (λ (o : Option Refusal). IsSomeAnd o (IsBadToken text)) (sym told.2)
+    (search_found text at bytes token rest told.0 f starts told.1)
 
 other_number : (a b : ℕ) → a < b → Some a ≡ Some b → ⊥
 other_number a b below e =
@@ -255,6 +327,7 @@ not_44 BadNumber e = other_number 43 44 (omega arith) e
 not_44 _ e = cc e
 
 -- a bad token is no fault of syntax
-pub bad_helps : (text : List ℕ) (fault : TextFault) → IsSomeAnd (refusal_of fault) (IsBadToken text) → Helps text fault
+pub bad_helps : (text : List ℕ) (fault : TextFault) → IsSomeAnd (refusal_of fault) (IsBadToken text)
+    → Helps text fault
 bad_helps text (faults.Syntax at expected) bad = absurd (not_44 bad.token.kind bad.number)
 bad_helps text _ bad = tt

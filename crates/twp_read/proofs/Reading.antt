@@ -1,5 +1,6 @@
 -- What the machine finds is what the definitions say: sentences and their items, and the place of a fault.
-use Rattle.std.proofs.Common.{◌≡◌, ◌+◌, true, false, List, [], ◌∷◌, ◌++◌, map, length, take, Option, Some, None, refl, sym, ap, subst, ◌∙◌, inl, inr, append_assoc, arith, length-append}
+use Rattle.std.proofs.Common.{◌≡◌, ◌+◌, true, false, List, [], ◌∷◌, ◌++◌, map, length, take, Option, Some}
+use Rattle.std.proofs.Common.{None, refl, sym, ap, subst, ◌∙◌, inl, inr, append_assoc, arith, length-append}
 use Rattle.std.specs.List.{list_any}
 use Rattle.std.specs.Option.{is_some}
 use Rattle.std.proofs.lemmas.Bool.{cases_Bool}
@@ -12,8 +13,10 @@ use Rattle.twp_grid.specs.declared.township.NorthSouth.TheVariants as ns
 use Rattle.twp_grid.specs.declared.township.EastWest.TheVariants as ew
 use Rattle.twp_grid.specs.declared.block.Corner.TheVariants as which
 use Rattle.twp_grammar.specs.Tokens.{Token}
-use Rattle.twp_grammar.specs.Grammar.{Class, sec, lot, all, and, to, inclusive, of, the, t, r, north_south, east_west, corner, half, quarter, number, comma, semicolon, colon, stop, other, bad_number, bad_byte, Value, class_of, kind_of, description}
-use Rattle.twp_grammar.specs.Items.{items}
+use Rattle.twp_grammar.specs.Grammar.{Class, sec, lot, all, and, to, inclusive, of, the, t, r, north_south}
+use Rattle.twp_grammar.specs.Grammar.{east_west, corner, half, quarter, number, comma, semicolon, colon, stop}
+use Rattle.twp_grammar.specs.Grammar.{other, bad_number, bad_byte, Value, class_of, kind_of, description}
+use Rattle.twp_grammar.specs.Items.{tokens, items}
 use Rattle.twp_grammar.specs.Sentences.{HasItems, IsSentence, IsFront, IsFault, MayFollow}
 use Rattle.twp_read.specs.Laws.{classes_of, ClassesDecide}
 use Rattle.twp_grammar.specs.Machine.{next, is_final}
@@ -21,7 +24,8 @@ use Rattle.twp_read.specs.TokenSteps.{take_token, run}
 use Rattle.twp_grammar.specs.Expected.{told, named, expected_of, IsNamed}
 use Rattle.twp_grammar.proofs.Derivatives.{same_class, same_class_tells, Derives, derives_none, takes_token}
 use Rattle.twp_grammar.proofs.Table as table
-use Rattle.twp_read.proofs.Walk.{newest_first, IsRead, read_description}
+use Rattle.twp_read.proofs.ListWalk.{newest_first}
+use Rattle.twp_read.proofs.Walk.{IsRead, read_description}
 
 -- turned round twice
 turned : (xs ys zs : List Item) → newest_first (newest_first xs ys) zs ≡ newest_first ys (xs ++ zs)
@@ -55,30 +59,43 @@ record Leaves (o : Option State) (ts : List Token) : Type 0 where
   is : o ≡ Some state
   rest : Derives (table.rest state) ts
 
-leaves : (o : Option State) (ts : List Token) (its : List Item) (e : State) (its' : List Item) → run o its ts ≡ ended e its' → is_final e ≡ true → Leaves o ts
+leaves : (o : Option State) (ts : List Token) (its : List Item) (e : State) (its' : List Item)
+    → run o its ts ≡ ended e its' → is_final e ≡ true → Leaves o ts
 leaves None ts its e its' h final = cc h
 leaves (Some s) [] its e its' h final = record {
   state = s;
   is = refl;
-  rest = derives_none (table.rest s) (table.end s (subst (λ (x : State). is_final x ≡ true) (sym (ap state_of h)) final));
+  rest =
+      derives_none (table.rest s)
+      (table.end s (subst (λ (x : State). is_final x ≡ true) (sym (ap state_of h)) final));
 }
 leaves (Some s) (token ∷ ts) its e its' h final =
-    let more : Leaves (next s (class_of token.kind)) ts = leaves (next s (class_of token.kind)) ts (take_token s token.kind token.at its) e its' h final in
+    let more : Leaves (next s (class_of token.kind)) ts =
+    leaves (next s (class_of token.kind)) ts (take_token s token.kind token.at its) e its' h final in
     record {
       state = s;
       is = refl;
-      rest = takes_token (table.rest s) token ts (subst (λ g. Derives g ts) (sym (table.edge s more.state (class_of token.kind) more.is)) more.rest);
+      rest =
+          takes_token (table.rest s) token ts
+          (subst (λ g. Derives g ts) (sym (table.edge s more.state (class_of token.kind) more.is)) more.rest);
     }
 
 -- a run from the start to a final state is the reading of a sentence
-pub accepted : (ts : List Token) (e : State) (its : List Item) → run (Some Start) [] ts ≡ ended e its → is_final e ≡ true → HasItems ts (newest_first its [])
+pub accepted : (ts : List Token) (e : State) (its : List Item) → run (Some Start) [] ts ≡ ended e its
+    → is_final e ≡ true → HasItems ts (newest_first its [])
 accepted ts e its h final =
     let all_left : Leaves (Some Start) ts = leaves (Some Start) ts [] e its h final in
     let at_start : Start ≡ all_left.state = ap state_or_start all_left.is in
-    let d : Derives description ts = subst (λ g. Derives g ts) (ap table.rest (sym at_start) ∙ table.rest_at_start) all_left.rest in
-    let read : IsRead ts (items d.tree) = subst (λ us. IsRead us (items d.tree)) d.spelt (read_description d.tree) in
+    let d : Derives description ts =
+    subst (λ g. Derives g ts) (ap table.rest (sym at_start) ∙ table.rest_at_start) all_left.rest in
+    let read : IsRead ts (items d.tree) =
+    subst (λ us. IsRead us (items d.tree)) d.spelt (read_description d.tree) in
     let same : its ≡ newest_first (items d.tree) [] = ap items_of (sym h ∙ read.read) in
-    record { tree = d.tree; spelt = d.spelt; read_off = sym (ap (λ js. newest_first js []) same ∙ oldest_first (items d.tree)) }
+    record {
+      tree = d.tree;
+      spelt = d.spelt;
+      read_off = sym (ap (λ js. newest_first js []) same ∙ oldest_first (items d.tree));
+    }
   where
     state_or_start : Option State → State
     state_or_start None = Start
@@ -89,10 +106,12 @@ abbrev pub go_on : Outcome → List Token → Outcome
 go_on None ts = None
 go_on (Some (s, its)) ts = run (Some s) its ts
 
-pub run-append : (o : Option State) (its : List Item) (ts us : List Token) → run o its (ts ++ us) ≡ go_on (run o its ts) us
+pub run-append : (o : Option State) (its : List Item) (ts us : List Token)
+    → run o its (ts ++ us) ≡ go_on (run o its ts) us
 run-append None its ts us = refl
 run-append (Some s) its [] us = refl
-run-append (Some s) its (token ∷ ts) us = run-append (next s (class_of token.kind)) (take_token s token.kind token.at its) ts us
+run-append (Some s) its (token ∷ ts) us =
+    run-append (next s (class_of token.kind)) (take_token s token.kind token.at its) ts us
 
 -- a token of each class
 abbrev any_value : (c : Class) → Value c
@@ -155,7 +174,8 @@ record Finishes (o : Option State) (its : List Item) (ts : List Token) : Type 0 
   read : run o its ts ≡ ended end newest
   final : is_final end ≡ true
 
-finishes : (o : Option State) (cs : List Class) (its : List Item) → table.leads_out o cs ≡ true → Finishes o its (map any_token cs)
+finishes : (o : Option State) (cs : List Class) (its : List Item) → table.leads_out o cs ≡ true
+    → Finishes o its (map any_token cs)
 finishes None cs its h = cc h
 finishes (Some s) [] its h = record { end = s; newest = its; read = refl; final = h }
 finishes (Some s) (c ∷ cs) its h =
@@ -170,12 +190,15 @@ finishes (Some s) (c ∷ cs) its h =
     }
 
 -- the tokens of a run begin a sentence
-pub front : (ts : List Token) (s : State) (its : List Item) → run (Some Start) [] ts ≡ ended s its → IsFront ts
+pub front : (ts : List Token) (s : State) (its : List Item) → run (Some Start) [] ts ≡ ended s its
+    → IsFront ts
 front ts s its h =
     let more : List Token = map any_token (table.way_out s) in
     let out : Finishes (Some s) its more = finishes (Some s) (table.way_out s) its (table.leads s) in
-    let read : run (Some Start) [] (ts ++ more) ≡ ended out.end out.newest = run-append (Some Start) [] ts more ∙ ap (λ o. go_on o more) h ∙ out.read in
-    let has : HasItems (ts ++ more) (newest_first out.newest []) = accepted (ts ++ more) out.end out.newest read out.final in
+    let read : run (Some Start) [] (ts ++ more) ≡ ended out.end out.newest =
+    run-append (Some Start) [] ts more ∙ ap (λ o. go_on o more) h ∙ out.read in
+    let has : HasItems (ts ++ more) (newest_first out.newest []) =
+    accepted (ts ++ more) out.end out.newest read out.final in
     (more, rw length-map (table.few s), record { tree = has.tree; spelt = has.spelt })
 
 -- the machine takes each sentence
@@ -185,7 +208,8 @@ not_stuck ts h is_sentence =
     let apart : None ≡ ended read.end (newest_first (items is_sentence.tree) []) = sym h ∙ read.read in
     cc apart
 
-pub ends_finally : (ts : List Token) (s : State) (its : List Item) → run (Some Start) [] ts ≡ ended s its → is_final s ≡ false → ¬ IsSentence ts
+pub ends_finally : (ts : List Token) (s : State) (its : List Item) → run (Some Start) [] ts ≡ ended s its
+    → is_final s ≡ false → ¬ IsSentence ts
 ends_finally ts s its h final is_sentence =
     let read : IsRead ts (items is_sentence.tree) = read_sentence ts is_sentence in
     let same : s ≡ read.end = ap state_of (sym h ∙ read.read) in
@@ -193,19 +217,33 @@ ends_finally ts s its h final is_sentence =
     cc apart
 
 -- a token that the machine can't take is where the text goes wrong
-pub fault_here : (before after_it : List Token) (token : Token) (s : State) (its : List Item) → run (Some Start) [] before ≡ ended s its → next s (class_of token.kind) ≡ None → IsFault (before ++ token ∷ after_it) (length before)
+pub fault_here : (before after_it : List Token) (token : Token) (s : State) (its : List Item)
+    → run (Some Start) [] before ≡ ended s its → next s (class_of token.kind) ≡ None
+    → IsFault (before ++ token ∷ after_it) (length before)
 fault_here before after_it token s its h stuck =
-    let up_to : take (length before) (before ++ token ∷ after_it) ≡ before = take-append_seam before (token ∷ after_it) in
-    let with_it : take (length before + 1) (before ++ token ∷ after_it) ≡ before ++ token ∷ [] = take-append-add before (token ∷ after_it) 1 in
+    let up_to : take (length before) (before ++ token ∷ after_it) ≡ before =
+    take-append_seam before (token ∷ after_it) in
+    let with_it : take (length before + 1) (before ++ token ∷ after_it) ≡ before ++ token ∷ [] =
+    take-append-add before (token ∷ after_it) 1 in
     record {
       within = rw (length-append before (token ∷ after_it)) (omega arith);
       before = rw up_to (front before s its h);
-      here = λ _ more. rw with_it (not_stuck ((before ++ token ∷ []) ++ more) (rw append_assoc (run-append (Some Start) [] before (token ∷ more) ∙ ap (λ o. go_on o (token ∷ more)) h ∙ ap (λ o. run o (take_token s token.kind token.at its) more) stuck)));
-      at_end = λ e. let longer : length before ≡ length before + length (token ∷ after_it) = rw (length-append before (token ∷ after_it)) at e in absurd (omega arith);
+      here = λ _ more.
+          rw with_it
+          (not_stuck ((before ++ token ∷ []) ++ more)
+          (rw append_assoc
+          (run-append (Some Start) [] before (token ∷ more)
+          ∙ ap (λ o. go_on o (token ∷ more)) h
+          ∙ ap (λ o. run o (take_token s token.kind token.at its) more) stuck)));
+      at_end = λ e.
+          let longer : length before ≡ length before + length (token ∷ after_it) =
+          rw (length-append before (token ∷ after_it)) at e in
+          absurd (omega arith);
     }
 
 -- tokens that end too early
-pub fault_at_end : (ts : List Token) (s : State) (its : List Item) → run (Some Start) [] ts ≡ ended s its → is_final s ≡ false → IsFault ts (length ts)
+pub fault_at_end : (ts : List Token) (s : State) (its : List Item) → run (Some Start) [] ts ≡ ended s its
+    → is_final s ≡ false → IsFault ts (length ts)
 fault_at_end ts s its h final =
     let up_to : take (length ts) ts ≡ ts = take_all (length ts) ts (omega arith) in
     record {
@@ -220,7 +258,9 @@ pub short_completion : (ts more : List Token) → IsSentence (ts ++ more) → Is
 short_completion ts more is_sentence = by_run (run (Some Start) [] ts) refl
   where
     by_run : (o : Outcome) → run (Some Start) [] ts ≡ o → IsFront ts
-    by_run None h = absurd (not_stuck (ts ++ more) (run-append (Some Start) [] ts more ∙ ap (λ o. go_on o more) h) is_sentence)
+    by_run None h =
+        absurd
+        (not_stuck (ts ++ more) (run-append (Some Start) [] ts more ∙ ap (λ o. go_on o more) h) is_sentence)
     by_run (Some (s, its)) h = front ts s its h
 
 named_of : (c : Class) (cs : List Class) → list_any (λ d. same_class c d) cs ≡ true → IsNamed c cs
@@ -231,15 +271,28 @@ named_of c (d ∷ ds) h = elim (cases_Bool (same_class c d)) [
 ]
 
 -- whatever a sentence has behind some tokens is named in the state that they lead to
-pub what_follows : (before : List Token) (token : Token) (more : List Token) (s : State) (its : List Item) → run (Some Start) [] before ≡ ended s its → IsSentence (before ++ token ∷ more) → IsNamed (class_of token.kind) (named (expected_of s))
+pub what_follows : (before : List Token) (token : Token) (more : List Token) (s : State) (its : List Item)
+    → run (Some Start) [] before ≡ ended s its → IsSentence (before ++ token ∷ more)
+    → IsNamed (class_of token.kind) (named (expected_of s))
 what_follows before token more s its h is = follows (next s (class_of token.kind)) refl
   where
-    follows : (o : Option State) → next s (class_of token.kind) ≡ o → IsNamed (class_of token.kind) (named (expected_of s))
-    follows None stuck = absurd (not_stuck (before ++ token ∷ more) (run-append (Some Start) [] before (token ∷ more) ∙ ap (λ o. go_on o (token ∷ more)) h ∙ ap (λ o. run o (take_token s token.kind token.at its) more) stuck) is)
-    follows (Some s') step = named_of (class_of token.kind) (named (expected_of s)) (table.follows_named s s' (class_of token.kind) step)
+    follows : (o : Option State) → next s (class_of token.kind) ≡ o
+        → IsNamed (class_of token.kind) (named (expected_of s))
+    follows None stuck =
+        absurd
+        (not_stuck (before ++ token ∷ more)
+        (run-append (Some Start) [] before (token ∷ more)
+        ∙ ap (λ o. go_on o (token ∷ more)) h
+        ∙ ap (λ o. run o (take_token s token.kind token.at its) more) stuck)
+        is)
+    follows (Some s') step =
+        named_of (class_of token.kind) (named (expected_of s))
+        (table.follows_named s s' (class_of token.kind) step)
 
 -- a sentence has a token of each class that is told of in the state that some tokens lead to
-pub what_is_told : (before : List Token) (s : State) (its : List Item) → run (Some Start) [] before ≡ ended s its → (c : Class) → IsNamed c (told (expected_of s)) → MayFollow before c
+pub what_is_told : (before : List Token) (s : State) (its : List Item)
+    → run (Some Start) [] before ≡ ended s its → (c : Class) → IsNamed c (told (expected_of s))
+    → MayFollow before c
 what_is_told before s its h c is = follows (next s c) refl (table.told_follows s c is)
   where
     follows : (o : Option State) → next s c ≡ o → is_some o ≡ true → MayFollow before c
@@ -247,7 +300,11 @@ what_is_told before s its h c is = follows (next s c) refl (table.told_follows s
     follows (Some s') step some =
         let token : Token = any_token c in
         let its' : List Item = take_token s token.kind token.at its in
-        let read : run (Some Start) [] (before ++ token ∷ []) ≡ ended s' its' = run-append (Some Start) [] before (token ∷ []) ∙ ap (λ o. go_on o (token ∷ [])) h ∙ ap (λ d. run (next s d) its' []) (class_of_any c) ∙ ap (λ o. run o its' []) step in
+        let read : run (Some Start) [] (before ++ token ∷ []) ≡ ended s' its' =
+        run-append (Some Start) [] before (token ∷ [])
+        ∙ ap (λ o. go_on o (token ∷ [])) h
+        ∙ ap (λ d. run (next s d) its' []) (class_of_any c)
+        ∙ ap (λ o. run o its' []) step in
         let goes_on = front (before ++ token ∷ []) s' its' read in
         record {
           token = token;
@@ -269,31 +326,49 @@ abbrev later_classes : List Class → List Class
 later_classes [] = []
 later_classes (c ∷ cs) = cs
 
-led_alike : (o : Option State) (ts us : List Token) (its its' : List Item) (s : State) → classes_of ts ≡ classes_of us → LeadsTo o its ts s → LeadsTo o its' us s
+led_alike : (o : Option State) (ts us : List Token) (its its' : List Item) (s : State)
+    → classes_of ts ≡ classes_of us → LeadsTo o its ts s → LeadsTo o its' us s
 led_alike None ts us its its' s same leads = let none : None ≡ ended s leads.newest = leads.read in cc none
 led_alike (Some from) [] [] its its' s same leads =
     record { newest = its'; read = ap (λ x. ended x its') (ap state_of leads.read) }
 led_alike (Some from) [] (token' ∷ us) its its' s same leads = cc same
 led_alike (Some from) (token ∷ ts) [] its its' s same leads = cc same
 led_alike (Some from) (token ∷ ts) (token' ∷ us) its its' s same leads =
-    let its_class : class_of token.kind ≡ class_of token'.kind = ap (first_class (class_of token.kind)) same in
+    let its_class : class_of token.kind ≡ class_of token'.kind =
+    ap (first_class (class_of token.kind)) same in
     let now : List Item = take_token from token.kind token.at its in
     let now' : List Item = take_token from token'.kind token'.at its' in
-    let more = led_alike (next from (class_of token.kind)) ts us now now' s (ap later_classes same) (record { newest = leads.newest; read = leads.read }) in
+    let more = led_alike (next from (class_of token.kind)) ts us now now' s (ap later_classes same) (record {
+      newest = leads.newest;
+      read = leads.read;
+    }) in
     record { newest = more.newest; read = ap (λ c. run (next from c) now' us) (sym its_class) ∙ more.read }
 
 sentence_alike : (ts us : List Token) → classes_of ts ≡ classes_of us → IsSentence ts → IsSentence us
 sentence_alike ts us same is =
     let read : IsRead ts (items is.tree) = read_sentence ts is in
-    let led : LeadsTo (Some Start) [] us read.end = led_alike (Some Start) ts us [] [] read.end same (record { newest = newest_first (items is.tree) []; read = read.read }) in
-    let has : HasItems us (newest_first led.newest []) = accepted us read.end led.newest led.read read.final in
+    let led : LeadsTo (Some Start) [] us read.end = led_alike (Some Start) ts us [] [] read.end same (record {
+      newest = newest_first (items is.tree) [];
+      read = read.read;
+    }) in
+    let has : HasItems us (newest_first led.newest []) =
+    accepted us read.end led.newest led.read read.final in
     record { tree = has.tree; spelt = has.spelt }
 
 front_alike : (ts us : List Token) → classes_of ts ≡ classes_of us → IsFront ts → IsFront us
-front_alike ts us same (more, few, is) =
-    (more, few, sentence_alike (ts ++ more) (us ++ more) (map-append (λ token. class_of token.kind) ts more ∙ ap (λ cs. cs ++ classes_of more) same ∙ sym (map-append (λ token. class_of token.kind) us more)) is)
+front_alike ts us same (more, few, is) = (
+  more,
+  few,
+  sentence_alike (ts ++ more) (us ++ more)
+      (map-append (λ token. class_of token.kind) ts more
+      ∙ ap (λ cs. cs ++ classes_of more) same
+      ∙ sym (map-append (λ token. class_of token.kind) us more))
+      is,
+)
 
 -- whether tokens are a sentence, or begin one, depends on their classes alone
 pub classes_decide : ClassesDecide
-classes_decide ts us same =
-    ((sentence_alike ts us same, sentence_alike us ts (sym same)), (front_alike ts us same, front_alike us ts (sym same)))
+classes_decide ts us same = (
+  (sentence_alike ts us same, sentence_alike us ts (sym same)),
+  (front_alike ts us same, front_alike us ts (sym same)),
+)

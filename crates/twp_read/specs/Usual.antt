@@ -1,5 +1,6 @@
 -- What the reader takes as a whole, though it is several tokens. No public promise speaks of it.
-use Rattle.std.specs.Prelude.{◌≡◌, ◌⊎◌, ◌≤◌, ◌<◌, ℕ, ◌+◌, true, List, [], ◌∷◌, ◌++◌, Option, Some, None, length}
+use Rattle.std.specs.Prelude.{◌≡◌, ◌⊎◌, ◌≤◌, ◌<◌, ℕ, ◌+◌, true, List, [], ◌∷◌, ◌++◌, Option, Some, None}
+use Rattle.std.specs.Prelude.{length}
 use Rattle.std.specs.Prelude.{drop}
 use Rattle.std.specs.List.{prefix_len}
 use Rattle.twp_grid.specs.declared.block.Side.TheVariants as side

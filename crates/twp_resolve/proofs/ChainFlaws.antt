@@ -1,5 +1,6 @@
 -- What is answered of an aliquot part: the first of its flaws, or its places are taken.
-use Rattle.std.proofs.Common.{◌≡◌, ◌==◌, ℕ, ◌≤◌, Bool, List, refl, sym, ap, subst, ◌∙◌, arith, Result, Ok, Err, IfOk, IfErr, MatchResult}
+use Rattle.std.proofs.Common.{◌≡◌, ◌==◌, ℕ, ◌≤◌, Bool, List, refl, sym, ap, subst, ◌∙◌, arith, Result, Ok}
+use Rattle.std.proofs.Common.{Err, IfOk, IfErr, MatchResult}
 use Rattle.std.proofs.lemmas.Bool.{and_parts}
 use Rattle.twp_grid.specs.Cuts.{AreWithin, reached}
 use Rattle.twp_grid.specs.Places.{PLACE_DIGITS}
@@ -13,7 +14,8 @@ use Rattle.twp_resolve.specs.declared.place_fault.PlaceFault.TheVariants as faul
 use Rattle.twp_grammar.specs.ItemPlaces.{cuts_of, item_places}
 use Rattle.twp_grammar.specs.OnPlat.{HoldsOfLot}
 use Rattle.twp_resolve.specs.PlaceFaults.{Flaw, HasFlaw, turn_of}
-use Rattle.twp_resolve.specs.PlaceFaults.Flaw.{other_township, no_first_section, no_last_section, backward, no_first_lot, no_last_lot, too_fine, on_lot, overlap}
+use Rattle.twp_resolve.specs.PlaceFaults.Flaw.{other_township, no_first_section, no_last_section, backward}
+use Rattle.twp_resolve.specs.PlaceFaults.Flaw.{no_first_lot, no_last_lot, too_fine, on_lot, overlap}
 use Rattle.twp_grammar.specs.ItemPlaces.{item_of}
 use Rattle.twp_land.specs.WholeLots.{HoldsLotPlace}
 use Rattle.twp_resolve.specs.ResolvingSteps.{IsTaken, IsFirstFlaw}
@@ -21,11 +23,13 @@ use Rattle.twp_land.proofs.LotBlocks.{same_section, share_of_meets, meets_of_sha
 use Rattle.twp_resolve.proofs.ChainFacts.{chain_places}
 
 -- an aliquot part's flaws are three
-at_least : (township : Designation) (earlier : ℕ → ℕ → ℕ → Bool) (section : ℕ) (steps : List Step) (at turn : ℕ)
+at_least : (township : Designation) (earlier : ℕ → ℕ → ℕ → Bool) (section : ℕ) (steps : List Step)
+    (at turn : ℕ)
     → (¬ AreWithin PLACE_DIGITS (cuts_of steps) → turn ≤ 6)
     → (HoldsOfLot PLACE_DIGITS (item_of section (Chain steps at)) → turn ≤ 7)
     → turn ≤ 8
-    → (other : Flaw) → HasFlaw PLACE_DIGITS township earlier section (Chain steps at) other → turn ≤ turn_of other
+    → (other : Flaw) → HasFlaw PLACE_DIGITS township earlier section (Chain steps at) other
+    → turn ≤ turn_of other
 at_least township earlier section steps at turn fine lot most other_township has = absurd has
 at_least township earlier section steps at turn fine lot most no_first_section has = absurd has
 at_least township earlier section steps at turn fine lot most no_last_section has = absurd has
@@ -36,8 +40,10 @@ at_least township earlier section steps at turn fine lot most too_fine has = fin
 at_least township earlier section steps at turn fine lot most on_lot has = lot has
 at_least township earlier section steps at turn fine lot most overlap has = most
 
-pub is_too_fine : (section : ℕ) (steps : List Step) (at : ℕ) (earlier : ℕ → ℕ → ℕ → Bool) → ¬ AreWithin PLACE_DIGITS (cuts_of steps)
-    → (township : Designation) → IsFirstFlaw PLACE_DIGITS township section (Chain steps at) earlier (fault.TooFine at)
+pub is_too_fine : (section : ℕ) (steps : List Step) (at : ℕ) (earlier : ℕ → ℕ → ℕ → Bool)
+    → ¬ AreWithin PLACE_DIGITS (cuts_of steps)
+    → (township : Designation)
+    → IsFirstFlaw PLACE_DIGITS township section (Chain steps at) earlier (fault.TooFine at)
 is_too_fine section steps at earlier fine township = record {
   flaw = too_fine;
   has = fine;
@@ -47,64 +53,89 @@ is_too_fine section steps at earlier fine township = record {
 
 -- the block of an aliquot part holds a lot's place where the part names one
 of_lot_of_block : (section : ℕ) (steps : List Step) (at : ℕ) → AreWithin PLACE_DIGITS (cuts_of steps)
-    → HoldsLotPlace PLACE_DIGITS section (reached PLACE_DIGITS (cuts_of steps)) → HoldsOfLot PLACE_DIGITS (item_of section (Chain steps at))
+    → HoldsLotPlace PLACE_DIGITS section (reached PLACE_DIGITS (cuts_of steps))
+    → HoldsOfLot PLACE_DIGITS (item_of section (Chain steps at))
 of_lot_of_block section steps at within held = record {
   column = held.column;
   row = held.row;
-  named = ap (λ places. places section held.column held.row) (chain_places PLACE_DIGITS section steps at within) ∙ rw (same_section section, held.inside) refl;
+  named =
+      ap (λ places. places section held.column held.row) (chain_places PLACE_DIGITS section steps at within)
+      ∙ rw (same_section section, held.inside) refl;
   of_lot = held.of_lot;
 }
 
 block_of_of_lot : (section : ℕ) (steps : List Step) (at : ℕ) → AreWithin PLACE_DIGITS (cuts_of steps)
-    → HoldsOfLot PLACE_DIGITS (item_of section (Chain steps at)) → HoldsLotPlace PLACE_DIGITS section (reached PLACE_DIGITS (cuts_of steps))
+    → HoldsOfLot PLACE_DIGITS (item_of section (Chain steps at))
+    → HoldsLotPlace PLACE_DIGITS section (reached PLACE_DIGITS (cuts_of steps))
 block_of_of_lot section steps at within held =
-    let there = ap (λ places. places section held.column held.row) (sym (chain_places PLACE_DIGITS section steps at within)) ∙ held.named in
+    let there =
+    ap (λ places. places section held.column held.row)
+    (sym (chain_places PLACE_DIGITS section steps at within))
+    ∙ held.named in
     record {
       column = held.column;
       row = held.row;
-      inside = (and_parts (section == section) (in_rectangle (reached PLACE_DIGITS (cuts_of steps)) held.column held.row) there).1;
+      inside =
+          (and_parts (section == section)
+          (in_rectangle (reached PLACE_DIGITS (cuts_of steps)) held.column held.row) there).1;
       of_lot = held.of_lot;
     }
 
-pub is_on_lot : (section : ℕ) (steps : List Step) (at : ℕ) (earlier : ℕ → ℕ → ℕ → Bool) (block : Rectangle) → AreWithin PLACE_DIGITS (cuts_of steps) → block ≡ reached PLACE_DIGITS (cuts_of steps)
+pub is_on_lot : (section : ℕ) (steps : List Step) (at : ℕ) (earlier : ℕ → ℕ → ℕ → Bool) (block : Rectangle)
+    → AreWithin PLACE_DIGITS (cuts_of steps) → block ≡ reached PLACE_DIGITS (cuts_of steps)
     → HoldsLotPlace PLACE_DIGITS section block
-    → (township : Designation) → IsFirstFlaw PLACE_DIGITS township section (Chain steps at) earlier (fault.OnLot at)
+    → (township : Designation)
+    → IsFirstFlaw PLACE_DIGITS township section (Chain steps at) earlier (fault.OnLot at)
 is_on_lot section steps at earlier block within is held township = record {
   flaw = on_lot;
   has = of_lot_of_block section steps at within (rw is at held);
-  first = at_least township earlier section steps at 7 (λ fine. absurd (fine within)) (λ _. omega arith) (omega arith);
+  first =
+      at_least township earlier section steps at 7 (λ fine. absurd (fine within)) (λ _. omega arith)
+      (omega arith);
   fault_is = refl;
 }
 
 -- what adding a block answers
-abbrev pub AddsBlock : {A : Type 0} → (old new : ℕ → ℕ → ℕ → Bool) (section : ℕ) (block : Rectangle) (at : ℕ) → Result A PlaceFault → Type 0
+abbrev pub AddsBlock : {A : Type 0} → (old new : ℕ → ℕ → ℕ → Bool) (section : ℕ) (block : Rectangle) (at : ℕ)
+    → Result A PlaceFault → Type 0
 AddsBlock old new section block at result = MatchResult result
     (λ _. (¬ Meets (old section) block) × (new ≡ union old (block_places section block)))
     (λ e. (e ≡ fault.Overlap at) × Meets (old section) block)
 
-pub chain_taken : {A : Type 0} (result : Result A PlaceFault) (section : ℕ) (steps : List Step) (at : ℕ) (old new : ℕ → ℕ → ℕ → Bool) (block : Rectangle)
-    → AreWithin PLACE_DIGITS (cuts_of steps) → block ≡ reached PLACE_DIGITS (cuts_of steps) → ¬ HoldsLotPlace PLACE_DIGITS section block
+pub chain_taken : {A : Type 0} (result : Result A PlaceFault) (section : ℕ) (steps : List Step) (at : ℕ)
+    (old new : ℕ → ℕ → ℕ → Bool) (block : Rectangle)
+    → AreWithin PLACE_DIGITS (cuts_of steps) → block ≡ reached PLACE_DIGITS (cuts_of steps)
+    → ¬ HoldsLotPlace PLACE_DIGITS section block
     → AddsBlock old new section block at result
-    → IfOk result (λ _. (township : Designation) → IsTaken PLACE_DIGITS township section (Chain steps at) old new)
+    → IfOk result
+    (λ _. (township : Designation) → IsTaken PLACE_DIGITS township section (Chain steps at) old new)
 chain_taken (Err e) section steps at old new block within is off adds = tt
 chain_taken (Ok _) section steps at old new block within is off adds = λ township.
-    let places : item_places PLACE_DIGITS (item_of section (Chain steps at)) ≡ block_places section block = chain_places PLACE_DIGITS section steps at within ∙ ap (λ b. block_places section b) (sym is) in
+    let places : item_places PLACE_DIGITS (item_of section (Chain steps at)) ≡ block_places section block =
+    chain_places PLACE_DIGITS section steps at within ∙ ap (λ b. block_places section b) (sym is) in
     record {
       lies = (within, λ held. off (rw is (block_of_of_lot section steps at within held)));
-      apart = λ shared. adds.0 (meets_of_share old section block (subst (λ named. SharePlace old named) places shared));
+      apart = λ shared.
+          adds.0 (meets_of_share old section block (subst (λ named. SharePlace old named) places shared));
       added = adds.1 ∙ ap (λ named. union old named) (sym places);
     }
 
-pub chain_refused : {A : Type 0} (result : Result A PlaceFault) (section : ℕ) (steps : List Step) (at : ℕ) (old new : ℕ → ℕ → ℕ → Bool) (block : Rectangle)
-    → AreWithin PLACE_DIGITS (cuts_of steps) → block ≡ reached PLACE_DIGITS (cuts_of steps) → ¬ HoldsLotPlace PLACE_DIGITS section block
+pub chain_refused : {A : Type 0} (result : Result A PlaceFault) (section : ℕ) (steps : List Step) (at : ℕ)
+    (old new : ℕ → ℕ → ℕ → Bool) (block : Rectangle)
+    → AreWithin PLACE_DIGITS (cuts_of steps) → block ≡ reached PLACE_DIGITS (cuts_of steps)
+    → ¬ HoldsLotPlace PLACE_DIGITS section block
     → AddsBlock old new section block at result
-    → IfErr result (λ e. (township : Designation) → IsFirstFlaw PLACE_DIGITS township section (Chain steps at) old e)
+    → IfErr result
+    (λ e. (township : Designation) → IsFirstFlaw PLACE_DIGITS township section (Chain steps at) old e)
 chain_refused (Ok _) section steps at old new block within is off adds = tt
 chain_refused (Err e) section steps at old new block within is off adds = λ township.
-    let places : item_places PLACE_DIGITS (item_of section (Chain steps at)) ≡ block_places section block = chain_places PLACE_DIGITS section steps at within ∙ ap (λ b. block_places section b) (sym is) in
+    let places : item_places PLACE_DIGITS (item_of section (Chain steps at)) ≡ block_places section block =
+    chain_places PLACE_DIGITS section steps at within ∙ ap (λ b. block_places section b) (sym is) in
     record {
       flaw = overlap;
       has = subst (λ named. SharePlace old named) (sym places) (share_of_meets old section block adds.1);
-      first = at_least township old section steps at 8 (λ fine. absurd (fine within)) (λ held. absurd (off (rw is (block_of_of_lot section steps at within held)))) (omega arith);
+      first =
+          at_least township old section steps at 8 (λ fine. absurd (fine within))
+          (λ held. absurd (off (rw is (block_of_of_lot section steps at within held)))) (omega arith);
       fault_is = adds.0;
     }

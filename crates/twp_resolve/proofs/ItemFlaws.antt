@@ -1,5 +1,6 @@
 -- What is answered of a heading and of `all`: the first of their flaws, or their places are taken.
-use Rattle.std.proofs.Common.{◌≡◌, ◌≢◌, ◌==◌, ℕ, ◌≤◌, ◌&&◌, Bool, true, false, refl, sym, ap, subst, ◌∙◌, arith}
+use Rattle.std.proofs.Common.{◌≡◌, ◌≢◌, ◌==◌, ℕ, ◌≤◌, ◌&&◌, Bool, true, false, refl, sym, ap, subst, ◌∙◌}
+use Rattle.std.proofs.Common.{arith}
 use Rattle.std.proofs.Math.Path.{fun_ext}
 use Rattle.twp_grid.specs.Places.{PLACE_DIGITS, is_place}
 use Rattle.twp_grid.specs.Spans.{whole_block}
@@ -11,7 +12,8 @@ use Rattle.twp_grammar.specs.declared.item.Item.TheVariants.{Heading, All}
 use Rattle.twp_resolve.specs.declared.place_fault.PlaceFault.TheVariants as fault
 use Rattle.twp_grammar.specs.ItemPlaces.{item_places}
 use Rattle.twp_resolve.specs.PlaceFaults.{Flaw, HasFlaw, turn_of}
-use Rattle.twp_resolve.specs.PlaceFaults.Flaw.{other_township, no_first_section, no_last_section, backward, no_first_lot, no_last_lot, too_fine, on_lot, overlap}
+use Rattle.twp_resolve.specs.PlaceFaults.Flaw.{other_township, no_first_section, no_last_section, backward}
+use Rattle.twp_resolve.specs.PlaceFaults.Flaw.{no_first_lot, no_last_lot, too_fine, on_lot, overlap}
 use Rattle.twp_grammar.specs.ItemPlaces.{item_of}
 use Rattle.twp_resolve.specs.ResolvingSteps.{AreAdded, IsTaken, IsFirstFlaw}
 use Rattle.twp_land.proofs.LotBlocks.{share_of_meets, meets_of_share}
@@ -19,19 +21,25 @@ use Rattle.twp_resolve.proofs.RangeFacts.{added_none}
 use Rattle.twp_grammar.proofs.CutPlaces.{whole_is_place}
 
 -- a heading names no place
-pub heading_taken : (section number : ℕ) (north_south : NorthSouth) (range : ℕ) (east_west : EastWest) (at : ℕ) (old : ℕ → ℕ → ℕ → Bool) (township : Designation)
-    → designation number north_south range east_west ≡ township → IsTaken PLACE_DIGITS township section (Heading number north_south range east_west at) old old
+pub heading_taken : (section number : ℕ) (north_south : NorthSouth) (range : ℕ) (east_west : EastWest)
+    (at : ℕ) (old : ℕ → ℕ → ℕ → Bool) (township : Designation)
+    → designation number north_south range east_west ≡ township
+    → IsTaken PLACE_DIGITS township section (Heading number north_south range east_west at) old old
 heading_taken section number north_south range east_west at old township is =
-    let none : AreAdded (λ s c r. is_place PLACE_DIGITS c r && false) old old = added_none (λ s c r. is_place PLACE_DIGITS c r && false) old (fun_ext (λ s. fun_ext (λ c. fun_ext (λ r. off (is_place PLACE_DIGITS c r))))) in
+    let none : AreAdded (λ s c r. is_place PLACE_DIGITS c r && false) old old =
+    added_none (λ s c r. is_place PLACE_DIGITS c r && false) old
+    (fun_ext (λ s. fun_ext (λ c. fun_ext (λ r. off (is_place PLACE_DIGITS c r))))) in
     record { lies = is; apart = none.apart; added = none.added }
   where
     off : (b : Bool) → (b && false) ≡ false
     off true = refl
     off false = refl
 
-pub heading_refused : (section number : ℕ) (north_south : NorthSouth) (range : ℕ) (east_west : EastWest) (at : ℕ) (old : ℕ → ℕ → ℕ → Bool) (township : Designation)
+pub heading_refused : (section number : ℕ) (north_south : NorthSouth) (range : ℕ) (east_west : EastWest)
+    (at : ℕ) (old : ℕ → ℕ → ℕ → Bool) (township : Designation)
     → designation number north_south range east_west ≢ township
-    → IsFirstFlaw PLACE_DIGITS township section (Heading number north_south range east_west at) old (fault.OtherTownship at)
+    → IsFirstFlaw PLACE_DIGITS township section (Heading number north_south range east_west at) old
+    (fault.OtherTownship at)
 heading_refused section number north_south range east_west at old township other = record {
   flaw = other_township;
   has = other;
@@ -40,8 +48,10 @@ heading_refused section number north_south range east_west at old township other
 }
 
 -- all of a section is its block of all places
-all_places : (section at : ℕ) → item_places PLACE_DIGITS (item_of section (All at)) ≡ block_places section (whole_block PLACE_DIGITS)
-all_places section at = fun_ext (λ s. fun_ext (λ c. fun_ext (λ r. rw (whole_is_place c r) (swap (is_place PLACE_DIGITS c r) (section == s)))))
+all_places : (section at : ℕ)
+    → item_places PLACE_DIGITS (item_of section (All at)) ≡ block_places section (whole_block PLACE_DIGITS)
+all_places section at = fun_ext (λ s. fun_ext (λ c. fun_ext (λ r.
+    rw (whole_is_place c r) (swap (is_place PLACE_DIGITS c r) (section == s)))))
   where
     swap : (a b : Bool) → (a && b) ≡ (b && a)
     swap true true = refl
@@ -49,19 +59,27 @@ all_places section at = fun_ext (λ s. fun_ext (λ c. fun_ext (λ r. rw (whole_i
     swap false true = refl
     swap false false = refl
 
-pub all_taken : (section at : ℕ) (old new : ℕ → ℕ → ℕ → Bool) (township : Designation) → ¬ Meets (old section) (whole_block PLACE_DIGITS)
-    → new ≡ union old (block_places section (whole_block PLACE_DIGITS)) → IsTaken PLACE_DIGITS township section (All at) old new
+pub all_taken : (section at : ℕ) (old new : ℕ → ℕ → ℕ → Bool) (township : Designation)
+    → ¬ Meets (old section) (whole_block PLACE_DIGITS)
+    → new ≡ union old (block_places section (whole_block PLACE_DIGITS))
+    → IsTaken PLACE_DIGITS township section (All at) old new
 all_taken section at old new township free grown = record {
   lies = tt;
-  apart = λ shared. free (meets_of_share old section (whole_block PLACE_DIGITS) (subst (λ named. SharePlace old named) (all_places section at) shared));
+  apart = λ shared.
+      free
+      (meets_of_share old section (whole_block PLACE_DIGITS)
+      (subst (λ named. SharePlace old named) (all_places section at) shared));
   added = grown ∙ ap (λ named. union old named) (sym (all_places section at));
 }
 
-pub all_refused : (section at : ℕ) (old : ℕ → ℕ → ℕ → Bool) (township : Designation) → Meets (old section) (whole_block PLACE_DIGITS)
+pub all_refused : (section at : ℕ) (old : ℕ → ℕ → ℕ → Bool) (township : Designation)
+    → Meets (old section) (whole_block PLACE_DIGITS)
     → IsFirstFlaw PLACE_DIGITS township section (All at) old (fault.Overlap at)
 all_refused section at old township meets = record {
   flaw = overlap;
-  has = subst (λ named. SharePlace old named) (sym (all_places section at)) (share_of_meets old section (whole_block PLACE_DIGITS) meets);
+  has =
+      subst (λ named. SharePlace old named) (sym (all_places section at))
+      (share_of_meets old section (whole_block PLACE_DIGITS) meets);
   first = only;
   fault_is = refl;
 }

@@ -1,5 +1,7 @@
 -- Ranges of sections and of lots: the places that they name, added block by block.
-use Rattle.std.proofs.Common.{◌≡◌, ◌==◌, ℕ, ◌-◌, ◌<◌, ◌≤◌, ◌&&◌, ◌||◌, ◌⊎◌, Bool, true, false, Option, Some, None, refl, sym, ap, ◌∙◌, inl, inr, arith, nat_le, nat_lt, IsSome, if◌then◌else◌}
+use Rattle.std.proofs.Common.{◌≡◌, ◌==◌, ℕ, ◌-◌, ◌<◌, ◌≤◌, ◌&&◌, ◌||◌, ◌⊎◌, Bool, true, false, Option, Some}
+use Rattle.std.proofs.Common.{None, refl, sym, ap, ◌∙◌, inl, inr, arith, nat_le, nat_lt, IsSome}
+use Rattle.std.proofs.Common.{if◌then◌else◌}
 use Rattle.std.proofs.Math.Path.{fun_ext}
 use Rattle.std.proofs.lemmas.Bool.{cases_Bool, and_parts, eqb-true}
 use Rattle.std.proofs.lemmas.Bool.Decides.{nat_tests}
@@ -39,10 +41,13 @@ has_lot s n range least most =
     some false = refl
 
 pub has_no_lot : (s n : ℕ) → IsSection s → (n < 1) ⊎ (number_of_lots s < n) → ¬ HasLot s n
-has_no_lot s n range (inl below) has = let inside = lot_range s n range has in absurd (omega (arith, inside.0))
-has_no_lot s n range (inr above) has = let inside = lot_range s n range has in absurd (omega (arith, inside.1))
+has_no_lot s n range (inl below) has =
+    let inside = lot_range s n range has in absurd (omega (arith, inside.0))
+has_no_lot s n range (inr above) has =
+    let inside = lot_range s n range has in absurd (omega (arith, inside.1))
 
-pub has_lot_between : (s first last n : ℕ) → IsSection s → HasLot s first → HasLot s last → first ≤ n → n ≤ last → HasLot s n
+pub has_lot_between : (s first last n : ℕ) → IsSection s → HasLot s first → HasLot s last → first ≤ n
+    → n ≤ last → HasLot s n
 has_lot_between s first last n range has-first has-last least most =
     let low = lot_range s first range has-first in
     let high = lot_range s last range has-last in
@@ -64,22 +69,35 @@ or_either false b h = inr h
 pub added_none : (places old : ℕ → ℕ → ℕ → Bool) → places ≡ no_places → AreAdded places old old
 added_none places old none = record {
   apart = λ shared. cc (sym shared.in_second ∙ ap (λ p. p shared.section shared.column shared.row) none);
-  added = fun_ext (λ s. fun_ext (λ c. fun_ext (λ r. or_false (old s c r) ∙ ap (λ p. old s c r || p s c r) (sym none))));
+  added = fun_ext (λ s. fun_ext (λ c. fun_ext (λ r.
+      or_false (old s c r) ∙ ap (λ p. old s c r || p s c r) (sym none))));
 }
 
-pub added_next : (places next old mid new : ℕ → ℕ → ℕ → Bool) (section : ℕ) (block : Rectangle) → AreAdded places old mid → ¬ Meets (mid section) block
-    → new ≡ union mid (block_places section block) → next ≡ union places (block_places section block) → AreAdded next old new
+pub added_next : (places next old mid new : ℕ → ℕ → ℕ → Bool) (section : ℕ) (block : Rectangle)
+    → AreAdded places old mid → ¬ Meets (mid section) block
+    → new ≡ union mid (block_places section block) → next ≡ union places (block_places section block)
+    → AreAdded next old new
 added_next places next old mid new section block so_far free is grown = record {
-  apart = λ shared. elim (or_either (places shared.section shared.column shared.row) _ (sym (ap (λ p. p shared.section shared.column shared.row) grown) ∙ shared.in_second)) [
-    | inl before ↦ so_far.apart (record { section = shared.section; column = shared.column; row = shared.row; in_first = shared.in_first; in_second = before })
-    | inr now ↦ free (meets_of_share mid section block (record {
-      section = shared.section;
-      column = shared.column;
-      row = shared.row;
-      in_first = ap (λ p. p shared.section shared.column shared.row) so_far.added ∙ rw shared.in_first refl;
-      in_second = now;
-    }))
-  ];
+  apart = λ shared.
+      elim
+      (or_either (places shared.section shared.column shared.row) _
+      (sym (ap (λ p. p shared.section shared.column shared.row) grown) ∙ shared.in_second)) [
+        | inl before ↦ so_far.apart (record {
+          section = shared.section;
+          column = shared.column;
+          row = shared.row;
+          in_first = shared.in_first;
+          in_second = before;
+        })
+        | inr now ↦ free (meets_of_share mid section block (record {
+          section = shared.section;
+          column = shared.column;
+          row = shared.row;
+          in_first =
+              ap (λ p. p shared.section shared.column shared.row) so_far.added ∙ rw shared.in_first refl;
+          in_second = now;
+        }))
+      ];
   added = is ∙ fun_ext (λ s. fun_ext (λ c. fun_ext (λ r.
       ap (λ p. p s c r || block_places section block s c r) so_far.added
       ∙ or_assoc (old s c r) (places s c r) (block_places section block s c r)
@@ -87,17 +105,23 @@ added_next places next old mid new section block so_far free is grown = record {
 }
 
 -- a block that is met, and whose places the added ones leave out, was met before them
-pub added_stuck : (places all old mid : ℕ → ℕ → ℕ → Bool) (section : ℕ) (block : Rectangle) → AreAdded places old mid → Meets (mid section) block
-    → ((s c r : ℕ) → block_places section block s c r ≡ true → (places s c r ≡ false) × (all s c r ≡ true)) → SharePlace old all
+pub added_stuck : (places all old mid : ℕ → ℕ → ℕ → Bool) (section : ℕ) (block : Rectangle)
+    → AreAdded places old mid → Meets (mid section) block
+    → ((s c r : ℕ) → block_places section block s c r ≡ true → (places s c r ≡ false) × (all s c r ≡ true))
+    → SharePlace old all
 added_stuck places all old mid section block so_far meets new =
     let shared : SharePlace mid (block_places section block) = share_of_meets mid section block meets in
     let there = new shared.section shared.column shared.row shared.in_second in
-    let held : (old shared.section shared.column shared.row || places shared.section shared.column shared.row) ≡ true = sym (ap (λ p. p shared.section shared.column shared.row) so_far.added) ∙ shared.in_first in
+    let held : (old shared.section shared.column shared.row || places shared.section shared.column shared.row)
+    ≡ true = sym (ap (λ p. p shared.section shared.column shared.row) so_far.added) ∙ shared.in_first in
     record {
       section = shared.section;
       column = shared.column;
       row = shared.row;
-      in_first = elim (or_either (old shared.section shared.column shared.row) _ held) [ inl before ↦ before | inr now ↦ cc (now, there.0) ];
+      in_first = elim (or_either (old shared.section shared.column shared.row) _ held) [
+        | inl before ↦ before
+        | inr now ↦ cc (now, there.0)
+      ];
       in_second = there.1;
     }
 
@@ -110,9 +134,13 @@ no_sections g first last none = fun_ext (λ s. fun_ext (λ c. fun_ext (λ r.
     and_false true = refl
     and_false false = refl
 
-pub next_section : (first n : ℕ) → 1 ≤ n → first ≤ n → sections_from PLACE_DIGITS first n ≡ union (sections_from PLACE_DIGITS first (n - 1)) (block_places n (whole_block PLACE_DIGITS))
+pub next_section : (first n : ℕ) → 1 ≤ n → first ≤ n
+    → sections_from PLACE_DIGITS first n
+    ≡ union (sections_from PLACE_DIGITS first (n - 1)) (block_places n (whole_block PLACE_DIGITS))
 next_section first n least some = fun_ext (λ s. fun_ext (λ c. fun_ext (λ r.
-    rw (whole_is_place c r) (by_place (is_place PLACE_DIGITS c r) (nat_le first s && nat_le s n) (nat_le first s && nat_le s (n - 1)) (n == s) (grind (arith, nat_tests))))))
+    rw (whole_is_place c r)
+    (by_place (is_place PLACE_DIGITS c r) (nat_le first s && nat_le s n)
+    (nat_le first s && nat_le s (n - 1)) (n == s) (grind (arith, nat_tests))))))
   where
     by_place : (p a b c : Bool) → a ≡ (b || c) → (p && a) ≡ ((p && b) || (c && p))
     by_place true a b true h = h
@@ -121,8 +149,10 @@ next_section first n least some = fun_ext (λ s. fun_ext (λ c. fun_ext (λ r.
     by_place false a b false h = refl
 
 -- a whole section of the range is another than those before it
-pub in_next_section : (first n last : ℕ) → 1 ≤ n → first ≤ n → n ≤ last → (s c r : ℕ) → block_places n (whole_block PLACE_DIGITS) s c r ≡ true
-    → (sections_from PLACE_DIGITS first (n - 1) s c r ≡ false) × (sections_from PLACE_DIGITS first last s c r ≡ true)
+pub in_next_section : (first n last : ℕ) → 1 ≤ n → first ≤ n → n ≤ last → (s c r : ℕ)
+    → block_places n (whole_block PLACE_DIGITS) s c r ≡ true
+    → (sections_from PLACE_DIGITS first (n - 1) s c r ≡ false)
+    × (sections_from PLACE_DIGITS first last s c r ≡ true)
 in_next_section first n last least some most s c r is =
     let parts = and_parts (n == s) (in_rectangle (whole_block PLACE_DIGITS) c r) is in
     let place : is_place PLACE_DIGITS c r ≡ true = sym (whole_is_place c r) ∙ parts.1 in
@@ -146,11 +176,14 @@ no_lots g s first last none = fun_ext (λ o. fun_ext (λ c. fun_ext (λ r.
     off false b = refl
 
 -- a lot's block, where the lot of a place is known
-in_block_or_not : (s n c r : ℕ) (block : Rectangle) → IsSection s → n ≤ number_of_lots s → block_of (position_of_lot s n) ≡ Some block
+in_block_or_not : (s n c r : ℕ) (block : Rectangle) → IsSection s → n ≤ number_of_lots s
+    → block_of (position_of_lot s n) ≡ Some block
     → (lot : Option ℕ) → lot_of_place PLACE_DIGITS s c r ≡ lot → in_rectangle block c r ≡ is_lot_from n n lot
 in_block_or_not s n c r block range most is lot at = go lot at (cases_Bool (in_rectangle block c r))
   where
-    go : (lot : Option ℕ) → lot_of_place PLACE_DIGITS s c r ≡ lot → (in_rectangle block c r ≡ true) ⊎ (in_rectangle block c r ≡ false) → in_rectangle block c r ≡ is_lot_from n n lot
+    go : (lot : Option ℕ) → lot_of_place PLACE_DIGITS s c r ≡ lot
+        → (in_rectangle block c r ≡ true) ⊎ (in_rectangle block c r ≡ false)
+        → in_rectangle block c r ≡ is_lot_from n n lot
     go None at (inl inside) = cc (sym at ∙ (in_lot_block s n block range most is c r).0 inside)
     go None at (inr outside) = outside
     go (Some k) at (inl inside) =
@@ -164,9 +197,11 @@ in_block_or_not s n c r block range most is lot at = go lot at (cases_Bool (in_r
       | inr not ↦ outside ∙ sym not
     ]
 
-pub next_lot : (s first n : ℕ) (block : Rectangle) → IsSection s → 1 ≤ n → first ≤ n → n ≤ number_of_lots s → block_of (position_of_lot s n) ≡ Some block
+pub next_lot : (s first n : ℕ) (block : Rectangle) → IsSection s → 1 ≤ n → first ≤ n → n ≤ number_of_lots s
+    → block_of (position_of_lot s n) ≡ Some block
     → lots_from PLACE_DIGITS s first n ≡ union (lots_from PLACE_DIGITS s first (n - 1)) (block_places s block)
-next_lot s first n block range least some most is = fun_ext (λ o. fun_ext (λ c. fun_ext (λ r. at_place o c r (lot_of_place PLACE_DIGITS s c r) refl)))
+next_lot s first n block range least some most is =
+    fun_ext (λ o. fun_ext (λ c. fun_ext (λ r. at_place o c r (lot_of_place PLACE_DIGITS s c r) refl)))
   where
     joined : (p b x y z : Bool) → p ≡ true → x ≡ (y || z) → (p && (b && x)) ≡ ((p && (b && y)) || (b && z))
     joined true true x y z h e = e
@@ -180,19 +215,27 @@ next_lot s first n block range least some most is = fun_ext (λ o. fun_ext (λ c
     none false false = refl
 
     at_place : (o c r : ℕ) (lot : Option ℕ) → lot_of_place PLACE_DIGITS s c r ≡ lot
-        → lots_from PLACE_DIGITS s first n o c r ≡ union (lots_from PLACE_DIGITS s first (n - 1)) (block_places s block) o c r
-    at_place o c r None at = rw (at, in_block_or_not s n c r block range most is None at) (none (is_place PLACE_DIGITS c r) (s == o))
+        → lots_from PLACE_DIGITS s first n o c r
+        ≡ union (lots_from PLACE_DIGITS s first (n - 1)) (block_places s block) o c r
+    at_place o c r None at =
+        rw (at, in_block_or_not s n c r block range most is None at)
+        (none (is_place PLACE_DIGITS c r) (s == o))
     at_place o c r (Some k) at =
         rw (at, in_block_or_not s n c r block range most is (Some k) at)
-        (joined (is_place PLACE_DIGITS c r) (s == o) (nat_le first k && nat_le k n) (nat_le first k && nat_le k (n - 1)) (nat_le n k && nat_le k n)
+        (joined (is_place PLACE_DIGITS c r) (s == o) (nat_le first k && nat_le k n)
+        (nat_le first k && nat_le k (n - 1)) (nat_le n k && nat_le k n)
         (lot_is_place s k c r range at) (grind (arith, nat_tests)))
 
 -- a lot of the range is another than those before it
-pub in_next_lot : (s first n last : ℕ) (block : Rectangle) → IsSection s → 1 ≤ n → first ≤ n → n ≤ last → n ≤ number_of_lots s → block_of (position_of_lot s n) ≡ Some block
-    → (o c r : ℕ) → block_places s block o c r ≡ true → (lots_from PLACE_DIGITS s first (n - 1) o c r ≡ false) × (lots_from PLACE_DIGITS s first last o c r ≡ true)
+pub in_next_lot : (s first n last : ℕ) (block : Rectangle) → IsSection s → 1 ≤ n → first ≤ n → n ≤ last
+    → n ≤ number_of_lots s → block_of (position_of_lot s n) ≡ Some block
+    → (o c r : ℕ) → block_places s block o c r ≡ true
+    → (lots_from PLACE_DIGITS s first (n - 1) o c r ≡ false)
+    × (lots_from PLACE_DIGITS s first last o c r ≡ true)
 in_next_lot s first n last block range least some most held is o c r there =
     let parts = and_parts (s == o) (in_rectangle block c r) there in
-    let lot : lot_of_place PLACE_DIGITS s c r ≡ Some n = (in_lot_block s n block range held is c r).0 parts.1 in
+    let lot : lot_of_place PLACE_DIGITS s c r ≡ Some n =
+    (in_lot_block s n block range held is c r).0 parts.1 in
     let place = lot_is_place s n c r range lot in
     let before : (nat_le first n && nat_le n (n - 1)) ≡ false = grind (arith, nat_tests) in
     let within : (nat_le first n && nat_le n last) ≡ true = grind (arith, nat_tests) in

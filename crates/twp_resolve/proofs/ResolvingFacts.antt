@@ -1,5 +1,7 @@
 -- The items that were taken one after another, what is left of them, and the land so far.
-use Rattle.std.proofs.Common.{◌≡◌, ℕ, suc, ◌+◌, ◌<◌, ◌≤◌, ◌||◌, ◌⊎◌, Bool, List, [], ◌∷◌, Option, Some, None, length, take, drop, slice_get, refl, sym, ap, subst, ◌∙◌, inl, inr, arith, IsSome}
+use Rattle.std.proofs.Common.{◌≡◌, ℕ, suc, ◌+◌, ◌<◌, ◌≤◌, ◌||◌, ◌⊎◌, Bool, List, [], ◌∷◌, Option, Some, None}
+use Rattle.std.proofs.Common.{length, take, drop, slice_get, refl, sym, ap, subst, ◌∙◌, inl, inr, arith}
+use Rattle.std.proofs.Common.{IsSome}
 use Rattle.std.proofs.Math.Path.{fun_ext}
 use Rattle.std.proofs.Math.ListN.{get_or}
 use Rattle.std.proofs.lemmas.Bool.{cases_lt}
@@ -14,7 +16,8 @@ use Rattle.twp_grammar.specs.declared.item.Item.{Item}
 use Rattle.twp_grammar.specs.declared.item.Item.TheVariants as item
 use Rattle.twp_resolve.specs.declared.place_fault.PlaceFault.{PlaceFault}
 use Rattle.twp_grammar.specs.Items.{BeginWithSections}
-use Rattle.twp_grammar.specs.ItemPlaces.{ItemOfSection, item_places, section_behind, with_sections, parts_of, land_of}
+use Rattle.twp_grammar.specs.ItemPlaces.{ItemOfSection, item_places, section_behind, with_sections, parts_of}
+use Rattle.twp_grammar.specs.ItemPlaces.{land_of}
 use Rattle.twp_grammar.specs.OnPlat.{LiesOnPlat, IsLandOfItems}
 use Rattle.twp_resolve.specs.PlaceFaults.{Flaw, HasFlaw, HasFlawAt, IsFrom, IsFirstPlaceFault}
 use Rattle.twp_grammar.specs.ItemPlaces.{item_of}
@@ -22,13 +25,17 @@ use Rattle.twp_resolve.specs.ResolvingSteps.{IsTaken, IsFirstFlaw, IsBeforeParts
 use Rattle.twp_resolve.proofs.PlaceAnswers.{no_flaw, pairs_of_apart}
 
 -- the items before an index lie on the plat, no place is named by two of them, and this is their land
-pub record AreTaken (g : ℕ) (township : Designation) (items : List Item) (index section : ℕ) (places : ℕ → ℕ → ℕ → Bool) : Type 0 where
+pub record AreTaken (g : ℕ) (township : Designation) (items : List Item) (index section : ℕ)
+    (places : ℕ → ℕ → ℕ → Bool) : Type 0 where
   pub left : drop index (parts_of items) ≡ with_sections section (drop index items)
-  pub each : (i : ℕ) (d : ItemOfSection) → i < index → i < length (parts_of items) → LiesOnPlat g township (get_or (parts_of items) i d).section (get_or (parts_of items) i d).item
-  pub apart : (i : ℕ) (d : ItemOfSection) → i < index → i < length (parts_of items) → ¬ SharePlace (land_of g (take i (parts_of items))) (item_places g (get_or (parts_of items) i d))
+  pub each : (i : ℕ) (d : ItemOfSection) → i < index → i < length (parts_of items)
+      → LiesOnPlat g township (get_or (parts_of items) i d).section (get_or (parts_of items) i d).item
+  pub apart : (i : ℕ) (d : ItemOfSection) → i < index → i < length (parts_of items)
+      → ¬ SharePlace (land_of g (take i (parts_of items))) (item_places g (get_or (parts_of items) i d))
   pub land : places ≡ land_of g (take index (parts_of items))
 
-pub taken_none : (g : ℕ) (township : Designation) (items : List Item) (places : ℕ → ℕ → ℕ → Bool) → places ≡ no_places → AreTaken g township items 0 0 places
+pub taken_none : (g : ℕ) (township : Designation) (items : List Item) (places : ℕ → ℕ → ℕ → Bool)
+    → places ≡ no_places → AreTaken g township items 0 0 places
 taken_none g township items places none = record {
   left = refl;
   each = λ i d before within. absurd (omega arith);
@@ -45,12 +52,14 @@ parts_count section (it ∷ items) = ap suc (parts_count (section_behind section
 record IsNext (items : List Item) (index section : ℕ) (it : Item) : Type 0 where
   within : index < length (parts_of items)
   here : (d : ItemOfSection) → get_or (parts_of items) index d ≡ item_of section it
-  behind : drop (index + 1) (parts_of items) ≡ with_sections (section_behind section it) (drop (index + 1) items)
+  behind : drop (index + 1) (parts_of items)
+      ≡ with_sections (section_behind section it) (drop (index + 1) items)
 
 first_of : {X : Type 0} (x y : X) (xs ys : List X) → (x ∷ xs) ≡ (y ∷ ys) → (x ≡ y) × (xs ≡ ys)
 first_of x y xs ys e = (cc e, cc e)
 
-next_is : (items : List Item) (index section : ℕ) (it : Item) → index < length items → get_or items index it ≡ it
+next_is : (items : List Item) (index section : ℕ) (it : Item) → index < length items
+    → get_or items index it ≡ it
     → drop index (parts_of items) ≡ with_sections section (drop index items) → IsNext items index section it
 next_is items index section it inside at left = record {
   within = within;
@@ -61,15 +70,23 @@ next_is items index section it inside at left = record {
     within : index < length (parts_of items)
     within = let count = parts_count 0 items in omega arith
 
-    both : (d : ItemOfSection) → (get_or (parts_of items) index d ≡ item_of section it) × (drop (index + 1) (parts_of items) ≡ with_sections (section_behind section it) (drop (index + 1) items))
+    both : (d : ItemOfSection)
+        → (get_or (parts_of items) index d ≡ item_of section it)
+        × (drop (index + 1) (parts_of items)
+        ≡ with_sections (section_behind section it) (drop (index + 1) items))
     both d =
-        let there : drop index items ≡ it ∷ drop (index + 1) items = drop_more items index it inside ∙ ap (λ x. x ∷ drop (index + 1) items) at in
-        first_of (get_or (parts_of items) index d) (item_of section it) (drop (index + 1) (parts_of items)) (with_sections (section_behind section it) (drop (index + 1) items))
+        let there : drop index items ≡ it ∷ drop (index + 1) items =
+        drop_more items index it inside ∙ ap (λ x. x ∷ drop (index + 1) items) at in
+        first_of (get_or (parts_of items) index d) (item_of section it) (drop (index + 1) (parts_of items))
+        (with_sections (section_behind section it) (drop (index + 1) items))
         (sym (drop_more (parts_of items) index d within) ∙ left ∙ ap (λ xs. with_sections section xs) there)
 
 -- one item more
-pub taken_next : (g : ℕ) (township : Designation) (items : List Item) (index section : ℕ) (it : Item) (places new : ℕ → ℕ → ℕ → Bool) → index < length items → get_or items index it ≡ it
-    → AreTaken g township items index section places → IsTaken g township section it places new → AreTaken g township items (index + 1) (section_behind section it) new
+pub taken_next : (g : ℕ) (township : Designation) (items : List Item) (index section : ℕ) (it : Item)
+    (places new : ℕ → ℕ → ℕ → Bool)
+    → index < length items → get_or items index it ≡ it
+    → AreTaken g township items index section places → IsTaken g township section it places new
+    → AreTaken g township items (index + 1) (section_behind section it) new
 taken_next g township items index section it places new inside at so_far taken =
     let next : IsNext items index section it = next_is items index section it inside at so_far.left in
     record {
@@ -78,69 +95,101 @@ taken_next g township items index section it places new inside at so_far taken =
         | inl earlier ↦ so_far.each i d earlier within
         | inr here ↦
             let same : index ≡ i = omega arith in
-            subst (λ n. LiesOnPlat g township (get_or (parts_of items) n d).section (get_or (parts_of items) n d).item) same
-            (subst (λ (p : ItemOfSection). LiesOnPlat g township p.section p.item) (sym (next.here d)) taken.lies)
+            subst (λ n.
+            LiesOnPlat g township (get_or (parts_of items) n d).section (get_or (parts_of items) n d).item)
+            same
+            (subst (λ (p : ItemOfSection). LiesOnPlat g township p.section p.item) (sym (next.here d))
+            taken.lies)
       ];
       apart = λ i d before within. elim (cases_lt i index) [
         | inl earlier ↦ so_far.apart i d earlier within
         | inr here ↦
             let same : index ≡ i = omega arith in
-            subst (λ n. ¬ SharePlace (land_of g (take n (parts_of items))) (item_places g (get_or (parts_of items) n d))) same
-            (subst (λ (p : ItemOfSection). ¬ SharePlace (land_of g (take index (parts_of items))) (item_places g p)) (sym (next.here d))
+            subst (λ n.
+            ¬ SharePlace (land_of g (take n (parts_of items))) (item_places g (get_or (parts_of items) n d)))
+            same
+            (subst
+            (λ (p : ItemOfSection). ¬ SharePlace (land_of g (take index (parts_of items))) (item_places g p))
+            (sym (next.here d))
             (subst (λ land. ¬ SharePlace land (item_places g (item_of section it))) so_far.land taken.apart))
       ];
       land = taken.added ∙ fun_ext (λ s. fun_ext (λ c. fun_ext (λ r.
           let d = item_of section it in
           ap (λ land. land s c r || item_places g (item_of section it) s c r) so_far.land
-          ∙ ap (λ (p : ItemOfSection). land_of g (take index (parts_of items)) s c r || item_places g p s c r) (sym (next.here d))
+          ∙ ap (λ (p : ItemOfSection). land_of g (take index (parts_of items)) s c r || item_places g p s c r)
+          (sym (next.here d))
           ∙ sym (list_any_more (λ p. item_places g p s c r) (parts_of items) index d next.within))));
     }
 
 -- the first flaw of the item at an index is the first fault
-pub refused_here : (g : ℕ) (township : Designation) (items : List Item) (index section : ℕ) (it : Item) (places : ℕ → ℕ → ℕ → Bool) (fault : PlaceFault) → index < length items → get_or items index it ≡ it
-    → AreTaken g township items index section places → IsFirstFlaw g township section it places fault → IsFirstPlaceFault g township items fault
+pub refused_here : (g : ℕ) (township : Designation) (items : List Item) (index section : ℕ) (it : Item)
+    (places : ℕ → ℕ → ℕ → Bool) (fault : PlaceFault)
+    → index < length items → get_or items index it ≡ it
+    → AreTaken g township items index section places → IsFirstFlaw g township section it places fault
+    → IsFirstPlaceFault g township items fault
 refused_here g township items index section it places fault inside at so_far flawed =
     let next : IsNext items index section it = next_is items index section it inside at so_far.left in
     let part : ItemOfSection = item_of section it in
-    let there : slice_get (parts_of items) index ≡ Some part = slice_get-get_or (parts_of items) index part next.within ∙ ap (λ p. Some p) (next.here part) in
+    let there : slice_get (parts_of items) index ≡ Some part =
+    slice_get-get_or (parts_of items) index part next.within ∙ ap (λ p. Some p) (next.here part) in
     let has = subst (λ land. HasFlaw g township land section it flawed.flaw) so_far.land flawed.has in
     record {
       index = index;
       flaw = flawed.flaw;
-      is = record { at_index = record { part = part; part_is = there; has = has }; fault_is = flawed.fault_is };
+      is = record {
+        at_index = record { part = part; part_is = there; has = has };
+        fault_is = flawed.fault_is;
+      };
       first = first;
     }
   where
     some_part : (a b : ItemOfSection) → Some a ≡ Some b → a ≡ b
     some_part a b e = cc e
 
-    first : (index' : ℕ) (flaw' : Flaw) → HasFlawAt g township items index' flaw' → IsFrom index flawed.flaw index' flaw'
+    first : (index' : ℕ) (flaw' : Flaw) → HasFlawAt g township items index' flaw'
+        → IsFrom index flawed.flaw index' flaw'
     first index' flaw' other = elim (cases_lt index' index) [
       | inl earlier ↦
           let p = other.part in
           let count = parts_count 0 items in
           let within : index' < length (parts_of items) = omega arith in
-          let same : get_or (parts_of items) index' p ≡ p = some_part (get_or (parts_of items) index' p) p (sym (slice_get-get_or (parts_of items) index' p within) ∙ other.part_is) in
-          let lies = subst (λ (q : ItemOfSection). LiesOnPlat g township q.section q.item) same (so_far.each index' p earlier within) in
-          let apart = subst (λ (q : ItemOfSection). ¬ SharePlace (land_of g (take index' (parts_of items))) (item_places g q)) same (so_far.apart index' p earlier within) in
-          absurd (no_flaw g township (land_of g (take index' (parts_of items))) p.section p.item flaw' lies apart other.has)
+          let same : get_or (parts_of items) index' p ≡ p =
+          some_part (get_or (parts_of items) index' p) p
+          (sym (slice_get-get_or (parts_of items) index' p within) ∙ other.part_is) in
+          let lies =
+          subst (λ (q : ItemOfSection). LiesOnPlat g township q.section q.item) same
+          (so_far.each index' p earlier within) in
+          let apart =
+          subst (λ (q : ItemOfSection).
+          ¬ SharePlace (land_of g (take index' (parts_of items))) (item_places g q)) same
+          (so_far.apart index' p earlier within) in
+          absurd
+          (no_flaw g township (land_of g (take index' (parts_of items))) p.section p.item flaw' lies apart
+          other.has)
       | inr not_earlier ↦ elim (cases_lt index index') [
         | inl later ↦ inl later
         | inr not_later ↦
             let same : index' ≡ index = omega arith in
             let next : IsNext items index section it = next_is items index section it inside at so_far.left in
             let part : ItemOfSection = item_of section it in
-            let there : slice_get (parts_of items) index ≡ Some part = slice_get-get_or (parts_of items) index part next.within ∙ ap (λ p. Some p) (next.here part) in
+            let there : slice_get (parts_of items) index ≡ Some part =
+            slice_get-get_or (parts_of items) index part next.within ∙ ap (λ p. Some p) (next.here part) in
             let p = other.part in
-            let it_is : p ≡ part = some_part p part (sym other.part_is ∙ ap (λ n. slice_get (parts_of items) n) same ∙ there) in
-            let land_is : land_of g (take index' (parts_of items)) ≡ places = ap (λ n. land_of g (take n (parts_of items))) same ∙ sym so_far.land in
-            let has : HasFlaw g township places part.section part.item flaw' = subst (λ (q : ItemOfSection). HasFlaw g township places q.section q.item flaw') it_is (subst (λ land. HasFlaw g township land p.section p.item flaw') land_is other.has) in
+            let it_is : p ≡ part =
+            some_part p part (sym other.part_is ∙ ap (λ n. slice_get (parts_of items) n) same ∙ there) in
+            let land_is : land_of g (take index' (parts_of items)) ≡ places =
+            ap (λ n. land_of g (take n (parts_of items))) same ∙ sym so_far.land in
+            let has : HasFlaw g township places part.section part.item flaw' =
+            subst (λ (q : ItemOfSection). HasFlaw g township places q.section q.item flaw') it_is
+            (subst (λ land. HasFlaw g township land p.section p.item flaw') land_is other.has) in
             inr (sym same, flawed.first flaw' has)
       ]
     ]
 
 -- all items are taken
-pub taken_all : (g : ℕ) (township : Designation) (items : List Item) (index section : ℕ) (places : ℕ → ℕ → ℕ → Bool) → length items ≤ index
+pub taken_all : (g : ℕ) (township : Designation) (items : List Item) (index section : ℕ)
+    (places : ℕ → ℕ → ℕ → Bool)
+    → length items ≤ index
     → AreTaken g township items index section places → IsLandOfItems g township items places
 taken_all g township items index section places end taken =
     let count = parts_count 0 items in
@@ -160,11 +209,14 @@ pub not_known : (left : List Item) → BeginWithSections left → SectionKnown N
 unfolding SectionKnown
 not_known left begin = inr begin
 
-begins : (items : List Item) (index : ℕ) (it : Item) → index < length items → get_or items index it ≡ it → BeginWithSections (drop index items) → BeginWithSections (it ∷ drop (index + 1) items)
-begins items index it inside at begin = subst BeginWithSections (drop_more items index it inside ∙ ap (λ x. x ∷ drop (index + 1) items) at) begin
+begins : (items : List Item) (index : ℕ) (it : Item) → index < length items → get_or items index it ≡ it
+    → BeginWithSections (drop index items) → BeginWithSections (it ∷ drop (index + 1) items)
+begins items index it inside at begin =
+    subst BeginWithSections (drop_more items index it inside ∙ ap (λ x. x ∷ drop (index + 1) items) at) begin
 
 -- a part stands behind sections
-pub may_be_taken : (section : Option ℕ) (items : List Item) (index : ℕ) (it : Item) → index < length items → get_or items index it ≡ it
+pub may_be_taken : (section : Option ℕ) (items : List Item) (index : ℕ) (it : Item) → index < length items
+    → get_or items index it ≡ it
     → SectionKnown section (drop index items) → IsSome section ⊎ IsBeforeParts it
 unfolding SectionKnown
 may_be_taken section items index it inside at (inl known) = inl (some section known)
@@ -172,7 +224,8 @@ may_be_taken section items index it inside at (inl known) = inl (some section kn
     some : (o : Option ℕ) → 1 ≤ number_of_section o → IsSome o
     some None least = absurd (omega arith)
     some (Some n) least = refl
-may_be_taken section items index it inside at (inr begin) = inr (go it (drop (index + 1) items) (begins items index it inside at begin))
+may_be_taken section items index it inside at (inr begin) =
+    inr (go it (drop (index + 1) items) (begins items index it inside at begin))
   where
     go : (it : Item) (more : List Item) → BeginWithSections (it ∷ more) → IsBeforeParts it
     go (item.Heading number north_south range east_west at) more begin = tt
@@ -182,8 +235,11 @@ may_be_taken section items index it inside at (inr begin) = inr (go it (drop (in
     go (item.All at) more begin = begin
 
 -- and so does the next one
-pub known_next : (g : ℕ) (township : Designation) (section section' : Option ℕ) (items : List Item) (index : ℕ) (it : Item) → index < length items → get_or items index it ≡ it
-    → SectionKnown section (drop index items) → LiesOnPlat g township (number_of_section section) it → number_of_section section' ≡ section_behind (number_of_section section) it
+pub known_next : (g : ℕ) (township : Designation) (section section' : Option ℕ) (items : List Item)
+    (index : ℕ) (it : Item)
+    → index < length items → get_or items index it ≡ it
+    → SectionKnown section (drop index items) → LiesOnPlat g township (number_of_section section) it
+    → number_of_section section' ≡ section_behind (number_of_section section) it
     → SectionKnown section' (drop (index + 1) items)
 unfolding SectionKnown
 known_next g township section section' items index it inside at known lies is = elim known [
@@ -191,14 +247,19 @@ known_next g township section section' items index it inside at known lies is = 
   | inr begin ↦ rest it (drop (index + 1) items) lies (begins items index it inside at begin) is
 ]
   where
-    go : (it : Item) → LiesOnPlat g township (number_of_section section) it → 1 ≤ number_of_section section → number_of_section section' ≡ section_behind (number_of_section section) it → 1 ≤ number_of_section section'
+    go : (it : Item) → LiesOnPlat g township (number_of_section section) it → 1 ≤ number_of_section section
+        → number_of_section section' ≡ section_behind (number_of_section section) it
+        → 1 ≤ number_of_section section'
     go (item.Heading number north_south range east_west at) lies some is = omega arith
     go (item.Sections first last whole) lies some is = omega (arith, lies.0.0)
     go (item.Lots first last) lies some is = omega arith
     go (item.Chain steps at) lies some is = omega arith
     go (item.All at) lies some is = omega arith
 
-    behind : (number : ℕ) (north_south : NorthSouth) (range : ℕ) (east_west : EastWest) (at : ℕ) (more : List Item) → BeginWithSections (item.Heading number north_south range east_west at ∷ more) → BeginWithSections more
+    behind : (number : ℕ) (north_south : NorthSouth) (range : ℕ) (east_west : EastWest) (at : ℕ)
+        (more : List Item)
+        → BeginWithSections (item.Heading number north_south range east_west at ∷ more)
+        → BeginWithSections more
     behind number north_south range east_west at (item.Sections first last whole ∷ more) begin = tt
     behind number north_south range east_west at [] begin = begin
     behind number north_south range east_west at (item.Heading n ns r ew a ∷ more) begin = absurd begin
@@ -206,9 +267,12 @@ known_next g township section section' items index it inside at known lies is = 
     behind number north_south range east_west at (item.Chain steps a ∷ more) begin = absurd begin
     behind number north_south range east_west at (item.All a ∷ more) begin = absurd begin
 
-    rest : (it : Item) (more : List Item) → LiesOnPlat g township (number_of_section section) it → BeginWithSections (it ∷ more) → number_of_section section' ≡ section_behind (number_of_section section) it
+    rest : (it : Item) (more : List Item) → LiesOnPlat g township (number_of_section section) it
+        → BeginWithSections (it ∷ more)
+        → number_of_section section' ≡ section_behind (number_of_section section) it
         → (1 ≤ number_of_section section') ⊎ BeginWithSections more
-    rest (item.Heading number north_south range east_west at) more lies begin is = inr (behind number north_south range east_west at more begin)
+    rest (item.Heading number north_south range east_west at) more lies begin is =
+        inr (behind number north_south range east_west at more begin)
     rest (item.Sections first last whole) more lies begin is = inl (omega (arith, lies.0.0))
     rest (item.Lots first last) more lies begin is = absurd begin
     rest (item.Chain steps at) more lies begin is = absurd begin

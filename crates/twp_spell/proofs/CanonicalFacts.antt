@@ -1,5 +1,7 @@
 -- Each land has one canonical text.
-use Rattle.std.proofs.Common.{◌≡◌, ◌==◌, ℕ, zero, suc, ◌<◌, ◌⊎◌, ◌&&◌, Bool, true, false, List, [], ◌∷◌, ◌++◌, Option, Some, None, map, refl, sym, ap, subst, ◌∙◌, inl, inr, arith, not, cond, option_map, find, codes, decimal}
+use Rattle.std.proofs.Common.{◌≡◌, ◌==◌, ℕ, zero, suc, ◌<◌, ◌⊎◌, ◌&&◌, Bool, true, false, List, [], ◌∷◌, ◌++◌}
+use Rattle.std.proofs.Common.{Option, Some, None, map, refl, sym, ap, subst, ◌∙◌, inl, inr, arith, not, cond}
+use Rattle.std.proofs.Common.{option_map, find, codes, decimal}
 use Rattle.std.specs.List.{AllZip}
 use Rattle.std.proofs.lemmas.Bool.{cases_lt, and_parts, eqb-true, eq-eqb, false≢true}
 use Rattle.twp_grid.specs.Winding.{IsSection}
@@ -9,7 +11,9 @@ use Rattle.twp_grid.specs.Townships.{Designation}
 use Rattle.twp_land.specs.Lands.{no_places}
 use Rattle.twp_land.specs.WholeLots.{lot_of_place}
 use Rattle.twp_spell.specs.Listing.{AreListed}
-use Rattle.twp_spell.specs.CanonicalText.{part_text, with_commas, lots_entry, off_lots, HoldsSome, HoldsEach, IsLotHeld, IsSectionList, IsSectionText, land_lines, IsSectionOfLand, IsCanonicalText}
+use Rattle.twp_spell.specs.CanonicalText.{part_text, with_commas, lots_entry, off_lots, HoldsSome, HoldsEach}
+use Rattle.twp_spell.specs.CanonicalText.{IsLotHeld, IsSectionList, IsSectionText, land_lines}
+use Rattle.twp_spell.specs.CanonicalText.{IsSectionOfLand, IsCanonicalText}
 use Rattle.twp_spell.specs.CanonicalText.IsSectionList.{all, by_parts}
 use Rattle.twp_grammar.proofs.Membership.{Among}
 use Rattle.twp_spell.proofs.Listings.{AreCompared, one_listing, has_listing}
@@ -40,13 +44,16 @@ not_false false is = refl
 
 holds_each : (g : ℕ) (held : ℕ → ℕ → Bool) → HoldsEach g held ⊎ ¬ HoldsEach g held
 holds_each g held = elim (search_places g (λ column row. not (held column row))) [
-  | inl found ↦ inr (λ each. false≢true (sym (not_false (held found.column found.row) found.here) ∙ each found.column found.row found.place))
+  | inl found ↦ inr (λ each.
+      false≢true
+      (sym (not_false (held found.column found.row) found.here) ∙ each found.column found.row found.place))
   | inr none ↦ inl (λ column row place. not_true (held column row) (none column row place))
 ]
 
 holds_some : (g : ℕ) (held : ℕ → ℕ → Bool) → HoldsSome g held ⊎ ¬ HoldsSome g held
 holds_some g held = elim (search_places g held) [
-  | inl found ↦ inl (record { column = found.column; row = found.row; place = found.place; is_held = found.here })
+  | inl found ↦
+      inl (record { column = found.column; row = found.row; place = found.place; is_held = found.here })
   | inr none ↦ inr (λ some. false≢true (sym (none some.column some.row some.place) ∙ some.is_held))
 ]
 
@@ -65,38 +72,57 @@ unfolding is_number
 number_of_some n None is = cc is
 number_of_some n (Some m) is = eq-eqb m n (cc is)
 
-is_lot_held : (g section : ℕ) (held : ℕ → ℕ → Bool) (lot : ℕ) → IsLotHeld g section held lot ⊎ ¬ IsLotHeld g section held lot
-is_lot_held g section held lot = elim (search_places g (λ column row. is_number lot (lot_of_place g section column row) && held column row)) [
-  | inl found ↦
-      let both = and_parts (is_number lot (lot_of_place g section found.column found.row)) (held found.column found.row) found.here in
-      inl (record { column = found.column; row = found.row; place = found.place; of_lot = is_some_number lot (lot_of_place g section found.column found.row) both.0; is_held = both.1 })
-  | inr none ↦ inr (λ is.
-      let there : is_number lot (lot_of_place g section is.column is.row) ≡ true = number_of_some lot (lot_of_place g section is.column is.row) is.of_lot in
-      let both : (is_number lot (lot_of_place g section is.column is.row) && held is.column is.row) ≡ true = rw (there, is.is_held) refl in
-      false≢true (sym (none is.column is.row is.place) ∙ both))
-]
+is_lot_held : (g section : ℕ) (held : ℕ → ℕ → Bool) (lot : ℕ)
+    → IsLotHeld g section held lot ⊎ ¬ IsLotHeld g section held lot
+is_lot_held g section held lot = elim (search_places g (λ column row.
+    is_number lot (lot_of_place g section column row) && held column row)) [
+      | inl found ↦
+          let both =
+          and_parts (is_number lot (lot_of_place g section found.column found.row))
+          (held found.column found.row) found.here in
+          inl (record {
+            column = found.column;
+            row = found.row;
+            place = found.place;
+            of_lot = is_some_number lot (lot_of_place g section found.column found.row) both.0;
+            is_held = both.1;
+          })
+      | inr none ↦ inr (λ is.
+          let there : is_number lot (lot_of_place g section is.column is.row) ≡ true =
+          number_of_some lot (lot_of_place g section is.column is.row) is.of_lot in
+          let both : (is_number lot (lot_of_place g section is.column is.row) && held is.column is.row)
+          ≡ true = rw (there, is.is_held) refl in
+          false≢true (sym (none is.column is.row is.place) ∙ both))
+    ]
 
 abbrev numbers : List Lot → List ℕ
 numbers table = map (λ (l : Lot). l.number) table
 
-found_here : (here : Bool) (first : Lot) (found : Option Lot) (lot : ℕ) → option_map (λ (l : Lot). l.number) (cond here (Some first) found) ≡ Some lot
+found_here : (here : Bool) (first : Lot) (found : Option Lot) (lot : ℕ)
+    → option_map (λ (l : Lot). l.number) (cond here (Some first) found) ≡ Some lot
     → (lot ≡ first.number) ⊎ (option_map (λ (l : Lot). l.number) found ≡ Some lot)
 found_here true first found lot is = inl (cc is)
 found_here false first found lot is = inr is
 
-found_number : (test : Lot → Bool) (table : List Lot) (lot : ℕ) → option_map (λ (l : Lot). l.number) (find test table) ≡ Some lot → Among lot (numbers table)
+found_number : (test : Lot → Bool) (table : List Lot) (lot : ℕ)
+    → option_map (λ (l : Lot). l.number) (find test table) ≡ Some lot → Among lot (numbers table)
 found_number test [] lot is = cc is
 found_number test (first ∷ table) lot is = elim (found_here (test first) first (find test table) lot is) [
   | inl here ↦ inl here
   | inr later ↦ inr (found_number test table lot later)
 ]
 
-lot_numbered : (section column row lot : ℕ) → lot_at_position section column row ≡ Some lot → Among lot (numbers lots)
+lot_numbered : (section column row lot : ℕ) → lot_at_position section column row ≡ Some lot
+    → Among lot (numbers lots)
 unfolding lot_at_position
-lot_numbered section column row lot is = found_number (λ (l : Lot). (l.section == section) && (l.column == column) && (l.row == row)) lots lot is
+lot_numbered section column row lot is =
+    found_number (λ (l : Lot). (l.section == section) && (l.column == column) && (l.row == row)) lots lot is
 
-has_lots : (g section : ℕ) (held : ℕ → ℕ → Bool) → (lots_held : List ℕ) × AreListed (IsLotHeld g section held) ◌<◌ lots_held
-has_lots g section held = has_listing (IsLotHeld g section held) ◌<◌ less_through (compared (IsLotHeld g section held)) (is_lot_held g section held) (numbers lots)
+has_lots : (g section : ℕ) (held : ℕ → ℕ → Bool)
+    → (lots_held : List ℕ) × AreListed (IsLotHeld g section held) ◌<◌ lots_held
+has_lots g section held =
+    has_listing (IsLotHeld g section held) ◌<◌ less_through (compared (IsLotHeld g section held))
+    (is_lot_held g section held) (numbers lots)
     (λ lot is. lot_numbered section (position_along g is.column) (position_along g is.row) lot is.of_lot)
 
 -- the sections of a land
@@ -109,7 +135,8 @@ is_section section = elim (cases_lt section 1) [
   ]
 ]
 
-is_of_land : (g : ℕ) (places : ℕ → ℕ → ℕ → Bool) (section : ℕ) → IsSectionOfLand g places section ⊎ ¬ IsSectionOfLand g places section
+is_of_land : (g : ℕ) (places : ℕ → ℕ → ℕ → Bool) (section : ℕ)
+    → IsSectionOfLand g places section ⊎ ¬ IsSectionOfLand g places section
 is_of_land g places section = elim (is_section section) [
   | inr none ↦ inr (λ is. none is.0)
   | inl is ↦ elim (holds_some g (places section)) [
@@ -125,19 +152,28 @@ numbers_below (suc n) = n ∷ numbers_below n
 is_below : (n k : ℕ) → k < n → Among k (numbers_below n)
 unfolding numbers_below
 is_below zero k less = absurd (omega arith)
-is_below (suc n) k less = elim (cases_lt k n) [ inl below ↦ inr (is_below n k below) | inr last ↦ inl (omega arith) ]
+is_below (suc n) k less =
+    elim (cases_lt k n) [ inl below ↦ inr (is_below n k below) | inr last ↦ inl (omega arith) ]
 
-has_sections : (g : ℕ) (places : ℕ → ℕ → ℕ → Bool) → (sections : List ℕ) × AreListed (IsSectionOfLand g places) ◌<◌ sections
-has_sections g places = has_listing (IsSectionOfLand g places) ◌<◌ less_through (compared (IsSectionOfLand g places)) (is_of_land g places) (numbers_below 37)
+has_sections : (g : ℕ) (places : ℕ → ℕ → ℕ → Bool)
+    → (sections : List ℕ) × AreListed (IsSectionOfLand g places) ◌<◌ sections
+has_sections g places =
+    has_listing (IsSectionOfLand g places) ◌<◌ less_through (compared (IsSectionOfLand g places))
+    (is_of_land g places) (numbers_below 37)
     (λ section is. is_below 37 section (omega (arith, is.0.1)))
 
 -- a section's list
-one_section_list : (g section : ℕ) (held : ℕ → ℕ → Bool) (text other : List ℕ) → IsSectionList g section held text → IsSectionList g section held other → text ≡ other
+one_section_list : (g section : ℕ) (held : ℕ → ℕ → Bool) (text other : List ℕ)
+    → IsSectionList g section held text → IsSectionList g section held other → text ≡ other
 one_section_list g section held text other (all each is) (all each' is') = is ∙ sym is'
-one_section_list g section held text other (all each is) (by_parts short lots_held parts lots_are parts_are is') = absurd (short each)
-one_section_list g section held text other (by_parts short lots_held parts lots_are parts_are is) (all each is') = absurd (short each)
-one_section_list g section held text other (by_parts short lots_held parts lots_are parts_are is) (by_parts short' lots_held' parts' lots_are' parts_are' is') =
-    let same_lots = one_listing (IsLotHeld g section held) ◌<◌ less_once lots_held lots_held' lots_are lots_are' in
+one_section_list g section held text other (all each is)
+    (by_parts short lots_held parts lots_are parts_are is') = absurd (short each)
+one_section_list g section held text other (by_parts short lots_held parts lots_are parts_are is)
+    (all each is') = absurd (short each)
+one_section_list g section held text other (by_parts short lots_held parts lots_are parts_are is)
+    (by_parts short' lots_held' parts' lots_are' parts_are' is') =
+    let same_lots =
+    one_listing (IsLotHeld g section held) ◌<◌ less_once lots_held lots_held' lots_are lots_are' in
     let same_parts = one_parts g (off_lots g section held) parts parts' parts_are parts_are' in
     is ∙ ap (λ l. with_commas (lots_entry l ++ map part_text parts)) same_lots
     ∙ ap (λ p. with_commas (lots_entry lots_held' ++ map part_text p)) same_parts ∙ sym is'
@@ -147,31 +183,44 @@ has_section_list g section held = elim (holds_each g held) [
   | inl each ↦ (codes "all", all each refl)
   | inr short ↦
       let found_lots = has_lots g section held in
-      let found_parts = has_parts g (off_lots g section held) in
-      (with_commas (lots_entry found_lots.0 ++ map part_text found_parts.0), by_parts short found_lots.0 found_parts.0 found_lots.1 found_parts.1 refl)
+      let found_parts = has_parts g (off_lots g section held) in (
+        with_commas (lots_entry found_lots.0 ++ map part_text found_parts.0),
+        by_parts short found_lots.0 found_parts.0 found_lots.1 found_parts.1 refl,
+      )
 ]
 
 -- a section's text
-one_section_text : (g : ℕ) (places : ℕ → ℕ → ℕ → Bool) (section : ℕ) (text other : List ℕ) → IsSectionText g places section text → IsSectionText g places section other → text ≡ other
+one_section_text : (g : ℕ) (places : ℕ → ℕ → ℕ → Bool) (section : ℕ) (text other : List ℕ)
+    → IsSectionText g places section text → IsSectionText g places section other → text ≡ other
 one_section_text g places section text other is is' =
-    is.text_is ∙ ap (λ l. codes "sec. " ++ decimal section ++ codes ", " ++ l) (one_section_list g section (places section) is.list is'.list is.list_is is'.list_is) ∙ sym is'.text_is
+    is.text_is
+    ∙ ap (λ l. codes "sec. " ++ decimal section ++ codes ", " ++ l)
+    (one_section_list g section (places section) is.list is'.list is.list_is is'.list_is)
+    ∙ sym is'.text_is
 
-has_section_text : (g : ℕ) (places : ℕ → ℕ → ℕ → Bool) (section : ℕ) → (text : List ℕ) × IsSectionText g places section text
+has_section_text : (g : ℕ) (places : ℕ → ℕ → ℕ → Bool) (section : ℕ)
+    → (text : List ℕ) × IsSectionText g places section text
 has_section_text g places section =
-    let found = has_section_list g section (places section) in
-    (codes "sec. " ++ decimal section ++ codes ", " ++ found.0, record { list = found.0; list_is = found.1; text_is = refl })
+    let found = has_section_list g section (places section) in (
+      codes "sec. " ++ decimal section ++ codes ", " ++ found.0,
+      record { list = found.0; list_is = found.1; text_is = refl },
+    )
 
 -- the lines of sections
-one_lines : (g : ℕ) (places : ℕ → ℕ → ℕ → Bool) (sections : List ℕ) (lines others : List (List ℕ)) → AllZip (IsSectionText g places) sections lines → AllZip (IsSectionText g places) sections others → lines ≡ others
+one_lines : (g : ℕ) (places : ℕ → ℕ → ℕ → Bool) (sections : List ℕ) (lines others : List (List ℕ))
+    → AllZip (IsSectionText g places) sections lines → AllZip (IsSectionText g places) sections others
+    → lines ≡ others
 one_lines g places [] [] [] are are' = refl
 one_lines g places [] [] (other ∷ others) are are' = absurd are'
 one_lines g places [] (line ∷ lines) others are are' = absurd are
 one_lines g places (section ∷ sections) [] others are are' = absurd are
 one_lines g places (section ∷ sections) (line ∷ lines) [] are are' = absurd are'
 one_lines g places (section ∷ sections) (line ∷ lines) (other ∷ others) are are' =
-    ap (λ t. t ∷ lines) (one_section_text g places section line other are.0 are'.0) ∙ ap (λ l. other ∷ l) (one_lines g places sections lines others are.1 are'.1)
+    ap (λ t. t ∷ lines) (one_section_text g places section line other are.0 are'.0)
+    ∙ ap (λ l. other ∷ l) (one_lines g places sections lines others are.1 are'.1)
 
-has_lines : (g : ℕ) (places : ℕ → ℕ → ℕ → Bool) (sections : List ℕ) → (lines : List (List ℕ)) × AllZip (IsSectionText g places) sections lines
+has_lines : (g : ℕ) (places : ℕ → ℕ → ℕ → Bool) (sections : List ℕ)
+    → (lines : List (List ℕ)) × AllZip (IsSectionText g places) sections lines
 has_lines g places [] = ([], tt)
 has_lines g places (section ∷ sections) =
     let first = has_section_text g places section in
@@ -179,27 +228,45 @@ has_lines g places (section ∷ sections) =
     (first.0 ∷ rest.0, (first.1, rest.1))
 
 -- the text of a land
-one_text_only : (g : ℕ) (township : Designation) (places : ℕ → ℕ → ℕ → Bool) (text other : List ℕ) → IsCanonicalText g township places text → IsCanonicalText g township places other → text ≡ other
+one_text_only : (g : ℕ) (township : Designation) (places : ℕ → ℕ → ℕ → Bool) (text other : List ℕ)
+    → IsCanonicalText g township places text → IsCanonicalText g township places other → text ≡ other
 one_text_only g township places text other is is' =
-    let same = one_listing (IsSectionOfLand g places) ◌<◌ less_once is.sections is'.sections is.sections_are is'.sections_are in
-    let lines = one_lines g places is'.sections is.lines is'.lines (subst (λ s. AllZip (IsSectionText g places) s is.lines) same is.lines_are) is'.lines_are in
+    let same =
+    one_listing (IsSectionOfLand g places) ◌<◌ less_once is.sections is'.sections is.sections_are
+    is'.sections_are in
+    let lines =
+    one_lines g places is'.sections is.lines is'.lines
+    (subst (λ s. AllZip (IsSectionText g places) s is.lines) same is.lines_are) is'.lines_are in
     is.text_is ∙ ap (λ l. land_lines township l) lines ∙ sym is'.text_is
 
 pub one_text : (g : ℕ) (township : Designation) (places : ℕ → ℕ → ℕ → Bool)
-    → (text : List ℕ) × IsCanonicalText g township places text × ((other : List ℕ) → IsCanonicalText g township places other → other ≡ text)
+    → (text : List ℕ) × IsCanonicalText g township places text
+    × ((other : List ℕ) → IsCanonicalText g township places other → other ≡ text)
 one_text g township places =
     let sections = has_sections g places in
     let lines = has_lines g places sections.0 in
     let is : IsCanonicalText g township places (land_lines township lines.0) =
-    record { sections = sections.0; lines = lines.0; sections_are = sections.1; lines_are = lines.1; text_is = refl } in
-    (land_lines township lines.0, is, λ other is'. one_text_only g township places other (land_lines township lines.0) is' is)
+    record {
+      sections = sections.0;
+      lines = lines.0;
+      sections_are = sections.1;
+      lines_are = lines.1;
+      text_is = refl;
+    } in (
+      land_lines township lines.0,
+      is,
+      λ other is'. one_text_only g township places other (land_lines township lines.0) is' is,
+    )
 
 pub empty_text : (g : ℕ) (township : Designation) → IsCanonicalText g township no_places []
 empty_text g township = record {
   sections = [];
   lines = [];
   sections_are = record {
-    listed = λ section. ((λ is. absurd (false≢true is.1.is_held)), (λ there. let within = there.1 in absurd (omega arith)));
+    listed = λ section. (
+      (λ is. absurd (false≢true is.1.is_held)),
+      (λ there. let within = there.1 in absurd (omega arith)),
+    );
     ordered = λ i j d less within. absurd (omega arith);
   };
   lines_are = tt;

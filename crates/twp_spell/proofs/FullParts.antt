@@ -1,5 +1,6 @@
 -- Full parts and chosen halves: each part is full or not, and a square has at most one chosen half.
-use Rattle.std.proofs.Common.{◌≡◌, ℕ, zero, suc, ◌+◌, ◌-◌, ◌/◌, ◌^◌, ◌<◌, ◌≤◌, ◌⊎◌, ◌&&◌, Bool, true, false, List, length, refl, sym, ap, subst, ◌∙◌, inl, inr, arith, not}
+use Rattle.std.proofs.Common.{◌≡◌, ℕ, zero, suc, ◌+◌, ◌-◌, ◌/◌, ◌^◌, ◌<◌, ◌≤◌, ◌⊎◌, ◌&&◌, Bool, true, false}
+use Rattle.std.proofs.Common.{List, length, refl, sym, ap, subst, ◌∙◌, inl, inr, arith, not}
 use Rattle.std.proofs.lemmas.Bool.{cases_Bool, cases_lt, false≢true}
 use Rattle.twp_grid.specs.declared.block.Side.{Side}
 use Rattle.twp_grid.specs.declared.block.Side.TheVariants.{N, S, E, W}
@@ -15,7 +16,8 @@ use Rattle.twp_spell.proofs.SquarePlaces.{path, first_of, up, corner_at, up_next
 use Rattle.twp_spell.proofs.HalfPlaces.{half_in}
 
 -- a test of numbers below a bound holds of one, or of none
-search : (n : ℕ) (test : ℕ → Bool) → ((k : ℕ) × (k < n) × (test k ≡ true)) ⊎ ((k : ℕ) → k < n → test k ≡ false)
+search : (n : ℕ) (test : ℕ → Bool)
+    → ((k : ℕ) × (k < n) × (test k ≡ true)) ⊎ ((k : ℕ) → k < n → test k ≡ false)
 search zero test = inr (λ k less. absurd (omega arith))
 search (suc n) test = elim (cases_Bool (test n)) [
   | inl here ↦ inl (n, omega arith, here)
@@ -35,7 +37,8 @@ pub record Found (g : ℕ) (test : ℕ → ℕ → Bool) : Type 0 where
   pub place : IsPlace g column row
   pub here : test column row ≡ true
 
-rows_searched : (g m : ℕ) (test : ℕ → ℕ → Bool) → m ≤ 2 ^ g → Found g test ⊎ ((column row : ℕ) → column < m → row < 2 ^ g → test column row ≡ false)
+rows_searched : (g m : ℕ) (test : ℕ → ℕ → Bool) → m ≤ 2 ^ g
+    → Found g test ⊎ ((column row : ℕ) → column < m → row < 2 ^ g → test column row ≡ false)
 rows_searched g zero test fits = inr (λ column row less less'. absurd (omega arith))
 rows_searched g (suc m) test fits = elim (search (2 ^ g) (λ row. test m row)) [
   | inl found ↦ inl (record { column = m; row = found.0; place = ((omega arith), found.1); here = found.2 })
@@ -48,14 +51,16 @@ rows_searched g (suc m) test fits = elim (search (2 ^ g) (λ row. test m row)) [
   ]
 ]
 
-pub search_places : (g : ℕ) (test : ℕ → ℕ → Bool) → Found g test ⊎ ((column row : ℕ) → IsPlace g column row → test column row ≡ false)
+pub search_places : (g : ℕ) (test : ℕ → ℕ → Bool)
+    → Found g test ⊎ ((column row : ℕ) → IsPlace g column row → test column row ≡ false)
 search_places g test = elim (rows_searched g (2 ^ g) test (omega arith)) [
   | inl found ↦ inl found
   | inr none ↦ inr (λ column row place. none column row place.0 place.1)
 ]
 
 -- a part is full, or it isn't
-is_within : (g : ℕ) (part : Part) → AreWithin g (cuts_of (steps_of_part part)) ⊎ ¬ AreWithin g (cuts_of (steps_of_part part))
+is_within : (g : ℕ) (part : Part)
+    → AreWithin g (cuts_of (steps_of_part part)) ⊎ ¬ AreWithin g (cuts_of (steps_of_part part))
 is_within g part = elim (cases_lt g (length (rows_asked (cuts_of (steps_of_part part))))) [
   | inl long ↦ inr (λ within. absurd (omega (arith, within.rows, long)))
   | inr rows ↦ elim (cases_lt g (length (columns_asked (cuts_of (steps_of_part part))))) [
@@ -77,16 +82,22 @@ closed_place false b e h = cc h
 pub is_full : (g : ℕ) (held : ℕ → ℕ → Bool) (part : Part) → IsFull g held part ⊎ ¬ IsFull g held part
 is_full g held part = elim (is_within g part) [
   | inr outside ↦ inr (λ full. outside full.within)
-  | inl within ↦ elim (search_places g (λ column row. in_chain g (steps_of_part part) column row && not (held column row))) [
-    | inl found ↦
-        let is = open_place (in_chain g (steps_of_part part) found.column found.row) (held found.column found.row) found.here in
-        inr (λ full. false≢true (sym is.1 ∙ full.each found.column found.row (record { place = found.place; asked = is.0 })))
-    | inr none ↦ inl (record {
-      within = within;
-      each = λ column row inside.
-          closed_place (in_chain g (steps_of_part part) column row) (held column row) (none column row inside.place) inside.asked;
-    })
-  ]
+  | inl within ↦ elim (search_places g (λ column row.
+      in_chain g (steps_of_part part) column row && not (held column row))) [
+        | inl found ↦
+            let is =
+            open_place (in_chain g (steps_of_part part) found.column found.row)
+            (held found.column found.row) found.here in
+            inr (λ full.
+            false≢true
+            (sym is.1 ∙ full.each found.column found.row (record { place = found.place; asked = is.0 })))
+        | inr none ↦ inl (record {
+          within = within;
+          each = λ column row inside.
+              closed_place (in_chain g (steps_of_part part) column row) (held column row)
+              (none column row inside.place) inside.asked;
+        })
+      ]
 ]
 
 -- the chosen half of a square, or that no half is full
@@ -115,15 +126,38 @@ each_side P n s e w E = e
 each_side P n s e w W = w
 
 pub chosen_half : (g : ℕ) (held : ℕ → ℕ → Bool) (quarters : List Corner) → ¬ IsFull g held (square quarters)
-    → ((side : Side) × IsChosenHalf g held quarters side) ⊎ ((side : Side) → ¬ IsFull g held (half_of_square side quarters))
+    → ((side : Side) × IsChosenHalf g held quarters side)
+    ⊎ ((side : Side) → ¬ IsFull g held (half_of_square side quarters))
 chosen_half g held quarters short = elim (is_full g held (half_of_square N quarters)) [
-  | inl full ↦ inl (N, record { square_is_not = short; full = full; first = λ other less. absurd (omega arith) })
+  | inl full ↦
+      inl (N, record { square_is_not = short; full = full; first = λ other less. absurd (omega arith) })
   | inr n ↦ elim (is_full g held (half_of_square S quarters)) [
-    | inl full ↦ inl (S, record { square_is_not = short; full = full; first = below_south (λ side. ¬ IsFull g held (half_of_square side quarters)) n })
+    | inl full ↦ inl (
+      S,
+      record {
+        square_is_not = short;
+        full = full;
+        first = below_south (λ side. ¬ IsFull g held (half_of_square side quarters)) n;
+      },
+    )
     | inr s ↦ elim (is_full g held (half_of_square E quarters)) [
-      | inl full ↦ inl (E, record { square_is_not = short; full = full; first = below_east (λ side. ¬ IsFull g held (half_of_square side quarters)) n s })
+      | inl full ↦ inl (
+        E,
+        record {
+          square_is_not = short;
+          full = full;
+          first = below_east (λ side. ¬ IsFull g held (half_of_square side quarters)) n s;
+        },
+      )
       | inr e ↦ elim (is_full g held (half_of_square W quarters)) [
-        | inl full ↦ inl (W, record { square_is_not = short; full = full; first = below_west (λ side. ¬ IsFull g held (half_of_square side quarters)) n s e })
+        | inl full ↦ inl (
+          W,
+          record {
+            square_is_not = short;
+            full = full;
+            first = below_west (λ side. ¬ IsFull g held (half_of_square side quarters)) n s e;
+          },
+        )
         | inr w ↦ inr (each_side (λ side. ¬ IsFull g held (half_of_square side quarters)) n s e w)
       ]
     ]
@@ -146,7 +180,8 @@ side_back W = refl
 pub same_side : (side other : Side) → preference side ≡ preference other → side ≡ other
 same_side side other same = sym (side_back side) ∙ ap side_of same ∙ side_back other
 
-pub one_chosen : (g : ℕ) (held : ℕ → ℕ → Bool) (quarters : List Corner) (side other : Side) → IsChosenHalf g held quarters side → IsChosenHalf g held quarters other → side ≡ other
+pub one_chosen : (g : ℕ) (held : ℕ → ℕ → Bool) (quarters : List Corner) (side other : Side)
+    → IsChosenHalf g held quarters side → IsChosenHalf g held quarters other → side ≡ other
 one_chosen g held quarters side other is is' = elim (cases_lt (preference side) (preference other)) [
   | inl less ↦ absurd (is'.first side less is.full)
   | inr more ↦ elim (cases_lt (preference other) (preference side)) [
@@ -174,19 +209,22 @@ on_side W SW = inl tt
 on_side W SE = inr (λ on. absurd on)
 
 -- two places of a square lie together in each greater one
-pub up_parent : (g k column row column' row' : ℕ) → k < g → up g (suc k) column row ≡ up g (suc k) column' row'
+pub up_parent : (g k column row column' row' : ℕ) → k < g
+    → up g (suc k) column row ≡ up g (suc k) column' row'
     → (corner_at g k column row ≡ corner_at g k column' row') × (up g k column row ≡ up g k column' row')
 up_parent g k column row column' row' less same =
     first_of (corner_at g k column row) (corner_at g k column' row') (up g k column row) (up g k column' row')
     (sym (up_next g k column row less) ∙ same ∙ up_next g k column' row' less)
 
-pub up_same : (n g k j column row column' row' : ℕ) → j ≡ k + n → j ≤ g → up g j column row ≡ up g j column' row' → up g k column row ≡ up g k column' row'
+pub up_same : (n g k j column row column' row' : ℕ) → j ≡ k + n → j ≤ g
+    → up g j column row ≡ up g j column' row' → up g k column row ≡ up g k column' row'
 up_same zero g k j column row column' row' is fits same =
     let level : k ≡ j = omega arith in
     rw level same
 up_same (suc n) g k zero column row column' row' is fits same = absurd (omega arith)
 up_same (suc n) g k (suc j) column row column' row' is fits same =
-    up_same n g k j column row column' row' (omega arith) (omega arith) (up_parent g j column row column' row' (omega arith) same).1
+    up_same n g k j column row column' row' (omega arith) (omega arith)
+    (up_parent g j column row column' row' (omega arith) same).1
 
 path_long : (k column row : ℕ) → length (path k column row) ≡ k
 unfolding path
@@ -197,28 +235,48 @@ pub length_up : (g k column row : ℕ) → length (up g k column row) ≡ k
 length_up g k column row = path_long k (column / 2 ^ (g - k)) (row / 2 ^ (g - k))
 
 -- a place's square of a level lies in its squares of lower levels, which are greater
-pub full_below : (g : ℕ) (held : ℕ → ℕ → Bool) (k j column row : ℕ) → k ≤ j → j ≤ g → IsFull g held (square (up g k column row)) → IsFull g held (square (up g j column row))
+pub full_below : (g : ℕ) (held : ℕ → ℕ → Bool) (k j column row : ℕ) → k ≤ j → j ≤ g
+    → IsFull g held (square (up g k column row)) → IsFull g held (square (up g j column row))
 full_below g held k j column row more fits full = record {
   within = square_within g (up g j column row) (rw (length_up g j column row) fits);
   each = λ column' row' inside.
-      let there = in_square g (up g j column row) column' row' (rw (length_up g j column row) fits) inside.asked in
-      let same : up g j column' row' ≡ up g j column row = subst (λ n. up g n column' row' ≡ up g j column row) (length_up g j column row) there in
-      let above : up g k column' row' ≡ up g k column row = up_same (j - k) g k j column' row' column row (omega arith) fits same in
-      let level : up g (length (up g k column row)) column' row' ≡ up g k column row = subst (λ n. up g n column' row' ≡ up g k column row) (sym (length_up g k column row)) above in
-      full.each column' row' (record { place = inside.place; asked = square_in g (up g k column row) column' row' (rw (length_up g k column row) (omega arith)) level });
+      let there =
+      in_square g (up g j column row) column' row' (rw (length_up g j column row) fits) inside.asked in
+      let same : up g j column' row' ≡ up g j column row =
+      subst (λ n. up g n column' row' ≡ up g j column row) (length_up g j column row) there in
+      let above : up g k column' row' ≡ up g k column row =
+      up_same (j - k) g k j column' row' column row (omega arith) fits same in
+      let level : up g (length (up g k column row)) column' row' ≡ up g k column row =
+      subst (λ n. up g n column' row' ≡ up g k column row) (sym (length_up g k column row)) above in
+      full.each column' row' (record {
+        place = inside.place;
+        asked =
+            square_in g (up g k column row) column' row' (rw (length_up g k column row) (omega arith)) level;
+      });
 }
 
 -- so does its square in a half
-pub half_below : (g : ℕ) (held : ℕ → ℕ → Bool) (side : Side) (k column row : ℕ) → k < g → IsOnSide side (corner_at g k column row)
-    → IsFull g held (half_of_square side (up g k column row)) → IsFull g held (square (up g (suc k) column row))
+pub half_below : (g : ℕ) (held : ℕ → ℕ → Bool) (side : Side) (k column row : ℕ) → k < g
+    → IsOnSide side (corner_at g k column row)
+    → IsFull g held (half_of_square side (up g k column row))
+    → IsFull g held (square (up g (suc k) column row))
 half_below g held side k column row less on full = record {
   within = square_within g (up g (suc k) column row) (rw (length_up g (suc k) column row) (omega arith));
   each = λ column' row' inside.
-      let there = in_square g (up g (suc k) column row) column' row' (rw (length_up g (suc k) column row) (omega arith)) inside.asked in
-      let same : up g (suc k) column' row' ≡ up g (suc k) column row = subst (λ n. up g n column' row' ≡ up g (suc k) column row) (length_up g (suc k) column row) there in
+      let there =
+      in_square g (up g (suc k) column row) column' row'
+      (rw (length_up g (suc k) column row) (omega arith)) inside.asked in
+      let same : up g (suc k) column' row' ≡ up g (suc k) column row =
+      subst (λ n. up g n column' row' ≡ up g (suc k) column row) (length_up g (suc k) column row) there in
       let both = up_parent g k column' row' column row less same in
-      let level : up g (length (up g k column row)) column' row' ≡ up g k column row = subst (λ n. up g n column' row' ≡ up g k column row) (sym (length_up g k column row)) both.1 in
+      let level : up g (length (up g k column row)) column' row' ≡ up g k column row =
+      subst (λ n. up g n column' row' ≡ up g k column row) (sym (length_up g k column row)) both.1 in
       let corner : IsOnSide side (corner_at g (length (up g k column row)) column' row') =
-      subst (λ n. IsOnSide side (corner_at g n column' row')) (sym (length_up g k column row)) (subst (λ c. IsOnSide side c) (sym both.0) on) in
-      full.each column' row' (record { place = inside.place; asked = half_in g side (up g k column row) column' row' (rw (length_up g k column row) less) level corner });
+      subst (λ n. IsOnSide side (corner_at g n column' row')) (sym (length_up g k column row))
+      (subst (λ c. IsOnSide side c) (sym both.0) on) in
+      full.each column' row' (record {
+        place = inside.place;
+        asked =
+            half_in g side (up g k column row) column' row' (rw (length_up g k column row) less) level corner;
+      });
 }

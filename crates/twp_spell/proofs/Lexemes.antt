@@ -1,10 +1,12 @@
--- A derivation before it is known where in a text its tokens stand: each token with the white space before it.
+-- A derivation before it is known where in a text its tokens stand: each token with the white space before
+-- it.
 -- Where each is a token before what follows, the bytes of the whole have the tokens of the derivation.
 use Rattle.std.proofs.Common.{◌⊎◌, ℕ, ◌+◌, List, [], ◌∷◌, ◌++◌, length, refl, sym, ◌∙◌, inl, inr}
 use Rattle.std.specs.List.{AllPass}
 use Rattle.std.proofs.lemmas.List.{append-nil}
 use Rattle.twp_grammar.specs.Tokens.{Token, is_white, IsGoodToken, good, HasTokens}
-use Rattle.twp_grammar.specs.Grammar.{Class, Value, kind_of, Ebnf, never, nothing, one, ◌⨾◌, ◌∣◌, many, description}
+use Rattle.twp_grammar.specs.Grammar.{Class, Value, kind_of, Ebnf, never, nothing, one, ◌⨾◌, ◌∣◌, many}
+use Rattle.twp_grammar.specs.Grammar.{description}
 use Rattle.twp_grammar.specs.Items.{Then, ◌&◌, Tree, tokens, items}
 use Rattle.twp_grammar.specs.Sentences.{HasItems}
 use Rattle.twp_grammar.proofs.TreeFacts.{onto, onto_is}
@@ -119,7 +121,10 @@ drafted v rest fits white = record {
   cut = has_tokens description v 0 rest [] fits white;
   named = record {
     tree = placed description 0 v;
-    spelt = sym (onto_is description (placed description 0 v) [] ∙ append-nil (tokens description (placed description 0 v)));
+    spelt =
+        sym
+        (onto_is description (placed description 0 v) []
+        ∙ append-nil (tokens description (placed description 0 v)));
     read_off = refl;
   };
 }

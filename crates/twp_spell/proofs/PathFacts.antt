@@ -1,5 +1,6 @@
 -- Paths of squares: the bytes of a quarter ahead of those of its square.
-use Rattle.std.proofs.Common.{◌≡◌, ℕ, zero, suc, ◌+◌, ◌*◌, ◌<◌, ◌≤◌, List, [], ◌∷◌, ◌++◌, length, length-append, take, min, refl, sym, ap, ◌∙◌, inl, inr, arith}
+use Rattle.std.proofs.Common.{◌≡◌, ℕ, zero, suc, ◌+◌, ◌*◌, ◌<◌, ◌≤◌, List, [], ◌∷◌, ◌++◌, length}
+use Rattle.std.proofs.Common.{length-append, take, min, refl, sym, ap, ◌∙◌, inl, inr, arith}
 use Rattle.std.proofs.lemmas.Bool.{cases_lt}
 use Rattle.std.proofs.lemmas.List.{take-append-le, length-take}
 use Rattle.twp_grid.specs.declared.block.Corner.{Corner}
@@ -33,18 +34,25 @@ long_quarter SW = refl
 long_quarter SE = refl
 
 -- the bytes of a step, and behind them the first 11 of a path's 16
-pub longer : (step more rest : List ℕ) (len end : ℕ) → length step ≡ 5 → length more ≡ 16 → (len ≤ 11 → end ≡ len + 5) → (11 < len → end ≡ 16)
+pub longer : (step more rest : List ℕ) (len end : ℕ) → length step ≡ 5 → length more ≡ 16
+    → (len ≤ 11 → end ≡ len + 5) → (11 < len → end ≡ 16)
     → take end (step ++ (take 11 more ++ rest)) ≡ take 16 (step ++ take len more)
 longer step more rest len end five sixteen short long = elim (cases_lt 11 len) [
   | inl past ↦
       let ends = long past in
       take_front end 11 step (take 11 more ++ rest) (omega arith)
-      ∙ ap (λ l. step ++ l) (take-append-le 11 (take 11 more) rest (eleven past) ∙ take_less 11 11 more (omega arith) ∙ sym (take_less 11 len more (omega arith)))
+      ∙ ap (λ l. step ++ l)
+      (take-append-le 11 (take 11 more) rest (eleven past)
+      ∙ take_less 11 11 more (omega arith)
+      ∙ sym (take_less 11 len more (omega arith)))
       ∙ sym (take_front 16 11 step (take len more) (omega arith))
   | inr within ↦
       let ends = short (omega arith) in
       take_front end len step (take 11 more ++ rest) (omega arith)
-      ∙ ap (λ l. step ++ l) (take-append-le len (take 11 more) rest (enough (omega arith)) ∙ take_less len 11 more (omega arith) ∙ sym (take_more 11 len more (omega arith)))
+      ∙ ap (λ l. step ++ l)
+      (take-append-le len (take 11 more) rest (enough (omega arith))
+      ∙ take_less len 11 more (omega arith)
+      ∙ sym (take_more 11 len more (omega arith)))
       ∙ sym (take_front 16 11 step (take len more) (omega arith))
 ]
   where
@@ -60,10 +68,14 @@ longer step more rest len end five sixteen short long = elim (cases_lt 11 len) [
 -- a path of so few quarters is whole
 pub long_path : (quarters : List Corner) → length (quarters_text quarters) ≡ 5 * length quarters
 long_path [] = refl
-long_path (corner ∷ parent) = long_both (step_text (Quarter corner)) (quarters_text parent) (length parent) (long_quarter corner) (long_path parent)
+long_path (corner ∷ parent) =
+    long_both (step_text (Quarter corner)) (quarters_text parent) (length parent) (long_quarter corner)
+    (long_path parent)
   where
-    long_both : (step more : List ℕ) (k : ℕ) → length step ≡ 5 → length more ≡ 5 * k → length (step ++ more) ≡ 5 * suc k
-    long_both step more k a b = let all : length (step ++ more) ≡ length step + length more = length-append step more in omega arith
+    long_both : (step more : List ℕ) (k : ℕ) → length step ≡ 5 → length more ≡ 5 * k
+        → length (step ++ more) ≡ 5 * suc k
+    long_both step more k a b =
+        let all : length (step ++ more) ≡ length step + length more = length-append step more in omega arith
 
 take_all : (n : ℕ) (xs : List ℕ) → length xs ≤ n → take n xs ≡ xs
 take_all zero [] fits = refl
@@ -71,18 +83,25 @@ take_all zero (x ∷ xs) fits = absurd (omega arith)
 take_all (suc n) [] fits = refl
 take_all (suc n) (x ∷ xs) fits = ap (λ l. x ∷ l) (take_all n xs (omega arith))
 
-pub longer_path : (corner : Corner) (front zeros mid rest text path : List ℕ) (len end : ℕ) → front ≡ step_text (Quarter corner) → mid ≡ take 11 text → length text ≡ 16
-    → take len text ≡ path → len ≤ 16 → end ≡ min 16 (len + 5) → take end (take 5 (front ++ zeros) ++ (mid ++ rest)) ≡ take PATH_MOST (step_text (Quarter corner) ++ path)
+pub longer_path : (corner : Corner) (front zeros mid rest text path : List ℕ) (len end : ℕ)
+    → front ≡ step_text (Quarter corner) → mid ≡ take 11 text → length text ≡ 16
+    → take len text ≡ path → len ≤ 16 → end ≡ min 16 (len + 5)
+    → take end (take 5 (front ++ zeros) ++ (mid ++ rest))
+    ≡ take PATH_MOST (step_text (Quarter corner) ++ path)
 longer_path corner front zeros mid rest text path len end front_is mid_is sixteen path_is within end_is =
     let five = long_quarter corner in
     let long : length front ≡ 5 = ap length front_is ∙ five in
-    ap (λ l. take end (l ++ (mid ++ rest))) (take-append-le 5 front zeros (omega arith) ∙ take_all 5 front (omega arith) ∙ front_is)
+    ap (λ l. take end (l ++ (mid ++ rest)))
+    (take-append-le 5 front zeros (omega arith) ∙ take_all 5 front (omega arith) ∙ front_is)
     ∙ ap (λ m. take end (step_text (Quarter corner) ++ (m ++ rest))) mid_is
-    ∙ longer (step_text (Quarter corner)) text rest len end five sixteen (λ less. omega arith) (λ more. omega arith)
+    ∙ longer (step_text (Quarter corner)) text rest len end five sixteen (λ less. omega arith)
+    (λ more. omega arith)
     ∙ ap (λ p. take 16 (step_text (Quarter corner) ++ p)) path_is
 
-pub path_of_quarter : (corner : Corner) (quarters : List Corner) (path inner : List ℕ) → length quarters < 3 → path ≡ quarters_text quarters
+pub path_of_quarter : (corner : Corner) (quarters : List Corner) (path inner : List ℕ) → length quarters < 3
+    → path ≡ quarters_text quarters
     → inner ≡ take PATH_MOST (step_text (Quarter corner) ++ path) → inner ≡ quarters_text (corner ∷ quarters)
 path_of_quarter corner quarters path inner less path_is inner_is =
     inner_is ∙ ap (λ p. take 16 (step_text (Quarter corner) ++ p)) path_is
-    ∙ take_all 16 (quarters_text (corner ∷ quarters)) (let long = long_path (corner ∷ quarters) in omega arith)
+    ∙ take_all 16 (quarters_text (corner ∷ quarters))
+    (let long = long_path (corner ∷ quarters) in omega arith)

@@ -1,5 +1,6 @@
 -- Parts behind each other in one array.
-use Rattle.std.proofs.Common.{◌≡◌, ℕ, ◌+◌, ◌≤◌, List, ◌++◌, length, length-take-le, take, refl, sym, ap, ◌∙◌, arith, codes}
+use Rattle.std.proofs.Common.{◌≡◌, ℕ, ◌+◌, ◌≤◌, List, ◌++◌, length, length-take-le, take, refl, sym, ap, ◌∙◌}
+use Rattle.std.proofs.Common.{arith, codes}
 use Rattle.std.proofs.lemmas.Slice.{take-put_mid}
 use Rattle.twp_grid.specs.declared.block.Corner.{Corner}
 use Rattle.twp_grid.specs.declared.block.Corner.TheVariants.{NE, NW, SW, SE}
@@ -11,7 +12,8 @@ use Rattle.twp_spell.proofs.PathFacts.{take_front, take_less}
 use borrow.Rule.Slice.PartMut.{put_mid}
 
 -- a step is written behind what stands there
-pub put_behind : (bytes front step old : List ℕ) (len n wide : ℕ) → take len bytes ≡ old → len ≤ length bytes → front ≡ step → length step ≡ n
+pub put_behind : (bytes front step old : List ℕ) (len n wide : ℕ) → take len bytes ≡ old → len ≤ length bytes
+    → front ≡ step → length step ≡ n
     → take (len + n) (put_mid len wide bytes front) ≡ old ++ step
 put_behind bytes front step old len n wide old_is within front_is long =
     let same : length front ≡ n = ap length front_is ∙ long in
@@ -19,17 +21,20 @@ put_behind bytes front step old len n wide old_is within front_is long =
     ∙ ap (λ l. l ++ front) old_is ∙ ap (λ l. old ++ l) front_is
 
 -- so is a path, of which some bytes count
-pub path_behind : (bytes text path old : List ℕ) (len count wide end : ℕ) → take len bytes ≡ old → len ≤ length bytes → take count text ≡ path → count ≤ length text → end ≡ len + count
+pub path_behind : (bytes text path old : List ℕ) (len count wide end : ℕ) → take len bytes ≡ old
+    → len ≤ length bytes → take count text ≡ path → count ≤ length text → end ≡ len + count
     → take end (put_mid len wide bytes text) ≡ old ++ path
 path_behind bytes text path old len count wide end old_is within path_is few end_is =
     sym (take_less end (len + length text) (put_mid len wide bytes text) (omega (arith, few, end_is)))
     ∙ ap (λ l. take end l) (take-put_mid len wide bytes text (len + length text) refl within)
-    ∙ take_front end count (take len bytes) text (let most = length-take-le len bytes within in omega (arith, end_is))
+    ∙ take_front end count (take len bytes) text
+    (let most = length-take-le len bytes within in omega (arith, end_is))
     ∙ ap (λ l. take len bytes ++ l) path_is
     ∙ ap (λ l. l ++ path) old_is
 
 -- a list of what is known is as long as what is kept of it
-pub known_length : (bytes known : List ℕ) (len : ℕ) → take len bytes ≡ known → len ≤ length bytes → length known ≡ len
+pub known_length : (bytes known : List ℕ) (len : ℕ) → take len bytes ≡ known → len ≤ length bytes
+    → length known ≡ len
 known_length bytes known len is within = ap length (sym is) ∙ length-take-le len bytes within
 
 -- a quarter behind a comma has seven bytes, and a half six

@@ -1,5 +1,7 @@
 -- Squares of four places: which of their quarters are full.
-use Rattle.std.proofs.Common.{◌≡◌, ◌↔◌, ℕ, zero, suc, ◌+◌, ◌-◌, ◌/◌, ◌^◌, nat_le, nat_lt, Bool, true, List, ◌∷◌, length, IsTrue, refl, sym, ap, ◌∙◌, arith, ◌%◌, ◌≤◌, ◌<◌, ◌&&◌, Option, is_none, false, is_some, Some, None}
+use Rattle.std.proofs.Common.{◌≡◌, ◌↔◌, ℕ, zero, suc, ◌+◌, ◌-◌, ◌/◌, ◌^◌, nat_le, nat_lt, Bool, true, List}
+use Rattle.std.proofs.Common.{◌∷◌, length, IsTrue, refl, sym, ap, ◌∙◌, arith, ◌%◌, ◌≤◌, ◌<◌, ◌&&◌, Option}
+use Rattle.std.proofs.Common.{is_none, false, is_some, Some, None}
 use Rattle.std.proofs.Math.Nat.{pow-succ'}
 use Rattle.std.proofs.lemmas.Bool.{and_parts}
 use Rattle.std.proofs.lemmas.Bool.Decides.{nat_tests}
@@ -32,32 +34,46 @@ only_start span place one is =
     grind (arith, nat_tests)
 
 -- a part of one place is full where the place is held
-place_full : (g : ℕ) (held : ℕ → ℕ → Bool) (part : Part) (block : Rectangle) (test : Bool) → IsBlockOf g part block → block.columns.len ≡ 1 → block.rows.len ≡ 1
+place_full : (g : ℕ) (held : ℕ → ℕ → Bool) (part : Part) (block : Rectangle) (test : Bool)
+    → IsBlockOf g part block → block.columns.len ≡ 1 → block.rows.len ≡ 1
     → test ≡ held block.columns.start block.rows.start → IsTrue test ↔ IsFull g held part
 place_full g held part block test of_part wide high is = (
   (λ yes. record {
     within = of_part.within;
     each = λ column row inside.
-        let both = and_parts (in_span block.columns column) (in_span block.rows row) (block_places_of g part block column row of_part inside) in
+        let both =
+        and_parts (in_span block.columns column) (in_span block.rows row)
+        (block_places_of g part block column row of_part inside) in
         let column_is = only_start block.columns column wide both.0 in
         let row_is = only_start block.rows row high both.1 in
         rw (column_is, row_is) (sym is ∙ yes);
   }),
-  (λ full. is ∙ full.each block.columns.start block.rows.start (in_block g part block block.columns.start block.rows.start of_part (rw (at_start block.columns wide, at_start block.rows high) refl))),
+  (λ full.
+      is
+      ∙ full.each block.columns.start block.rows.start
+      (in_block g part block block.columns.start block.rows.start of_part
+      (rw (at_start block.columns wide, at_start block.rows high) refl))),
 )
 
 -- a square is as high as it is wide
-pub square_sides : (g : ℕ) (quarters : List Corner) (block : Rectangle) → IsBlockOf g (square quarters) block → block.columns.len ≡ block.rows.len
+pub square_sides : (g : ℕ) (quarters : List Corner) (block : Rectangle) → IsBlockOf g (square quarters) block
+    → block.columns.len ≡ block.rows.len
 square_sides g quarters block of_square =
     let sides = sides_as_asked g (cuts_of (quarter_steps quarters)) of_square.within in
-    let across : block.columns.len ≡ 2 ^ (g - length quarters) = ap (λ b. b.columns.len) of_square.block_is ∙ sides.0 ∙ ap (λ n. 2 ^ (g - n)) (columns_long quarters) in
-    let upward : block.rows.len ≡ 2 ^ (g - length quarters) = ap (λ b. b.rows.len) of_square.block_is ∙ sides.1 ∙ ap (λ n. 2 ^ (g - n)) (rows_long quarters) in
+    let across : block.columns.len ≡ 2 ^ (g - length quarters) =
+    ap (λ b. b.columns.len) of_square.block_is ∙ sides.0 ∙ ap (λ n. 2 ^ (g - n)) (columns_long quarters) in
+    let upward : block.rows.len ≡ 2 ^ (g - length quarters) =
+    ap (λ b. b.rows.len) of_square.block_is ∙ sides.1 ∙ ap (λ n. 2 ^ (g - n)) (rows_long quarters) in
     across ∙ sym upward
 
 -- the quarters of a square of four places
-pub four_places : (g : ℕ) (held : ℕ → ℕ → Bool) (quarters : List Corner) (block : Rectangle) (full : FullQuarters) → IsBlockOf g (square quarters) block → block.columns.len ≡ 2
-    → full.ne ≡ held block.columns.start (block.rows.start + 1) → full.nw ≡ held (block.columns.start + 1) (block.rows.start + 1)
-    → full.sw ≡ held (block.columns.start + 1) block.rows.start → full.se ≡ held block.columns.start block.rows.start → AreFull g held quarters full
+pub four_places : (g : ℕ) (held : ℕ → ℕ → Bool) (quarters : List Corner) (block : Rectangle)
+    (full : FullQuarters)
+    → IsBlockOf g (square quarters) block → block.columns.len ≡ 2
+    → full.ne ≡ held block.columns.start (block.rows.start + 1)
+    → full.nw ≡ held (block.columns.start + 1) (block.rows.start + 1)
+    → full.sw ≡ held (block.columns.start + 1) block.rows.start
+    → full.se ≡ held block.columns.start block.rows.start → AreFull g held quarters full
 four_places g held quarters block full of_square two ne nw sw se = each
   where
     wide : block.columns.len / 2 ≡ 1
@@ -73,13 +89,24 @@ four_places g held quarters block full of_square two ne nw sw se = each
     north = ap (λ n. block.rows.start + n) (sym high)
 
     of_quarter : (corner : Corner) → IsBlockOf g (square (corner ∷ quarters)) (quarter_of block corner)
-    of_quarter corner = quarter_block g corner quarters block (deeper g quarters block of_square (omega (arith, two))) of_square
+    of_quarter corner =
+        quarter_block g corner quarters block (deeper g quarters block of_square (omega (arith, two)))
+        of_square
 
     each : AreFull g held quarters full
-    each NE = place_full g held (square (NE ∷ quarters)) (quarter_of block NE) full.ne (of_quarter NE) wide high (ne ∙ ap (λ r. held block.columns.start r) north)
-    each NW = place_full g held (square (NW ∷ quarters)) (quarter_of block NW) full.nw (of_quarter NW) wide high (nw ∙ ap (λ r. held (block.columns.start + 1) r) north ∙ ap (λ n. held n (block.rows.start + block.rows.len / 2)) west)
-    each SW = place_full g held (square (SW ∷ quarters)) (quarter_of block SW) full.sw (of_quarter SW) wide high (sw ∙ ap (λ n. held n block.rows.start) west)
-    each SE = place_full g held (square (SE ∷ quarters)) (quarter_of block SE) full.se (of_quarter SE) wide high se
+    each NE =
+        place_full g held (square (NE ∷ quarters)) (quarter_of block NE) full.ne (of_quarter NE) wide high
+        (ne ∙ ap (λ r. held block.columns.start r) north)
+    each NW =
+        place_full g held (square (NW ∷ quarters)) (quarter_of block NW) full.nw (of_quarter NW) wide high
+        (nw
+        ∙ ap (λ r. held (block.columns.start + 1) r) north
+        ∙ ap (λ n. held n (block.rows.start + block.rows.len / 2)) west)
+    each SW =
+        place_full g held (square (SW ∷ quarters)) (quarter_of block SW) full.sw (of_quarter SW) wide high
+        (sw ∙ ap (λ n. held n block.rows.start) west)
+    each SE =
+        place_full g held (square (SE ∷ quarters)) (quarter_of block SE) full.se (of_quarter SE) wide high se
 
 -- a square so many places wide is cut so much less than places are
 power_four : (n : ℕ) → 2 ^ n ≡ 4 → n ≡ 2
@@ -92,32 +119,43 @@ power_four (suc (suc (suc n))) is =
     let more = more_than_one (suc n) (omega arith) in
     absurd (omega arith)
 
-pub position_level : (g : ℕ) (quarters : List Corner) (block : Rectangle) → IsBlockOf g (square quarters) block → block.columns.len ≡ 4 → length quarters + 2 ≡ g
+pub position_level : (g : ℕ) (quarters : List Corner) (block : Rectangle)
+    → IsBlockOf g (square quarters) block → block.columns.len ≡ 4 → length quarters + 2 ≡ g
 position_level g quarters block of_square four =
     let sides = sides_as_asked g (cuts_of (quarter_steps quarters)) of_square.within in
-    let across : block.columns.len ≡ 2 ^ (g - length quarters) = ap (λ b. b.columns.len) of_square.block_is ∙ sides.0 ∙ ap (λ n. 2 ^ (g - n)) (columns_long quarters) in
+    let across : block.columns.len ≡ 2 ^ (g - length quarters) =
+    ap (λ b. b.columns.len) of_square.block_is ∙ sides.0 ∙ ap (λ n. 2 ^ (g - n)) (columns_long quarters) in
     let fits = deeper g quarters block of_square (omega (arith, four)) in
     let left = power_four (g - length quarters) (sym across ∙ four) in
     omega arith
 
 -- the four quarters of a position, of which the one in the south-east begins at this column and row
-pub position_places : (g : ℕ) (held : ℕ → ℕ → Bool) (quarters : List Corner) (block : Rectangle) (column row : ℕ) (ne nw sw se : FullQuarters) → IsBlockOf g (square quarters) block → block.columns.len ≡ 4
+pub position_places : (g : ℕ) (held : ℕ → ℕ → Bool) (quarters : List Corner) (block : Rectangle)
+    (column row : ℕ) (ne nw sw se : FullQuarters)
+    → IsBlockOf g (square quarters) block → block.columns.len ≡ 4
     → column ≡ block.columns.start → row ≡ block.rows.start
-    → ne.ne ≡ held column ((row + 2) + 1) → ne.nw ≡ held (column + 1) ((row + 2) + 1) → ne.sw ≡ held (column + 1) (row + 2) → ne.se ≡ held column (row + 2)
-    → nw.ne ≡ held (column + 2) ((row + 2) + 1) → nw.nw ≡ held ((column + 2) + 1) ((row + 2) + 1) → nw.sw ≡ held ((column + 2) + 1) (row + 2) → nw.se ≡ held (column + 2) (row + 2)
-    → sw.ne ≡ held (column + 2) (row + 1) → sw.nw ≡ held ((column + 2) + 1) (row + 1) → sw.sw ≡ held ((column + 2) + 1) row → sw.se ≡ held (column + 2) row
-    → se.ne ≡ held column (row + 1) → se.nw ≡ held (column + 1) (row + 1) → se.sw ≡ held (column + 1) row → se.se ≡ held column row
-    → AreFull g held (NE ∷ quarters) ne × (AreFull g held (NW ∷ quarters) nw × (AreFull g held (SW ∷ quarters) sw × AreFull g held (SE ∷ quarters) se))
-position_places g held quarters block column row ne nw sw se of_square four column_is row_is a1 a2 a3 a4 b1 b2 b3 b4 c1 c2 c3 c4 d1 d2 d3 d4 = (
-  of_four NE ne column (row + 2) column_is north a1 a2 a3 a4,
-  (
-    of_four NW nw (column + 2) (row + 2) west north b1 b2 b3 b4,
-    (
-      of_four SW sw (column + 2) row west row_is c1 c2 c3 c4,
-      of_four SE se column row column_is row_is d1 d2 d3 d4,
-    ),
-  ),
-)
+    → ne.ne ≡ held column ((row + 2) + 1) → ne.nw ≡ held (column + 1) ((row + 2) + 1)
+    → ne.sw ≡ held (column + 1) (row + 2) → ne.se ≡ held column (row + 2)
+    → nw.ne ≡ held (column + 2) ((row + 2) + 1) → nw.nw ≡ held ((column + 2) + 1) ((row + 2) + 1)
+    → nw.sw ≡ held ((column + 2) + 1) (row + 2) → nw.se ≡ held (column + 2) (row + 2)
+    → sw.ne ≡ held (column + 2) (row + 1) → sw.nw ≡ held ((column + 2) + 1) (row + 1)
+    → sw.sw ≡ held ((column + 2) + 1) row → sw.se ≡ held (column + 2) row
+    → se.ne ≡ held column (row + 1) → se.nw ≡ held (column + 1) (row + 1) → se.sw ≡ held (column + 1) row
+    → se.se ≡ held column row
+    → AreFull g held (NE ∷ quarters) ne
+    × (AreFull g held (NW ∷ quarters) nw
+    × (AreFull g held (SW ∷ quarters) sw × AreFull g held (SE ∷ quarters) se))
+position_places g held quarters block column row ne nw sw se of_square four column_is row_is a1 a2 a3 a4 b1
+    b2 b3 b4 c1 c2 c3 c4 d1 d2 d3 d4 = (
+      of_four NE ne column (row + 2) column_is north a1 a2 a3 a4,
+      (
+        of_four NW nw (column + 2) (row + 2) west north b1 b2 b3 b4,
+        (
+          of_four SW sw (column + 2) row west row_is c1 c2 c3 c4,
+          of_four SE se column row column_is row_is d1 d2 d3 d4,
+        ),
+      ),
+    )
   where
     wide : block.columns.len / 2 ≡ 2
     wide = rw four refl
@@ -132,7 +170,9 @@ position_places g held quarters block column row ne nw sw se of_square four colu
     north = ap (λ n. n + 2) row_is ∙ ap (λ n. block.rows.start + n) (sym high)
 
     of_quarter : (corner : Corner) → IsBlockOf g (square (corner ∷ quarters)) (quarter_of block corner)
-    of_quarter corner = quarter_block g corner quarters block (deeper g quarters block of_square (omega (arith, four))) of_square
+    of_quarter corner =
+        quarter_block g corner quarters block (deeper g quarters block of_square (omega (arith, four)))
+        of_square
 
     two_wide : (corner : Corner) → (quarter_of block corner).columns.len ≡ 2
     two_wide NE = wide
@@ -140,20 +180,33 @@ position_places g held quarters block column row ne nw sw se of_square four colu
     two_wide SW = wide
     two_wide SE = wide
 
-    of_four : (corner : Corner) (full : FullQuarters) (c r : ℕ) → c ≡ (quarter_of block corner).columns.start → r ≡ (quarter_of block corner).rows.start
-        → full.ne ≡ held c (r + 1) → full.nw ≡ held (c + 1) (r + 1) → full.sw ≡ held (c + 1) r → full.se ≡ held c r → AreFull g held (corner ∷ quarters) full
+    of_four : (corner : Corner) (full : FullQuarters) (c r : ℕ) → c ≡ (quarter_of block corner).columns.start
+        → r ≡ (quarter_of block corner).rows.start
+        → full.ne ≡ held c (r + 1) → full.nw ≡ held (c + 1) (r + 1) → full.sw ≡ held (c + 1) r
+        → full.se ≡ held c r → AreFull g held (corner ∷ quarters) full
     of_four corner full c r c_is r_is ne nw sw se =
-        four_places g held (corner ∷ quarters) (quarter_of block corner) full (of_quarter corner) (two_wide corner)
-        (rw (sym c_is, sym r_is) ne) (rw (sym c_is, sym r_is) nw) (rw (sym c_is, sym r_is) sw) (rw (sym c_is, sym r_is) se)
+        four_places g held (corner ∷ quarters) (quarter_of block corner) full (of_quarter corner)
+        (two_wide corner)
+        (rw (sym c_is, sym r_is) ne) (rw (sym c_is, sym r_is) nw) (rw (sym c_is, sym r_is) sw)
+        (rw (sym c_is, sym r_is) se)
 
 -- which of them are full
-pub position_full : (g : ℕ) (held : ℕ → ℕ → Bool) (quarters : List Corner) (full ne nw sw se : FullQuarters) → length quarters + 2 ≡ g
-    → AreFull g held (NE ∷ quarters) ne × (AreFull g held (NW ∷ quarters) nw × (AreFull g held (SW ∷ quarters) sw × AreFull g held (SE ∷ quarters) se))
-    → full.ne ≡ all_of ne → full.nw ≡ all_of nw → full.sw ≡ all_of sw → full.se ≡ all_of se → AreFull g held quarters full
+pub position_full : (g : ℕ) (held : ℕ → ℕ → Bool) (quarters : List Corner) (full ne nw sw se : FullQuarters)
+    → length quarters + 2 ≡ g
+    → AreFull g held (NE ∷ quarters) ne
+    × (AreFull g held (NW ∷ quarters) nw
+    × (AreFull g held (SW ∷ quarters) sw × AreFull g held (SE ∷ quarters) se))
+    → full.ne ≡ all_of ne → full.nw ≡ all_of nw → full.sw ≡ all_of sw → full.se ≡ all_of se
+    → AreFull g held quarters full
 position_full g held quarters full ne nw sw se level are is_ne is_nw is_sw is_se = each
   where
-    of_all : (corner : Corner) (test : Bool) (places : FullQuarters) → test ≡ all_of places → AreFull g held (corner ∷ quarters) places → IsTrue test ↔ IsFull g held (square (corner ∷ quarters))
-    of_all corner test places is are = let whole = all_full g held (corner ∷ quarters) places (omega (arith, level)) are in ((λ yes. whole.0 (sym is ∙ yes)), (λ full. is ∙ whole.1 full))
+    of_all : (corner : Corner) (test : Bool) (places : FullQuarters) → test ≡ all_of places
+        → AreFull g held (corner ∷ quarters) places → IsTrue test ↔ IsFull g held (square (corner ∷ quarters))
+    of_all corner test places is are =
+        let whole = all_full g held (corner ∷ quarters) places (omega (arith, level)) are in (
+          (λ yes. whole.0 (sym is ∙ yes)),
+          (λ full. is ∙ whole.1 full),
+        )
 
     each : AreFull g held quarters full
     each NE = of_all NE full.ne ne is_ne are.0
@@ -162,13 +215,16 @@ position_full g held quarters full ne nw sw se level are is_ne is_nw is_sw is_se
     each SE = of_all SE full.se se is_se are.1.1.1
 
 -- the places of a position lie in it
-along_position : (start place : ℕ) → start % 4 ≡ 0 → start ≤ place → place < start + 4 → position_along PLACE_DIGITS place ≡ start / 4
+along_position : (start place : ℕ) → start % 4 ≡ 0 → start ≤ place → place < start + 4
+    → position_along PLACE_DIGITS place ≡ start / 4
 along_position start place aligned least most = omega arith
 
-pub lot_of_position : (section column row place place' : ℕ) → column % 4 ≡ 0 → row % 4 ≡ 0 → column ≤ place → place < column + 4 → row ≤ place' → place' < row + 4
+pub lot_of_position : (section column row place place' : ℕ) → column % 4 ≡ 0 → row % 4 ≡ 0 → column ≤ place
+    → place < column + 4 → row ≤ place' → place' < row + 4
     → lot_of_place PLACE_DIGITS section place place' ≡ lot_at_position section (column / 4) (row / 4)
 lot_of_position section column row place place' a b least most least' most' =
-    ap (λ n. lot_at_position section n (position_along PLACE_DIGITS place')) (along_position column place a least most)
+    ap (λ n. lot_at_position section n (position_along PLACE_DIGITS place'))
+    (along_position column place a least most)
     ∙ ap (λ n. lot_at_position section (column / 4) n) (along_position row place' b least' most')
 
 off_free : (held : Bool) (lot : Option ℕ) → is_none lot ≡ true → (held && is_none lot) ≡ held
@@ -176,13 +232,18 @@ off_free true lot is = is
 off_free false lot is = refl
 
 -- off the lots is what is held of a position that is no lot's
-pub position_free : (section column row : ℕ) (held : ℕ → ℕ → Bool) → column % 4 ≡ 0 → row % 4 ≡ 0 → is_none (lot_at_position section (column / 4) (row / 4)) ≡ true
-    → (place place' : ℕ) → column ≤ place → place < column + 4 → row ≤ place' → place' < row + 4 → held place place' ≡ off_lots PLACE_DIGITS section held place place'
+pub position_free : (section column row : ℕ) (held : ℕ → ℕ → Bool) → column % 4 ≡ 0 → row % 4 ≡ 0
+    → is_none (lot_at_position section (column / 4) (row / 4)) ≡ true
+    → (place place' : ℕ) → column ≤ place → place < column + 4 → row ≤ place' → place' < row + 4
+    → held place place' ≡ off_lots PLACE_DIGITS section held place place'
 position_free section column row held a b none place place' least most least' most' =
-    sym (off_free (held place place') (lot_of_place PLACE_DIGITS section place place') (rw (lot_of_position section column row place place' a b least most least' most') none))
+    sym
+    (off_free (held place place') (lot_of_place PLACE_DIGITS section place place')
+    (rw (lot_of_position section column row place place' a b least most least' most') none))
 
 -- nothing is written of a lot's position
-bounds : (span : Span) (place : ℕ) → span.len ≡ 4 → in_span span place ≡ true → (span.start ≤ place) × (place < span.start + 4)
+bounds : (span : Span) (place : ℕ) → span.len ≡ 4 → in_span span place ≡ true
+    → (span.start ≤ place) × (place < span.start + 4)
 bounds span place four is =
     let both = and_parts (nat_le span.start place) (nat_lt place (span.start + span.len)) is in
     (grind (arith, nat_tests), grind (arith, nat_tests))
@@ -192,14 +253,22 @@ some_not_none None held some is = cc some
 some_not_none (Some n) true some is = cc is
 some_not_none (Some n) false some is = cc is
 
-pub position_lot : (section column row : ℕ) (held : ℕ → ℕ → Bool) (quarters : List Corner) (block : Rectangle) → IsBlockOf PLACE_DIGITS (square quarters) block → block.columns.len ≡ 4 → block.rows.len ≡ 4
-    → column ≡ block.columns.start → row ≡ block.rows.start → column % 4 ≡ 0 → row % 4 ≡ 0 → is_some (lot_at_position section (column / 4) (row / 4)) ≡ true
-    → (place place' : ℕ) → IsInPart PLACE_DIGITS (square quarters) place place' → ¬ (off_lots PLACE_DIGITS section held place place' ≡ true)
-position_lot section column row held quarters block of_square wide high column_is row_is a b some place place' inside is =
-    let both = and_parts (in_span block.columns place) (in_span block.rows place') (block_places_of PLACE_DIGITS (square quarters) block place place' of_square inside) in
+pub position_lot : (section column row : ℕ) (held : ℕ → ℕ → Bool) (quarters : List Corner) (block : Rectangle)
+    → IsBlockOf PLACE_DIGITS (square quarters) block → block.columns.len ≡ 4 → block.rows.len ≡ 4
+    → column ≡ block.columns.start → row ≡ block.rows.start → column % 4 ≡ 0 → row % 4 ≡ 0
+    → is_some (lot_at_position section (column / 4) (row / 4)) ≡ true
+    → (place place' : ℕ) → IsInPart PLACE_DIGITS (square quarters) place place'
+    → ¬ (off_lots PLACE_DIGITS section held place place' ≡ true)
+position_lot section column row held quarters block of_square wide high column_is row_is a b some place
+    place' inside is =
+    let both =
+    and_parts (in_span block.columns place) (in_span block.rows place')
+    (block_places_of PLACE_DIGITS (square quarters) block place place' of_square inside) in
     let across = bounds block.columns place wide both.0 in
     let upward = bounds block.rows place' high both.1 in
-    let lot_is = lot_of_position section column row place place' a b (rw column_is across.0) (rw column_is across.1) (rw row_is upward.0) (rw row_is upward.1) in
+    let lot_is =
+    lot_of_position section column row place place' a b (rw column_is across.0) (rw column_is across.1)
+    (rw row_is upward.0) (rw row_is upward.1) in
     some_not_none (lot_of_place PLACE_DIGITS section place place') (held place place') (rw lot_is some) is
 
 pub not_some : (lot : Option ℕ) → is_some lot ≡ false → is_none lot ≡ true

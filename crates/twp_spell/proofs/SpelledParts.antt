@@ -1,12 +1,14 @@
 -- The items of the canonical text with their sections, and what it takes that they lie on the plat.
-use Rattle.std.proofs.Common.{◌≡◌, ℕ, ◌||◌, Bool, true, false, List, [], ◌∷◌, ◌++◌, map, refl, sym, ap, subst, ◌∙◌, inl, inr, append_assoc}
+use Rattle.std.proofs.Common.{◌≡◌, ℕ, ◌||◌, Bool, true, false, List, [], ◌∷◌, ◌++◌, map, refl, sym, ap, subst}
+use Rattle.std.proofs.Common.{◌∙◌, inl, inr, append_assoc}
 use Rattle.std.specs.List.{flat_map, list_any}
 use Rattle.std.proofs.Math.Path.{fun_ext}
 use Rattle.std.proofs.Math.ListN.{get_or}
 use Rattle.twp_grid.specs.Townships.{Designation}
 use Rattle.twp_grammar.specs.declared.item.Item.{Item}
 use Rattle.twp_grammar.specs.declared.item.Item.TheVariants.{Heading, Sections, Lots, Chain, All}
-use Rattle.twp_grammar.specs.ItemPlaces.{ItemOfSection, item_places, section_behind, with_sections, parts_of, land_of}
+use Rattle.twp_grammar.specs.ItemPlaces.{ItemOfSection, item_places, section_behind, with_sections, parts_of}
+use Rattle.twp_grammar.specs.ItemPlaces.{land_of}
 use Rattle.twp_land.specs.Lands.{SharePlace}
 use Rattle.twp_grammar.specs.OnPlat.{LiesOnPlat, AreOnPlat}
 use Rattle.twp_grammar.specs.ItemPlaces.{item_of}
@@ -22,29 +24,38 @@ pub record IsMade {T U : Type 0} (f : T → U) (list : List T) (made : U) : Type
   pub there : Among thing list
   pub is : made ≡ f thing
 
-pub made_of : {T U : Type 0} (f : T → U) (made : U) (list : List T) → Among made (map f list) → IsMade f list made
+pub made_of : {T U : Type 0} (f : T → U) (made : U) (list : List T) → Among made (map f list)
+    → IsMade f list made
 made_of f made [] there = absurd there
 made_of f made (first ∷ list) (inl here) = record { thing = first; there = inl refl; is = here }
 made_of f made (first ∷ list) (inr later) =
     let found = made_of f made list later in
     record { thing = found.thing; there = inr found.there; is = found.is }
 
-pub order_map : {T U : Type 0} (f : T → U) (before : U → U → Type 0) (list : List T) → InOrder (λ x y. before (f x) (f y)) list → InOrder before (map f list)
+pub order_map : {T U : Type 0} (f : T → U) (before : U → U → Type 0) (list : List T)
+    → InOrder (λ x y. before (f x) (f y)) list → InOrder before (map f list)
 order_map f before [] order = tt
 order_map f before (first ∷ list) order = (
-  (λ made there. let from = made_of f made list there in subst (λ z. before (f first) z) (sym from.is) (order.0 from.thing from.there)),
+  (λ made there.
+      let from = made_of f made list there in
+      subst (λ z. before (f first) z) (sym from.is) (order.0 from.thing from.there)),
   order_map f before list order.1,
 )
 
-pub order_of_map : {T U : Type 0} (f : T → U) (before : U → U → Type 0) (list : List T) → InOrder before (map f list) → InOrder (λ x y. before (f x) (f y)) list
+pub order_of_map : {T U : Type 0} (f : T → U) (before : U → U → Type 0) (list : List T)
+    → InOrder before (map f list) → InOrder (λ x y. before (f x) (f y)) list
 order_of_map f before [] order = tt
 order_of_map f before (first ∷ list) order =
     ((λ thing there. order.0 (f thing) (among_map f thing list there)), order_of_map f before list order.1)
 
-pub order_weaker : {T : Type 0} (before other : T → T → Type 0) (list : List T) → ((x y : T) → Among x list → Among y list → before x y → other x y) → InOrder before list → InOrder other list
+pub order_weaker : {T : Type 0} (before other : T → T → Type 0) (list : List T)
+    → ((x y : T) → Among x list → Among y list → before x y → other x y) → InOrder before list
+    → InOrder other list
 order_weaker before other [] to order = tt
-order_weaker before other (first ∷ list) to order =
-    ((λ thing there. to first thing (inl refl) (inr there) (order.0 thing there)), order_weaker before other list (λ x y there there'. to x y (inr there) (inr there')) order.1)
+order_weaker before other (first ∷ list) to order = (
+  (λ thing there. to first thing (inl refl) (inr there) (order.0 thing there)),
+  order_weaker before other list (λ x y there there'. to x y (inr there) (inr there')) order.1,
+)
 
 -- no place is named by both
 abbrev pub AreApart : ℕ → ItemOfSection → ItemOfSection → Type 0
@@ -66,13 +77,16 @@ same_section section (Lots first last) = refl
 same_section section (Chain steps at) = refl
 same_section section (All at) = refl
 
-unplaced_parts : (items : List Item) (section : ℕ) → with_sections section (map unplaced items) ≡ map unplaced_part (with_sections section items)
+unplaced_parts : (items : List Item) (section : ℕ)
+    → with_sections section (map unplaced items) ≡ map unplaced_part (with_sections section items)
 unplaced_parts [] section = refl
 unplaced_parts (it ∷ items) section =
     ap (λ ps. item_of section (unplaced it) ∷ ps)
-    (ap (λ s. with_sections s (map unplaced items)) (same_section section it) ∙ unplaced_parts items (section_behind section it))
+    (ap (λ s. with_sections s (map unplaced items)) (same_section section it)
+    ∙ unplaced_parts items (section_behind section it))
 
-places_at : (g section : ℕ) (it : Item) (s c r : ℕ) → item_places g (item_of section (unplaced it)) s c r ≡ item_places g (item_of section it) s c r
+places_at : (g section : ℕ) (it : Item) (s c r : ℕ)
+    → item_places g (item_of section (unplaced it)) s c r ≡ item_places g (item_of section it) s c r
 places_at g section (Heading n side range way at) s c r = refl
 places_at g section (Sections first last true) s c r = refl
 places_at g section (Sections first last false) s c r = refl
@@ -83,39 +97,57 @@ places_at g section (All at) s c r = refl
 same_places : (g : ℕ) (p : ItemOfSection) → item_places g (unplaced_part p) ≡ item_places g p
 same_places g p = fun_ext (λ s. fun_ext (λ c. fun_ext (λ r. places_at g p.section p.item s c r)))
 
-lies_also : (g : ℕ) (township : Designation) (section : ℕ) (it : Item) → LiesOnPlat g township section (unplaced it) → LiesOnPlat g township section it
+lies_also : (g : ℕ) (township : Designation) (section : ℕ) (it : Item)
+    → LiesOnPlat g township section (unplaced it) → LiesOnPlat g township section it
 lies_also g township section (Heading n side range way at) lies = lies
 lies_also g township section (Sections first last whole) lies = lies
 lies_also g township section (Lots first last) lies = lies
-lies_also g township section (Chain steps at) lies =
-    (lies.0, λ of_lot. lies.1 (record { column = of_lot.column; row = of_lot.row; named = of_lot.named; of_lot = of_lot.of_lot }))
+lies_also g township section (Chain steps at) lies = (
+  lies.0,
+  λ of_lot. lies.1 (record {
+    column = of_lot.column;
+    row = of_lot.row;
+    named = of_lot.named;
+    of_lot = of_lot.of_lot;
+  }),
+)
 lies_also g township section (All at) lies = lies
 
-any_mapped : {T : Type 0} (f : T → T) (test : T → Bool) (list : List T) → ((x : T) → test (f x) ≡ test x) → list_any test (map f list) ≡ list_any test list
+any_mapped : {T : Type 0} (f : T → T) (test : T → Bool) (list : List T) → ((x : T) → test (f x) ≡ test x)
+    → list_any test (map f list) ≡ list_any test list
 any_mapped f test [] same = refl
 any_mapped f test (first ∷ list) same =
-    ap (λ b. b || list_any test (map f list)) (same first) ∙ ap (λ b. test first || b) (any_mapped f test list same)
+    ap (λ b. b || list_any test (map f list)) (same first)
+    ∙ ap (λ b. test first || b) (any_mapped f test list same)
 
 -- items that are fine but for their places in the text lie on the plat
-pub fine_on_plat : (g : ℕ) (township : Designation) (items : List Item) → AreFine g township (parts_of (map unplaced items)) → AreOnPlat g township items
+pub fine_on_plat : (g : ℕ) (township : Designation) (items : List Item)
+    → AreFine g township (parts_of (map unplaced items)) → AreOnPlat g township items
 fine_on_plat g township items fine =
     let same = unplaced_parts items 0 in
-    let here : AreFine g township (map unplaced_part (parts_of items)) = subst (λ ps. AreFine g township ps) same fine in
+    let here : AreFine g township (map unplaced_part (parts_of items)) =
+    subst (λ ps. AreFine g township ps) same fine in
     record {
       each = λ k d below.
           let p = get_or (parts_of items) k d in
-          lies_also g township p.section p.item (here.each (unplaced_part p) (among_map unplaced_part p (parts_of items) (among_at (parts_of items) k d below)));
+          lies_also g township p.section p.item
+          (here.each (unplaced_part p)
+          (among_map unplaced_part p (parts_of items) (among_at (parts_of items) k d below)));
       apart = order_pairs (AreApart g) (parts_of items)
           (order_weaker (λ x y. AreApart g (unplaced_part x) (unplaced_part y)) (AreApart g) (parts_of items)
-          (λ x y there there' apart. subst (λ q. ¬ SharePlace (item_places g x) q) (same_places g y) (subst (λ q. ¬ SharePlace q (item_places g (unplaced_part y))) (same_places g x) apart))
+          (λ x y there there' apart.
+          subst (λ q. ¬ SharePlace (item_places g x) q) (same_places g y)
+          (subst (λ q. ¬ SharePlace q (item_places g (unplaced_part y))) (same_places g x) apart))
           (order_of_map unplaced_part (AreApart g) (parts_of items) here.apart));
     }
 
 -- and their land is the same
-pub same_land : (g : ℕ) (items : List Item) → land_of g (parts_of (map unplaced items)) ≡ land_of g (parts_of items)
+pub same_land : (g : ℕ) (items : List Item)
+    → land_of g (parts_of (map unplaced items)) ≡ land_of g (parts_of items)
 same_land g items = fun_ext (λ s. fun_ext (λ c. fun_ext (λ r.
     ap (λ ps. land_of g ps s c r) (unplaced_parts items 0)
-    ∙ any_mapped unplaced_part (λ p. item_places g p s c r) (parts_of items) (λ p. places_at g p.section p.item s c r))))
+    ∙ any_mapped unplaced_part (λ p. item_places g p s c r) (parts_of items)
+    (λ p. places_at g p.section p.item s c r))))
 
 -- the items of a section's list, each with its section
 abbrev pub entry_parts : ℕ → ListEntry → List ItemOfSection
@@ -128,27 +160,36 @@ list_parts line = flat_map (entry_parts line.section) (line.first ∷ line.more)
 abbrev pub lines_parts : ℕ → List SectionLine → List ItemOfSection
 lines_parts earlier [] = []
 lines_parts earlier (line ∷ lines) =
-    item_of earlier (Sections (bare line.section) (bare line.section) false) ∷ (list_parts line ++ lines_parts line.section lines)
+    item_of earlier (Sections (bare line.section) (bare line.section) false)
+    ∷ (list_parts line ++ lines_parts line.section lines)
 
-numbers_parts : (section : ℕ) (ns : List ℕ) (more : List Item) → with_sections section (map one_lot ns ++ more) ≡ map (λ it. item_of section it) (map one_lot ns) ++ with_sections section more
+numbers_parts : (section : ℕ) (ns : List ℕ) (more : List Item)
+    → with_sections section (map one_lot ns ++ more)
+    ≡ map (λ it. item_of section it) (map one_lot ns) ++ with_sections section more
 numbers_parts section [] more = refl
-numbers_parts section (n ∷ ns) more = ap (λ ps. item_of section (one_lot n) ∷ ps) (numbers_parts section ns more)
+numbers_parts section (n ∷ ns) more =
+    ap (λ ps. item_of section (one_lot n) ∷ ps) (numbers_parts section ns more)
 
-parts_of_entry : (section : ℕ) (e : ListEntry) (more : List Item) → with_sections section (entry_items e ++ more) ≡ entry_parts section e ++ with_sections section more
+parts_of_entry : (section : ℕ) (e : ListEntry) (more : List Item)
+    → with_sections section (entry_items e ++ more) ≡ entry_parts section e ++ with_sections section more
 parts_of_entry section all_entry more = refl
 parts_of_entry section (lot_entry n ns) more = numbers_parts section (n ∷ ns) more
 parts_of_entry section (part_entry s ss) more = refl
 
-parts_of_entries : (section : ℕ) (es : List ListEntry) (more : List Item) → with_sections section (flat_map entry_items es ++ more) ≡ flat_map (entry_parts section) es ++ with_sections section more
+parts_of_entries : (section : ℕ) (es : List ListEntry) (more : List Item)
+    → with_sections section (flat_map entry_items es ++ more)
+    ≡ flat_map (entry_parts section) es ++ with_sections section more
 parts_of_entries section [] more = refl
 parts_of_entries section (e ∷ es) more =
     ap (λ its. with_sections section its) (append_assoc (entry_items e) (flat_map entry_items es) more)
     ∙ parts_of_entry section e (flat_map entry_items es ++ more)
     ∙ ap (λ ps. entry_parts section e ++ ps) (parts_of_entries section es more)
-    ∙ sym (append_assoc (entry_parts section e) (flat_map (entry_parts section) es) (with_sections section more))
+    ∙ sym
+    (append_assoc (entry_parts section e) (flat_map (entry_parts section) es) (with_sections section more))
 
 -- the parts of the lines
-pub parts_of_lines : (lines : List SectionLine) (earlier : ℕ) → with_sections earlier (flat_map line_items lines) ≡ lines_parts earlier lines
+pub parts_of_lines : (lines : List SectionLine) (earlier : ℕ)
+    → with_sections earlier (flat_map line_items lines) ≡ lines_parts earlier lines
 parts_of_lines [] earlier = refl
 parts_of_lines (line ∷ lines) earlier =
     ap (λ ps. item_of earlier (Sections (bare line.section) (bare line.section) false) ∷ ps)

@@ -1,5 +1,7 @@
 -- Texts of lots, of sections and of lands that grow piece by piece.
-use Rattle.std.proofs.Common.{◌≡◌, ℕ, zero, suc, ◌+◌, ◌<◌, ◌≤◌, ◌⊎◌, Bool, true, false, List, [], ◌∷◌, ◌++◌, map, length, Option, Some, None, Result, Ok, Err, OnOk, refl, sym, ap, subst, ◌∙◌, inl, inr, arith, codes, decimal}
+use Rattle.std.proofs.Common.{◌≡◌, ℕ, zero, suc, ◌+◌, ◌<◌, ◌≤◌, ◌⊎◌, Bool, true, false, List, [], ◌∷◌, ◌++◌}
+use Rattle.std.proofs.Common.{map, length, Option, Some, None, Result, Ok, Err, OnOk, refl, sym, ap, subst}
+use Rattle.std.proofs.Common.{◌∙◌, inl, inr, arith, codes, decimal}
 use Rattle.std.specs.List.{AllZip, Contains, join_by}
 use Rattle.std.proofs.Math.ListN.{get_or, take}
 use Rattle.std.proofs.lemmas.Bool.{cases_lt, false≢true}
@@ -11,7 +13,9 @@ use Rattle.twp_grid.specs.Winding.{IsSection}
 use Rattle.twp_land.specs.WholeLots.{lot_of_place}
 use Rattle.twp_spell.specs.Listing.{AreListed}
 use Rattle.twp_spell.specs.WrittenParts.{Part, AreWrittenParts}
-use Rattle.twp_spell.specs.CanonicalText.{part_text, with_commas, lots_entry, off_lots, HoldsSome, HoldsEach, IsLotHeld, IsSectionText, heading_line, line_end, land_lines, IsSectionOfLand, IsCanonicalText}
+use Rattle.twp_spell.specs.CanonicalText.{part_text, with_commas, lots_entry, off_lots, HoldsSome, HoldsEach}
+use Rattle.twp_spell.specs.CanonicalText.{IsLotHeld, IsSectionText, heading_line, line_end, land_lines}
+use Rattle.twp_spell.specs.CanonicalText.{IsSectionOfLand, IsCanonicalText}
 use Rattle.twp_spell.specs.CanonicalText.IsSectionList.{all, by_parts}
 use Rattle.twp_spell.specs.Spelling.{parts_text, AreWritten}
 use Rattle.twp_spell.specs.SpellingSteps.{entries_text, HasLots, HasSection, lines_begun, AreBegun}
@@ -28,11 +32,16 @@ on_ok (Err fault) P Q is follows = is
 abbrev pub Below : (ℕ → Type 0) → ℕ → ℕ → Type 0
 Below has number n = has n × (n < number)
 
-pub below_none : (has : ℕ → Type 0) (number : ℕ) → ((n : ℕ) → has n → number ≤ n) → AreListed (Below has number) ◌<◌ []
-below_none has number least = listed_none (Below has number) ◌<◌ (λ n it. let more = least n it.0 in absurd (omega (arith, it.1)))
+pub below_none : (has : ℕ → Type 0) (number : ℕ) → ((n : ℕ) → has n → number ≤ n)
+    → AreListed (Below has number) ◌<◌ []
+below_none has number least =
+    listed_none (Below has number) ◌<◌ (λ n it. let more = least n it.0 in absurd (omega (arith, it.1)))
 
-pub below_skip : (has : ℕ → Type 0) (number : ℕ) (list : List ℕ) → AreListed (Below has number) ◌<◌ list → ¬ has number → AreListed (Below has (number + 1)) ◌<◌ list
-below_skip has number list are not = listed_as (Below has number) (Below has (number + 1)) ◌<◌ list (λ n it. (it.0, omega (arith, it.1))) (λ n it. (it.0, below n it)) are
+pub below_skip : (has : ℕ → Type 0) (number : ℕ) (list : List ℕ) → AreListed (Below has number) ◌<◌ list
+    → ¬ has number → AreListed (Below has (number + 1)) ◌<◌ list
+below_skip has number list are not =
+    listed_as (Below has number) (Below has (number + 1)) ◌<◌ list (λ n it. (it.0, omega (arith, it.1)))
+    (λ n it. (it.0, below n it)) are
   where
     below : (n : ℕ) → Below has (number + 1) n → n < number
     below n it = elim (cases_lt n number) [
@@ -42,29 +51,39 @@ below_skip has number list are not = listed_as (Below has number) (Below has (nu
           absurd (not (subst has same it.0))
     ]
 
-pub below_more : (has : ℕ → Type 0) (number : ℕ) (list : List ℕ) → AreListed (Below has number) ◌<◌ list → has number → AreListed (Below has (number + 1)) ◌<◌ (list ++ number ∷ [])
+pub below_more : (has : ℕ → Type 0) (number : ℕ) (list : List ℕ) → AreListed (Below has number) ◌<◌ list
+    → has number → AreListed (Below has (number + 1)) ◌<◌ (list ++ number ∷ [])
 below_more has number list are it =
-    listed_as (λ n. Below has number n ⊎ (n ≡ number)) (Below has (number + 1)) ◌<◌ (list ++ number ∷ []) to from
-    (listed_both (Below has number) (λ n. n ≡ number) ◌<◌ list (number ∷ []) are (listed_one (λ n. n ≡ number) ◌<◌ number refl (λ n is. is)) (λ m n lower is. omega (arith, lower.1)))
+    listed_as (λ n. Below has number n ⊎ (n ≡ number)) (Below has (number + 1)) ◌<◌ (list ++ number ∷ []) to
+    from
+    (listed_both (Below has number) (λ n. n ≡ number) ◌<◌ list (number ∷ []) are
+    (listed_one (λ n. n ≡ number) ◌<◌ number refl (λ n is. is)) (λ m n lower is. omega (arith, lower.1)))
   where
     to : (n : ℕ) → Below has number n ⊎ (n ≡ number) → Below has (number + 1) n
     to n (inl lower) = (lower.0, omega (arith, lower.1))
     to n (inr same) = (subst has (sym same) it, omega arith)
 
     from : (n : ℕ) → Below has (number + 1) n → Below has number n ⊎ (n ≡ number)
-    from n both = elim (cases_lt n number) [ inl less ↦ inl (both.0, less) | inr more ↦ inr (omega (arith, both.1)) ]
+    from n both =
+        elim (cases_lt n number) [ inl less ↦ inl (both.0, less) | inr more ↦ inr (omega (arith, both.1)) ]
 
-pub below_all : (has : ℕ → Type 0) (number : ℕ) (list : List ℕ) → AreListed (Below has number) ◌<◌ list → ((n : ℕ) → has n → n < number) → AreListed has ◌<◌ list
-below_all has number list are all_below = listed_as (Below has number) has ◌<◌ list (λ n it. it.0) (λ n it. (it, all_below n it)) are
+pub below_all : (has : ℕ → Type 0) (number : ℕ) (list : List ℕ) → AreListed (Below has number) ◌<◌ list
+    → ((n : ℕ) → has n → n < number) → AreListed has ◌<◌ list
+below_all has number list are all_below =
+    listed_as (Below has number) has ◌<◌ list (λ n it. it.0) (λ n it. (it, all_below n it)) are
 
 -- the numbers of a section's lots
 abbrev pub numbers_text : List ℕ → List ℕ
 numbers_text lots = with_commas (map decimal lots)
 
-pub numbers_begin : (old lead mid new lots : List ℕ) (d : ℕ) → 0 < length lots → mid ≡ old ++ lead → new ≡ mid ++ decimal (get_or lots 0 d) → new ≡ old ++ (lead ++ numbers_text (take 1 lots))
+pub numbers_begin : (old lead mid new lots : List ℕ) (d : ℕ) → 0 < length lots → mid ≡ old ++ lead
+    → new ≡ mid ++ decimal (get_or lots 0 d) → new ≡ old ++ (lead ++ numbers_text (take 1 lots))
 numbers_begin old lead mid new [] d some is is' = absurd (omega arith)
 numbers_begin old lead mid new (lot ∷ lots) d some is is' =
-    is' ∙ ap (λ t. t ++ decimal lot) is ∙ append_assoc old lead (decimal lot) ∙ ap (λ t. old ++ (lead ++ t)) (sym (append-nil (decimal lot)))
+    is'
+    ∙ ap (λ t. t ++ decimal lot) is
+    ∙ append_assoc old lead (decimal lot)
+    ∙ ap (λ t. old ++ (lead ++ t)) (sym (append-nil (decimal lot)))
 
 -- what stands ahead of so many lots' numbers
 pub lead_of : ℕ → List ℕ
@@ -72,75 +91,110 @@ lead_of zero = codes ", lots "
 lead_of (suc zero) = codes ", lot "
 lead_of (suc (suc n)) = codes ", lots "
 
-pub lead_is : (count : ℕ) (lead : List ℕ) → (count ≡ 1 → lead ≡ codes ", lot ") → (¬ (count ≡ 1) → lead ≡ codes ", lots ") → lead ≡ lead_of count
+pub lead_is : (count : ℕ) (lead : List ℕ) → (count ≡ 1 → lead ≡ codes ", lot ")
+    → (¬ (count ≡ 1) → lead ≡ codes ", lots ") → lead ≡ lead_of count
 unfolding lead_of
 lead_is zero lead one several = several (λ same. absurd (omega (arith, same)))
 lead_is (suc zero) lead one several = one refl
 lead_is (suc (suc n)) lead one several = several (λ same. absurd (omega (arith, same)))
 
 -- the entry of the lots
-pub lots_done : (old new lots : List ℕ) → 0 < length lots → new ≡ old ++ (lead_of (length lots) ++ numbers_text lots) → new ≡ old ++ entries_text (lots_entry lots)
+pub lots_done : (old new lots : List ℕ) → 0 < length lots
+    → new ≡ old ++ (lead_of (length lots) ++ numbers_text lots) → new ≡ old ++ entries_text (lots_entry lots)
 unfolding lead_of
 lots_done old new [] some is = absurd (omega arith)
 lots_done old new (lot ∷ []) some is = is
 lots_done old new (lot ∷ next ∷ more) some is =
     is ∙ ap (λ t. old ++ (codes ", lots " ++ t)) (sym (append-nil (numbers_text (lot ∷ next ∷ more))))
 
-pub lots_end : (old new lots : List ℕ) (i : ℕ) → 1 ≤ i → i ≡ length lots → new ≡ old ++ (lead_of (length lots) ++ numbers_text (take i lots)) → new ≡ old ++ entries_text (lots_entry lots)
+pub lots_end : (old new lots : List ℕ) (i : ℕ) → 1 ≤ i → i ≡ length lots
+    → new ≡ old ++ (lead_of (length lots) ++ numbers_text (take i lots))
+    → new ≡ old ++ entries_text (lots_entry lots)
 lots_end old new lots i first count is =
     lots_done old new lots (omega arith)
     (is ∙ ap (λ t. old ++ (lead_of (length lots) ++ numbers_text t)) (take_all i lots (omega arith)))
 
 -- a section that is held whole
-pub all_done : (g : ℕ) (places : ℕ → ℕ → ℕ → Bool) (section : ℕ) (old mid named new : List ℕ) → HoldsEach g (places section)
-    → mid ≡ old ++ codes "sec. " → named ≡ mid ++ decimal section → new ≡ named ++ codes ", all" → HasSection g places section old new
+pub all_done : (g : ℕ) (places : ℕ → ℕ → ℕ → Bool) (section : ℕ) (old mid named new : List ℕ)
+    → HoldsEach g (places section)
+    → mid ≡ old ++ codes "sec. " → named ≡ mid ++ decimal section → new ≡ named ++ codes ", all"
+    → HasSection g places section old new
 all_done g places section old mid named new each is is' is'' = record {
   line = codes "sec. " ++ decimal section ++ codes ", " ++ codes "all";
   is = record { list = codes "all"; list_is = all each refl; text_is = refl };
-  text_is = is'' ∙ ap (λ t. t ++ codes ", all") (is' ∙ ap (λ t. t ++ decimal section) is ∙ append_assoc old (codes "sec. ") (decimal section))
+  text_is =
+      is''
+      ∙ ap (λ t. t ++ codes ", all")
+      (is' ∙ ap (λ t. t ++ decimal section) is ∙ append_assoc old (codes "sec. ") (decimal section))
       ∙ append_assoc old (codes "sec. " ++ decimal section) (codes ", all")
       ∙ ap (λ t. old ++ t) (sym (append_assoc (codes "sec. " ++ decimal section) (codes ", ") (codes "all")));
 }
 
 -- a section's list isn't empty: some place is held, of a lot or off the lots
-no_entry : (lots : List ℕ) (parts : List Part) → (lots_entry lots ++ map part_text parts) ≡ [] → (lots ≡ []) × (parts ≡ [])
+no_entry : (lots : List ℕ) (parts : List Part) → (lots_entry lots ++ map part_text parts) ≡ []
+    → (lots ≡ []) × (parts ≡ [])
 no_entry [] [] is = (refl, refl)
 no_entry [] (part ∷ parts) is = cc is
 no_entry (lot ∷ []) parts is = cc is
 no_entry (lot ∷ next ∷ lots) parts is = cc is
 
-some_entry : (g section : ℕ) (held : ℕ → ℕ → Bool) (lots : List ℕ) (parts : List Part) → HoldsSome g held → AreListed (IsLotHeld g section held) ◌<◌ lots
+some_entry : (g section : ℕ) (held : ℕ → ℕ → Bool) (lots : List ℕ) (parts : List Part) → HoldsSome g held
+    → AreListed (IsLotHeld g section held) ◌<◌ lots
     → AreWrittenParts g (off_lots g section held) parts → ¬ ((lots_entry lots ++ map part_text parts) ≡ [])
-some_entry g section held lots parts some lots_are parts_are none = go (lot_of_place g section some.column some.row) refl
+some_entry g section held lots parts some lots_are parts_are none =
+    go (lot_of_place g section some.column some.row) refl
   where
     go : (lot : Option ℕ) → lot_of_place g section some.column some.row ≡ lot → ⊥
     go (Some lot) is =
-        let there = (lots_are.listed lot).0 (record { column = some.column; row = some.row; place = some.place; of_lot = is; is_held = some.is_held }) in
+        let there = (lots_are.listed lot).0 (record {
+          column = some.column;
+          row = some.row;
+          place = some.place;
+          of_lot = is;
+          is_held = some.is_held;
+        }) in
         contains_among lot [] (subst (λ l. Contains l lot) (no_entry lots parts none).0 there)
     go None is =
         let off : off_lots g section held some.column some.row ≡ true = rw (some.is_held, is) refl in
-        let found = (hold_all g (off_lots g section held) parts parts_are some.column some.row some.place).0 off in
+        let found =
+        (hold_all g (off_lots g section held) parts parts_are some.column some.row some.place).0 off in
         contains_among found.0 [] (subst (λ l. Contains l found.0) (no_entry lots parts none).1 found.1)
 
-entries_behind : (entries : List (List ℕ)) → ¬ (entries ≡ []) → entries_text entries ≡ codes ", " ++ with_commas entries
+entries_behind : (entries : List (List ℕ)) → ¬ (entries ≡ [])
+    → entries_text entries ≡ codes ", " ++ with_commas entries
 entries_behind [] some = absurd (some refl)
 entries_behind (first ∷ entries) some = refl
 
 -- a section that isn't held whole
-pub parts_done : (g : ℕ) (places : ℕ → ℕ → ℕ → Bool) (section : ℕ) (old mid named lotted new : List ℕ) → ¬ HoldsEach g (places section) → HoldsSome g (places section)
-    → mid ≡ old ++ codes "sec. " → named ≡ mid ++ decimal section → HasLots g section (places section) named lotted
-    → AreWritten (AreWrittenParts g (off_lots g section (places section))) lotted new → HasSection g places section old new
+pub parts_done : (g : ℕ) (places : ℕ → ℕ → ℕ → Bool) (section : ℕ) (old mid named lotted new : List ℕ)
+    → ¬ HoldsEach g (places section) → HoldsSome g (places section)
+    → mid ≡ old ++ codes "sec. " → named ≡ mid ++ decimal section
+    → HasLots g section (places section) named lotted
+    → AreWritten (AreWrittenParts g (off_lots g section (places section))) lotted new
+    → HasSection g places section old new
 parts_done g places section old mid named lotted new short some is is' has_lots has_parts =
     let entries = lots_entry has_lots.lots ++ map part_text has_parts.parts in
     let name = codes "sec. " ++ decimal section in
     let texts : entries_text entries ≡ entries_text (lots_entry has_lots.lots) ++ parts_text has_parts.parts =
     flat_map-append (λ entry. codes ", " ++ entry) (lots_entry has_lots.lots) (map part_text has_parts.parts)
-    ∙ ap (λ t. entries_text (lots_entry has_lots.lots) ++ t) (flat_map-map (λ entry. codes ", " ++ entry) part_text has_parts.parts) in
-    let behind = entries_behind entries (some_entry g section (places section) has_lots.lots has_parts.parts some has_lots.are has_parts.are) in
+    ∙ ap (λ t. entries_text (lots_entry has_lots.lots) ++ t)
+    (flat_map-map (λ entry. codes ", " ++ entry) part_text has_parts.parts) in
+    let behind =
+    entries_behind entries
+    (some_entry g section (places section) has_lots.lots has_parts.parts some has_lots.are has_parts.are) in
     record {
       line = name ++ codes ", " ++ with_commas entries;
-      is = record { list = with_commas entries; list_is = by_parts short has_lots.lots has_parts.parts has_lots.are has_parts.are refl; text_is = refl };
-      text_is = has_parts.text_is ∙ ap (λ t. t ++ parts_text has_parts.parts) (has_lots.text_is ∙ ap (λ t. t ++ entries_text (lots_entry has_lots.lots)) (is' ∙ ap (λ t. t ++ decimal section) is ∙ append_assoc old (codes "sec. ") (decimal section)))
+      is = record {
+        list = with_commas entries;
+        list_is = by_parts short has_lots.lots has_parts.parts has_lots.are has_parts.are refl;
+        text_is = refl;
+      };
+      text_is =
+          has_parts.text_is
+          ∙ ap (λ t. t ++ parts_text has_parts.parts)
+          (has_lots.text_is
+          ∙ ap (λ t. t ++ entries_text (lots_entry has_lots.lots))
+          (is' ∙ ap (λ t. t ++ decimal section) is ∙ append_assoc old (codes "sec. ") (decimal section)))
           ∙ append_assoc (old ++ name) (entries_text (lots_entry has_lots.lots)) (parts_text has_parts.parts)
           ∙ append_assoc old name (entries_text (lots_entry has_lots.lots) ++ parts_text has_parts.parts)
           ∙ ap (λ t. old ++ (name ++ t)) (sym texts ∙ behind)
@@ -152,14 +206,17 @@ is_more : List ℕ → Bool
 is_more [] = false
 is_more (c ∷ cs) = true
 
-begun_more : (township : Designation) (line : List ℕ) (lines : List (List ℕ)) (text : List ℕ) → text ≡ lines_begun township (line ∷ lines) → ¬ (text ≡ [])
+begun_more : (township : Designation) (line : List ℕ) (lines : List (List ℕ)) (text : List ℕ)
+    → text ≡ lines_begun township (line ∷ lines) → ¬ (text ≡ [])
 unfolding is_more
 begun_more township line lines text is none =
     let same : [] ≡ lines_begun township (line ∷ lines) = sym none ∙ is in
     false≢true (ap is_more same)
 
-line_more : (township : Designation) (lines : List (List ℕ)) (line old mid new : List ℕ) → old ≡ lines_begun township lines → (old ≡ [] → mid ≡ heading_line township)
-    → (¬ (old ≡ []) → mid ≡ old ++ (codes ";" ++ line_end)) → new ≡ mid ++ line → new ≡ lines_begun township (lines ++ line ∷ [])
+line_more : (township : Designation) (lines : List (List ℕ)) (line old mid new : List ℕ)
+    → old ≡ lines_begun township lines → (old ≡ [] → mid ≡ heading_line township)
+    → (¬ (old ≡ []) → mid ≡ old ++ (codes ";" ++ line_end)) → new ≡ mid ++ line
+    → new ≡ lines_begun township (lines ++ line ∷ [])
 line_more township [] line old mid new begun first behind is =
     is ∙ ap (λ t. t ++ line) (first begun) ∙ ap (λ t. heading_line township ++ t) (sym (append-nil line))
 line_more township (top ∷ lines) line old mid new begun first behind is =
@@ -170,14 +227,16 @@ line_more township (top ∷ lines) line old mid new begun first behind is =
     ∙ append_assoc (heading_line township) texts (sep ++ line)
     ∙ ap (λ t. heading_line township ++ t) (flat_map_more (λ y. sep ++ y) top lines line)
 
-zip_more : {A B : Type 0} (R : A → B → Type 0) (xs : List A) (ys : List B) (x : A) (y : B) → AllZip R xs ys → R x y → AllZip R (xs ++ x ∷ []) (ys ++ y ∷ [])
+zip_more : {A B : Type 0} (R : A → B → Type 0) (xs : List A) (ys : List B) (x : A) (y : B) → AllZip R xs ys
+    → R x y → AllZip R (xs ++ x ∷ []) (ys ++ y ∷ [])
 zip_more R [] [] x y are is = (is, tt)
 zip_more R [] (y' ∷ ys) x y are is = absurd are
 zip_more R (x' ∷ xs) [] x y are is = absurd are
 zip_more R (x' ∷ xs) (y' ∷ ys) x y are is = (are.0, zip_more R xs ys x y are.1 is)
 
 -- the sections below a number
-pub begun_none : (g : ℕ) (township : Designation) (places : ℕ → ℕ → ℕ → Bool) (text : List ℕ) → text ≡ [] → AreBegun g township places 1 text
+pub begun_none : (g : ℕ) (township : Designation) (places : ℕ → ℕ → ℕ → Bool) (text : List ℕ) → text ≡ []
+    → AreBegun g township places 1 text
 begun_none g township places text none = record {
   sections = [];
   lines = [];
@@ -186,40 +245,50 @@ begun_none g township places text none = record {
   text_is = none;
 }
 
-pub begun_skip : (g : ℕ) (township : Designation) (places : ℕ → ℕ → ℕ → Bool) (number : ℕ) (text : List ℕ) → AreBegun g township places number text
+pub begun_skip : (g : ℕ) (township : Designation) (places : ℕ → ℕ → ℕ → Bool) (number : ℕ) (text : List ℕ)
+    → AreBegun g township places number text
     → ¬ HoldsSome g (places number) → AreBegun g township places (number + 1) text
 begun_skip g township places number text begun none = record {
   sections = begun.sections;
   lines = begun.lines;
-  sections_are = below_skip (IsSectionOfLand g places) number begun.sections begun.sections_are (λ it. none it.1);
+  sections_are =
+      below_skip (IsSectionOfLand g places) number begun.sections begun.sections_are (λ it. none it.1);
   lines_are = begun.lines_are;
   text_is = begun.text_is;
 }
 
-pub begun_next : (g : ℕ) (township : Designation) (places : ℕ → ℕ → ℕ → Bool) (number : ℕ) (old mid new : List ℕ) → AreBegun g township places number old → IsSection number
-    → HoldsSome g (places number) → (old ≡ [] → mid ≡ heading_line township) → (¬ (old ≡ []) → mid ≡ old ++ (codes ";" ++ line_end))
+pub begun_next : (g : ℕ) (township : Designation) (places : ℕ → ℕ → ℕ → Bool) (number : ℕ)
+    (old mid new : List ℕ)
+    → AreBegun g township places number old → IsSection number
+    → HoldsSome g (places number) → (old ≡ [] → mid ≡ heading_line township)
+    → (¬ (old ≡ []) → mid ≡ old ++ (codes ";" ++ line_end))
     → HasSection g places number mid new → AreBegun g township places (number + 1) new
 begun_next g township places number old mid new begun range some first behind last = record {
   sections = begun.sections ++ number ∷ [];
   lines = begun.lines ++ last.line ∷ [];
   sections_are = below_more (IsSectionOfLand g places) number begun.sections begun.sections_are (range, some);
-  lines_are = zip_more (IsSectionText g places) begun.sections begun.lines number last.line begun.lines_are last.is;
+  lines_are =
+      zip_more (IsSectionText g places) begun.sections begun.lines number last.line begun.lines_are last.is;
   text_is = line_more township begun.lines last.line old mid new begun.text_is first behind last.text_is;
 }
 
-lines_end : (township : Designation) (lines : List (List ℕ)) (old new : List ℕ) → old ≡ lines_begun township lines → (old ≡ [] → new ≡ [])
+lines_end : (township : Designation) (lines : List (List ℕ)) (old new : List ℕ)
+    → old ≡ lines_begun township lines → (old ≡ [] → new ≡ [])
     → (¬ (old ≡ []) → new ≡ old ++ (codes "." ++ line_end)) → new ≡ land_lines township lines
 lines_end township [] old new begun none some = none begun
 lines_end township (line ∷ lines) old new begun none some =
     some (begun_more township line lines old begun) ∙ ap (λ t. t ++ (codes "." ++ line_end)) begun
     ∙ sym (append_assoc (lines_begun township (line ∷ lines)) (codes ".") line_end)
 
-pub begun_all : (g : ℕ) (township : Designation) (places : ℕ → ℕ → ℕ → Bool) (number : ℕ) (old new : List ℕ) → AreBegun g township places number old → 36 < number
-    → (old ≡ [] → new ≡ []) → (¬ (old ≡ []) → new ≡ old ++ (codes "." ++ line_end)) → IsCanonicalText g township places new
+pub begun_all : (g : ℕ) (township : Designation) (places : ℕ → ℕ → ℕ → Bool) (number : ℕ) (old new : List ℕ)
+    → AreBegun g township places number old → 36 < number
+    → (old ≡ [] → new ≡ []) → (¬ (old ≡ []) → new ≡ old ++ (codes "." ++ line_end))
+    → IsCanonicalText g township places new
 begun_all g township places number old new begun all_below none some = record {
   sections = begun.sections;
   lines = begun.lines;
-  sections_are = below_all (IsSectionOfLand g places) number begun.sections begun.sections_are (λ n it. let most = it.0.1 in omega arith);
+  sections_are = below_all (IsSectionOfLand g places) number begun.sections begun.sections_are (λ n it.
+      let most = it.0.1 in omega arith);
   lines_are = begun.lines_are;
   text_is = lines_end township begun.lines old new begun.text_is none some;
 }

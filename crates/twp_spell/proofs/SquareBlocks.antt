@@ -1,5 +1,7 @@
 -- The blocks that squares and their halves fill.
-use Rattle.std.proofs.Common.{◌≡◌, ℕ, ◌-◌, ◌^◌, ◌<◌, ◌⊎◌, ◌&&◌, ◌↔◌, Bool, true, false, List, ◌∷◌, length, Option, Some, None, is_none, IsSome, IsTrue, not, refl, sym, ap, subst, ◌∙◌, inl, inr, arith}
+use Rattle.std.proofs.Common.{◌≡◌, ℕ, ◌-◌, ◌^◌, ◌<◌, ◌⊎◌, ◌&&◌, ◌↔◌, Bool, true, false, List, ◌∷◌, length}
+use Rattle.std.proofs.Common.{Option, Some, None, is_none, IsSome, IsTrue, not, refl, sym, ap, subst, ◌∙◌}
+use Rattle.std.proofs.Common.{inl, inr, arith}
 use Rattle.std.specs.Option.{SomeIff}
 use Rattle.std.proofs.lemmas.Bool.{cases_Bool, cases_lt, false≢true}
 use Rattle.twp_grid.specs.declared.block.Side.{Side}
@@ -18,21 +20,35 @@ use Rattle.twp_spell.specs.WrittenParts.Part.{square, half_of_square}
 use Rattle.twp_spell.specs.CanonicalText.{off_lots}
 use Rattle.twp_spell.specs.Spelling.{IsBlockOf}
 use Rattle.twp_grammar.proofs.CutPlaces.{outside, inside, more_left, more_than_one}
-use Rattle.twp_spell.proofs.SquareFacts.{quarter_steps, columns_long, rows_long, square_within, square_fits, half_within}
+use Rattle.twp_spell.proofs.SquareFacts.{quarter_steps, columns_long, rows_long, square_within, square_fits}
+use Rattle.twp_spell.proofs.SquareFacts.{half_within}
 use Rattle.twp_spell.proofs.SquarePlaces.{path, up, up_all, in_square, one_place}
 
 -- the places of a part's block
-pub block_places_of : (g : ℕ) (part : Part) (block : Rectangle) (column row : ℕ) → IsBlockOf g part block → IsInPart g part column row → in_rectangle block column row ≡ true
+pub block_places_of : (g : ℕ) (part : Part) (block : Rectangle) (column row : ℕ) → IsBlockOf g part block
+    → IsInPart g part column row → in_rectangle block column row ≡ true
 block_places_of g part block column row of_part there =
     ap (λ b. in_rectangle b column row) of_part.block_is
     ∙ held_as_asked g (cuts_of (steps_of_part part)) of_part.within column row there.place ∙ there.asked
 
-pub in_block : (g : ℕ) (part : Part) (block : Rectangle) (column row : ℕ) → IsBlockOf g part block → in_rectangle block column row ≡ true → IsInPart g part column row
+pub in_block : (g : ℕ) (part : Part) (block : Rectangle) (column row : ℕ) → IsBlockOf g part block
+    → in_rectangle block column row ≡ true → IsInPart g part column row
 in_block g part block column row of_part is = elim (cases_Bool (is_place g column row)) [
   | inl place ↦
       let there = inside g column row place in
-      record { place = there; asked = sym (held_as_asked g (cuts_of (steps_of_part part)) of_part.within column row there) ∙ ap (λ b. in_rectangle b column row) (sym of_part.block_is) ∙ is }
-  | inr not ↦ absurd (false≢true (sym (outside g (cuts_of (steps_of_part part)) column row of_part.within not) ∙ ap (λ b. in_rectangle b column row) (sym of_part.block_is) ∙ is))
+      record {
+        place = there;
+        asked =
+            sym (held_as_asked g (cuts_of (steps_of_part part)) of_part.within column row there)
+            ∙ ap (λ b. in_rectangle b column row) (sym of_part.block_is)
+            ∙ is;
+      }
+  | inr not ↦
+      absurd
+      (false≢true
+      (sym (outside g (cuts_of (steps_of_part part)) column row of_part.within not)
+      ∙ ap (λ b. in_rectangle b column row) (sym of_part.block_is)
+      ∙ is))
 ]
 
 -- off the lots
@@ -46,24 +62,34 @@ off_held true None is none = refl
 off_held true (Some lot) is none = absurd (none refl)
 off_held false lot is none = cc is
 
-pub full_block : (g section : ℕ) (held : ℕ → ℕ → Bool) (part : Part) (block : Rectangle) → IsBlockOf g part block
+pub full_block : (g section : ℕ) (held : ℕ → ℕ → Bool) (part : Part) (block : Rectangle)
+    → IsBlockOf g part block
     → HoldsAll held block → ¬ HoldsLotPlace g section block → IsFull g (off_lots g section held) part
 full_block g section held part block of_part all none = record {
   within = of_part.within;
   each = λ column row there.
       let is = block_places_of g part block column row of_part there in
-      off_held (held column row) (lot_of_place g section column row) (all column row is) (λ some. none (record { column = column; row = row; inside = is; of_lot = some }));
+      off_held (held column row) (lot_of_place g section column row) (all column row is)
+      (λ some. none (record { column = column; row = row; inside = is; of_lot = some }));
 }
 
-pub block_full : (g section : ℕ) (held : ℕ → ℕ → Bool) (part : Part) (block : Rectangle) → IsBlockOf g part block
+pub block_full : (g section : ℕ) (held : ℕ → ℕ → Bool) (part : Part) (block : Rectangle)
+    → IsBlockOf g part block
     → IsFull g (off_lots g section held) part → HoldsAll held block × ¬ HoldsLotPlace g section block
 block_full g section held part block of_part full = (
-  (λ column row is. (held_off (held column row) (lot_of_place g section column row) (full.each column row (in_block g part block column row of_part is))).0),
-  (λ place. (held_off (held place.column place.row) (lot_of_place g section place.column place.row) (full.each place.column place.row (in_block g part block place.column place.row of_part place.inside))).1 place.of_lot),
+  (λ column row is.
+      (held_off (held column row) (lot_of_place g section column row)
+      (full.each column row (in_block g part block column row of_part is))).0),
+  (λ place.
+      (held_off (held place.column place.row) (lot_of_place g section place.column place.row)
+      (full.each place.column place.row
+      (in_block g part block place.column place.row of_part place.inside))).1
+      place.of_lot),
 )
 
 -- where nothing of the block is held, nothing of the part is
-pub empty_block : (g section : ℕ) (held : ℕ → ℕ → Bool) (part : Part) (block : Rectangle) → IsBlockOf g part block → ¬ Meets held block
+pub empty_block : (g section : ℕ) (held : ℕ → ℕ → Bool) (part : Part) (block : Rectangle)
+    → IsBlockOf g part block → ¬ Meets held block
     → (column row : ℕ) → IsInPart g part column row → ¬ (off_lots g section held column row ≡ true)
 empty_block g section held part block of_part none column row there is =
     none (record {
@@ -74,17 +100,28 @@ empty_block g section held part block of_part none column row there is =
     })
 
 -- the blocks of halves and quarters
-pub half_block : (g : ℕ) (side : Side) (quarters : List Corner) (block : Rectangle) → length quarters < g → IsBlockOf g (square quarters) block → IsBlockOf g (half_of_square side quarters) (half_of block side)
-half_block g side quarters block fits of_square = record { within = half_within g side quarters fits; block_is = ap (λ b. half_of b side) of_square.block_is }
+pub half_block : (g : ℕ) (side : Side) (quarters : List Corner) (block : Rectangle) → length quarters < g
+    → IsBlockOf g (square quarters) block → IsBlockOf g (half_of_square side quarters) (half_of block side)
+half_block g side quarters block fits of_square = record {
+  within = half_within g side quarters fits;
+  block_is = ap (λ b. half_of b side) of_square.block_is;
+}
 
-pub quarter_block : (g : ℕ) (corner : Corner) (quarters : List Corner) (block : Rectangle) → length quarters < g → IsBlockOf g (square quarters) block → IsBlockOf g (square (corner ∷ quarters)) (quarter_of block corner)
-quarter_block g corner quarters block fits of_square = record { within = square_within g (corner ∷ quarters) fits; block_is = ap (λ b. quarter_of b corner) of_square.block_is }
+pub quarter_block : (g : ℕ) (corner : Corner) (quarters : List Corner) (block : Rectangle)
+    → length quarters < g → IsBlockOf g (square quarters) block
+    → IsBlockOf g (square (corner ∷ quarters)) (quarter_of block corner)
+quarter_block g corner quarters block fits of_square = record {
+  within = square_within g (corner ∷ quarters) fits;
+  block_is = ap (λ b. quarter_of b corner) of_square.block_is;
+}
 
 -- the tests of code
-pub judged_off : (g section : ℕ) (held : ℕ → ℕ → Bool) (block : Rectangle) (full lot : Bool) → (IsTrue full ↔ HoldsAll held block) → (IsTrue lot ↔ HoldsLotPlace g section block) → full ≡ true
+pub judged_off : (g section : ℕ) (held : ℕ → ℕ → Bool) (block : Rectangle) (full lot : Bool)
+    → (IsTrue full ↔ HoldsAll held block) → (IsTrue lot ↔ HoldsLotPlace g section block) → full ≡ true
     → (part : Part) → IsBlockOf g part block → IsTrue (not lot) ↔ IsFull g (off_lots g section held) part
 judged_off g section held block full lot full_is lot_is is part of_part = (
-  (λ no_lot. full_block g section held part block of_part (full_is.0 is) (λ place. both lot (lot_is.1 place) no_lot)),
+  (λ no_lot. full_block g section held part block of_part (full_is.0 is) (λ place.
+      both lot (lot_is.1 place) no_lot)),
   (λ all. by_lot lot (λ there. (block_full g section held part block of_part all).1 (lot_is.0 there))),
 )
   where
@@ -96,7 +133,8 @@ judged_off g section held block full lot full_is lot_is is part of_part = (
     by_lot true none = absurd (none refl)
     by_lot false none = refl
 
-pub judged_short : (g section : ℕ) (held : ℕ → ℕ → Bool) (block : Rectangle) (full : Bool) → (IsTrue full ↔ HoldsAll held block) → full ≡ false
+pub judged_short : (g section : ℕ) (held : ℕ → ℕ → Bool) (block : Rectangle) (full : Bool)
+    → (IsTrue full ↔ HoldsAll held block) → full ≡ false
     → (part : Part) → IsBlockOf g part block → IsTrue full ↔ IsFull g (off_lots g section held) part
 judged_short g section held block full full_is is part of_part = (
   (λ all. absurd (false≢true (sym is ∙ all))),
@@ -104,51 +142,76 @@ judged_short g section held block full full_is is part of_part = (
 )
 
 -- blocks that can be cut further
-pub deeper : (g : ℕ) (quarters : List Corner) (block : Rectangle) → IsBlockOf g (square quarters) block → 1 < block.columns.len → length quarters < g
+pub deeper : (g : ℕ) (quarters : List Corner) (block : Rectangle) → IsBlockOf g (square quarters) block
+    → 1 < block.columns.len → length quarters < g
 deeper g quarters block of_square more =
     let sides = (sides_as_asked g (cuts_of (quarter_steps quarters)) of_square.within).0 in
-    let here : block.columns.len ≡ 2 ^ (g - length (columns_asked (cuts_of (quarter_steps quarters)))) = ap (λ b. b.columns.len) of_square.block_is ∙ sides in
-    let left : 0 < g - length (columns_asked (cuts_of (quarter_steps quarters))) = more_left (g - length (columns_asked (cuts_of (quarter_steps quarters)))) (rw here at more) in
+    let here : block.columns.len ≡ 2 ^ (g - length (columns_asked (cuts_of (quarter_steps quarters)))) =
+    ap (λ b. b.columns.len) of_square.block_is ∙ sides in
+    let left : 0 < g - length (columns_asked (cuts_of (quarter_steps quarters))) =
+    more_left (g - length (columns_asked (cuts_of (quarter_steps quarters)))) (rw here at more) in
     let long = columns_long quarters in
     omega arith
 
-pub finest : (g : ℕ) (quarters : List Corner) (block : Rectangle) → IsBlockOf g (square quarters) block → (block.columns.len ≡ 1) ⊎ (block.rows.len ≡ 1) → length quarters ≡ g
+pub finest : (g : ℕ) (quarters : List Corner) (block : Rectangle) → IsBlockOf g (square quarters) block
+    → (block.columns.len ≡ 1) ⊎ (block.rows.len ≡ 1) → length quarters ≡ g
 finest g quarters block of_square one = elim (cases_lt (length quarters) g) [
   | inr last ↦ let fits = square_fits g quarters of_square.within in omega arith
   | inl less ↦
       let sides = sides_as_asked g (cuts_of (quarter_steps quarters)) of_square.within in
-      let across : block.columns.len ≡ 2 ^ (g - length (columns_asked (cuts_of (quarter_steps quarters)))) = ap (λ b. b.columns.len) of_square.block_is ∙ sides.0 in
-      let upward : block.rows.len ≡ 2 ^ (g - length (rows_asked (cuts_of (quarter_steps quarters)))) = ap (λ b. b.rows.len) of_square.block_is ∙ sides.1 in
+      let across : block.columns.len ≡ 2 ^ (g - length (columns_asked (cuts_of (quarter_steps quarters)))) =
+      ap (λ b. b.columns.len) of_square.block_is ∙ sides.0 in
+      let upward : block.rows.len ≡ 2 ^ (g - length (rows_asked (cuts_of (quarter_steps quarters)))) =
+      ap (λ b. b.rows.len) of_square.block_is ∙ sides.1 in
       let long = columns_long quarters in
       let high = rows_long quarters in
-      let more = more_than_one (g - length (columns_asked (cuts_of (quarter_steps quarters)))) (omega arith) in
+      let more =
+      more_than_one (g - length (columns_asked (cuts_of (quarter_steps quarters)))) (omega arith) in
       let more' = more_than_one (g - length (rows_asked (cuts_of (quarter_steps quarters)))) (omega arith) in
       elim one [ inl is ↦ absurd (omega arith) | inr is ↦ absurd (omega arith) ]
 ]
 
 -- a square of one place that isn't full is empty
-pub finest_empty : (g : ℕ) (held : ℕ → ℕ → Bool) (quarters : List Corner) → length quarters ≡ g → ¬ IsFull g held (square quarters) → (column row : ℕ) → IsInPart g (square quarters) column row → ¬ (held column row ≡ true)
-finest_empty g held quarters level short column row there is = short (record { within = square_within g quarters (omega arith); each = each })
+pub finest_empty : (g : ℕ) (held : ℕ → ℕ → Bool) (quarters : List Corner) → length quarters ≡ g
+    → ¬ IsFull g held (square quarters) → (column row : ℕ) → IsInPart g (square quarters) column row
+    → ¬ (held column row ≡ true)
+finest_empty g held quarters level short column row there is =
+    short (record { within = square_within g quarters (omega arith); each = each })
   where
     path_of : (column row : ℕ) → IsInPart g (square quarters) column row → path g column row ≡ quarters
-    path_of column row there = sym (up_all g column row) ∙ subst (λ k. up g k column row ≡ quarters) level (in_square g quarters column row (omega arith) there.asked)
+    path_of column row there =
+        sym (up_all g column row)
+        ∙ subst (λ k. up g k column row ≡ quarters) level
+        (in_square g quarters column row (omega arith) there.asked)
 
     each : (column' row' : ℕ) → IsInPart g (square quarters) column' row' → held column' row' ≡ true
     each column' row' there' =
-        let one = one_place g column' row' column row there'.place there.place (path_of column' row' there' ∙ sym (path_of column row there)) in
+        let one =
+        one_place g column' row' column row there'.place there.place
+        (path_of column' row' there' ∙ sym (path_of column row there)) in
         rw (one.0, one.1) is
 
 -- a half of a block
-pub half_judged : (side : Side) (block value : Rectangle) (found : Option Rectangle) → SomeIff found (CanHalve block side) (half_of block side) → found ≡ Some value → value ≡ half_of block side
+pub half_judged : (side : Side) (block value : Rectangle) (found : Option Rectangle)
+    → SomeIff found (CanHalve block side) (half_of block side) → found ≡ Some value
+    → value ≡ half_of block side
 half_judged side block value None is e = cc e
 half_judged side block value (Some there) is e = let same : there ≡ value = cc e in sym same ∙ is.1
 
-pub quarter_judged : (corner : Corner) (block value : Rectangle) (found : Option Rectangle) → SomeIff found (CanQuarter block) (quarter_of block corner) → found ≡ Some value → value ≡ quarter_of block corner
+pub quarter_judged : (corner : Corner) (block value : Rectangle) (found : Option Rectangle)
+    → SomeIff found (CanQuarter block) (quarter_of block corner) → found ≡ Some value
+    → value ≡ quarter_of block corner
 quarter_judged corner block value None is e = cc e
 quarter_judged corner block value (Some there) is e = let same : there ≡ value = cc e in sym same ∙ is.1
 
-pub block_of_half : (g : ℕ) (side : Side) (quarters : List Corner) (block value : Rectangle) → value ≡ half_of block side → CanQuarter block → IsBlockOf g (square quarters) block → IsBlockOf g (half_of_square side quarters) value
-block_of_half g side quarters block value is can of_square = rw is (half_block g side quarters block (deeper g quarters block of_square can.0) of_square)
+pub block_of_half : (g : ℕ) (side : Side) (quarters : List Corner) (block value : Rectangle)
+    → value ≡ half_of block side → CanQuarter block → IsBlockOf g (square quarters) block
+    → IsBlockOf g (half_of_square side quarters) value
+block_of_half g side quarters block value is can of_square =
+    rw is (half_block g side quarters block (deeper g quarters block of_square can.0) of_square)
 
-pub block_of_quarter : (g : ℕ) (corner : Corner) (quarters : List Corner) (block value : Rectangle) → value ≡ quarter_of block corner → CanQuarter block → IsBlockOf g (square quarters) block → IsBlockOf g (square (corner ∷ quarters)) value
-block_of_quarter g corner quarters block value is can of_square = rw is (quarter_block g corner quarters block (deeper g quarters block of_square can.0) of_square)
+pub block_of_quarter : (g : ℕ) (corner : Corner) (quarters : List Corner) (block value : Rectangle)
+    → value ≡ quarter_of block corner → CanQuarter block → IsBlockOf g (square quarters) block
+    → IsBlockOf g (square (corner ∷ quarters)) value
+block_of_quarter g corner quarters block value is can of_square =
+    rw is (quarter_block g corner quarters block (deeper g quarters block of_square can.0) of_square)

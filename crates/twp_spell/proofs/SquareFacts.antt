@@ -1,5 +1,6 @@
 -- Squares of a section and their halves: which places they hold.
-use Rattle.std.proofs.Common.{◌≡◌, ◌==◌, ℕ, zero, suc, ◌+◌, ◌/◌, ◌%◌, ◌^◌, ◌<◌, ◌≤◌, ◌&&◌, Bool, true, false, List, [], ◌∷◌, ◌++◌, length, map, refl, sym, ap, ◌∙◌, arith, length-append}
+use Rattle.std.proofs.Common.{◌≡◌, ◌==◌, ℕ, zero, suc, ◌+◌, ◌/◌, ◌%◌, ◌^◌, ◌<◌, ◌≤◌, ◌&&◌, Bool, true, false}
+use Rattle.std.proofs.Common.{List, [], ◌∷◌, ◌++◌, length, map, refl, sym, ap, ◌∙◌, arith, length-append}
 use Rattle.std.proofs.Math.Nat.{pow-succ', div-div-eq-div-mul, div-one}
 use Rattle.std.proofs.lemmas.List.{append-nil}
 use Rattle.twp_grid.specs.declared.block.Side.{Side}
@@ -20,7 +21,8 @@ pub halved : (n h : ℕ) → n / 2 ^ suc h ≡ n / 2 / 2 ^ h
 halved n h = ap (λ p. n / p) (pow-succ' 2 h) ∙ sym (div-div-eq-div-mul n 2 (2 ^ h))
 
 pub halved_last : (n h : ℕ) → n / 2 ^ suc h ≡ n / 2 ^ h / 2
-halved_last n h = sym (div-div-eq-div-mul n (2 ^ h) 2 ∙ ap (λ p. n / p) (let power = pow-succ' 2 h in omega arith))
+halved_last n h =
+    sym (div-div-eq-div-mul n (2 ^ h) 2 ∙ ap (λ p. n / p) (let power = pow-succ' 2 h in omega arith))
 
 binary_last : (g n : ℕ) → binary (suc g) n ≡ binary g (n / 2) ++ (n % 2) ∷ []
 binary_last zero n = ap (λ m. (m % 2) ∷ []) (div-one n)
@@ -40,49 +42,62 @@ pub and_and : (x y z : Bool) → (x && (y && z)) ≡ ((x && y) && z)
 and_and true y z = refl
 and_and false y z = refl
 
-begins_longer : (asked digits more : List ℕ) → length asked ≤ length digits → begins asked (digits ++ more) ≡ begins asked digits
+begins_longer : (asked digits more : List ℕ) → length asked ≤ length digits
+    → begins asked (digits ++ more) ≡ begins asked digits
 begins_longer [] digits more fits = refl
 begins_longer (d ∷ asked) [] more fits = absurd (omega arith)
-begins_longer (d ∷ asked) (e ∷ digits) more fits = ap (λ b. (d == e) && b) (begins_longer asked digits more (omega arith))
+begins_longer (d ∷ asked) (e ∷ digits) more fits =
+    ap (λ b. (d == e) && b) (begins_longer asked digits more (omega arith))
 
-begins_last : (asked digits : List ℕ) (d e : ℕ) → length asked ≡ length digits → begins (asked ++ d ∷ []) (digits ++ e ∷ []) ≡ (begins asked digits && (d == e))
+begins_last : (asked digits : List ℕ) (d e : ℕ) → length asked ≡ length digits
+    → begins (asked ++ d ∷ []) (digits ++ e ∷ []) ≡ (begins asked digits && (d == e))
 begins_last [] [] d e same = and_true (d == e)
 begins_last [] (b ∷ digits) d e same = absurd (omega arith)
 begins_last (a ∷ asked) [] d e same = absurd (omega arith)
 begins_last (a ∷ asked) (b ∷ digits) d e same =
-    ap (λ x. (a == b) && x) (begins_last asked digits d e (omega arith)) ∙ and_and (a == b) (begins asked digits) (d == e)
+    ap (λ x. (a == b) && x) (begins_last asked digits d e (omega arith))
+    ∙ and_and (a == b) (begins asked digits) (d == e)
 
-pub axis_coarser : (g : ℕ) (asked : List ℕ) (n : ℕ) → length asked ≤ g → begins asked (binary (suc g) n) ≡ begins asked (binary g (n / 2))
+pub axis_coarser : (g : ℕ) (asked : List ℕ) (n : ℕ) → length asked ≤ g
+    → begins asked (binary (suc g) n) ≡ begins asked (binary g (n / 2))
 axis_coarser g asked n fits =
     ap (λ digits. begins asked digits) (binary_last g n)
     ∙ begins_longer asked (binary g (n / 2)) ((n % 2) ∷ []) (rw length_binary fits)
 
-pub axis_last : (g : ℕ) (asked : List ℕ) (d n : ℕ) → length asked ≡ g → begins (asked ++ d ∷ []) (binary (suc g) n) ≡ (begins asked (binary g (n / 2)) && (d == n % 2))
+pub axis_last : (g : ℕ) (asked : List ℕ) (d n : ℕ) → length asked ≡ g
+    → begins (asked ++ d ∷ []) (binary (suc g) n) ≡ (begins asked (binary g (n / 2)) && (d == n % 2))
 axis_last g asked d n same =
     ap (λ digits. begins (asked ++ d ∷ []) digits) (binary_last g n)
     ∙ begins_last asked (binary g (n / 2)) d (n % 2) (same ∙ sym (length_binary g (n / 2)))
 
-pub axis_none : (g : ℕ) (asked : List ℕ) (n : ℕ) → length asked ≡ g → begins (asked ++ []) (binary (suc g) n) ≡ begins asked (binary g (n / 2))
+pub axis_none : (g : ℕ) (asked : List ℕ) (n : ℕ) → length asked ≡ g
+    → begins (asked ++ []) (binary (suc g) n) ≡ begins asked (binary g (n / 2))
 axis_none g asked n same =
     ap (λ a. begins a (binary (suc g) n)) (append-nil asked) ∙ axis_coarser g asked n (omega arith)
 
 -- what steps hold, where each place is one of the four that a greater place was cut into
-pub chain_coarser : (g : ℕ) (steps : List Step) (column row : ℕ) → AreWithin g (cuts_of steps) → in_chain (suc g) steps column row ≡ in_chain g steps (column / 2) (row / 2)
+pub chain_coarser : (g : ℕ) (steps : List Step) (column row : ℕ) → AreWithin g (cuts_of steps)
+    → in_chain (suc g) steps column row ≡ in_chain g steps (column / 2) (row / 2)
 chain_coarser g steps column row within =
-    ap (λ b. b && begins (rows_asked (cuts_of steps)) (binary (suc g) row)) (axis_coarser g (columns_asked (cuts_of steps)) column within.columns)
-    ∙ ap (λ b. begins (columns_asked (cuts_of steps)) (binary g (column / 2)) && b) (axis_coarser g (rows_asked (cuts_of steps)) row within.rows)
+    ap (λ b. b && begins (rows_asked (cuts_of steps)) (binary (suc g) row))
+    (axis_coarser g (columns_asked (cuts_of steps)) column within.columns)
+    ∙ ap (λ b. begins (columns_asked (cuts_of steps)) (binary g (column / 2)) && b)
+    (axis_coarser g (rows_asked (cuts_of steps)) row within.rows)
 
-pub within_greater : (k g : ℕ) (steps : List Step) → k ≤ g → AreWithin k (cuts_of steps) → AreWithin g (cuts_of steps)
+pub within_greater : (k g : ℕ) (steps : List Step) → k ≤ g → AreWithin k (cuts_of steps)
+    → AreWithin g (cuts_of steps)
 within_greater k g steps more within =
     let rows = within.rows in
     let columns = within.columns in
     record { rows = omega arith; columns = omega arith }
 
-pub chain_up : (h g k : ℕ) (steps : List Step) (column row : ℕ) → g ≡ k + h → AreWithin k (cuts_of steps) → in_chain g steps column row ≡ in_chain k steps (column / 2 ^ h) (row / 2 ^ h)
+pub chain_up : (h g k : ℕ) (steps : List Step) (column row : ℕ) → g ≡ k + h → AreWithin k (cuts_of steps)
+    → in_chain g steps column row ≡ in_chain k steps (column / 2 ^ h) (row / 2 ^ h)
 chain_up zero g k steps column row is within =
     let same : g ≡ k = omega arith in
     ap (λ n. in_chain n steps column row) same
-    ∙ ap (λ n. in_chain k steps n row) (sym (div-one column)) ∙ ap (λ n. in_chain k steps (column / 1) n) (sym (div-one row))
+    ∙ ap (λ n. in_chain k steps n row) (sym (div-one column))
+    ∙ ap (λ n. in_chain k steps (column / 1) n) (sym (div-one row))
 chain_up (suc h) zero k steps column row is within = absurd (omega arith)
 chain_up (suc h) (suc g) k steps column row is within =
     chain_coarser g steps column row (within_greater k g steps (omega arith) within)
@@ -151,30 +166,40 @@ row_of_named x (suc (suc y)) small = absurd (omega arith)
 abbrev pub quarter_steps : List Corner → List Step
 quarter_steps quarters = map (λ corner. Quarter corner) quarters
 
-pub columns_long : (quarters : List Corner) → length (columns_asked (cuts_of (quarter_steps quarters))) ≡ length quarters
+pub columns_long : (quarters : List Corner)
+    → length (columns_asked (cuts_of (quarter_steps quarters))) ≡ length quarters
 columns_long [] = refl
 columns_long (corner ∷ quarters) =
     let more = columns_long quarters in
     length-append (columns_asked (cuts_of (quarter_steps quarters))) (column_asked (quarter corner))
-    ∙ ap (λ asked. length (columns_asked (cuts_of (quarter_steps quarters))) + length asked) (asks_column corner) ∙ omega arith
+    ∙ ap (λ asked. length (columns_asked (cuts_of (quarter_steps quarters))) + length asked)
+    (asks_column corner)
+    ∙ omega arith
 
-pub rows_long : (quarters : List Corner) → length (rows_asked (cuts_of (quarter_steps quarters))) ≡ length quarters
+pub rows_long : (quarters : List Corner)
+    → length (rows_asked (cuts_of (quarter_steps quarters))) ≡ length quarters
 rows_long [] = refl
 rows_long (corner ∷ quarters) =
     let more = rows_long quarters in
     length-append (rows_asked (cuts_of (quarter_steps quarters))) (row_asked (quarter corner))
-    ∙ ap (λ asked. length (rows_asked (cuts_of (quarter_steps quarters))) + length asked) (asks_row corner) ∙ omega arith
+    ∙ ap (λ asked. length (rows_asked (cuts_of (quarter_steps quarters))) + length asked) (asks_row corner)
+    ∙ omega arith
 
-pub square_within : (g : ℕ) (quarters : List Corner) → length quarters ≤ g → AreWithin g (cuts_of (quarter_steps quarters))
-square_within g quarters fits = record { rows = rw (rows_long quarters) fits; columns = rw (columns_long quarters) fits }
+pub square_within : (g : ℕ) (quarters : List Corner) → length quarters ≤ g
+    → AreWithin g (cuts_of (quarter_steps quarters))
+square_within g quarters fits =
+    record { rows = rw (rows_long quarters) fits; columns = rw (columns_long quarters) fits }
 
-pub square_fits : (g : ℕ) (quarters : List Corner) → AreWithin g (cuts_of (quarter_steps quarters)) → length quarters ≤ g
+pub square_fits : (g : ℕ) (quarters : List Corner) → AreWithin g (cuts_of (quarter_steps quarters))
+    → length quarters ≤ g
 square_fits g quarters within = let rows = within.rows in let long = rows_long quarters in omega arith
 
-pub half_within : (g : ℕ) (side : Side) (quarters : List Corner) → length quarters < g → AreWithin g (cuts_of (steps_of_part (half_of_square side quarters)))
+pub half_within : (g : ℕ) (side : Side) (quarters : List Corner) → length quarters < g
+    → AreWithin g (cuts_of (steps_of_part (half_of_square side quarters)))
 half_within g side quarters fits = record { rows = rows side; columns = columns side }
   where
-    axis : (asked extra : List ℕ) → length asked ≡ length quarters → length extra ≤ 1 → length (asked ++ extra) ≤ g
+    axis : (asked extra : List ℕ) → length asked ≡ length quarters → length extra ≤ 1
+        → length (asked ++ extra) ≤ g
     axis asked extra long few = omega (arith, length-append asked extra)
 
     rows : (side : Side) → length (rows_asked (cuts_of (quarter_steps quarters)) ++ row_asked (half side)) ≤ g
@@ -183,20 +208,30 @@ half_within g side quarters fits = record { rows = rows side; columns = columns 
     rows E = axis (rows_asked (cuts_of (quarter_steps quarters))) [] (rows_long quarters) (omega arith)
     rows W = axis (rows_asked (cuts_of (quarter_steps quarters))) [] (rows_long quarters) (omega arith)
 
-    columns : (side : Side) → length (columns_asked (cuts_of (quarter_steps quarters)) ++ column_asked (half side)) ≤ g
-    columns N = axis (columns_asked (cuts_of (quarter_steps quarters))) [] (columns_long quarters) (omega arith)
-    columns S = axis (columns_asked (cuts_of (quarter_steps quarters))) [] (columns_long quarters) (omega arith)
-    columns E = axis (columns_asked (cuts_of (quarter_steps quarters))) (0 ∷ []) (columns_long quarters) (omega arith)
-    columns W = axis (columns_asked (cuts_of (quarter_steps quarters))) (1 ∷ []) (columns_long quarters) (omega arith)
+    columns : (side : Side)
+        → length (columns_asked (cuts_of (quarter_steps quarters)) ++ column_asked (half side)) ≤ g
+    columns N =
+        axis (columns_asked (cuts_of (quarter_steps quarters))) [] (columns_long quarters) (omega arith)
+    columns S =
+        axis (columns_asked (cuts_of (quarter_steps quarters))) [] (columns_long quarters) (omega arith)
+    columns E =
+        axis (columns_asked (cuts_of (quarter_steps quarters))) (0 ∷ []) (columns_long quarters) (omega arith)
+    columns W =
+        axis (columns_asked (cuts_of (quarter_steps quarters))) (1 ∷ []) (columns_long quarters) (omega arith)
 
-pub half_fits : (g : ℕ) (side : Side) (quarters : List Corner) → AreWithin g (cuts_of (steps_of_part (half_of_square side quarters))) → length quarters < g
+pub half_fits : (g : ℕ) (side : Side) (quarters : List Corner)
+    → AreWithin g (cuts_of (steps_of_part (half_of_square side quarters))) → length quarters < g
 half_fits g side quarters within = fits side within
   where
-    more : (asked : List ℕ) (d : ℕ) → length asked ≡ length quarters → length (asked ++ d ∷ []) ≤ g → length quarters < g
+    more : (asked : List ℕ) (d : ℕ) → length asked ≡ length quarters → length (asked ++ d ∷ []) ≤ g
+        → length quarters < g
     more asked d long fits = omega (arith, length-append asked (d ∷ []))
 
-    fits : (side : Side) → AreWithin g (cuts_of (steps_of_part (half_of_square side quarters))) → length quarters < g
+    fits : (side : Side) → AreWithin g (cuts_of (steps_of_part (half_of_square side quarters)))
+        → length quarters < g
     fits N within = more (rows_asked (cuts_of (quarter_steps quarters))) 1 (rows_long quarters) within.rows
     fits S within = more (rows_asked (cuts_of (quarter_steps quarters))) 0 (rows_long quarters) within.rows
-    fits E within = more (columns_asked (cuts_of (quarter_steps quarters))) 0 (columns_long quarters) within.columns
-    fits W within = more (columns_asked (cuts_of (quarter_steps quarters))) 1 (columns_long quarters) within.columns
+    fits E within =
+        more (columns_asked (cuts_of (quarter_steps quarters))) 0 (columns_long quarters) within.columns
+    fits W within =
+        more (columns_asked (cuts_of (quarter_steps quarters))) 1 (columns_long quarters) within.columns

@@ -1,5 +1,6 @@
 -- The square of each level that a place lies in.
-use Rattle.std.proofs.Common.{◌≡◌, ◌==◌, ℕ, zero, suc, ◌+◌, ◌-◌, ◌*◌, ◌/◌, ◌%◌, ◌^◌, ◌<◌, ◌≤◌, ◌&&◌, true, List, [], ◌∷◌, ◌++◌, length, refl, sym, ap, ◌∙◌, arith}
+use Rattle.std.proofs.Common.{◌≡◌, ◌==◌, ℕ, zero, suc, ◌+◌, ◌-◌, ◌*◌, ◌/◌, ◌%◌, ◌^◌, ◌<◌, ◌≤◌, ◌&&◌, true}
+use Rattle.std.proofs.Common.{List, [], ◌∷◌, ◌++◌, length, refl, sym, ap, ◌∙◌, arith}
 use Rattle.std.proofs.Math.Nat.{pow-succ', div-one, mul-div_cancel}
 use Rattle.std.proofs.lemmas.Nat.{pow_pos}
 use Rattle.std.proofs.lemmas.Bool.{eqb-true, eq-eqb, and_parts}
@@ -10,38 +11,55 @@ use Rattle.twp_grid.specs.Cuts.Cut.{quarter}
 use Rattle.twp_grid.specs.Places.{IsPlace, binary, begins}
 use Rattle.twp_grammar.specs.ItemPlaces.{cuts_of, in_chain}
 use Rattle.twp_spell.specs.WrittenParts.{quarter_named, turn_of_quarter, address}
-use Rattle.twp_spell.proofs.SquareFacts.{halved_last, axis_last, chain_up, column_digit, row_digit, asks_column, asks_row, digits_small, named_by_digits, column_of_named, row_of_named, quarter_steps, columns_long, rows_long, square_within}
+use Rattle.twp_spell.proofs.SquareFacts.{halved_last, axis_last, chain_up, column_digit, row_digit}
+use Rattle.twp_spell.proofs.SquareFacts.{asks_column, asks_row, digits_small, named_by_digits}
+use Rattle.twp_spell.proofs.SquareFacts.{column_of_named, row_of_named, quarter_steps, columns_long}
+use Rattle.twp_spell.proofs.SquareFacts.{rows_long, square_within}
 
 -- the quarters that reach a place of a section whose sides are halved k times, the smallest first
 unfoldable pub path : ℕ → ℕ → ℕ → List Corner
 path zero column row = []
 path (suc k) column row = quarter_named (column % 2) (row % 2) ∷ path k (column / 2) (row / 2)
 
-path_next : (k column row : ℕ) → path (suc k) column row ≡ quarter_named (column % 2) (row % 2) ∷ path k (column / 2) (row / 2)
+path_next : (k column row : ℕ)
+    → path (suc k) column row ≡ quarter_named (column % 2) (row % 2) ∷ path k (column / 2) (row / 2)
 unfolding path
 path_next k column row = refl
 
 -- a square of the least size holds the place that its quarters reach
-quarter_chain : (corner : Corner) (quarters : List Corner) (column row : ℕ) → in_chain (suc (length quarters)) (quarter_steps (corner ∷ quarters)) column row
-    ≡ ((begins (columns_asked (cuts_of (quarter_steps quarters))) (binary (length quarters) (column / 2)) && (column_digit corner == column % 2))
-    && (begins (rows_asked (cuts_of (quarter_steps quarters))) (binary (length quarters) (row / 2)) && (row_digit corner == row % 2)))
+quarter_chain : (corner : Corner) (quarters : List Corner) (column row : ℕ)
+    → in_chain (suc (length quarters)) (quarter_steps (corner ∷ quarters)) column row
+    ≡ ((begins (columns_asked (cuts_of (quarter_steps quarters))) (binary (length quarters) (column / 2))
+    && (column_digit corner == column % 2))
+    && (begins (rows_asked (cuts_of (quarter_steps quarters))) (binary (length quarters) (row / 2))
+    && (row_digit corner == row % 2)))
 quarter_chain corner quarters column row =
     let k = length quarters in
     let columns = columns_asked (cuts_of (quarter_steps quarters)) in
     let rows = rows_asked (cuts_of (quarter_steps quarters)) in
-    ap (λ asked. begins (columns ++ asked) (binary (suc k) column) && begins (rows ++ row_asked (quarter corner)) (binary (suc k) row)) (asks_column corner)
-    ∙ ap (λ asked. begins (columns ++ column_digit corner ∷ []) (binary (suc k) column) && begins (rows ++ asked) (binary (suc k) row)) (asks_row corner)
-    ∙ ap (λ b. b && begins (rows ++ row_digit corner ∷ []) (binary (suc k) row)) (axis_last k columns (column_digit corner) column (columns_long quarters))
-    ∙ ap (λ b. (begins columns (binary k (column / 2)) && (column_digit corner == column % 2)) && b) (axis_last k rows (row_digit corner) row (rows_long quarters))
+    ap (λ asked.
+    begins (columns ++ asked) (binary (suc k) column)
+    && begins (rows ++ row_asked (quarter corner)) (binary (suc k) row)) (asks_column corner)
+    ∙ ap (λ asked.
+    begins (columns ++ column_digit corner ∷ []) (binary (suc k) column)
+    && begins (rows ++ asked) (binary (suc k) row)) (asks_row corner)
+    ∙ ap (λ b. b && begins (rows ++ row_digit corner ∷ []) (binary (suc k) row))
+    (axis_last k columns (column_digit corner) column (columns_long quarters))
+    ∙ ap (λ b. (begins columns (binary k (column / 2)) && (column_digit corner == column % 2)) && b)
+    (axis_last k rows (row_digit corner) row (rows_long quarters))
 
-pub square_reached : (quarters : List Corner) (column row : ℕ) → in_chain (length quarters) (quarter_steps quarters) column row ≡ true → path (length quarters) column row ≡ quarters
+pub square_reached : (quarters : List Corner) (column row : ℕ)
+    → in_chain (length quarters) (quarter_steps quarters) column row ≡ true
+    → path (length quarters) column row ≡ quarters
 unfolding path
 square_reached [] column row inside = refl
 square_reached (corner ∷ quarters) column row inside =
     let k = length quarters in
     let columns = begins (columns_asked (cuts_of (quarter_steps quarters))) (binary k (column / 2)) in
     let rows = begins (rows_asked (cuts_of (quarter_steps quarters))) (binary k (row / 2)) in
-    let parts = and_parts (columns && (column_digit corner == column % 2)) (rows && (row_digit corner == row % 2)) (sym (quarter_chain corner quarters column row) ∙ inside) in
+    let parts =
+    and_parts (columns && (column_digit corner == column % 2)) (rows && (row_digit corner == row % 2))
+    (sym (quarter_chain corner quarters column row) ∙ inside) in
     let across = and_parts columns (column_digit corner == column % 2) parts.0 in
     let upward = and_parts rows (row_digit corner == row % 2) parts.1 in
     let parent : (columns && rows) ≡ true = rw (across.0, upward.0) refl in
@@ -58,18 +76,26 @@ first_of x y xs ys e = (cc e, cc e)
 pub even_or_odd : (n : ℕ) → n % 2 < 2
 even_or_odd n = omega arith
 
-pub reached_square : (quarters : List Corner) (column row : ℕ) → path (length quarters) column row ≡ quarters → in_chain (length quarters) (quarter_steps quarters) column row ≡ true
+pub reached_square : (quarters : List Corner) (column row : ℕ) → path (length quarters) column row ≡ quarters
+    → in_chain (length quarters) (quarter_steps quarters) column row ≡ true
 unfolding path
 reached_square [] column row is = refl
 reached_square (corner ∷ quarters) column row is =
     let k = length quarters in
-    let both = first_of (quarter_named (column % 2) (row % 2)) corner (path k (column / 2) (row / 2)) quarters is in
-    let x : column_digit corner ≡ column % 2 = ap column_digit (sym both.0) ∙ column_of_named (column % 2) (row % 2) (even_or_odd column) in
-    let y : row_digit corner ≡ row % 2 = ap row_digit (sym both.0) ∙ row_of_named (column % 2) (row % 2) (even_or_odd row) in
-    let parent = and_parts (begins (columns_asked (cuts_of (quarter_steps quarters))) (binary k (column / 2))) (begins (rows_asked (cuts_of (quarter_steps quarters))) (binary k (row / 2)))
+    let both =
+    first_of (quarter_named (column % 2) (row % 2)) corner (path k (column / 2) (row / 2)) quarters is in
+    let x : column_digit corner ≡ column % 2 =
+    ap column_digit (sym both.0) ∙ column_of_named (column % 2) (row % 2) (even_or_odd column) in
+    let y : row_digit corner ≡ row % 2 =
+    ap row_digit (sym both.0) ∙ row_of_named (column % 2) (row % 2) (even_or_odd row) in
+    let parent =
+    and_parts (begins (columns_asked (cuts_of (quarter_steps quarters))) (binary k (column / 2)))
+    (begins (rows_asked (cuts_of (quarter_steps quarters))) (binary k (row / 2)))
     (reached_square quarters (column / 2) (row / 2) both.1) in
     quarter_chain corner quarters column row
-    ∙ rw (parent.0, parent.1, eq-eqb (column_digit corner) (column % 2) x, eq-eqb (row_digit corner) (row % 2) y) refl
+    ∙ rw
+    (parent.0, parent.1, eq-eqb (column_digit corner) (column % 2) x, eq-eqb (row_digit corner) (row % 2) y)
+    refl
 
 -- the square of level k that a place lies in, and its quarter in that square
 abbrev pub up : ℕ → ℕ → ℕ → ℕ → List Corner
@@ -82,26 +108,35 @@ pub up_none : (g column row : ℕ) → up g 0 column row ≡ []
 unfolding path
 up_none g column row = refl
 
-pub up_next : (g k column row : ℕ) → k < g → up g (suc k) column row ≡ corner_at g k column row ∷ up g k column row
+pub up_next : (g k column row : ℕ) → k < g
+    → up g (suc k) column row ≡ corner_at g k column row ∷ up g k column row
 up_next g k column row less =
     let next : g - k ≡ suc (g - suc k) = omega arith in
-    let half_column : column / 2 ^ (g - k) ≡ column / 2 ^ (g - suc k) / 2 = ap (λ n. column / 2 ^ n) next ∙ halved_last column (g - suc k) in
-    let half_row : row / 2 ^ (g - k) ≡ row / 2 ^ (g - suc k) / 2 = ap (λ n. row / 2 ^ n) next ∙ halved_last row (g - suc k) in
+    let half_column : column / 2 ^ (g - k) ≡ column / 2 ^ (g - suc k) / 2 =
+    ap (λ n. column / 2 ^ n) next ∙ halved_last column (g - suc k) in
+    let half_row : row / 2 ^ (g - k) ≡ row / 2 ^ (g - suc k) / 2 =
+    ap (λ n. row / 2 ^ n) next ∙ halved_last row (g - suc k) in
     path_next k (column / 2 ^ (g - suc k)) (row / 2 ^ (g - suc k))
     ∙ ap (λ n. corner_at g k column row ∷ path k n (row / 2 ^ (g - suc k) / 2)) (sym half_column)
     ∙ ap (λ n. corner_at g k column row ∷ path k (column / 2 ^ (g - k)) n) (sym half_row)
 
 -- what a square holds
-pub in_square : (g : ℕ) (quarters : List Corner) (column row : ℕ) → length quarters ≤ g → in_chain g (quarter_steps quarters) column row ≡ true → up g (length quarters) column row ≡ quarters
+pub in_square : (g : ℕ) (quarters : List Corner) (column row : ℕ) → length quarters ≤ g
+    → in_chain g (quarter_steps quarters) column row ≡ true → up g (length quarters) column row ≡ quarters
 in_square g quarters column row fits inside =
     let k = length quarters in
-    let above = chain_up (g - k) g k (quarter_steps quarters) column row (omega arith) (square_within k quarters (omega arith)) in
+    let above =
+    chain_up (g - k) g k (quarter_steps quarters) column row (omega arith)
+    (square_within k quarters (omega arith)) in
     square_reached quarters (column / 2 ^ (g - k)) (row / 2 ^ (g - k)) (sym above ∙ inside)
 
-pub square_in : (g : ℕ) (quarters : List Corner) (column row : ℕ) → length quarters ≤ g → up g (length quarters) column row ≡ quarters → in_chain g (quarter_steps quarters) column row ≡ true
+pub square_in : (g : ℕ) (quarters : List Corner) (column row : ℕ) → length quarters ≤ g
+    → up g (length quarters) column row ≡ quarters → in_chain g (quarter_steps quarters) column row ≡ true
 square_in g quarters column row fits is =
     let k = length quarters in
-    let above = chain_up (g - k) g k (quarter_steps quarters) column row (omega arith) (square_within k quarters (omega arith)) in
+    let above =
+    chain_up (g - k) g k (quarter_steps quarters) column row (omega arith)
+    (square_within k quarters (omega arith)) in
     above ∙ reached_square quarters (column / 2 ^ (g - k)) (row / 2 ^ (g - k)) is
 
 -- the place at which all quarters of a square are the last ones
@@ -118,13 +153,16 @@ unfolding path column_of row_of
 path_to [] = refl
 path_to (corner ∷ quarters) =
     let small = digits_small corner in
-    let x : (2 * column_of quarters + column_digit corner) % 2 ≡ column_digit corner = omega (arith, small.0) in
+    let x : (2 * column_of quarters + column_digit corner) % 2 ≡ column_digit corner =
+    omega (arith, small.0) in
     let y : (2 * row_of quarters + row_digit corner) % 2 ≡ row_digit corner = omega (arith, small.1) in
-    let across : (2 * column_of quarters + column_digit corner) / 2 ≡ column_of quarters = omega (arith, small.0) in
+    let across : (2 * column_of quarters + column_digit corner) / 2 ≡ column_of quarters =
+    omega (arith, small.0) in
     let upward : (2 * row_of quarters + row_digit corner) / 2 ≡ row_of quarters = omega (arith, small.1) in
     rw (x, y, across, upward, named_by_digits corner, path_to quarters) refl
 
-place_below : (quarters : List Corner) → (column_of quarters < 2 ^ length quarters) × (row_of quarters < 2 ^ length quarters)
+place_below : (quarters : List Corner)
+    → (column_of quarters < 2 ^ length quarters) × (row_of quarters < 2 ^ length quarters)
 unfolding column_of row_of
 place_below [] = (omega arith, omega arith)
 place_below (corner ∷ quarters) =
@@ -157,12 +195,17 @@ place_of g quarters fits =
     let k = length quarters in
     let h = g - length quarters in
     let below = place_below quarters in
-    let across : column_of quarters * 2 ^ h / 2 ^ h ≡ column_of quarters = mul-div_cancel (column_of quarters) (pow_pos h) in
-    let upward : row_of quarters * 2 ^ h / 2 ^ h ≡ row_of quarters = mul-div_cancel (row_of quarters) (pow_pos h) in
+    let across : column_of quarters * 2 ^ h / 2 ^ h ≡ column_of quarters =
+    mul-div_cancel (column_of quarters) (pow_pos h) in
+    let upward : row_of quarters * 2 ^ h / 2 ^ h ≡ row_of quarters =
+    mul-div_cancel (row_of quarters) (pow_pos h) in
     record {
       column = column_of quarters * 2 ^ h;
       row = row_of quarters * 2 ^ h;
-      place = (below_up (column_of quarters) k h g below.0 (omega arith), below_up (row_of quarters) k h g below.1 (omega arith));
+      place = (
+        below_up (column_of quarters) k h g below.0 (omega arith),
+        below_up (row_of quarters) k h g below.1 (omega arith),
+      );
       is = rw (across, upward) (path_to quarters);
     }
 
@@ -170,7 +213,8 @@ place_of g quarters fits =
 same_number : (n m : ℕ) → n / 2 ≡ m / 2 → n % 2 ≡ m % 2 → n ≡ m
 same_number n m halves rest = omega arith
 
-pub one_place : (g column row column' row' : ℕ) → IsPlace g column row → IsPlace g column' row' → path g column row ≡ path g column' row' → (column ≡ column') × (row ≡ row')
+pub one_place : (g column row column' row' : ℕ) → IsPlace g column row → IsPlace g column' row'
+    → path g column row ≡ path g column' row' → (column ≡ column') × (row ≡ row')
 unfolding path
 one_place zero column row column' row' place place' same =
     let across = place.0 in
@@ -184,16 +228,28 @@ one_place (suc g) column row column' row' place place' same =
     let across' = place'.0 in
     let upward = place.1 in
     let upward' = place'.1 in
-    let both = first_of (quarter_named (column % 2) (row % 2)) (quarter_named (column' % 2) (row' % 2)) (path g (column / 2) (row / 2)) (path g (column' / 2) (row' / 2)) same in
-    let rest = one_place g (column / 2) (row / 2) (column' / 2) (row' / 2) ((omega arith), (omega arith)) ((omega arith), (omega arith)) both.1 in
-    let x : column % 2 ≡ column' % 2 = sym (column_of_named (column % 2) (row % 2) (even_or_odd column)) ∙ ap column_digit both.0 ∙ column_of_named (column' % 2) (row' % 2) (even_or_odd column') in
-    let y : row % 2 ≡ row' % 2 = sym (row_of_named (column % 2) (row % 2) (even_or_odd row)) ∙ ap row_digit both.0 ∙ row_of_named (column' % 2) (row' % 2) (even_or_odd row') in
+    let both =
+    first_of (quarter_named (column % 2) (row % 2)) (quarter_named (column' % 2) (row' % 2))
+    (path g (column / 2) (row / 2)) (path g (column' / 2) (row' / 2)) same in
+    let rest =
+    one_place g (column / 2) (row / 2) (column' / 2) (row' / 2) ((omega arith), (omega arith))
+    ((omega arith), (omega arith)) both.1 in
+    let x : column % 2 ≡ column' % 2 =
+    sym (column_of_named (column % 2) (row % 2) (even_or_odd column))
+    ∙ ap column_digit both.0
+    ∙ column_of_named (column' % 2) (row' % 2) (even_or_odd column') in
+    let y : row % 2 ≡ row' % 2 =
+    sym (row_of_named (column % 2) (row % 2) (even_or_odd row))
+    ∙ ap row_digit both.0
+    ∙ row_of_named (column' % 2) (row' % 2) (even_or_odd row') in
     (same_number column column' rest.0 x, same_number row row' rest.1 y)
 
 pub up_all : (g column row : ℕ) → up g g column row ≡ path g column row
 up_all g column row =
     let none : g - g ≡ 0 = omega arith in
-    ap (λ h. path g (column / 2 ^ h) (row / 2 ^ h)) none ∙ ap (λ n. path g n (row / 1)) (div-one column) ∙ ap (λ n. path g column n) (div-one row)
+    ap (λ h. path g (column / 2 ^ h) (row / 2 ^ h)) none
+    ∙ ap (λ n. path g n (row / 1)) (div-one column)
+    ∙ ap (λ n. path g column n) (div-one row)
 
 -- places of one address are one place
 unfoldable quarter_of_turn : ℕ → Corner
@@ -218,7 +274,8 @@ turn_small NW = omega arith
 turn_small SW = omega arith
 turn_small SE = omega arith
 
-pub one_address : (g column row column' row' : ℕ) → IsPlace g column row → IsPlace g column' row' → address g column row ≡ address g column' row' → path g column row ≡ path g column' row'
+pub one_address : (g column row column' row' : ℕ) → IsPlace g column row → IsPlace g column' row'
+    → address g column row ≡ address g column' row' → path g column row ≡ path g column' row'
 unfolding path
 one_address zero column row column' row' place place' same = refl
 one_address (suc g) column row column' row' place place' same =
@@ -235,4 +292,6 @@ one_address (suc g) column row column' row' place place' same =
     let turn : turn_of_quarter q ≡ turn_of_quarter q' = omega arith in
     let quarter_is : q ≡ q' = sym (turn_back q) ∙ ap quarter_of_turn turn ∙ turn_back q' in
     ap (λ p. p ∷ path g (column / 2) (row / 2)) quarter_is
-    ∙ ap (λ p. q' ∷ p) (one_address g (column / 2) (row / 2) (column' / 2) (row' / 2) ((omega arith), (omega arith)) ((omega arith), (omega arith)) parent)
+    ∙ ap (λ p. q' ∷ p)
+    (one_address g (column / 2) (row / 2) (column' / 2) (row' / 2) ((omega arith), (omega arith))
+    ((omega arith), (omega arith)) parent)

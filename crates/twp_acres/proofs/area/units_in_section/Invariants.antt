@@ -13,7 +13,8 @@ abbrev pub invariant-loop-lot : goal.invariant-loop-lot
 invariant-loop-lot g l =
     let held = g.L.Land.places l.land l.section in
     record {
-      taken : l.off_lots + over_positions (of_lots l.section l.lot (places_where held)) ≡ count_held held (whole_block PLACE_DIGITS);
+      taken : l.off_lots + over_positions (of_lots l.section l.lot (places_where held))
+          ≡ count_held held (whole_block PLACE_DIGITS);
       gained : (pieces : ℕ → ℕ → ℕ → ℕ) → AreUnitsBy l.account l.plat pieces
           → l.units ≡ over_positions (of_lots l.section l.lot (piece_where held (pieces l.section)));
       most : l.units ≤ (l.lot - 1) * (CLOSING_MOST * CLOSING_MOST * over_by l.account l.plat);

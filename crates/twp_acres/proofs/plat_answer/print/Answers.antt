@@ -5,14 +5,19 @@ use Rattle.twp_acres.proofs.FigureFacts.{no_texts, lines_grow, lines_end}
 use Rattle.twp_acres.proofs.plat_answer.print.Goals as goal
 
 pub loop-number-init : goal.loop-number-init
-loop-number-init c = record { written = λ figures are. c.new-text.ensures.items ∙ sym (no_texts (section_line figures)); first = omega arith }
+loop-number-init c = record {
+  written = λ figures are. c.new-text.ensures.items ∙ sym (no_texts (section_line figures));
+  first = omega arith;
+}
 
 pub loop-number-preserved : goal.loop-number-preserved
 loop-number-preserved c =
-    let number = section_is c.loop-number.number c.unwrap-section.result _ c.new.ensures c.unwrap-section.ensures in
+    let number =
+    section_is c.loop-number.number c.unwrap-section.result _ c.new.ensures c.unwrap-section.ensures in
     record {
       written = λ figures are.
-          lines_grow c.loop-number.number c.loop-number.text.items _ _ (section_line figures) c.loop-number.invariant.first (c.loop-number.invariant.written figures are)
+          lines_grow c.loop-number.number c.loop-number.text.items _ _ (section_line figures)
+          c.loop-number.invariant.first (c.loop-number.invariant.written figures are)
           (c.in_ok-write_section.ensures.ok figures are) (ap (section_line figures) number);
       first = omega arith;
     }

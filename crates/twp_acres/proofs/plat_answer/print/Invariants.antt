@@ -5,6 +5,7 @@ use Rattle.twp_acres.proofs.plat_answer.print.Given as goal
 -- the lines of the sections so far were written
 abbrev pub invariant-loop-number : goal.invariant-loop-number
 invariant-loop-number l = record {
-  written : (figures : PlatFigures) → AreFigures l.plat figures → l.text.items ≡ texts_to (l.number - 1) (section_line figures);
+  written : (figures : PlatFigures) → AreFigures l.plat figures
+      → l.text.items ≡ texts_to (l.number - 1) (section_line figures);
   first : 1 ≤ l.number;
 }

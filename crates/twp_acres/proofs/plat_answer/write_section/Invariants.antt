@@ -6,5 +6,6 @@ use Rattle.twp_acres.proofs.plat_answer.write_section.Given as goal
 abbrev pub invariant-loop-lots_before : goal.invariant-loop-lots_before
 invariant-loop-lots_before l = record {
   written : (figures : PlatFigures) → AreFigures l.plat figures
-      → l.text.items ≡ l.fn.text.items ++ (section_name l.section ++ texts_to l.lots_before (λ lot. lot_text lot (figures.lots l.section lot)));
+      → l.text.items ≡ l.fn.text.items ++ (section_name l.section ++ texts_to l.lots_before (λ lot.
+      lot_text lot (figures.lots l.section lot)));
 }

@@ -20,5 +20,6 @@ returns-in_default-clause-answer g c =
       bytes = read.0;
       tells = read.1;
       holds = if_ok c.refuse_list.result _ _ c.refuse_list.ensures.answer (λ answer is.
-          list_refused c.args.plat.now read.0 answer.text.items answer.verdict TractsTooLarge (large_first c.args.plat.now.township read.0 read.2) is.0 is.1 is.2);
+          list_refused c.args.plat.now read.0 answer.text.items answer.verdict TractsTooLarge
+          (large_first c.args.plat.now.township read.0 read.2) is.0 is.1 is.2);
     }

@@ -15,7 +15,9 @@ returns-in_err-plat-clause-land g c =
       second_bytes = unwrap_or told [];
       first_tells = notes.tells;
       second_tells = some_bytes told;
-      holds = rw (gone.1, gone.2) (refused_of_notes notes.bytes (unwrap_or told []) c.in_err-plat.field-0.0 notes.holds);
+      holds =
+          rw (gone.1, gone.2)
+          (refused_of_notes notes.bytes (unwrap_or told []) c.in_err-plat.field-0.0 notes.holds);
       order = inr refl;
     }
 
@@ -24,4 +26,5 @@ returns-in_err-plat-clause-description_exact g c n told makes notes_open _ not_m
     let stopped = c.in_err-plat.ensures in
     let gone = err_from_is_err_and c.from_residual.result c.from_residual.ensures.1 in
     absurd (plat_stops_by_fault _ n c.in_err-plat.field-0.0 stopped.plat told makes
-    (λ is. cc (stopped.read.0 (ap Err is), notes_open)) stopped.no_write (λ is. not_memory (gone.1 ∙ ap Err (gone.2 ∙ is))))
+    (λ is. cc (stopped.read.0 (ap Err is), notes_open)) stopped.no_write
+    (λ is. not_memory (gone.1 ∙ ap Err (gone.2 ∙ is))))

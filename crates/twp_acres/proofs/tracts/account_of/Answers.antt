@@ -11,13 +11,17 @@ returns-in_err-account-clause-fault c =
     let one = rw c.if-not-branch.false at c.in_ok-read.ensures in
     let behind = behind_of c.args.bytes.now _ _ (sym c.new-records.ensures.all ∙ one.0) in
     let heading_is = behind.first ∙ c.is_heading.ensures.0 c.if-not-is_heading.false in
-    let gone = err_from_is_err_and c.from_residual-in_err-account.result c.from_residual-in_err-account.ensures.1 in
+    let gone =
+    err_from_is_err_and c.from_residual-in_err-account.result c.from_residual-in_err-account.ensures.1 in
     rw (gone.1, gone.2) (first_refused c.args.plat.now.township c.args.bytes.now c.requires heading_is _
-    (subst (λ rows. AreTractsRefused c.args.plat.now.township rows c.in_err-account.field-0.0) (sym behind.behind) c.in_err-account.ensures.fault))
+    (subst (λ rows. AreTractsRefused c.args.plat.now.township rows c.in_err-account.field-0.0)
+    (sym behind.behind) c.in_err-account.ensures.fault))
 
 pub returns-clause-account : goal.returns-clause-account
 returns-clause-account c =
     let one = rw c.if-not-branch.false at c.in_ok-read.ensures in
     let behind = behind_of c.args.bytes.now _ _ (sym c.new-records.ensures.all ∙ one.0) in
     let heading_is = behind.first ∙ c.is_heading.ensures.0 c.if-not-is_heading.false in
-    accepted c.args.plat.now c.args.bytes.now _ _ _ c.requires heading_is behind.behind c.in_ok-account.ensures.few c.in_ok-account.ensures.taken (c.in_ok-write.ensures _ _ c.in_ok-account.ensures.taken.totals_are)
+    accepted c.args.plat.now c.args.bytes.now _ _ _ c.requires heading_is behind.behind
+    c.in_ok-account.ensures.few c.in_ok-account.ensures.taken
+    (c.in_ok-write.ensures _ _ c.in_ok-account.ensures.taken.totals_are)

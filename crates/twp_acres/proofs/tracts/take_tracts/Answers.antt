@@ -16,7 +16,9 @@ records-init g c =
       rest = refl;
       within = omega arith;
       few = omega arith;
-      tally = no_tally c.args.plat.now (records_left c.args.records.now) _ account.names account.land account.totals account.text;
+      tally =
+          no_tally c.args.plat.now (records_left c.args.records.now) _ account.names account.land
+          account.totals account.text;
     }
 
 pub take-requires : goal.take-requires
@@ -32,7 +34,9 @@ records-preserved g c =
       rest = is.after;
       within = omega (arith, is.within);
       few = omega arith;
-      tally = next_tally c.args.plat.now rows c.records.taken _ _ c.records.invariant.tally (rw is.is c.in_ok-take.ensures.taken);
+      tally =
+          next_tally c.args.plat.now rows c.records.taken _ _ c.records.invariant.tally
+          (rw is.is c.in_ok-take.ensures.taken);
     }
 
 pub returns-in_err-take-clause-fault : goal.returns-in_err-take-clause-fault
@@ -41,7 +45,9 @@ returns-in_err-take-clause-fault g c =
     let next = rw c.if-branch.true at c.in_ok-read.ensures in
     let is = next_record_is rows c.records.taken _ _ (sym c.records.invariant.rest ∙ next.0) in
     let gone = err_from_is_err_and c.from_residual-in_err-take.result c.from_residual-in_err-take.ensures.1 in
-    rw (gone.1, gone.2) (refused_next c.args.plat.now rows c.records.taken _ c.records.invariant.tally is.within (omega arith) _ (rw is.is c.in_err-take.ensures.fault))
+    rw (gone.1, gone.2)
+    (refused_next c.args.plat.now rows c.records.taken _ c.records.invariant.tally is.within (omega arith) _
+    (rw is.is c.in_err-take.ensures.fault))
 
 pub returns-clause-taken : goal.returns-clause-taken
 returns-clause-taken g c =
@@ -49,10 +55,12 @@ returns-clause-taken g c =
     let none = rw c.if-branch.false at c.in_ok-read.ensures in
     let short = no_record_left rows c.records.taken (sym c.records.invariant.rest ∙ none) in
     let all : c.records.taken ≡ length rows = omega arith in
-    subst (λ count. IsTallyOf c.args.plat.now rows count (tally_of g.L.Land.places c.records.account)) all c.records.invariant.tally
+    subst (λ count. IsTallyOf c.args.plat.now rows count (tally_of g.L.Land.places c.records.account)) all
+    c.records.invariant.tally
 
 pub returns-clause-few : goal.returns-clause-few
 returns-clause-few g c =
     let none = rw c.if-branch.false at c.in_ok-read.ensures in
-    let short = no_record_left (records_left c.args.records.now) c.records.taken (sym c.records.invariant.rest ∙ none) in
+    let short =
+    no_record_left (records_left c.args.records.now) c.records.taken (sym c.records.invariant.rest ∙ none) in
     omega arith

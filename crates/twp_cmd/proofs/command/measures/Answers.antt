@@ -16,4 +16,5 @@ returns c =
     let first = c.in_ok-subcommand.ensures.shape plat.local ∙ ap₂ with_subcommand named plat.shape in
     let acres = c.in_ok-acres.ensures in
     IfOk-weaker c.subcommand-2.result _ _ (λ command adds.
-    (acres.shape.0, acres.shape.1, adds.shape acres.local ∙ ap₂ with_subcommand first acres.shape.2)) c.subcommand-2.ensures
+    (acres.shape.0, acres.shape.1, adds.shape acres.local ∙ ap₂ with_subcommand first acres.shape.2))
+    c.subcommand-2.ensures

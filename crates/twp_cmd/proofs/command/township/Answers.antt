@@ -9,4 +9,5 @@ returns c =
     let before = c.in_ok-without_report.ensures in
     let report = c.in_ok-report.ensures in
     IfOk-weaker c.subcommand.result _ _ (λ command adds.
-    (before.0, before.1, adds.shape report.local ∙ ap₂ with_subcommand before.2 report.shape)) c.subcommand.ensures
+    (before.0, before.1, adds.shape report.local ∙ ap₂ with_subcommand before.2 report.shape))
+    c.subcommand.ensures

@@ -9,4 +9,5 @@ returns c =
     let before = c.in_ok-measures.ensures in
     let normal = c.in_ok-normal.ensures in
     IfOk-weaker c.subcommand.result _ _ (λ command adds.
-    (before.0, before.1, adds.shape normal.local ∙ ap₂ with_subcommand before.2 normal.shape)) c.subcommand.ensures
+    (before.0, before.1, adds.shape normal.local ∙ ap₂ with_subcommand before.2 normal.shape))
+    c.subcommand.ensures

@@ -11,15 +11,21 @@ pub returns-in_err-bytes-clause-ran : goal.returns-in_err-bytes-clause-ran
 returns-in_err-bytes-clause-ran g c =
     let told = g.R.Source.remaining c.args.input.now in
     let gone = err_from_is_err_and c.from_residual.result c.from_residual.ensures.1 in
-    record { bytes = unwrap_or told []; tells = some_bytes told; holds = rw (gone.1, gone.2) (keeps_nothing _ _ c.in_err-bytes.field-0.0) }
+    record {
+      bytes = unwrap_or told [];
+      tells = some_bytes told;
+      holds = rw (gone.1, gone.2) (keeps_nothing _ _ c.in_err-bytes.field-0.0);
+    }
 
 pub returns-clause-ran : goal.returns-clause-ran
 unfolding joined_bytes
 returns-clause-ran g c =
     let read = c.in_ok-bytes.ensures.bytes in
     let bytes = c.as_slice.ensures.value ∙ read.2 in
-    let notes = c.new.ensures ∙ c.split_at_line_feed.ensures.behind ∙ ap (after_first (λ byte. byte == 10)) bytes in
-    let description = c.new-2.ensures ∙ c.split_at_line_feed.ensures.before ∙ ap (before_first (λ byte. byte == 10)) bytes in
+    let notes =
+    c.new.ensures ∙ c.split_at_line_feed.ensures.behind ∙ ap (after_first (λ byte. byte == 10)) bytes in
+    let description =
+    c.new-2.ensures ∙ c.split_at_line_feed.ensures.before ∙ ap (before_first (λ byte. byte == 10)) bytes in
     record {
       bytes = read.0;
       tells = read.1;

@@ -7,5 +7,6 @@ use Rattle.twp_cmd.proofs.program.carry_out.Goals as goal
 pub returns-in-Ok : goal.returns-in-Ok
 returns-in-Ok g c =
     let more : 1 < length c.in-Ok.words.items = search rules in
-    let several : 1 < length (map string_bytes c.in-Ok.words.items) = rw (length-map c.in-Ok.words.items string_bytes) more in
+    let several : 1 < length (map string_bytes c.in-Ok.words.items) =
+    rw (length-map c.in-Ok.words.items string_bytes) more in
     inl (map string_bytes c.in-Ok.words.items, several, c.run_words.ensures)

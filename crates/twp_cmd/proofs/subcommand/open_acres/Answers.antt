@@ -8,4 +8,5 @@ returns-clause-answers g c =
     task_answers (Acres c.args.notes c.args.description c.args.account) _ _ _ _ _ _ c.acres.ensures
 
 pub returns-clause-fails : goal.returns-clause-fails
-returns-clause-fails g c = task_fails (Acres c.args.notes c.args.description c.args.account) _ _ c.acres.ensures
+returns-clause-fails g c =
+    task_fails (Acres c.args.notes c.args.description c.args.account) _ _ c.acres.ensures

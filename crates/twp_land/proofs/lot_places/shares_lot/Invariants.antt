@@ -6,4 +6,6 @@ use Rattle.twp_land.proofs.lot_places.shares_lot.Given as goal
 
 -- the lots so far have no place in the block
 abbrev pub invariant-loop-lot : goal.invariant-loop-lot
-invariant-loop-lot l = (lot column row : ℕ) → 1 ≤ lot → lot < l.lot → in_rectangle l.block column row ≡ true → lot_of_place PLACE_DIGITS l.section column row ≡ Some lot → ⊥
+invariant-loop-lot l =
+    (lot column row : ℕ) → 1 ≤ lot → lot < l.lot → in_rectangle l.block column row ≡ true
+    → lot_of_place PLACE_DIGITS l.section column row ≡ Some lot → ⊥

@@ -4,28 +4,38 @@ use Rattle.std.proofs.lemmas.Bool.{cases_lt}
 use Rattle.twp_grid.specs.Lots.{position_of_lot}
 use Rattle.twp_land.proofs.LotFacts.{few_lots, block_of, whole_of_block, block_of_whole, no_such_lot}
 use Rattle.twp_land.proofs.lots.has_whole_lots.Goals as goal
-use Rattle.twp_land.proofs.lots.has_whole_lots.Goals.{else-meets-via-then-meets+else-not-full, else-meets-via-else-meets}
+use Rattle.twp_land.proofs.lots.has_whole_lots.Goals.{else-meets-via-then-meets+else-not-full}
+use Rattle.twp_land.proofs.lots.has_whole_lots.Goals.{else-meets-via-else-meets}
 
 pub overflow_add-lot-end : goal.overflow_add-lot-end
-overflow_add-lot-end g c = let few = few_lots c.args.section c.lot_count-lot-end.ensures.section in omega arith
+overflow_add-lot-end g c =
+    let few = few_lots c.args.section c.lot_count-lot-end.ensures.section in omega arith
 
 pub loop-lot-init : goal.loop-lot-init
-loop-lot-init g c = λ lot below. no_such_lot c.args.section lot _ c.lot_count-lot-end.ensures.section (inl below)
+loop-lot-init g c =
+    λ lot below. no_such_lot c.args.section lot _ c.lot_count-lot-end.ensures.section (inl below)
 
 pub returns-then-not-full : goal.returns-then-not-full
 returns-then-not-full g c = (
   λ h. cc h,
   λ whole.
-      let is : block_of (position_of_lot c.args.section c.loop-lot.lot) ≡ Some c.unwrap-block.result = sym c.of_lot.ensures.block ∙ c.unwrap-block.ensures in
-      let full = block_of_whole c.args.section c.loop-lot.lot (g.L.Land.places c.args.land.now c.args.section) c.unwrap-block.result _
-      c.of_lot.ensures.section (omega arith) refl is (whole c.loop-lot.lot) (c.meets.ensures.0 c.if-meets.true) in
+      let is : block_of (position_of_lot c.args.section c.loop-lot.lot) ≡ Some c.unwrap-block.result =
+      sym c.of_lot.ensures.block ∙ c.unwrap-block.ensures in
+      let full =
+      block_of_whole c.args.section c.loop-lot.lot (g.L.Land.places c.args.land.now c.args.section)
+      c.unwrap-block.result _
+      c.of_lot.ensures.section (omega arith) refl is (whole c.loop-lot.lot)
+      (c.meets.ensures.0 c.if-meets.true) in
       absurd (cc (c.full.ensures.1 full)),
 )
 
 pub loop-lot-preserved : goal.loop-lot-preserved
 loop-lot-preserved g c =
-    let is : block_of (position_of_lot c.args.section c.loop-lot.lot) ≡ Some c.unwrap-block.result = sym c.of_lot.ensures.block ∙ c.unwrap-block.ensures in
-    let next = whole_of_block c.args.section c.loop-lot.lot (g.L.Land.places c.args.land.now c.args.section) c.unwrap-block.result c.of_lot.ensures.section is in
+    let is : block_of (position_of_lot c.args.section c.loop-lot.lot) ≡ Some c.unwrap-block.result =
+    sym c.of_lot.ensures.block ∙ c.unwrap-block.ensures in
+    let next =
+    whole_of_block c.args.section c.loop-lot.lot (g.L.Land.places c.args.land.now c.args.section)
+    c.unwrap-block.result c.of_lot.ensures.section is in
     below_more _ _ c.loop-lot.invariant (next (elim c.else-meets.branch [
       | else-meets-via-then-meets+else-not-full w ↦ λ _. w.full.ensures.0 w.if-not-full.false
       | else-meets-via-else-meets w ↦ λ meets. absurd (cc (c.meets.ensures.1 meets, w.if-meets.false))

@@ -9,8 +9,11 @@ pub loop-number-preserved : goal.loop-number-preserved
 loop-number-preserved g c = λ section lot least below. elim (cases_lt section c.loop-number.number) [
   | inl before ↦ c.loop-number.invariant section lot least before
   | inr here ↦
-      let at = section_is c.loop-number.number c.unwrap-section.result _ c.new.ensures c.unwrap-section.ensures in
+      let at =
+      section_is c.loop-number.number c.unwrap-section.result _ c.new.ensures c.unwrap-section.ensures in
       let same : c.unwrap-section.result ≡ section = omega arith in
-      let whole : IsWholeOrNot PLACE_DIGITS c.unwrap-section.result lot (g.L.Land.places c.args.land.now c.unwrap-section.result) = c.has_whole_lots.ensures.0 c.if-not-has_whole_lots.false lot in
+      let whole : IsWholeOrNot PLACE_DIGITS c.unwrap-section.result lot
+      (g.L.Land.places c.args.land.now c.unwrap-section.result) =
+      c.has_whole_lots.ensures.0 c.if-not-has_whole_lots.false lot in
       rw same at whole
 ]

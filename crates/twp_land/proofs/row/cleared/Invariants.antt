@@ -4,4 +4,7 @@ use Rattle.twp_land.specs.Storage.{IsCleared}
 use Rattle.twp_land.proofs.row.cleared.Given as goal
 
 abbrev pub invariant-loop-along : goal.invariant-loop-along
-invariant-loop-along l = (length l.cleared ≡ places_across PLACE_DIGITS) × IsCleared l.row (record { start = l.start; len = l.along }) l.cleared
+invariant-loop-along l = (length l.cleared ≡ places_across PLACE_DIGITS) × IsCleared l.row (record {
+  start = l.start;
+  len = l.along;
+}) l.cleared

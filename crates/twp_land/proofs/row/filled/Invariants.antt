@@ -4,4 +4,7 @@ use Rattle.twp_land.specs.Storage.{IsFilled}
 use Rattle.twp_land.proofs.row.filled.Given as goal
 
 abbrev pub invariant-loop-along : goal.invariant-loop-along
-invariant-loop-along l = (length l.filled ≡ places_across PLACE_DIGITS) × IsFilled l.row (record { start = l.start; len = l.along }) l.filled
+invariant-loop-along l = (length l.filled ≡ places_across PLACE_DIGITS) × IsFilled l.row (record {
+  start = l.start;
+  len = l.along;
+}) l.filled

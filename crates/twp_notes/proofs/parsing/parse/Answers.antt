@@ -5,17 +5,22 @@ use Rattle.csv.specs.Records.{fields_of}
 use Rattle.twp_notes.specs.Records.{records_of, records_left}
 use Rattle.twp_notes.specs.LineFaults.{IsRefusedAfter}
 use Rattle.twp_notes.proofs.RecordFacts.{few_records}
-use Rattle.twp_notes.proofs.FirstFaults.{behind_of, answer_refused, missing_is_first}
-use Rattle.twp_notes.proofs.FirstFaults.{notes_of_table}
+use Rattle.twp_notes.proofs.RecordPlaces.{behind_of}
+use Rattle.twp_notes.proofs.FirstFaults.{answer_refused, missing_is_first, notes_of_table}
 use Rattle.twp_notes.proofs.parsing.parse.Goals as goal
 
 pub take_lines-requires-clause-few : goal.take_lines-requires-clause-few
 take_lines-requires-clause-few c =
     let one = rw c.if-not-branch.false at c.in_ok-read.ensures in
     let two = rw c.if-not-branch-2.false at c.in_ok-read-2.ensures in
-    let behind = behind_of c.args.bytes.now _ _ _ _ _ c.in-Some.township c.requires c.new-records.ensures.all one.0 two.0 (c.is_heading.ensures.0 c.if-not-is_heading.false) c.in-Some.ensures.0 in
-    let all : length (records_of c.args.bytes.now) ≡ length (fields_of c.read.new.row ∷ fields_of c.read-2.new.row ∷ records_left c.read-2.new.self) = ap length behind.split in
-    let few : length (records_of c.args.bytes.now) ≤ length c.args.bytes.now + 1 = few_records c.args.bytes.now in
+    let behind =
+    behind_of c.args.bytes.now _ _ _ _ _ c.in-Some.township c.requires c.new-records.ensures.all one.0
+    two.0 (c.is_heading.ensures.0 c.if-not-is_heading.false) c.in-Some.ensures.0 in
+    let all : length (records_of c.args.bytes.now)
+    ≡ length (fields_of c.read.new.row ∷ fields_of c.read-2.new.row ∷ records_left c.read-2.new.self) =
+    ap length behind.split in
+    let few : length (records_of c.args.bytes.now) ≤ length c.args.bytes.now + 1 =
+    few_records c.args.bytes.now in
     let size : length c.args.bytes.now ≤ 65536 = c.requires in
     omega arith
 
@@ -23,26 +28,37 @@ pub returns-in_err-table-clause-answer : goal.returns-in_err-table-clause-answer
 returns-in_err-table-clause-answer c =
     let one = rw c.if-not-branch.false at c.in_ok-read.ensures in
     let two = rw c.if-not-branch-2.false at c.in_ok-read-2.ensures in
-    let behind = behind_of c.args.bytes.now _ _ _ _ _ c.in-Some.township c.requires c.new-records.ensures.all one.0 two.0 (c.is_heading.ensures.0 c.if-not-is_heading.false) c.in-Some.ensures.0 in
-    let gone = err_from_is_err_and c.from_residual-in_err-table.result c.from_residual-in_err-table.ensures.1 in
-    rw (gone.1, gone.2) (answer_refused c.args.bytes.now _ c.in_err-table.field-0.0 behind c.in_err-table.ensures.fault)
+    let behind =
+    behind_of c.args.bytes.now _ _ _ _ _ c.in-Some.township c.requires c.new-records.ensures.all one.0
+    two.0 (c.is_heading.ensures.0 c.if-not-is_heading.false) c.in-Some.ensures.0 in
+    let gone =
+    err_from_is_err_and c.from_residual-in_err-table.result c.from_residual-in_err-table.ensures.1 in
+    rw (gone.1, gone.2)
+    (answer_refused c.args.bytes.now _ c.in_err-table.field-0.0 behind c.in_err-table.ensures.fault)
 
 pub returns-in_err-table-clause-no_read : goal.returns-in_err-table-clause-no_read
 returns-in_err-table-clause-no_read c =
-    let gone = err_from_is_err_and c.from_residual-in_err-table.result c.from_residual-in_err-table.ensures.1 in
+    let gone =
+    err_from_is_err_and c.from_residual-in_err-table.result c.from_residual-in_err-table.ensures.1 in
     let refused = c.in_err-table.ensures.fault in
-    rw (gone.1, gone.2) (λ read. (subst (IsRefusedAfter (records_left c.read-2.new.self)) read refused).not_taken)
+    rw (gone.1, gone.2)
+    (λ read. (subst (IsRefusedAfter (records_left c.read-2.new.self)) read refused).not_taken)
 
 pub returns-in-Ok-clause-answer : goal.returns-in-Ok-clause-answer
 returns-in-Ok-clause-answer c =
     let one = rw c.if-not-branch.false at c.in_ok-read.ensures in
     let two = rw c.if-not-branch-2.false at c.in_ok-read-2.ensures in
-    let behind = behind_of c.args.bytes.now _ _ _ _ _ c.in-Some.township c.requires c.new-records.ensures.all one.0 two.0 (c.is_heading.ensures.0 c.if-not-is_heading.false) c.in-Some.ensures.0 in
-    rw c.new.ensures (notes_of_table c.args.bytes.now _ _ _ behind c.in_ok-table.ensures.taken c.in-Ok.ensures.lines)
+    let behind =
+    behind_of c.args.bytes.now _ _ _ _ _ c.in-Some.township c.requires c.new-records.ensures.all one.0
+    two.0 (c.is_heading.ensures.0 c.if-not-is_heading.false) c.in-Some.ensures.0 in
+    rw c.new.ensures
+    (notes_of_table c.args.bytes.now _ _ _ behind c.in_ok-table.ensures.taken c.in-Ok.ensures.lines)
 
 pub returns-clause-answer : goal.returns-clause-answer
 returns-clause-answer c =
     let one = rw c.if-not-branch.false at c.in_ok-read.ensures in
     let two = rw c.if-not-branch-2.false at c.in_ok-read-2.ensures in
-    let behind = behind_of c.args.bytes.now _ _ _ _ _ c.in-Some.township c.requires c.new-records.ensures.all one.0 two.0 (c.is_heading.ensures.0 c.if-not-is_heading.false) c.in-Some.ensures.0 in
+    let behind =
+    behind_of c.args.bytes.now _ _ _ _ _ c.in-Some.township c.requires c.new-records.ensures.all one.0
+    two.0 (c.is_heading.ensures.0 c.if-not-is_heading.false) c.in-Some.ensures.0 in
     missing_is_first c.args.bytes.now _ _ _ behind c.in_ok-table.ensures.taken c.in-Err.ensures.missing

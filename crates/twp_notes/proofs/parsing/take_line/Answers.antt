@@ -9,6 +9,10 @@ returns-in_default-clause-fault c = (refl, c.in_default.ensures, λ none. none _
 pub returns-else-take_down-clause-fault : goal.returns-else-take_down-clause-fault
 returns-else-take_down-clause-fault c = (
   refl,
-  record { line = c.in_ok-line.line; names = c.in_ok-line.ensures.line; before = rw c.if-take_down.false at c.take_down.ensures.again },
+  record {
+    line = c.in_ok-line.line;
+    names = c.in_ok-line.ensures.line;
+    before = rw c.if-take_down.false at c.take_down.ensures.again;
+  },
   has_lengths _ _ c.in-Some.ensures,
 )

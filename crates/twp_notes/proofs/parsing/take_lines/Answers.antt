@@ -16,7 +16,9 @@ records-preserved c =
       reading = next.1;
       rest = is.after;
       within = omega (arith, is.within);
-      taken = taken_more rows c.records.taken c.records.table c.take_line.new.table c.records.invariant.taken (rw is.is c.in_ok-take_line.ensures.taken);
+      taken =
+          taken_more rows c.records.taken c.records.table c.take_line.new.table c.records.invariant.taken
+          (rw is.is c.in_ok-take_line.ensures.taken);
     }
 
 pub returns-in_err-take_line-clause-fault : goal.returns-in_err-take_line-clause-fault
@@ -24,9 +26,13 @@ returns-in_err-take_line-clause-fault c =
     let rows = records_left c.args.records.now in
     let next = rw c.if-branch.true at c.in_ok-read.ensures in
     let is = next_record_is rows c.records.taken _ _ (sym c.records.invariant.rest ∙ next.0) in
-    let gone = err_from_is_err_and c.from_residual-in_err-take_line.result c.from_residual-in_err-take_line.ensures.1 in
-    let not_taken = subst (λ f. IsNotTaken f c.records.table (c.records.taken + 3) c.in_err-take_line.field-0.0) (sym is.is) c.in_err-take_line.ensures.fault in
-    rw (gone.1, gone.2) (refused_next rows c.records.taken c.records.table _ is.within c.records.invariant.taken not_taken)
+    let gone =
+    err_from_is_err_and c.from_residual-in_err-take_line.result c.from_residual-in_err-take_line.ensures.1 in
+    let not_taken =
+    subst (λ f. IsNotTaken f c.records.table (c.records.taken + 3) c.in_err-take_line.field-0.0)
+    (sym is.is) c.in_err-take_line.ensures.fault in
+    rw (gone.1, gone.2)
+    (refused_next rows c.records.taken c.records.table _ is.within c.records.invariant.taken not_taken)
 
 pub returns-clause-taken : goal.returns-clause-taken
 returns-clause-taken c =

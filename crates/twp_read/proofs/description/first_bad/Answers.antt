@@ -7,13 +7,18 @@ use Rattle.twp_read.proofs.description.first_bad.Goals as goal
 pub returns-in-Some-fault_of_bad : goal.returns-in-Some-fault_of_bad
 returns-in-Some-fault_of_bad c =
     let left = c.loop-token.tokens in
-    found_bad c.args.text.now left.at left.bytes (seen c.in-Some.token) c.next.new.self.bytes c.in-Some-fault_of_bad.fault c.loop-token.invariant c.in-Some.ensures.steps.0 (sym c.in-Some-fault_of_bad.ensures)
+    found_bad c.args.text.now left.at left.bytes (seen c.in-Some.token) c.next.new.self.bytes
+    c.in-Some-fault_of_bad.fault c.loop-token.invariant c.in-Some.ensures.steps.0
+    (sym c.in-Some-fault_of_bad.ensures)
 
 pub loop-token-preserved : goal.loop-token-preserved
 loop-token-preserved c =
     let left = c.loop-token.tokens in
-    search_next c.args.text.now left.at left.bytes (seen c.in-Some.token) c.next.new.self.at c.next.new.self.bytes c.loop-token.invariant c.in-Some.ensures.steps.0 c.in-Some.ensures.steps.1
+    search_next c.args.text.now left.at left.bytes (seen c.in-Some.token) c.next.new.self.at
+    c.next.new.self.bytes c.loop-token.invariant c.in-Some.ensures.steps.0 c.in-Some.ensures.steps.1
     (none_tells c.in-Some.token.kind c.in-Some.token.at (sym c.in_default-fault_of_bad.ensures))
 
 pub returns : goal.returns
-returns c = search_none c.args.text.now c.loop-token.tokens.at c.loop-token.tokens.bytes c.loop-token.invariant c.in_default.ensures.steps.0
+returns c =
+    search_none c.args.text.now c.loop-token.tokens.at c.loop-token.tokens.bytes c.loop-token.invariant
+    c.in_default.ensures.steps.0

@@ -14,10 +14,12 @@ returns-then-at-text c =
 pub split_at-requires-2 : goal.split_at-requires-2
 split_at-requires-2 c =
     let below : c.behind_white-at.result < length c.args.text.now = grind (arith, nat_tests) in
-    rw (c.lexeme_at-kind.ensures, c.split_at.ensures.back) (first_at c.args.text.now c.args.from c.behind_white-at.result c.behind_white-at.ensures.value below).fits
+    rw (c.lexeme_at-kind.ensures, c.split_at.ensures.back)
+    (first_at c.args.text.now c.args.from c.behind_white-at.result c.behind_white-at.ensures.value below).fits
 
 pub returns : goal.returns
 returns c =
     let below : c.behind_white-at.result < length c.args.text.now = grind (arith, nat_tests) in
-    first_in c.args.text.now c.args.from c.behind_white-at.result c.lexeme_at-kind.result c.split_at-2.result.0.now c.behind_white-at.ensures.value below c.lexeme_at-kind.ensures
+    first_in c.args.text.now c.args.from c.behind_white-at.result c.lexeme_at-kind.result
+    c.split_at-2.result.0.now c.behind_white-at.ensures.value below c.lexeme_at-kind.ensures
     (c.split_at-2.ensures.front ∙ ap (λ b. take c.lexeme_at-kind.result.size b) c.split_at.ensures.back)

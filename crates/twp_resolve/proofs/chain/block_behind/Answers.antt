@@ -5,19 +5,27 @@ use Rattle.twp_resolve.proofs.ChainFacts.{cut_none, cut_next, cut_stuck}
 use Rattle.twp_resolve.proofs.chain.block_behind.Goals as goal
 
 pub loop-index-init : goal.loop-index-init
-loop-index-init c = record { cut = cut_none PLACE_DIGITS c.args.steps.now _ c.len-index.ensures _ c.whole-block.ensures; least = omega (arith, c.len-index.ensures) }
+loop-index-init c = record {
+  cut = cut_none PLACE_DIGITS c.args.steps.now _ c.len-index.ensures _ c.whole-block.ensures;
+  least = omega (arith, c.len-index.ensures);
+}
 
 pub returns-in_err-block : goal.returns-in_err-block
 returns-in_err-block c =
-    let at : slice_get c.args.steps.now (c.loop-index.index - 1) ≡ Some c.unwrap.result = sym c.get.ensures ∙ c.unwrap.ensures in
+    let at : slice_get c.args.steps.now (c.loop-index.index - 1) ≡ Some c.unwrap.result =
+    sym c.get.ensures ∙ c.unwrap.ensures in
     rw c.from_residual.ensures
-    (cut_stuck PLACE_DIGITS c.args.steps.now c.loop-index.index c.unwrap.result c.loop-index.block (omega arith) at c.loop-index.invariant.cut c.in_err-block.ensures)
+    (cut_stuck PLACE_DIGITS c.args.steps.now c.loop-index.index c.unwrap.result c.loop-index.block
+    (omega arith) at c.loop-index.invariant.cut c.in_err-block.ensures)
 
 pub loop-index-preserved : goal.loop-index-preserved
 loop-index-preserved c =
-    let at : slice_get c.args.steps.now (c.loop-index.index - 1) ≡ Some c.unwrap.result = sym c.get.ensures ∙ c.unwrap.ensures in
+    let at : slice_get c.args.steps.now (c.loop-index.index - 1) ≡ Some c.unwrap.result =
+    sym c.get.ensures ∙ c.unwrap.ensures in
     record {
-      cut = cut_next PLACE_DIGITS c.args.steps.now c.loop-index.index c.unwrap.result c.loop-index.block c.in_ok-block.block (omega arith) at c.loop-index.invariant.cut
+      cut =
+          cut_next PLACE_DIGITS c.args.steps.now c.loop-index.index c.unwrap.result c.loop-index.block
+          c.in_ok-block.block (omega arith) at c.loop-index.invariant.cut
           (c.in_ok-block.ensures).0 (c.in_ok-block.ensures).1;
       least = omega arith;
     }

@@ -9,10 +9,18 @@ pub returns-in-Some-clause-refused : goal.returns-in-Some-clause-refused
 returns-in-Some-clause-refused g c = c.resolve_block.ensures.refused c.args.steps.now c.in-Some.ensures
 
 pub returns-in_default-block_of-clause-refused : goal.returns-in_default-block_of-clause-refused
-returns-in_default-block_of-clause-refused g c = is_too_fine c.args.section c.args.steps.now c.args.at (g.L.Land.places c.args.land.now) c.in_default-block_of.ensures
+returns-in_default-block_of-clause-refused g c =
+    is_too_fine c.args.section c.args.steps.now c.args.at (g.L.Land.places c.args.land.now)
+    c.in_default-block_of.ensures
 
 pub returns-clause-taken : goal.returns-clause-taken
-returns-clause-taken g c = c.resolve_block-2.ensures.taken c.args.steps.now (record { within = (c.in-Some-block_of.ensures).0; block_is = (c.in-Some-block_of.ensures).1 })
+returns-clause-taken g c = c.resolve_block-2.ensures.taken c.args.steps.now (record {
+  within = (c.in-Some-block_of.ensures).0;
+  block_is = (c.in-Some-block_of.ensures).1;
+})
 
 pub returns-clause-refused : goal.returns-clause-refused
-returns-clause-refused g c = c.resolve_block-2.ensures.refused c.args.steps.now (record { within = (c.in-Some-block_of.ensures).0; block_is = (c.in-Some-block_of.ensures).1 })
+returns-clause-refused g c = c.resolve_block-2.ensures.refused c.args.steps.now (record {
+  within = (c.in-Some-block_of.ensures).0;
+  block_is = (c.in-Some-block_of.ensures).1;
+})

@@ -5,7 +5,8 @@ use Rattle.twp_grid.specs.Lots.{position_of_lot}
 use Rattle.twp_grid.specs.Places.{PLACE_DIGITS}
 use Rattle.twp_land.proofs.LotFacts.{few_lots, block_of}
 use Rattle.twp_resolve.specs.ResolvingSteps.{lots_from, AreAdded}
-use Rattle.twp_resolve.proofs.RangeFacts.{lot_range, added_none, no_lots, added_next, added_stuck, next_lot, in_next_lot}
+use Rattle.twp_resolve.proofs.RangeFacts.{lot_range, added_none, no_lots, added_next, added_stuck, next_lot}
+use Rattle.twp_resolve.proofs.RangeFacts.{in_next_lot}
 use Rattle.twp_resolve.proofs.ranges.add_lots.Goals as goal
 
 pub overflow_add-lot-end : goal.overflow_add-lot-end
@@ -19,7 +20,10 @@ loop-lot-init g c =
     let low = lot_range c.args.section c.args.first c.requires.section c.requires.first in
     record {
       least = omega arith;
-      added = added_none (lots_from PLACE_DIGITS c.args.section c.args.first (c.args.first - 1)) (g.L.Land.places c.args.land.now) (no_lots PLACE_DIGITS c.args.section c.args.first (c.args.first - 1) (omega (arith, low.0)));
+      added =
+          added_none (lots_from PLACE_DIGITS c.args.section c.args.first (c.args.first - 1))
+          (g.L.Land.places c.args.land.now)
+          (no_lots PLACE_DIGITS c.args.section c.args.first (c.args.first - 1) (omega (arith, low.0)));
     }
 
 pub unwrap-block-requires : goal.unwrap-block-requires
@@ -33,13 +37,18 @@ returns-in_err-add_block g c =
     let so_far = c.loop-lot.invariant in
     let low = lot_range c.args.section c.args.first c.requires.section c.requires.first in
     let high = lot_range c.args.section c.args.last c.requires.section c.requires.last in
-    let is : block_of (position_of_lot c.args.section c.loop-lot.lot) ≡ Some c.unwrap-block.result = sym c.of_lot.ensures.block ∙ c.unwrap-block.ensures in
+    let is : block_of (position_of_lot c.args.section c.loop-lot.lot) ≡ Some c.unwrap-block.result =
+    sym c.of_lot.ensures.block ∙ c.unwrap-block.ensures in
     let gone = err_from_is_err_and c.from_residual.result c.from_residual.ensures.1 in
     rw (gone.1, gone.2) (
       (c.in_err-add_block.ensures).0,
-      added_stuck (lots_from PLACE_DIGITS c.args.section c.args.first (c.loop-lot.lot - 1)) (lots_from PLACE_DIGITS c.args.section c.args.first c.args.last) (g.L.Land.places c.args.land.now) (g.L.Land.places c.loop-lot.land) c.args.section c.unwrap-block.result
+      added_stuck (lots_from PLACE_DIGITS c.args.section c.args.first (c.loop-lot.lot - 1))
+          (lots_from PLACE_DIGITS c.args.section c.args.first c.args.last) (g.L.Land.places c.args.land.now)
+          (g.L.Land.places c.loop-lot.land) c.args.section c.unwrap-block.result
           so_far.added (c.in_err-add_block.ensures).1
-          (in_next_lot c.args.section c.args.first c.loop-lot.lot c.args.last c.unwrap-block.result c.requires.section (omega (arith, low.0, so_far.least)) so_far.least (omega arith) (omega (arith, high.1)) is),
+          (in_next_lot c.args.section c.args.first c.loop-lot.lot c.args.last c.unwrap-block.result
+          c.requires.section (omega (arith, low.0, so_far.least)) so_far.least (omega arith)
+          (omega (arith, high.1)) is),
     )
 
 pub loop-lot-preserved : goal.loop-lot-preserved
@@ -47,17 +56,26 @@ loop-lot-preserved g c =
     let so_far = c.loop-lot.invariant in
     let low = lot_range c.args.section c.args.first c.requires.section c.requires.first in
     let high = lot_range c.args.section c.args.last c.requires.section c.requires.last in
-    let is : block_of (position_of_lot c.args.section c.loop-lot.lot) ≡ Some c.unwrap-block.result = sym c.of_lot.ensures.block ∙ c.unwrap-block.ensures in
+    let is : block_of (position_of_lot c.args.section c.loop-lot.lot) ≡ Some c.unwrap-block.result =
+    sym c.of_lot.ensures.block ∙ c.unwrap-block.ensures in
     let next : c.loop-lot.lot ≡ c.loop-lot.lot + 1 - 1 = omega arith in
     record {
       least = omega (arith, so_far.least);
-      added = subst (λ n. AreAdded (lots_from PLACE_DIGITS c.args.section c.args.first n) (g.L.Land.places c.args.land.now) (g.L.Land.places c.add_block.new.land)) next
-          (added_next (lots_from PLACE_DIGITS c.args.section c.args.first (c.loop-lot.lot - 1)) (lots_from PLACE_DIGITS c.args.section c.args.first c.loop-lot.lot) (g.L.Land.places c.args.land.now) (g.L.Land.places c.loop-lot.land) (g.L.Land.places c.add_block.new.land) c.args.section c.unwrap-block.result
+      added = subst (λ n.
+          AreAdded (lots_from PLACE_DIGITS c.args.section c.args.first n) (g.L.Land.places c.args.land.now)
+          (g.L.Land.places c.add_block.new.land)) next
+          (added_next (lots_from PLACE_DIGITS c.args.section c.args.first (c.loop-lot.lot - 1))
+          (lots_from PLACE_DIGITS c.args.section c.args.first c.loop-lot.lot)
+          (g.L.Land.places c.args.land.now) (g.L.Land.places c.loop-lot.land)
+          (g.L.Land.places c.add_block.new.land) c.args.section c.unwrap-block.result
           so_far.added (c.in_ok-add_block.ensures).0 (c.in_ok-add_block.ensures).1
-          (next_lot c.args.section c.args.first c.loop-lot.lot c.unwrap-block.result c.requires.section (omega (arith, low.0, so_far.least)) so_far.least (omega (arith, high.1)) is));
+          (next_lot c.args.section c.args.first c.loop-lot.lot c.unwrap-block.result c.requires.section
+          (omega (arith, low.0, so_far.least)) so_far.least (omega (arith, high.1)) is));
     }
 
 pub returns : goal.returns
 returns g c =
     let all : c.loop-lot.lot - 1 ≡ c.args.last = omega (arith, c.requires.order) in
-    subst (λ n. AreAdded (lots_from PLACE_DIGITS c.args.section c.args.first n) (g.L.Land.places c.args.land.now) (g.L.Land.places c.loop-lot.land)) all c.loop-lot.invariant.added
+    subst (λ n.
+    AreAdded (lots_from PLACE_DIGITS c.args.section c.args.first n) (g.L.Land.places c.args.land.now)
+    (g.L.Land.places c.loop-lot.land)) all c.loop-lot.invariant.added

@@ -14,49 +14,83 @@ use Rattle.twp_resolve.proofs.resolving.resolve_into.Goals as goal
 
 pub loop-item-init : goal.loop-item-init
 loop-item-init g c = record {
-  taken = taken_none PLACE_DIGITS c.args.township c.items-items.result.now (g.L.Land.places c.clear.new.self) c.clear.ensures;
-  known = not_known c.items-items.result.now (rw c.items-items.ensures.items c.items-items.ensures.sections_first);
+  taken =
+      taken_none PLACE_DIGITS c.args.township c.items-items.result.now (g.L.Land.places c.clear.new.self)
+      c.clear.ensures;
+  known =
+      not_known c.items-items.result.now
+      (rw c.items-items.ensures.items c.items-items.ensures.sections_first);
 }
 
 pub resolve_item-requires : goal.resolve_item-requires
-resolve_item-requires g c = may_be_taken c.loop-item.section c.items-items.result.now c.loop-item.item-index c.item-item.result c.loop-item-test.true (sym c.item-item.is) c.loop-item.invariant.known
+resolve_item-requires g c =
+    may_be_taken c.loop-item.section c.items-items.result.now c.loop-item.item-index c.item-item.result
+    c.loop-item-test.true (sym c.item-item.is) c.loop-item.invariant.known
 
 pub returns-in_err-section-clause-refused : goal.returns-in_err-section-clause-refused
 returns-in_err-section-clause-refused g c =
     let gone = err_from_is_err_and c.from_residual.result c.from_residual.ensures.1 in
     rw (gone.1, gone.2, ← c.items-items.ensures.items)
-    (refused_here PLACE_DIGITS c.args.township c.items-items.result.now c.loop-item.item-index (number_of_section c.loop-item.section) c.item-item.result (g.L.Land.places c.loop-item.land) c.in_err-section.field-0.0
+    (refused_here PLACE_DIGITS c.args.township c.items-items.result.now c.loop-item.item-index
+    (number_of_section c.loop-item.section) c.item-item.result (g.L.Land.places c.loop-item.land)
+    c.in_err-section.field-0.0
     c.loop-item-test.true (sym c.item-item.is) c.loop-item.invariant.taken c.in_err-section.ensures.refused)
 
 pub returns-in_err-section-clause-on_plat : goal.returns-in_err-section-clause-on_plat
 returns-in_err-section-clause-on_plat g c =
     let gone = err_from_is_err_and c.from_residual.result c.from_residual.ensures.1 in
-    let refused = refused_here PLACE_DIGITS c.args.township c.items-items.result.now c.loop-item.item-index (number_of_section c.loop-item.section) c.item-item.result (g.L.Land.places c.loop-item.land) c.in_err-section.field-0.0
+    let refused =
+    refused_here PLACE_DIGITS c.args.township c.items-items.result.now c.loop-item.item-index
+    (number_of_section c.loop-item.section) c.item-item.result (g.L.Land.places c.loop-item.land)
+    c.in_err-section.field-0.0
     c.loop-item-test.true (sym c.item-item.is) c.loop-item.invariant.taken c.in_err-section.ensures.refused in
-    rw (gone.1, ← c.items-items.ensures.items)
-    (λ ok. cc ok, λ on. absurd (no_fault PLACE_DIGITS c.args.township c.items-items.result.now c.in_err-section.field-0.0 on refused))
+    rw (gone.1, ← c.items-items.ensures.items) (
+      λ ok. cc ok,
+      λ on.
+          absurd
+          (no_fault PLACE_DIGITS c.args.township c.items-items.result.now c.in_err-section.field-0.0 on
+          refused),
+    )
 
 pub loop-item-preserved : goal.loop-item-preserved
 loop-item-preserved g c =
     let so_far = c.loop-item.invariant in
-    let taken = taken_next PLACE_DIGITS c.args.township c.items-items.result.now c.loop-item.item-index (number_of_section c.loop-item.section) c.item-item.result (g.L.Land.places c.loop-item.land) (g.L.Land.places c.resolve_item.new.land)
+    let taken =
+    taken_next PLACE_DIGITS c.args.township c.items-items.result.now c.loop-item.item-index
+    (number_of_section c.loop-item.section) c.item-item.result (g.L.Land.places c.loop-item.land)
+    (g.L.Land.places c.resolve_item.new.land)
     c.loop-item-test.true (sym c.item-item.is) so_far.taken c.in_ok-section.ensures.taken in
     record {
       taken = rw c.in_ok-section.ensures.behind taken;
-      known = known_next PLACE_DIGITS c.args.township c.loop-item.section c.in_ok-section.section c.items-items.result.now c.loop-item.item-index c.item-item.result
-          c.loop-item-test.true (sym c.item-item.is) so_far.known c.in_ok-section.ensures.taken.lies c.in_ok-section.ensures.behind;
+      known =
+          known_next PLACE_DIGITS c.args.township c.loop-item.section c.in_ok-section.section
+          c.items-items.result.now c.loop-item.item-index c.item-item.result
+          c.loop-item-test.true (sym c.item-item.is) so_far.known c.in_ok-section.ensures.taken.lies
+          c.in_ok-section.ensures.behind;
     }
 
 pub returns-clause-land : goal.returns-clause-land
 returns-clause-land g c =
-    rw (← c.items-items.ensures.items) (taken_all PLACE_DIGITS c.args.township c.items-items.result.now c.loop-item.item-index (number_of_section c.loop-item.section) (g.L.Land.places c.loop-item.land) (omega arith) c.loop-item.invariant.taken)
+    rw (← c.items-items.ensures.items)
+    (taken_all PLACE_DIGITS c.args.township c.items-items.result.now c.loop-item.item-index
+    (number_of_section c.loop-item.section) (g.L.Land.places c.loop-item.land) (omega arith)
+    c.loop-item.invariant.taken)
 
 pub returns-clause-whole_lots : goal.returns-clause-whole_lots
 returns-clause-whole_lots g c =
-    let whole : IsLandOfItems PLACE_DIGITS c.args.township c.items-items.result.now (g.L.Land.places c.loop-item.land) = taken_all PLACE_DIGITS c.args.township c.items-items.result.now c.loop-item.item-index (number_of_section c.loop-item.section) (g.L.Land.places c.loop-item.land) (omega arith) c.loop-item.invariant.taken in
-    subst (HasWholeLots PLACE_DIGITS) (sym whole.land_is) (land_has_whole_lots c.args.township c.items-items.result.now whole.on_plat)
+    let whole : IsLandOfItems PLACE_DIGITS c.args.township c.items-items.result.now
+    (g.L.Land.places c.loop-item.land) =
+    taken_all PLACE_DIGITS c.args.township c.items-items.result.now c.loop-item.item-index
+    (number_of_section c.loop-item.section) (g.L.Land.places c.loop-item.land) (omega arith)
+    c.loop-item.invariant.taken in
+    subst (HasWholeLots PLACE_DIGITS) (sym whole.land_is)
+    (land_has_whole_lots c.args.township c.items-items.result.now whole.on_plat)
 
 pub returns-clause-on_plat : goal.returns-clause-on_plat
 returns-clause-on_plat g c =
-    let whole : IsLandOfItems PLACE_DIGITS c.args.township c.items-items.result.now (g.L.Land.places c.loop-item.land) = taken_all PLACE_DIGITS c.args.township c.items-items.result.now c.loop-item.item-index (number_of_section c.loop-item.section) (g.L.Land.places c.loop-item.land) (omega arith) c.loop-item.invariant.taken in
+    let whole : IsLandOfItems PLACE_DIGITS c.args.township c.items-items.result.now
+    (g.L.Land.places c.loop-item.land) =
+    taken_all PLACE_DIGITS c.args.township c.items-items.result.now c.loop-item.item-index
+    (number_of_section c.loop-item.section) (g.L.Land.places c.loop-item.land) (omega arith)
+    c.loop-item.invariant.taken in
     (λ _. rw (← c.items-items.ensures.items) whole.on_plat, λ _. refl)

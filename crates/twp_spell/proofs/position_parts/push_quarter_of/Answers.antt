@@ -9,21 +9,33 @@ use Rattle.twp_spell.proofs.position_parts.push_quarter_of.Goals as goal
 
 pub returns-in-Some-clause-parts : goal.returns-in-Some-clause-parts
 returns-in-Some-clause-parts c = λ held quarters level path_is short are are_places.
-    let choice = choice_made PLACE_DIGITS held quarters c.args.full c.chosen_half.result (omega (arith, level)) c.chosen_half.ensures are short in
-    half_added PLACE_DIGITS held quarters c.in-Some.side c.args.corner c.args.path.now c.args.pieces.now c.push_half.new.pieces
-    (choice_is PLACE_DIGITS held quarters c.chosen_half.result c.in-Some.side choice c.in-Some.ensures.0) c.in-Some.ensures.1 path_is c.push_half.ensures.first c.push_half.ensures.second
+    let choice =
+    choice_made PLACE_DIGITS held quarters c.args.full c.chosen_half.result (omega (arith, level))
+    c.chosen_half.ensures are short in
+    half_added PLACE_DIGITS held quarters c.in-Some.side c.args.corner c.args.path.now c.args.pieces.now
+    c.push_half.new.pieces
+    (choice_is PLACE_DIGITS held quarters c.chosen_half.result c.in-Some.side choice c.in-Some.ensures.0)
+    c.in-Some.ensures.1 path_is c.push_half.ensures.first c.push_half.ensures.second
 
 pub returns-then-at-clause-parts : goal.returns-then-at-clause-parts
 returns-then-at-clause-parts c = λ held quarters level path_is short are are_places.
-    let choice = choice_made PLACE_DIGITS held quarters c.args.full c.chosen_half.result (omega (arith, level)) c.chosen_half.ensures are short in
-    full_added PLACE_DIGITS held quarters c.args.corner c.args.path.now c.args.pieces.now c.push_quarter.new.self
-    path_is short (off_choice PLACE_DIGITS held quarters c.chosen_half.result c.args.corner choice c.in_default.ensures) ((are c.args.corner).0 (sym c.at.ensures ∙ c.if-at.true)) c.push_quarter.ensures.text
+    let choice =
+    choice_made PLACE_DIGITS held quarters c.args.full c.chosen_half.result (omega (arith, level))
+    c.chosen_half.ensures are short in
+    full_added PLACE_DIGITS held quarters c.args.corner c.args.path.now c.args.pieces.now
+    c.push_quarter.new.self
+    path_is short
+    (off_choice PLACE_DIGITS held quarters c.chosen_half.result c.args.corner choice c.in_default.ensures)
+    ((are c.args.corner).0 (sym c.at.ensures ∙ c.if-at.true)) c.push_quarter.ensures.text
 
 pub returns-clause-parts : goal.returns-clause-parts
 returns-clause-parts c = λ held quarters level path_is short are are_places.
-    let choice = choice_made PLACE_DIGITS held quarters c.args.full c.chosen_half.result (omega (arith, level)) c.chosen_half.ensures are short in
+    let choice =
+    choice_made PLACE_DIGITS held quarters c.args.full c.chosen_half.result (omega (arith, level))
+    c.chosen_half.ensures are short in
     inner_added PLACE_DIGITS held quarters c.args.corner c.args.pieces.now c.push_places.new.pieces
     (off_choice PLACE_DIGITS held quarters c.chosen_half.result c.args.corner choice c.in_default.ensures)
     (c.push_places.ensures.parts held (c.args.corner ∷ quarters) (omega (arith, level))
-    (path_of_quarter c.args.corner quarters c.args.path.now c.quarter.result (omega (arith, level)) path_is c.quarter.ensures)
+    (path_of_quarter c.args.corner quarters c.args.path.now c.quarter.result (omega (arith, level)) path_is
+    c.quarter.ensures)
     (λ whole. false≢true (sym c.if-at.false ∙ c.at.ensures ∙ (are c.args.corner).1 whole)) are_places)

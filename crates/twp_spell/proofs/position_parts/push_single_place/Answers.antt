@@ -12,12 +12,18 @@ use Rattle.twp_spell.proofs.position_parts.push_single_place.Goals as goal
 
 pub returns-then-at-clause-parts : goal.returns-then-at-clause-parts
 returns-then-at-clause-parts c = λ held quarters level path_is short are none.
-    full_added PLACE_DIGITS held (c.args.outer ∷ quarters) c.args.corner (step_text (Quarter c.args.outer) ++ c.args.path.now) c.args.pieces.now c.push_inner.new.self
-    (ap (λ path. step_text (Quarter c.args.outer) ++ path) path_is) short (off_all PLACE_DIGITS held (c.args.outer ∷ quarters) c.args.full c.args.corner (omega (arith, level)) none are short) ((are c.args.corner).0 (sym c.at.ensures ∙ c.if-at.true)) c.push_inner.ensures.text
+    full_added PLACE_DIGITS held (c.args.outer ∷ quarters) c.args.corner
+    (step_text (Quarter c.args.outer) ++ c.args.path.now) c.args.pieces.now c.push_inner.new.self
+    (ap (λ path. step_text (Quarter c.args.outer) ++ path) path_is) short
+    (off_all PLACE_DIGITS held (c.args.outer ∷ quarters) c.args.full c.args.corner (omega (arith, level))
+    none are short)
+    ((are c.args.corner).0 (sym c.at.ensures ∙ c.if-at.true)) c.push_inner.ensures.text
 
 pub returns-clause-parts : goal.returns-clause-parts
 returns-clause-parts c = λ held quarters level path_is short are none.
     none_written PLACE_DIGITS held (c.args.outer ∷ quarters) c.args.corner c.args.pieces.now
-    (off_all PLACE_DIGITS held (c.args.outer ∷ quarters) c.args.full c.args.corner (omega (arith, level)) none are short)
+    (off_all PLACE_DIGITS held (c.args.outer ∷ quarters) c.args.full c.args.corner (omega (arith, level))
+    none are short)
     (of_empty PLACE_DIGITS held (c.args.corner ∷ (c.args.outer ∷ quarters)) (omega (arith, level))
-    (finest_empty PLACE_DIGITS held (c.args.corner ∷ (c.args.outer ∷ quarters)) (omega (arith, level)) (λ full. false≢true (sym c.if-at.false ∙ c.at.ensures ∙ (are c.args.corner).1 full))))
+    (finest_empty PLACE_DIGITS held (c.args.corner ∷ (c.args.outer ∷ quarters)) (omega (arith, level))
+    (λ full. false≢true (sym c.if-at.false ∙ c.at.ensures ∙ (are c.args.corner).1 full))))

@@ -6,12 +6,17 @@ use Rattle.twp_spell.proofs.spelling.spell.Goals as goal
 
 pub loop-number-init : goal.loop-number-init
 loop-number-init g c = record {
-  begun = begun_none PLACE_DIGITS c.args.township (g.L.Land.places c.args.land.now) c.new-text.result.items c.new-text.ensures.items;
+  begun =
+      begun_none PLACE_DIGITS c.args.township (g.L.Land.places c.args.land.now) c.new-text.result.items
+      c.new-text.ensures.items;
   first = omega arith;
 }
 
 pub returns : goal.returns
 returns g c = record {
-  text = begun_all PLACE_DIGITS c.args.township (g.L.Land.places c.args.land.now) c.loop-number.number c.loop-number.text.items c.write_end.new.text.items
-      c.loop-number.invariant.begun (omega arith) c.in_ok-write_end.ensures.none c.in_ok-write_end.ensures.some;
+  text =
+      begun_all PLACE_DIGITS c.args.township (g.L.Land.places c.args.land.now) c.loop-number.number
+      c.loop-number.text.items c.write_end.new.text.items
+      c.loop-number.invariant.begun (omega arith) c.in_ok-write_end.ensures.none
+      c.in_ok-write_end.ensures.some;
 }

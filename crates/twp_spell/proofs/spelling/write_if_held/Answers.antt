@@ -11,15 +11,22 @@ pub returns-then-not-meets : goal.returns-then-not-meets
 returns-then-not-meets g c = λ begun.
     let places = g.L.Land.places c.args.land.now in
     begun_skip PLACE_DIGITS c.args.township places c.args.section c.args.text.now.items begun
-    (λ some. false≢true (sym c.if-not-meets.true ∙ c.meets.ensures.1 (meets_of_some (places c.args.section) c.whole.result c.whole.ensures some)))
+    (λ some.
+    false≢true
+    (sym c.if-not-meets.true
+    ∙ c.meets.ensures.1 (meets_of_some (places c.args.section) c.whole.result c.whole.ensures some)))
 
 pub returns : goal.returns
 returns g c = λ begun.
     let places = g.L.Land.places c.args.land.now in
     let new = c.write_section.new.text.items in
-    let some = some_of_meets (places c.args.section) c.whole.result c.whole.ensures (c.meets.ensures.0 c.if-not-meets.false) in
+    let some =
+    some_of_meets (places c.args.section) c.whole.result c.whole.ensures
+    (c.meets.ensures.0 c.if-not-meets.false) in
     let range = (g.met.L.Land.within c.args.land.now c.args.section some.column some.row some.is_held).0 in
-    on_ok c.write_section.result (HasSection PLACE_DIGITS places c.args.section c.write_lead.new.text.items new)
+    on_ok c.write_section.result
+    (HasSection PLACE_DIGITS places c.args.section c.write_lead.new.text.items new)
     (AreBegun PLACE_DIGITS c.args.township places (c.args.section + 1) new) (c.write_section.ensures some)
-    (begun_next PLACE_DIGITS c.args.township places c.args.section c.args.text.now.items c.write_lead.new.text.items new begun range some
+    (begun_next PLACE_DIGITS c.args.township places c.args.section c.args.text.now.items
+    c.write_lead.new.text.items new begun range some
     c.in_ok-write_lead.ensures.first c.in_ok-write_lead.ensures.behind)

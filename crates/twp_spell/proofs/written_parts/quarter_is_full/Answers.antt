@@ -8,4 +8,6 @@ use Rattle.twp_spell.proofs.written_parts.quarter_is_full.Goals as goal
 pub returns : goal.returns
 returns g c = λ quarters of_square. c.is_full.ensures (square (c.args.corner ∷ quarters))
     (block_of_quarter PLACE_DIGITS c.args.corner quarters c.args.block c.unwrap.result
-    (quarter_judged c.args.corner c.args.block c.unwrap.result c.quarter.result c.quarter.ensures c.unwrap.ensures) c.requires of_square)
+    (quarter_judged c.args.corner c.args.block c.unwrap.result c.quarter.result c.quarter.ensures
+    c.unwrap.ensures)
+    c.requires of_square)

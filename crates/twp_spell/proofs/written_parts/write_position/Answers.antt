@@ -5,46 +5,105 @@ use Rattle.twp_spell.specs.CanonicalText.{off_lots}
 use Rattle.twp_spell.specs.Spelling.{AreOfSquare}
 use Rattle.twp_spell.proofs.DescentLists.{of_empty}
 use Rattle.twp_spell.proofs.SquareFacts.{square_fits}
-use Rattle.twp_spell.proofs.PlaceSquares.{position_places, position_full, position_level, position_free, position_lot, not_some}
+use Rattle.twp_spell.proofs.PlaceSquares.{position_places, position_full, position_level, position_free}
+use Rattle.twp_spell.proofs.PlaceSquares.{position_lot, not_some}
 use Rattle.twp_spell.proofs.WritingFacts.{written_none, pieces_appended}
 use Rattle.twp_spell.proofs.written_parts.write_position.Goals as goal
 
 pub returns-then-is_some : goal.returns-then-is_some
 returns-then-is_some g c = λ quarters of_square path_is short.
-    let wide : c.column-column.result % 4 ≡ 0 = rw c.column-column.ensures.value (rw c.requires.width at c.column-column.ensures.dyadic.aligned) in
-    let high : c.row-row.result % 4 ≡ 0 = rw c.row-row.ensures.value (rw c.requires.height at c.row-row.ensures.dyadic.aligned) in
-    written_none (AreOfSquare PLACE_DIGITS (off_lots PLACE_DIGITS c.args.section (g.L.Land.places c.args.land.now c.args.section)) quarters) c.args.text.now.items
-    (of_empty PLACE_DIGITS (off_lots PLACE_DIGITS c.args.section (g.L.Land.places c.args.land.now c.args.section)) quarters (square_fits PLACE_DIGITS quarters of_square.within)
-    (position_lot c.args.section c.column-column.result c.row-row.result (g.L.Land.places c.args.land.now c.args.section) quarters c.args.block of_square c.requires.width c.requires.height c.column-column.ensures.value c.row-row.ensures.value wide high
+    let wide : c.column-column.result % 4 ≡ 0 =
+    rw c.column-column.ensures.value (rw c.requires.width at c.column-column.ensures.dyadic.aligned) in
+    let high : c.row-row.result % 4 ≡ 0 =
+    rw c.row-row.ensures.value (rw c.requires.height at c.row-row.ensures.dyadic.aligned) in
+    written_none
+    (AreOfSquare PLACE_DIGITS
+    (off_lots PLACE_DIGITS c.args.section (g.L.Land.places c.args.land.now c.args.section)) quarters)
+    c.args.text.now.items
+    (of_empty PLACE_DIGITS
+    (off_lots PLACE_DIGITS c.args.section (g.L.Land.places c.args.land.now c.args.section)) quarters
+    (square_fits PLACE_DIGITS quarters of_square.within)
+    (position_lot c.args.section c.column-column.result c.row-row.result
+    (g.L.Land.places c.args.land.now c.args.section) quarters c.args.block of_square c.requires.width
+    c.requires.height c.column-column.ensures.value c.row-row.ensures.value wide high
     (rw (sym c.lot_at-lot.ensures.lot) (sym c.is_some.ensures ∙ c.if-is_some.true))))
 
 pub returns : goal.returns
 returns g c = λ quarters of_square path_is short.
     let level = position_level PLACE_DIGITS quarters c.args.block of_square c.requires.width in
-    let wide : c.column-column.result % 4 ≡ 0 = rw c.column-column.ensures.value (rw c.requires.width at c.column-column.ensures.dyadic.aligned) in
-    let high : c.row-row.result % 4 ≡ 0 = rw c.row-row.ensures.value (rw c.requires.height at c.row-row.ensures.dyadic.aligned) in
-    let free = position_free c.args.section c.column-column.result c.row-row.result (g.L.Land.places c.args.land.now c.args.section) wide high (not_some _ (rw (sym c.lot_at-lot.ensures.lot) (sym c.is_some.ensures ∙ c.if-is_some.false))) in
-    let places = position_places PLACE_DIGITS (off_lots PLACE_DIGITS c.args.section (g.L.Land.places c.args.land.now c.args.section)) quarters c.args.block c.column-column.result c.row-row.result
-    c.held_places-ne.result c.held_places-nw.result c.held_places-sw.result c.held_places-se.result of_square c.requires.width c.column-column.ensures.value c.row-row.ensures.value
-    (c.held_places-ne.ensures.ne ∙ free c.column-column.result ((c.row-row.result + 2) + 1) (omega arith) (omega arith) (omega arith) (omega arith))
-    (c.held_places-ne.ensures.nw ∙ free (c.column-column.result + 1) ((c.row-row.result + 2) + 1) (omega arith) (omega arith) (omega arith) (omega arith))
-    (c.held_places-ne.ensures.sw ∙ free (c.column-column.result + 1) (c.row-row.result + 2) (omega arith) (omega arith) (omega arith) (omega arith))
-    (c.held_places-ne.ensures.se ∙ free c.column-column.result (c.row-row.result + 2) (omega arith) (omega arith) (omega arith) (omega arith))
-    (c.held_places-nw.ensures.ne ∙ free (c.column-column.result + 2) ((c.row-row.result + 2) + 1) (omega arith) (omega arith) (omega arith) (omega arith))
-    (c.held_places-nw.ensures.nw ∙ free ((c.column-column.result + 2) + 1) ((c.row-row.result + 2) + 1) (omega arith) (omega arith) (omega arith) (omega arith))
-    (c.held_places-nw.ensures.sw ∙ free ((c.column-column.result + 2) + 1) (c.row-row.result + 2) (omega arith) (omega arith) (omega arith) (omega arith))
-    (c.held_places-nw.ensures.se ∙ free (c.column-column.result + 2) (c.row-row.result + 2) (omega arith) (omega arith) (omega arith) (omega arith))
-    (c.held_places-sw.ensures.ne ∙ free (c.column-column.result + 2) (c.row-row.result + 1) (omega arith) (omega arith) (omega arith) (omega arith))
-    (c.held_places-sw.ensures.nw ∙ free ((c.column-column.result + 2) + 1) (c.row-row.result + 1) (omega arith) (omega arith) (omega arith) (omega arith))
-    (c.held_places-sw.ensures.sw ∙ free ((c.column-column.result + 2) + 1) c.row-row.result (omega arith) (omega arith) (omega arith) (omega arith))
-    (c.held_places-sw.ensures.se ∙ free (c.column-column.result + 2) c.row-row.result (omega arith) (omega arith) (omega arith) (omega arith))
-    (c.held_places-se.ensures.ne ∙ free c.column-column.result (c.row-row.result + 1) (omega arith) (omega arith) (omega arith) (omega arith))
-    (c.held_places-se.ensures.nw ∙ free (c.column-column.result + 1) (c.row-row.result + 1) (omega arith) (omega arith) (omega arith) (omega arith))
-    (c.held_places-se.ensures.sw ∙ free (c.column-column.result + 1) c.row-row.result (omega arith) (omega arith) (omega arith) (omega arith))
-    (c.held_places-se.ensures.se ∙ free c.column-column.result c.row-row.result (omega arith) (omega arith) (omega arith) (omega arith)) in
-    let full = position_full PLACE_DIGITS (off_lots PLACE_DIGITS c.args.section (g.L.Land.places c.args.land.now c.args.section)) quarters (record { ne = c.all.result; nw = c.all-2.result; sw = c.all-3.result; se = c.all-4.result })
-    c.held_places-ne.result c.held_places-nw.result c.held_places-sw.result c.held_places-se.result level places c.all.ensures c.all-2.ensures c.all-3.ensures c.all-4.ensures in
-    pieces_appended c.append_to.result (AreOfSquare PLACE_DIGITS (off_lots PLACE_DIGITS c.args.section (g.L.Land.places c.args.land.now c.args.section)) quarters) c.args.text.now.items c.new-pieces.result c.push_position.new.pieces c.append_to.new.text.items
+    let wide : c.column-column.result % 4 ≡ 0 =
+    rw c.column-column.ensures.value (rw c.requires.width at c.column-column.ensures.dyadic.aligned) in
+    let high : c.row-row.result % 4 ≡ 0 =
+    rw c.row-row.ensures.value (rw c.requires.height at c.row-row.ensures.dyadic.aligned) in
+    let free =
+    position_free c.args.section c.column-column.result c.row-row.result
+    (g.L.Land.places c.args.land.now c.args.section) wide high
+    (not_some _ (rw (sym c.lot_at-lot.ensures.lot) (sym c.is_some.ensures ∙ c.if-is_some.false))) in
+    let places =
+    position_places PLACE_DIGITS
+    (off_lots PLACE_DIGITS c.args.section (g.L.Land.places c.args.land.now c.args.section)) quarters
+    c.args.block c.column-column.result c.row-row.result
+    c.held_places-ne.result c.held_places-nw.result c.held_places-sw.result c.held_places-se.result of_square
+    c.requires.width c.column-column.ensures.value c.row-row.ensures.value
+    (c.held_places-ne.ensures.ne
+    ∙ free c.column-column.result ((c.row-row.result + 2) + 1) (omega arith) (omega arith) (omega arith)
+    (omega arith))
+    (c.held_places-ne.ensures.nw
+    ∙ free (c.column-column.result + 1) ((c.row-row.result + 2) + 1) (omega arith) (omega arith)
+    (omega arith) (omega arith))
+    (c.held_places-ne.ensures.sw
+    ∙ free (c.column-column.result + 1) (c.row-row.result + 2) (omega arith) (omega arith) (omega arith)
+    (omega arith))
+    (c.held_places-ne.ensures.se
+    ∙ free c.column-column.result (c.row-row.result + 2) (omega arith) (omega arith) (omega arith)
+    (omega arith))
+    (c.held_places-nw.ensures.ne
+    ∙ free (c.column-column.result + 2) ((c.row-row.result + 2) + 1) (omega arith) (omega arith)
+    (omega arith) (omega arith))
+    (c.held_places-nw.ensures.nw
+    ∙ free ((c.column-column.result + 2) + 1) ((c.row-row.result + 2) + 1) (omega arith) (omega arith)
+    (omega arith) (omega arith))
+    (c.held_places-nw.ensures.sw
+    ∙ free ((c.column-column.result + 2) + 1) (c.row-row.result + 2) (omega arith) (omega arith)
+    (omega arith) (omega arith))
+    (c.held_places-nw.ensures.se
+    ∙ free (c.column-column.result + 2) (c.row-row.result + 2) (omega arith) (omega arith) (omega arith)
+    (omega arith))
+    (c.held_places-sw.ensures.ne
+    ∙ free (c.column-column.result + 2) (c.row-row.result + 1) (omega arith) (omega arith) (omega arith)
+    (omega arith))
+    (c.held_places-sw.ensures.nw
+    ∙ free ((c.column-column.result + 2) + 1) (c.row-row.result + 1) (omega arith) (omega arith)
+    (omega arith) (omega arith))
+    (c.held_places-sw.ensures.sw
+    ∙ free ((c.column-column.result + 2) + 1) c.row-row.result (omega arith) (omega arith) (omega arith)
+    (omega arith))
+    (c.held_places-sw.ensures.se
+    ∙ free (c.column-column.result + 2) c.row-row.result (omega arith) (omega arith) (omega arith)
+    (omega arith))
+    (c.held_places-se.ensures.ne
+    ∙ free c.column-column.result (c.row-row.result + 1) (omega arith) (omega arith) (omega arith)
+    (omega arith))
+    (c.held_places-se.ensures.nw
+    ∙ free (c.column-column.result + 1) (c.row-row.result + 1) (omega arith) (omega arith) (omega arith)
+    (omega arith))
+    (c.held_places-se.ensures.sw
+    ∙ free (c.column-column.result + 1) c.row-row.result (omega arith) (omega arith) (omega arith)
+    (omega arith))
+    (c.held_places-se.ensures.se
+    ∙ free c.column-column.result c.row-row.result (omega arith) (omega arith) (omega arith) (omega arith)) in
+    let full =
+    position_full PLACE_DIGITS
+    (off_lots PLACE_DIGITS c.args.section (g.L.Land.places c.args.land.now c.args.section)) quarters
+    (record { ne = c.all.result; nw = c.all-2.result; sw = c.all-3.result; se = c.all-4.result })
+    c.held_places-ne.result c.held_places-nw.result c.held_places-sw.result c.held_places-se.result level
+    places c.all.ensures c.all-2.ensures c.all-3.ensures c.all-4.ensures in
+    pieces_appended c.append_to.result
+    (AreOfSquare PLACE_DIGITS
+    (off_lots PLACE_DIGITS c.args.section (g.L.Land.places c.args.land.now c.args.section)) quarters)
+    c.args.text.now.items c.new-pieces.result c.push_position.new.pieces c.append_to.new.text.items
     c.new-pieces.ensures
-    (c.push_position.ensures (off_lots PLACE_DIGITS c.args.section (g.L.Land.places c.args.land.now c.args.section)) quarters level path_is short full places.0 places.1.0 places.1.1.0 places.1.1.1)
+    (c.push_position.ensures
+    (off_lots PLACE_DIGITS c.args.section (g.L.Land.places c.args.land.now c.args.section)) quarters level
+    path_is short full places.0 places.1.0 places.1.1.0 places.1.1.1)
     c.append_to.ensures

@@ -9,7 +9,9 @@ pub returns-in-Err-clause-fault : goal.returns-in-Err-clause-fault
 returns-in-Err-clause-fault g c =
     let tract = c.in-Some.ensures in
     let anew = is_anew _ (rw (c.if-not-branch.false, tract.1) at c.in_ok-add.ensures.is_new) in
-    rw c.fault_of.ensures (description_refused c.args.plat.now.township _ _ c.args.number _ (tract.0, anew) (rw (c.township.ensures, tract.2) at c.in-Err.ensures.land))
+    rw c.fault_of.ensures
+    (description_refused c.args.plat.now.township _ _ c.args.number _ (tract.0, anew)
+    (rw (c.township.ensures, tract.2) at c.in-Err.ensures.land))
 
 pub returns-then-meets_land-clause-fault : goal.returns-then-meets_land-clause-fault
 returns-then-meets_land-clause-fault g c =
@@ -29,7 +31,8 @@ take-requires-clause-over g c = c.area_of-area.ensures.over_is ∙ sym c.require
 
 pub take-requires-clause-part : goal.take-requires-clause-part
 take-requires-clause-part g c =
-    (taken_from c.args.plat.now _ _ _ _ (λ shared. absurd (cc (c.meets_land.ensures.1 shared))) c.area_of-area.ensures c.requires.remaining_is).0
+    (taken_from c.args.plat.now _ _ _ _ (λ shared. absurd (cc (c.meets_land.ensures.1 shared)))
+    c.area_of-area.ensures c.requires.remaining_is).0
 
 pub returns-clause-taken : goal.returns-clause-taken
 returns-clause-taken g c =
@@ -45,7 +48,15 @@ returns-clause-taken g c =
       apart = λ shared. absurd (cc (c.meets_land.ensures.1 shared));
       places_are = c.add_land.ensures;
       hundredths = c.hundredths.result;
-      acres = record { area = c.area_of-area.result; area_is = c.area_of-area.ensures; rounded = c.hundredths.ensures };
-      totals_are = rw c.add_land.ensures (totals_next c.args.plat.now _ _ _ _ c.area_of-area.result (λ shared. absurd (cc (c.meets_land.ensures.1 shared))) c.area_of-area.ensures c.requires c.take.ensures);
+      acres = record {
+        area = c.area_of-area.result;
+        area_is = c.area_of-area.ensures;
+        rounded = c.hundredths.ensures;
+      };
+      totals_are =
+          rw c.add_land.ensures
+          (totals_next c.args.plat.now _ _ _ _ c.area_of-area.result
+          (λ shared. absurd (cc (c.meets_land.ensures.1 shared))) c.area_of-area.ensures c.requires
+          c.take.ensures);
       text_is = rw tract.1 at c.in_ok-write_tract.ensures.ok;
     }

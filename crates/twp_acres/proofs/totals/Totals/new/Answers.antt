@@ -7,5 +7,6 @@ use Rattle.twp_acres.proofs.totals.Totals.new.Goals as goal
 
 pub returns : goal.returns
 returns c =
-    totals_none c.args.plat.now _ (ap (λ (f : Fraction). f.units) c.zero.ensures) (ap (λ (f : Fraction). f.over) c.zero.ensures ∙ c.over.ensures.value)
+    totals_none c.args.plat.now _ (ap (λ (f : Fraction). f.units) c.zero.ensures)
+    (ap (λ (f : Fraction). f.over) c.zero.ensures ∙ c.over.ensures.value)
     (township_area_is_of_land c.args.plat.now c.township_area.result c.township_area.ensures.sum)

@@ -6,14 +6,21 @@ use Rattle.twp_land.proofs.lanes.LaneRowsPlot.count.Goals as goal
 pub overflow_cast-held : goal.overflow_cast-held
 overflow_cast-held c =
     let of = c.block_lanes.ensures in
-    rw c.vector.ensures.lanes (ones_fit c.args.self.now.lanes c.block_lanes.result c.args.block (omega arith) of.lanes (dyadic_in_section c.args.block of.rows of.columns))
+    rw c.vector.ensures.lanes
+    (ones_fit c.args.self.now.lanes c.block_lanes.result c.args.block (omega arith) of.lanes
+    (dyadic_in_section c.args.block of.rows of.columns))
 
 pub overflow_add-held : goal.overflow_add-held
 overflow_add-held c =
     let of = c.block_lanes.ensures in
-    rw c.vector.ensures.lanes (sums_fit c.args.self.now.lanes c.block_lanes.result c.args.block (omega arith) of.lanes (dyadic_in_section c.args.block of.rows of.columns))
+    rw c.vector.ensures.lanes
+    (sums_fit c.args.self.now.lanes c.block_lanes.result c.args.block (omega arith) of.lanes
+    (dyadic_in_section c.args.block of.rows of.columns))
 
 pub returns : goal.returns
 returns c =
     let of = c.block_lanes.ensures in
-    c.from.ensures ∙ rw c.vector.ensures.lanes (count_in_lanes c.args.self.now.lanes c.block_lanes.result c.args.block (omega arith) of.lanes (dyadic_in_section c.args.block of.rows of.columns))
+    c.from.ensures
+    ∙ rw c.vector.ensures.lanes
+    (count_in_lanes c.args.self.now.lanes c.block_lanes.result c.args.block (omega arith) of.lanes
+    (dyadic_in_section c.args.block of.rows of.columns))

@@ -6,4 +6,6 @@ use Rattle.twp_land.proofs.lanes.LaneRowsPlot.full.Goals as goal
 pub returns : goal.returns
 returns c =
     let of = c.block_lanes-block.ensures in
-    rw c.vector.ensures.lanes (lanes_are_full c.args.self.now.lanes c.block_lanes-block.result c.args.block (omega arith) of.lanes (dyadic_in_section c.args.block of.rows of.columns))
+    rw c.vector.ensures.lanes
+    (lanes_are_full c.args.self.now.lanes c.block_lanes-block.result c.args.block (omega arith) of.lanes
+    (dyadic_in_section c.args.block of.rows of.columns))

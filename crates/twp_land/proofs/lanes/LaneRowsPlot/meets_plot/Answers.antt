@@ -4,4 +4,6 @@ use Rattle.twp_land.proofs.lanes.LaneRowsPlot.meets_plot.Goals as goal
 
 pub returns : goal.returns
 returns c =
-    rw (c.vector.ensures.lanes, c.vector-2.ensures.lanes) (lanes_share c.args.self.now.lanes c.args.other.now.lanes (omega arith) (omega arith) c.vector-2.ensures.below)
+    rw (c.vector.ensures.lanes, c.vector-2.ensures.lanes)
+    (lanes_share c.args.self.now.lanes c.args.other.now.lanes (omega arith) (omega arith)
+    c.vector-2.ensures.below)

@@ -6,4 +6,5 @@ pub returns : goal.returns
 returns c =
     let of = c.of-window.ensures in
     let last : c.loop-up.up ≡ c.of-window.result.height = omega arith in
-    held_after_filling c.args.self.now.rows c.args.block c.loop-up.self.rows of.rows of.columns (rw (last, of.row, of.height, of.column, of.width) at c.loop-up.invariant)
+    held_after_filling c.args.self.now.rows c.args.block c.loop-up.self.rows of.rows of.columns
+    (rw (last, of.row, of.height, of.column, of.width) at c.loop-up.invariant)

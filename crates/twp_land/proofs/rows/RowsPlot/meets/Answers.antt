@@ -7,8 +7,12 @@ pub returns-then-some_held : goal.returns-then-some_held
 returns-then-some_held c =
     let of = c.of-window.ensures in
     let below : c.loop-up.up < c.args.block.rows.len = omega (arith, of.height) in
-    let found = c.some_held.ensures.0 c.if-some_held.true in
-    (λ _. meets_found c.args.self.now.rows c.args.block c.loop-up.up of.rows of.columns below (rw (of.row, of.column, of.width) at found), λ _. refl)
+    let found = c.some_held.ensures.0 c.if-some_held.true in (
+      λ _.
+          meets_found c.args.self.now.rows c.args.block c.loop-up.up of.rows of.columns below
+          (rw (of.row, of.column, of.width) at found),
+      λ _. refl,
+    )
 
 pub loop-up-preserved : goal.loop-up-preserved
 loop-up-preserved c =
@@ -18,5 +22,6 @@ pub returns : goal.returns
 returns c =
     let of = c.of-window.ensures in (
       λ h. cc h,
-      λ meets. absurd (meets_nowhere c.args.self.now.rows c.args.block of.rows of.columns (λ k lt. rw (of.row, of.column, of.width) at (c.loop-up.invariant k (omega (arith, of.height)))) meets),
+      λ meets. absurd (meets_nowhere c.args.self.now.rows c.args.block of.rows of.columns (λ k lt.
+          rw (of.row, of.column, of.width) at (c.loop-up.invariant k (omega (arith, of.height)))) meets),
     )

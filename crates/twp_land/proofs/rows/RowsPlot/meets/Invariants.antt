@@ -4,4 +4,5 @@ use Rattle.twp_land.proofs.rows.RowsPlot.meets.Given as goal
 
 abbrev pub invariant-loop-up : goal.invariant-loop-up
 invariant-loop-up l =
-    (k : ℕ) → k < l.up → SomeHeld (get_or l.self.rows (l.window.row + k) []) l.window.column l.window.width → ⊥
+    (k : ℕ) → k < l.up → SomeHeld (get_or l.self.rows (l.window.row + k) []) l.window.column l.window.width
+    → ⊥

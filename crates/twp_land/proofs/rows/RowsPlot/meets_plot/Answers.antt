@@ -10,5 +10,6 @@ loop-row-preserved c =
 pub returns : goal.returns
 returns c = (
   λ h. cc h,
-  λ shared. absurd (rows_apart c.args.self.now.rows c.args.other.now.rows (λ k below. c.loop-row.invariant k (omega arith)) shared),
+  λ shared. absurd (rows_apart c.args.self.now.rows c.args.other.now.rows (λ k below.
+      c.loop-row.invariant k (omega arith)) shared),
 )

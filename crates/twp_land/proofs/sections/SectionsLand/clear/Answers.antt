@@ -1,6 +1,7 @@
 -- One section more is emptied; behind the last one nothing is left.
 use Rattle.std.proofs.Common.{◌+◌, arith, length-set, ◌∙◌}
-use Rattle.twp_land.proofs.LandFacts.{cleared_next, none_within, within_wider}
+use Rattle.twp_land.proofs.LandFacts.{cleared_next}
+use Rattle.twp_land.proofs.LandRanges.{none_within, within_wider}
 use Rattle.twp_land.proofs.sections.SectionsLand.clear.Goals as goal
 
 pub loop-index-preserved : goal.loop-index-preserved
@@ -9,17 +10,25 @@ loop-index-preserved g c =
     record {
       all = length-set c.loop-index.self.plots c.loop-index.index c.empty.result ∙ is.all;
       reach = is.reach;
-      left = cleared_next g.P.Plot.held c.loop-index.self.plots c.loop-index.index c.args.self.now.reach.end c.empty.result (omega arith) is.all c.empty.ensures is.left;
+      left =
+          cleared_next g.P.Plot.held c.loop-index.self.plots c.loop-index.index c.args.self.now.reach.end
+          c.empty.result (omega arith) is.all c.empty.ensures is.left;
     }
 
 pub invariant_of-self : goal.invariant_of-self
 invariant_of-self g c =
     let is = c.loop-index.invariant in
-    let left = cleared_next g.P.Plot.held c.loop-index.self.plots c.loop-index.index c.args.self.now.reach.end c.empty.result (omega arith) is.all c.empty.ensures is.left in
+    let left =
+    cleared_next g.P.Plot.held c.loop-index.self.plots c.loop-index.index c.args.self.now.reach.end
+    c.empty.result (omega arith) is.all c.empty.ensures is.left in
     record {
       few = c.loop-index.self.few;
-      within = rw is.reach (within_wider _ (c.loop-index.index + 1 + 1) c.args.self.now.reach.end (c.args.self.now.reach.first + 1) c.args.self.now.reach.end (omega arith) (omega arith) left);
+      within =
+          rw is.reach
+          (within_wider _ (c.loop-index.index + 1 + 1) c.args.self.now.reach.end
+          (c.args.self.now.reach.first + 1) c.args.self.now.reach.end (omega arith) (omega arith) left);
     }
 
 pub returns : goal.returns
-returns g c = none_within _ (c.loop-index.index + 1) c.args.self.now.reach.end c.loop-index.invariant.left (omega arith)
+returns g c =
+    none_within _ (c.loop-index.index + 1) c.args.self.now.reach.end c.loop-index.invariant.left (omega arith)

@@ -1,6 +1,7 @@
 use Rattle.std.proofs.Common.{arith}
 use Rattle.twp_grid.specs.Winding.{SECTION_COUNT}
-use Rattle.twp_land.proofs.LandFacts.{held_nowhere, nothing_within}
+use Rattle.twp_land.proofs.LandFacts.{held_nowhere}
+use Rattle.twp_land.proofs.LandRanges.{nothing_within}
 use Rattle.twp_land.proofs.sections.SectionsLand.empty.Goals as goal
 
 pub invariant_of-result : goal.invariant_of-result

@@ -34,5 +34,10 @@ returns-clause-value c =
     text_of_parts _ _ (record {
       whole = grind (arith, common_steps);
       few = grind (arith, common_steps);
-      rest = inr (grind (arith, common_steps), grind (arith, common_steps), grind (arith, common_steps), grind (arith, common_steps));
+      rest = inr (
+        grind (arith, common_steps),
+        grind (arith, common_steps),
+        grind (arith, common_steps),
+        grind (arith, common_steps),
+      );
     })

@@ -13,13 +13,16 @@ write_digits-start-requires c = search (rules, length-decimal-le 2)
 pub returns-clause-ok : goal.returns-clause-ok
 returns-clause-ok c =
     let w = c.write_digits-start in
-    let end : ((c.args.self % 10 ≡ 0) × (c.if-thousandths-eq0.end ≡ 5)) ⊎ ((c.args.self % 10 ≢ 0) × (c.if-thousandths-eq0.end ≡ 6)) =
+    let end : ((c.args.self % 10 ≡ 0) × (c.if-thousandths-eq0.end ≡ 5))
+    ⊎ ((c.args.self % 10 ≢ 0) × (c.if-thousandths-eq0.end ≡ 6)) =
     elim c.if-thousandths-eq0.branch [
       | then-thousandths-eq0 two ↦ inl (rw c.self.view_is at two.if-thousandths-eq0.true, two.end-is)
       | else-thousandths-eq0 three ↦ inr (rw c.self.view_is at three.if-thousandths-eq0.false, three.end-is)
     ] in
     let whole : c.from.result ≡ c.args.self / 1000 = rw c.self.view_is at c.from.ensures in
     let start : w.result + length (decimal (c.args.self / 1000)) ≡ 2 = rw whole at w.ensures.start in
-    let text : take (c.if-thousandths-eq0.end - w.result) (drop w.result w.new.buf) ≡ length_text c.args.self =
-    length_text_in c.args.self w.result c.if-thousandths-eq0.end w.new.buf (grind (arith, common_steps)) start end in
+    let text : take (c.if-thousandths-eq0.end - w.result) (drop w.result w.new.buf)
+    ≡ length_text c.args.self =
+    length_text_in c.args.self w.result c.if-thousandths-eq0.end w.new.buf (grind (arith, common_steps))
+    start end in
     grind (arith, common_steps)

@@ -9,5 +9,6 @@ use Rattle.twp_notes.proofs.table.LineTable.complete.Given as goal
 abbrev pub invariant-loop-index : goal.invariant-loop-index
 invariant-loop-index l = record {
   count : length l.lines ≡ LINE_COUNT;
-  each : (line : ℕ) → line < l.index → entry_of l.self line ≡ Some (slice_index_or l.lines line nothing_returned);
+  each : (line : ℕ) → line < l.index
+      → entry_of l.self line ≡ Some (slice_index_or l.lines line nothing_returned);
 }

@@ -4,10 +4,12 @@ use Rattle.twp_plat.proofs.piece.SideQuarters.parts.Goals as goal
 
 pub returns-clause-piece : goal.returns-clause-piece
 returns-clause-piece c =
-    piece_in_parts c.args.self c.args.column c.args.row c.doubled_width.result c.doubled_height.result c.requires.column c.requires.row
+    piece_in_parts c.args.self c.args.column c.args.row c.doubled_width.result c.doubled_height.result
+    c.requires.column c.requires.row
     c.doubled_width.ensures.value c.doubled_height.ensures.value
 
 pub returns-clause-most : goal.returns-clause-most
 returns-clause-most c =
-    parts_most (west_length c.args.self) (north_length c.args.self) c.doubled_width.result c.doubled_height.result
+    parts_most (west_length c.args.self) (north_length c.args.self) c.doubled_width.result
+    c.doubled_height.result
     c.doubled_width.ensures.most c.doubled_height.ensures.most

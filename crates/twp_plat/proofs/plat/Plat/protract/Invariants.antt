@@ -8,5 +8,6 @@ use Rattle.twp_plat.proofs.plat.Plat.protract.Given as goal
 abbrev pub invariant-loop-index : goal.invariant-loop-index
 invariant-loop-index l = record {
   lines : length l.closing_quarters ≡ 84;
-  each : (line : ℕ) → line < l.index → AnswersLine line (returned_of l.notes line) (Ok (slice_index_or l.closing_quarters line 0));
+  each : (line : ℕ) → line < l.index
+      → AnswersLine line (returned_of l.notes line) (Ok (slice_index_or l.closing_quarters line 0));
 }

@@ -8,7 +8,11 @@ use Rattle.twp_plat.proofs.plat.Plat.section_area.Goals as goal
 pub loop-row-init : goal.loop-row-init
 loop-row-init c =
     let none = ap (λ (a : Fraction). a.units) c.zero-area.ensures in
-    record { over = ap (λ (a : Fraction). a.over) c.zero-area.ensures ∙ c.over.ensures.value; units = λ pieces are. none ∙ sym (total-zero _); most = omega (arith, none) }
+    record {
+      over = ap (λ (a : Fraction). a.over) c.zero-area.ensures ∙ c.over.ensures.value;
+      units = λ pieces are. none ∙ sym (total-zero _);
+      most = omega (arith, none);
+    }
 
 pub loop-row-preserved : goal.loop-row-preserved
 loop-row-preserved c =
@@ -18,8 +22,13 @@ loop-row-preserved c =
     record {
       over = sum.over ∙ at.over;
       units = λ pieces are.
-          sum.units ∙ sum_next c.loop-row.row c.loop-row.area.units c.row_area.result.units (λ row. total 4 (λ column. pieces c.args.section column row)) (at.units pieces are) (row.units pieces are);
-      most = rw sum.units (most_next c.loop-row.row _ c.loop-row.area.units c.row_area.result.units at.most row.most);
+          sum.units
+          ∙ sum_next c.loop-row.row c.loop-row.area.units c.row_area.result.units
+          (λ row. total 4 (λ column. pieces c.args.section column row)) (at.units pieces are)
+          (row.units pieces are);
+      most =
+          rw sum.units
+          (most_next c.loop-row.row _ c.loop-row.area.units c.row_area.result.units at.most row.most);
     }
 
 pub returns-clause-sum : goal.returns-clause-sum

@@ -6,8 +6,9 @@ use Rattle.twp_grammar.specs.declared.state.State.{State}
 use Rattle.twp_read.specs.TokenSteps.{take_token}
 use Rattle.twp_grammar.specs.Tokens.{seen}
 use Rattle.twp_grammar.specs.Sentences.{IsReadAs}
-use Rattle.twp_read.proofs.UsualFacts.{goes_further}
-use Rattle.twp_read.proofs.ReaderFacts.{Front, front_next, none_bad_before, wrong_here, wrong_at_end, read_whole, begins}
+use Rattle.twp_read.proofs.Leading.{goes_further}
+use Rattle.twp_read.proofs.ReaderFacts.{Front, front_next, none_bad_before, wrong_here, wrong_at_end}
+use Rattle.twp_read.proofs.ReaderFacts.{read_whole, begins}
 use Rattle.twp_read.proofs.description.Description.read_within.Goals as goal
 
 -- the tokens that were taken are good
@@ -16,7 +17,8 @@ fault_of-requires-clause-good c =
     let reached : Reached = c.in_ok-reached.reached in
     let its : List Item = c.take_usual.new.self in
     none_bad_before c.args.text.now reached.at reached.state its c.in_ok-reached.ensures.within
-    (goes_further c.args.text.now c.tokens.reached.at c.tokens.reached.state c.tokens.items reached.at reached.state its
+    (goes_further c.args.text.now c.tokens.reached.at c.tokens.reached.state c.tokens.items reached.at
+    reached.state its
     c.tokens.invariant c.in_ok-reached.ensures)
 
 pub fault_of-requires-then-not-is_final-clause-good : goal.fault_of-requires-then-not-is_final-clause-good
@@ -24,7 +26,8 @@ fault_of-requires-then-not-is_final-clause-good c =
     let reached : Reached = c.in_ok-reached.reached in
     let its : List Item = c.take_usual.new.self in
     none_bad_before c.args.text.now reached.at reached.state its c.in_ok-reached.ensures.within
-    (goes_further c.args.text.now c.tokens.reached.at c.tokens.reached.state c.tokens.items reached.at reached.state its
+    (goes_further c.args.text.now c.tokens.reached.at c.tokens.reached.state c.tokens.items reached.at
+    reached.state its
     c.tokens.invariant c.in_ok-reached.ensures)
 
 pub fault_of-requires-clause-wrong : goal.fault_of-requires-clause-wrong
@@ -34,8 +37,11 @@ fault_of-requires-clause-wrong c =
     let its : List Item = c.take_usual.new.self in
     let end : ℕ = c.in-Some.token.at + length c.in-Some.token.text.now in
     let here : Front text reached.at (drop reached.at text) reached.state its =
-    goes_further text c.tokens.reached.at c.tokens.reached.state c.tokens.items reached.at reached.state its c.tokens.invariant c.in_ok-reached.ensures in
-    rw c.expected.ensures (wrong_here text reached.at (drop reached.at text) reached.state its (seen c.in-Some.token) (drop end text) here c.in-Some.ensures.starts (sym c.in_default-next.ensures))
+    goes_further text c.tokens.reached.at c.tokens.reached.state c.tokens.items reached.at reached.state
+    its c.tokens.invariant c.in_ok-reached.ensures in
+    rw c.expected.ensures
+    (wrong_here text reached.at (drop reached.at text) reached.state its (seen c.in-Some.token)
+    (drop end text) here c.in-Some.ensures.starts (sym c.in_default-next.ensures))
 
 pub tokens-preserved : goal.tokens-preserved
 tokens-preserved c =
@@ -46,16 +52,20 @@ tokens-preserved c =
     let behind : State = c.in-Some-next.behind in
     let taken : List Item = take_token reached.state c.in-Some.token.kind c.in-Some.token.at its in
     let here : Front text reached.at (drop reached.at text) reached.state its =
-    goes_further text c.tokens.reached.at c.tokens.reached.state c.tokens.items reached.at reached.state its c.tokens.invariant c.in_ok-reached.ensures in
+    goes_further text c.tokens.reached.at c.tokens.reached.state c.tokens.items reached.at reached.state
+    its c.tokens.invariant c.in_ok-reached.ensures in
     let behind_token : Front text end (drop end text) behind taken =
-    front_next text reached.at (drop reached.at text) reached.state behind its (seen c.in-Some.token) end (drop end text) here c.in-Some.ensures.starts refl (sym c.in-Some-next.ensures) in
+    front_next text reached.at (drop reached.at text) reached.state behind its (seen c.in-Some.token) end
+    (drop end text) here c.in-Some.ensures.starts refl (sym c.in-Some-next.ensures) in
     subst (λ is. Front text end (drop end text) behind is) (sym c.in_ok-take.ensures) behind_token
 
 pub tokens-smaller : goal.tokens-smaller
 tokens-smaller c =
     let stepped : c.tokens.reached.at ≤ c.in_ok-reached.reached.at = c.in_ok-reached.ensures.forward in
-    let further : c.in_ok-reached.reached.at < c.in-Some.token.at + length c.in-Some.token.text.now = c.in-Some.ensures.further in
-    let within : c.in-Some.token.at + length c.in-Some.token.text.now ≤ length c.args.text.now = c.in-Some.ensures.within in
+    let further : c.in_ok-reached.reached.at < c.in-Some.token.at + length c.in-Some.token.text.now =
+    c.in-Some.ensures.further in
+    let within : c.in-Some.token.at + length c.in-Some.token.text.now ≤ length c.args.text.now =
+    c.in-Some.ensures.within in
     omega arith
 
 pub fault_of-requires-then-not-is_final-clause-wrong : goal.fault_of-requires-then-not-is_final-clause-wrong
@@ -64,9 +74,11 @@ fault_of-requires-then-not-is_final-clause-wrong c =
     let reached : Reached = c.in_ok-reached.reached in
     let its : List Item = c.take_usual.new.self in
     let here : Front text reached.at (drop reached.at text) reached.state its =
-    goes_further text c.tokens.reached.at c.tokens.reached.state c.tokens.items reached.at reached.state its c.tokens.invariant c.in_ok-reached.ensures in
+    goes_further text c.tokens.reached.at c.tokens.reached.state c.tokens.items reached.at reached.state
+    its c.tokens.invariant c.in_ok-reached.ensures in
     rw c.expected-then-not-is_final.ensures
-    (wrong_at_end text reached.at (drop reached.at text) reached.state its here c.in_default.ensures (sym c.if-not-is_final.ensures))
+    (wrong_at_end text reached.at (drop reached.at text) reached.state its here c.in_default.ensures
+    (sym c.if-not-is_final.ensures))
 
 pub invariant_of-result : goal.invariant_of-result
 invariant_of-result c =
@@ -74,8 +86,11 @@ invariant_of-result c =
     let reached : Reached = c.in_ok-reached.reached in
     let its : List Item = c.take_usual.new.self in
     let here : Front text reached.at (drop reached.at text) reached.state its =
-    goes_further text c.tokens.reached.at c.tokens.reached.state c.tokens.items reached.at reached.state its c.tokens.invariant c.in_ok-reached.ensures in
-    let read : IsReadAs text (reverse its) = read_whole text reached.at (drop reached.at text) reached.state its here c.in_default.ensures (sym c.if-not-is_final.ensures) c.requires in
+    goes_further text c.tokens.reached.at c.tokens.reached.state c.tokens.items reached.at reached.state
+    its c.tokens.invariant c.in_ok-reached.ensures in
+    let read : IsReadAs text (reverse its) =
+    read_whole text reached.at (drop reached.at text) reached.state its here c.in_default.ensures
+    (sym c.if-not-is_final.ensures) c.requires in
     rw c.into_vec.ensures (begins text (reverse its) read)
 
 pub returns-clause-read : goal.returns-clause-read
@@ -84,5 +99,8 @@ returns-clause-read c =
     let reached : Reached = c.in_ok-reached.reached in
     let its : List Item = c.take_usual.new.self in
     let here : Front text reached.at (drop reached.at text) reached.state its =
-    goes_further text c.tokens.reached.at c.tokens.reached.state c.tokens.items reached.at reached.state its c.tokens.invariant c.in_ok-reached.ensures in
-    rw c.into_vec.ensures (read_whole text reached.at (drop reached.at text) reached.state its here c.in_default.ensures (sym c.if-not-is_final.ensures) c.requires)
+    goes_further text c.tokens.reached.at c.tokens.reached.state c.tokens.items reached.at reached.state
+    its c.tokens.invariant c.in_ok-reached.ensures in
+    rw c.into_vec.ensures
+    (read_whole text reached.at (drop reached.at text) reached.state its here c.in_default.ensures
+    (sym c.if-not-is_final.ensures) c.requires)

@@ -8,5 +8,8 @@ pub returns : goal.returns
 returns c =
     let v = c.self.inside.items in
     on_ok c.change_item.result _ _
-    (λ made. changes_newest c.args.change v.items v.len c.in-Some.item.now c.change_item.new.item v.ok.0 (c.in-Some.ensures.variant.0 (search rules)) c.in-Some.ensures.value made ∙ ap (with_newest c.args.change) c.self.view_is)
+    (λ made.
+    changes_newest c.args.change v.items v.len c.in-Some.item.now c.change_item.new.item v.ok.0
+    (c.in-Some.ensures.variant.0 (search rules)) c.in-Some.ensures.value made
+    ∙ ap (with_newest c.args.change) c.self.view_is)
     c.change_item.ensures

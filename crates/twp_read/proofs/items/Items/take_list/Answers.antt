@@ -2,7 +2,7 @@
 use Rattle.std.proofs.Common.{List, ℕ}
 use Rattle.twp_grammar.specs.declared.item.Item.{Item}
 use Rattle.twp_read.specs.declared.reached.Reached.{Reached}
-use Rattle.twp_read.proofs.UsualFacts.{leads_then}
+use Rattle.twp_read.proofs.Leading.{leads_then}
 use Rattle.twp_read.proofs.items.Items.take_list.Goals as goal
 
 pub take_joined-requires-clause-place : goal.take_joined-requires-clause-place
@@ -19,7 +19,10 @@ words-preserved c =
     let more : List Item = c.take_joined.new.self in
     let last : Reached = c.in_ok-reached-2.reached in
     let grown : List Item = c.take_numbers-in-Some.new.self in
-    leads_then text from.at from.state c.args.self.now reached.at reached.state before last.at last.state grown c.words.invariant
-    (leads_then text reached.at reached.state before word.at word.state before last.at last.state grown (c.in-Some.ensures.leads before)
-    (leads_then text word.at word.state before joined.at joined.state more last.at last.state grown c.in_ok-joined.ensures
+    leads_then text from.at from.state c.args.self.now reached.at reached.state before last.at last.state
+    grown c.words.invariant
+    (leads_then text reached.at reached.state before word.at word.state before last.at last.state grown
+    (c.in-Some.ensures.leads before)
+    (leads_then text word.at word.state before joined.at joined.state more last.at last.state grown
+    c.in_ok-joined.ensures
     c.in_ok-reached-2.ensures))

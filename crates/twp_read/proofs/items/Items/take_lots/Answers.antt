@@ -5,7 +5,7 @@ use Rattle.twp_grammar.specs.declared.item.Numeral.{Numeral}
 use Rattle.twp_read.specs.declared.reached.Reached.{Reached}
 use Rattle.twp_grammar.specs.declared.state.State.TheVariants as past
 use Rattle.twp_read.specs.TokenSteps.{before_parts}
-use Rattle.twp_read.proofs.UsualFacts.{leads_then}
+use Rattle.twp_read.proofs.Leading.{leads_then}
 use Rattle.twp_read.proofs.items.Items.take_lots.Goals as goal
 
 pub returns : goal.returns
@@ -18,5 +18,7 @@ returns c =
     let items : List Item = c.args.self.now in
     let begun : List Item = before_parts from.state items in
     rw (c.in_ok-push.ensures, c.entry.ensures, c.in_ok-before_parts.ensures)
-    (leads_then text from.at from.state items word past.Lot begun end past.LotNumber (Lots number number ∷ begun)
-    (c.in-Some.ensures.leads items) (c.in-Some-number_behind.ensures.number past.Lot past.LotNumber begun refl))
+    (leads_then text from.at from.state items word past.Lot begun end past.LotNumber
+    (Lots number number ∷ begun)
+    (c.in-Some.ensures.leads items)
+    (c.in-Some-number_behind.ensures.number past.Lot past.LotNumber begun refl))

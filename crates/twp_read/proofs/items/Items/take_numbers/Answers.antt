@@ -5,7 +5,7 @@ use Rattle.twp_grammar.specs.Tokens.{is_white}
 use Rattle.twp_grammar.specs.declared.item.Item.{Item}
 use Rattle.twp_read.specs.declared.reached.Reached.{Reached}
 use Rattle.twp_read.specs.Usual.{Leads}
-use Rattle.twp_read.proofs.UsualFacts.{leads_then}
+use Rattle.twp_read.proofs.Leading.{leads_then}
 use Rattle.twp_read.proofs.NumberFacts.{entry_leads, goes_on_behind}
 use Rattle.twp_read.proofs.items.Items.take_numbers.Goals as goal
 
@@ -20,11 +20,16 @@ returns-in_default-number_at c =
 pub numbers-smaller : goal.numbers-smaller
 numbers-smaller c =
     let text : List ℕ = c.args.text.now in
-    let next : c.behind_white-next.result ≡ (c.numbers.reached.at + 1) + prefix_len is_white (drop (c.numbers.reached.at + 1) text) =
+    let next : c.behind_white-next.result
+    ≡ (c.numbers.reached.at + 1) + prefix_len is_white (drop (c.numbers.reached.at + 1) text) =
     c.behind_white-next.ensures.value in
-    let further : c.behind_white-next.result < c.in-Some-number_at.number.end = c.in-Some-number_at.ensures.forward in
-    let led : Leads text c.in-Some-number_at.number.end c.state.result c.push.new.self c.ahead-reached-in-numbers.result.at
-    c.ahead-reached-in-numbers.result.state c.push.new.self = c.ahead-reached-in-numbers.ensures.leads c.push.new.self in
+    let further : c.behind_white-next.result < c.in-Some-number_at.number.end =
+    c.in-Some-number_at.ensures.forward in
+    let
+    led : Leads text c.in-Some-number_at.number.end c.state.result c.push.new.self
+    c.ahead-reached-in-numbers.result.at
+    c.ahead-reached-in-numbers.result.state c.push.new.self =
+    c.ahead-reached-in-numbers.ensures.leads c.push.new.self in
     let ahead : c.in-Some-number_at.number.end ≤ c.ahead-reached-in-numbers.result.at = led.forward in
     let within : c.ahead-reached-in-numbers.result.at ≤ length text = led.within in
     omega arith
@@ -40,13 +45,18 @@ numbers-preserved c =
     let ahead : Reached = c.ahead-reached-in-numbers.result in
     let entry : Leads text reached.at reached.state so_far number.end c.state.result grown =
     rw (c.state.ensures, c.in_ok-push.ensures, c.entry.ensures)
-    (entry_leads text reached.at c.behind_white-next.result reached.state so_far c.in-Some.list number.numeral number.end
+    (entry_leads text reached.at c.behind_white-next.result reached.state so_far c.in-Some.list number.numeral
+    number.end
     c.numbers.invariant.goes_on (c.numbers-test.ensures.spelt refl) (c.numbers-test.ensures.within refl)
-    (c.behind_white-next.ensures.value, c.behind_white-next.ensures.range) c.in-Some-number_at.ensures.number) in
+    (c.behind_white-next.ensures.value, c.behind_white-next.ensures.range)
+    c.in-Some-number_at.ensures.number) in
     record {
-      led = leads_then text from.at from.state c.args.self.now reached.at reached.state so_far ahead.at ahead.state grown
+      led =
+          leads_then text from.at from.state c.args.self.now reached.at reached.state so_far ahead.at
+          ahead.state grown
           c.numbers.invariant.led
-          (leads_then text reached.at reached.state so_far number.end c.state.result grown ahead.at ahead.state grown
+          (leads_then text reached.at reached.state so_far number.end c.state.result grown ahead.at
+          ahead.state grown
           entry (c.ahead-reached-in-numbers.ensures.leads grown));
       goes_on = rw (c.ahead-reached-in-numbers.ensures.same, c.state.ensures) (goes_on_behind c.in-Some.list);
     }

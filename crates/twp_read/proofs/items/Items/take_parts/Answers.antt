@@ -5,7 +5,8 @@ use Rattle.twp_read.specs.declared.reached.Reached.{Reached}
 use Rattle.twp_read.specs.declared.usual.step.UsualStep.{UsualStep}
 use Rattle.twp_grammar.specs.declared.state.State.TheVariants as past
 use Rattle.twp_read.specs.Usual.{Leads}
-use Rattle.twp_read.proofs.UsualFacts.{first_leads, leads_then}
+use Rattle.twp_read.proofs.Leading.{leads_then}
+use Rattle.twp_read.proofs.UsualFacts.{first_leads}
 use Rattle.twp_read.proofs.items.Items.take_parts.Goals as goal
 
 pub loop-alloc-init : goal.loop-alloc-init
@@ -13,7 +14,8 @@ loop-alloc-init c =
     let from : Reached = c.args.from in
     let begun : Reached = c.in_ok-begun.begun in
     let reached : Reached = c.ahead_of_part-reached.result in
-    leads_then c.args.text.now from.at from.state c.args.self.now begun.at begun.state c.take_more.new.self reached.at reached.state c.take_more.new.self
+    leads_then c.args.text.now from.at from.state c.args.self.now begun.at begun.state c.take_more.new.self
+    reached.at reached.state c.take_more.new.self
     c.in_ok-begun.ensures (c.ahead_of_part-reached.ensures c.take_more.new.self)
 
 pub loop-alloc-preserved-in-Some : goal.loop-alloc-preserved-in-Some
@@ -24,11 +26,14 @@ loop-alloc-preserved-in-Some c =
     let first : UsualStep = c.in-Some.first in
     let to : Reached = c.in_ok-reached.reached in
     let grown : List Item = c.take_chain.new.self in
-    leads_then text from.at from.state c.args.self.now reached.at reached.state c.loop-alloc.self to.at to.state grown
+    leads_then text from.at from.state c.args.self.now reached.at reached.state c.loop-alloc.self to.at
+    to.state grown
     c.loop-alloc.invariant
     (first_leads text reached.at reached.state c.loop-alloc.self first.step first.size to.at to.state grown
     c.loop-alloc-test.ensures c.in-Some.ensures
-    (subst (λ (items : List Item). Leads text (reached.at + first.size) past.Step (Chain (first.step ∷ []) reached.at ∷ items) to.at to.state grown) c.in_ok-before_parts.ensures c.in_ok-reached.ensures))
+    (subst (λ (items : List Item).
+    Leads text (reached.at + first.size) past.Step (Chain (first.step ∷ []) reached.at ∷ items) to.at
+    to.state grown) c.in_ok-before_parts.ensures c.in_ok-reached.ensures))
 
 pub loop-alloc-preserved : goal.loop-alloc-preserved
 loop-alloc-preserved c =
@@ -36,11 +41,14 @@ loop-alloc-preserved c =
     let reached : Reached = c.loop-alloc.reached in
     let behind : Reached = c.in-Some-behind_and.behind in
     let items : List Item = c.loop-alloc.self in
-    leads_then c.args.text.now from.at from.state c.args.self.now reached.at reached.state items behind.at behind.state items
+    leads_then c.args.text.now from.at from.state c.args.self.now reached.at reached.state items behind.at
+    behind.state items
     c.loop-alloc.invariant (c.in-Some-behind_and.ensures.leads items)
 
 pub loop-alloc-smaller : goal.loop-alloc-smaller
 loop-alloc-smaller c =
-    let further : c.loop-alloc.reached.at < c.in-Some-behind_and.behind.at = c.in-Some-behind_and.ensures.forward in
-    let within : c.in-Some-behind_and.behind.at ≤ length c.args.text.now = (c.in-Some-behind_and.ensures.leads []).within in
+    let further : c.loop-alloc.reached.at < c.in-Some-behind_and.behind.at =
+    c.in-Some-behind_and.ensures.forward in
+    let within : c.in-Some-behind_and.behind.at ≤ length c.args.text.now =
+    (c.in-Some-behind_and.ensures.leads []).within in
     omega arith

@@ -7,7 +7,7 @@ use Rattle.twp_grammar.specs.declared.state.State.TheVariants as past
 use Rattle.twp_read.specs.TokenSteps.{before_parts}
 use Rattle.twp_read.specs.Usual.{Leads}
 use Rattle.twp_read.proofs.FrontFacts.{colon_leads, section_taken}
-use Rattle.twp_read.proofs.UsualFacts.{leads_then}
+use Rattle.twp_read.proofs.Leading.{leads_then}
 use Rattle.twp_read.proofs.items.Items.take_section.Goals as goal
 
 pub number_behind-requires-clause-place : goal.number_behind-requires-clause-place
@@ -23,10 +23,13 @@ returns-then-not-goes_on c =
     let items : List Item = c.args.self.now in
     let numbered : List Item = Sections number number true ∷ items in
     let number_leads : Leads text word.at word.state items end past.SectionNumber numbered =
-    subst (λ (its : List Item). Leads text word.at word.state items end past.SectionNumber its) (section_taken word.state number items c.in-Some.ensures.number)
+    subst (λ (its : List Item). Leads text word.at word.state items end past.SectionNumber its)
+    (section_taken word.state number items c.in-Some.ensures.number)
     (c.in-Some-number_behind.ensures.number word.state past.SectionNumber items c.in-Some.ensures.number) in
-    subst (λ (its : List Item). Leads text from.at from.state items end past.SectionNumber its) (sym c.in_ok-push.ensures)
-    (leads_then text from.at from.state items word.at word.state items end past.SectionNumber numbered (c.in-Some.ensures.leads items) number_leads)
+    subst (λ (its : List Item). Leads text from.at from.state items end past.SectionNumber its)
+    (sym c.in_ok-push.ensures)
+    (leads_then text from.at from.state items word.at word.state items end past.SectionNumber numbered
+    (c.in-Some.ensures.leads items) number_leads)
 
 pub returns : goal.returns
 returns c =
@@ -39,9 +42,13 @@ returns c =
     let numbered : List Item = Sections number number true ∷ items in
     let parted : List Item = before_parts past.SectionNumber numbered in
     let number_leads : Leads text word.at word.state items end past.SectionNumber numbered =
-    subst (λ (its : List Item). Leads text word.at word.state items end past.SectionNumber its) (section_taken word.state number items c.in-Some.ensures.number)
+    subst (λ (its : List Item). Leads text word.at word.state items end past.SectionNumber its)
+    (section_taken word.state number items c.in-Some.ensures.number)
     (c.in-Some-number_behind.ensures.number word.state past.SectionNumber items c.in-Some.ensures.number) in
-    subst (λ (its : List Item). Leads text from.at from.state items (end + 1) past.BeforePart its) (sym (c.in_ok-before_parts.ensures ∙ ap (before_parts past.SectionNumber) c.in_ok-push.ensures))
+    subst (λ (its : List Item). Leads text from.at from.state items (end + 1) past.BeforePart its)
+    (sym (c.in_ok-before_parts.ensures ∙ ap (before_parts past.SectionNumber) c.in_ok-push.ensures))
     (leads_then text from.at from.state items end past.SectionNumber numbered (end + 1) past.BeforePart parted
-    (leads_then text from.at from.state items word.at word.state items end past.SectionNumber numbered (c.in-Some.ensures.leads items) number_leads)
-    (colon_leads text end numbered (c.if-not-goes_on.ensures.spelt refl) (c.if-not-goes_on.ensures.within refl)))
+    (leads_then text from.at from.state items word.at word.state items end past.SectionNumber numbered
+    (c.in-Some.ensures.leads items) number_leads)
+    (colon_leads text end numbered (c.if-not-goes_on.ensures.spelt refl)
+    (c.if-not-goes_on.ensures.within refl)))

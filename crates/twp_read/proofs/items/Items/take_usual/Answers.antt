@@ -3,7 +3,7 @@ use Rattle.twp_grammar.specs.declared.item.Item.{Item}
 use Rattle.twp_read.specs.declared.reached.Reached.{Reached}
 use Rattle.twp_read.specs.Usual.{Leads}
 use Rattle.twp_read.proofs.NewestItem.{if_ok}
-use Rattle.twp_read.proofs.UsualFacts.{leads_then}
+use Rattle.twp_read.proofs.Leading.{leads_then}
 use Rattle.twp_read.proofs.items.Items.take_usual.Goals as goal
 
 pub returns : goal.returns
@@ -25,8 +25,10 @@ returns c =
     (λ to. Leads text from.at from.state before to.at to.state grown)
     (λ to leads. leads_then text from.at from.state before list.at list.state listed to.at to.state grown
     (leads_then text from.at from.state before lots.at lots.state begun_lots list.at list.state listed
-    (leads_then text from.at from.state before section.at section.state sectioned lots.at lots.state begun_lots
-    (leads_then text from.at from.state before begun.at begun.state with_begun section.at section.state sectioned
+    (leads_then text from.at from.state before section.at section.state sectioned lots.at lots.state
+    begun_lots
+    (leads_then text from.at from.state before begun.at begun.state with_begun section.at section.state
+    sectioned
     c.in_ok-begun.ensures c.in_ok-section.ensures)
     c.in_ok-lots.ensures) c.in_ok-list.ensures) leads)
     c.take_parts.ensures

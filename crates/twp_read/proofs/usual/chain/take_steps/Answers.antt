@@ -2,7 +2,7 @@ use Rattle.std.proofs.Common.{ℕ, List, [], ◌∷◌}
 use Rattle.twp_grammar.specs.declared.item.Item.{Item}
 use Rattle.twp_grammar.specs.declared.item.Item.TheVariants.{Chain}
 use Rattle.twp_read.specs.declared.reached.Reached.{Reached}
-use Rattle.twp_read.proofs.UsualFacts.{leads_then}
+use Rattle.twp_read.proofs.Leading.{leads_then}
 use Rattle.twp_read.proofs.usual.chain.take_steps.Goals as goal
 
 pub take_adjoining-requires-in-Some-clause-place : goal.take_adjoining-requires-in-Some-clause-place

@@ -6,7 +6,7 @@ use Rattle.twp_grammar.specs.declared.item.Item.TheVariants.{Heading}
 use Rattle.twp_grammar.specs.declared.state.State.TheVariants as past
 use Rattle.twp_read.specs.TokenSteps.{take_township}
 use Rattle.twp_read.proofs.FrontFacts.{township_leads}
-use Rattle.twp_read.proofs.UsualFacts.{leads_then}
+use Rattle.twp_read.proofs.Leading.{leads_then}
 use Rattle.twp_read.proofs.usual.heading.heading_of.Goals as goal
 
 pub number_behind-requires-2-clause-place : goal.number_behind-requires-2-clause-place
@@ -28,11 +28,14 @@ returns c items =
     let sided : List Item = Heading n side 0 E at ∷ items in
     let ranged : List Item = Heading n side r E at ∷ items in
     let whole : List Item = Heading n side r way at ∷ items in
-    leads_then text at past.Start items range_end past.RangeNumber ranged (range_end + 4) past.BeforeGroup whole
+    leads_then text at past.Start items range_end past.RangeNumber ranged (range_end + 4) past.BeforeGroup
+    whole
     (leads_then text at past.Start items side_end past.RangeStop sided range_end past.RangeNumber ranged
     (leads_then text at past.Start items number_end past.TownshipNumber numbered side_end past.RangeStop sided
-    (leads_then text at past.Start items (at + 3) past.TownshipStop begun number_end past.TownshipNumber numbered
-    (township_leads text at items (c.if-not-goes_on.ensures.spelt refl) (c.if-not-goes_on.ensures.within refl))
+    (leads_then text at past.Start items (at + 3) past.TownshipStop begun number_end past.TownshipNumber
+    numbered
+    (township_leads text at items (c.if-not-goes_on.ensures.spelt refl)
+    (c.if-not-goes_on.ensures.within refl))
     (c.in_ok-number.ensures.number past.TownshipStop past.TownshipNumber begun refl))
     (c.in_ok-north_south.ensures numbered))
     (c.in_ok-range.ensures.number past.RangeStop past.RangeNumber sided refl))

@@ -15,7 +15,8 @@ overflow_add-result c =
     let here : c.args.from.at ≡ c.args.from.at + prefix_len is_white (drop c.args.from.at c.args.text.now) =
     right_here c.args.text.now c.args.from.at dark in
     let end : EndsWithin c.args.text.now c.args.from.at (c.args.from.at + c.lexeme_at-word.result.size) =
-    word_ends c.args.text.now c.args.from.at c.args.from.at c.lexeme_at-word.result here (omega arith) c.lexeme_at-word.ensures in
+    word_ends c.args.text.now c.args.from.at c.args.from.at c.lexeme_at-word.result here (omega arith)
+    c.lexeme_at-word.ensures in
     let within : c.args.from.at + c.lexeme_at-word.result.size ≤ length c.args.text.now = end.within in
     omega arith
 
@@ -39,7 +40,8 @@ returns-in_ok-next-in-And-clause-forward c =
     ap is_white (sym c.byte_at.ensures.value) ∙ c.if-not-begins_joining_word.ensures.dark refl in
     let here : c.args.from.at ≡ c.args.from.at + prefix_len is_white (drop c.args.from.at c.args.text.now) =
     right_here c.args.text.now c.args.from.at dark in
-    (word_ends c.args.text.now c.args.from.at c.args.from.at c.lexeme_at-word.result here (omega arith) c.lexeme_at-word.ensures).further
+    (word_ends c.args.text.now c.args.from.at c.args.from.at c.lexeme_at-word.result here
+    (omega arith) c.lexeme_at-word.ensures).further
 
 pub overflow_add-result-in-To : goal.overflow_add-result-in-To
 overflow_add-result-in-To c =
@@ -50,7 +52,8 @@ overflow_add-result-in-To c =
     let here : c.args.from.at ≡ c.args.from.at + prefix_len is_white (drop c.args.from.at c.args.text.now) =
     right_here c.args.text.now c.args.from.at dark in
     let end : EndsWithin c.args.text.now c.args.from.at (c.args.from.at + c.lexeme_at-word.result.size) =
-    word_ends c.args.text.now c.args.from.at c.args.from.at c.lexeme_at-word.result here (omega arith) c.lexeme_at-word.ensures in
+    word_ends c.args.text.now c.args.from.at c.args.from.at c.lexeme_at-word.result here (omega arith)
+    c.lexeme_at-word.ensures in
     let within : c.args.from.at + c.lexeme_at-word.result.size ≤ length c.args.text.now = end.within in
     omega arith
 
@@ -64,7 +67,8 @@ returns-in_ok-next-in-To-clause-leads c =
     right_here c.args.text.now c.args.from.at dark in
     word_leads c.args.text.now c.args.from.at c.args.from.at c.lexeme_at-word.result To
     c.args.from.state c.in_ok-next-in-To.field-0 here (omega arith)
-    c.lexeme_at-word.ensures c.in-To.is (sym c.next-in-To.ensures ∙ c.in_ok-next-in-To.was) (λ place items. refl)
+    c.lexeme_at-word.ensures c.in-To.is (sym c.next-in-To.ensures ∙ c.in_ok-next-in-To.was)
+    (λ place items. refl)
 
 pub returns-in_ok-next-in-To-clause-forward : goal.returns-in_ok-next-in-To-clause-forward
 returns-in_ok-next-in-To-clause-forward c =
@@ -74,4 +78,5 @@ returns-in_ok-next-in-To-clause-forward c =
     ap is_white (sym c.byte_at.ensures.value) ∙ c.if-not-begins_joining_word.ensures.dark refl in
     let here : c.args.from.at ≡ c.args.from.at + prefix_len is_white (drop c.args.from.at c.args.text.now) =
     right_here c.args.text.now c.args.from.at dark in
-    (word_ends c.args.text.now c.args.from.at c.args.from.at c.lexeme_at-word.result here (omega arith) c.lexeme_at-word.ensures).further
+    (word_ends c.args.text.now c.args.from.at c.args.from.at c.lexeme_at-word.result here
+    (omega arith) c.lexeme_at-word.ensures).further

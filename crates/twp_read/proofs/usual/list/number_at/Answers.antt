@@ -8,8 +8,10 @@ overflow_add-result c =
     let text = c.args.text.now in
     let digit : is_ascii_digit (slice_index (drop c.args.at text) 0) ≡ true =
     ap is_ascii_digit (sym c.byte_at.ensures.value) ∙ sym c.if-not-is_ascii_digit.ensures.value in
-    let it : BeginsHere text c.args.at (record { value = c.in-Number.value; at = c.args.at }) (c.args.at + c.digits-number.result.size) =
-    begins_here text c.args.at c.args.at c.in-Number.value c.digits-number.result (digit_here text c.args.at digit) digit c.digits-number.ensures c.in-Number.is in
+    let it : BeginsHere text c.args.at (record { value = c.in-Number.value; at = c.args.at })
+    (c.args.at + c.digits-number.result.size) =
+    begins_here text c.args.at c.args.at c.in-Number.value c.digits-number.result
+    (digit_here text c.args.at digit) digit c.digits-number.ensures c.in-Number.is in
     let within : c.args.at + c.digits-number.result.size ≤ length c.args.text.now = it.within in
     omega arith
 
@@ -18,8 +20,10 @@ returns-clause-number c =
     let text = c.args.text.now in
     let digit : is_ascii_digit (slice_index (drop c.args.at text) 0) ≡ true =
     ap is_ascii_digit (sym c.byte_at.ensures.value) ∙ sym c.if-not-is_ascii_digit.ensures.value in
-    let it : BeginsHere text c.args.at (record { value = c.in-Number.value; at = c.args.at }) (c.args.at + c.digits-number.result.size) =
-    begins_here text c.args.at c.args.at c.in-Number.value c.digits-number.result (digit_here text c.args.at digit) digit c.digits-number.ensures c.in-Number.is in
+    let it : BeginsHere text c.args.at (record { value = c.in-Number.value; at = c.args.at })
+    (c.args.at + c.digits-number.result.size) =
+    begins_here text c.args.at c.args.at c.in-Number.value c.digits-number.result
+    (digit_here text c.args.at digit) digit c.digits-number.ensures c.in-Number.is in
     it.leads
 
 pub returns-clause-within : goal.returns-clause-within
@@ -27,8 +31,10 @@ returns-clause-within c =
     let text = c.args.text.now in
     let digit : is_ascii_digit (slice_index (drop c.args.at text) 0) ≡ true =
     ap is_ascii_digit (sym c.byte_at.ensures.value) ∙ sym c.if-not-is_ascii_digit.ensures.value in
-    let it : BeginsHere text c.args.at (record { value = c.in-Number.value; at = c.args.at }) (c.args.at + c.digits-number.result.size) =
-    begins_here text c.args.at c.args.at c.in-Number.value c.digits-number.result (digit_here text c.args.at digit) digit c.digits-number.ensures c.in-Number.is in
+    let it : BeginsHere text c.args.at (record { value = c.in-Number.value; at = c.args.at })
+    (c.args.at + c.digits-number.result.size) =
+    begins_here text c.args.at c.args.at c.in-Number.value c.digits-number.result
+    (digit_here text c.args.at digit) digit c.digits-number.ensures c.in-Number.is in
     it.within
 
 pub returns-clause-forward : goal.returns-clause-forward
@@ -36,6 +42,8 @@ returns-clause-forward c =
     let text = c.args.text.now in
     let digit : is_ascii_digit (slice_index (drop c.args.at text) 0) ≡ true =
     ap is_ascii_digit (sym c.byte_at.ensures.value) ∙ sym c.if-not-is_ascii_digit.ensures.value in
-    let it : BeginsHere text c.args.at (record { value = c.in-Number.value; at = c.args.at }) (c.args.at + c.digits-number.result.size) =
-    begins_here text c.args.at c.args.at c.in-Number.value c.digits-number.result (digit_here text c.args.at digit) digit c.digits-number.ensures c.in-Number.is in
+    let it : BeginsHere text c.args.at (record { value = c.in-Number.value; at = c.args.at })
+    (c.args.at + c.digits-number.result.size) =
+    begins_here text c.args.at c.args.at c.in-Number.value c.digits-number.result
+    (digit_here text c.args.at digit) digit c.digits-number.ensures c.in-Number.is in
     it.further

@@ -10,5 +10,7 @@ returns-clause-number c =
     let at : ℕ = c.behind_white.result in
     if_some c.number_at.result
     (λ it. IsNumberBehind text at it.numeral it.end) (λ it. IsNumberBehind text c.args.from it.numeral it.end)
-    (λ it leads. number_ahead text c.args.from at it.numeral it.end (c.behind_white.ensures.value, c.behind_white.ensures.range) leads)
+    (λ it leads.
+    number_ahead text c.args.from at it.numeral it.end
+    (c.behind_white.ensures.value, c.behind_white.ensures.range) leads)
     c.number_at.ensures.number

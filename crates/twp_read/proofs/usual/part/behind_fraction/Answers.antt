@@ -1,5 +1,5 @@
 use Rattle.std.proofs.Common.{refl}
-use Rattle.twp_read.proofs.UsualFacts.{half_leads, quarter_leads}
+use Rattle.twp_read.proofs.Leading.{half_leads, quarter_leads}
 use Rattle.twp_read.proofs.usual.part.behind_fraction.Goals as goal
 
 pub returns-in-Side : goal.returns-in-Side

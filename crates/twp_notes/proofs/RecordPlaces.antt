@@ -1,0 +1,73 @@
+-- The records of lines, by their places behind the heading and the township's record.
+use Rattle.std.proofs.Common.{◌≡◌, ℕ, ◌+◌, ◌-◌, ◌≤◌, ◌<◌, List, ◌∷◌, length, suc, refl, ap, subst, sym, ◌∙◌}
+use Rattle.std.proofs.Common.{arith}
+use Rattle.twp_grid.specs.Townships.{Designation}
+use Rattle.twp_notes.specs.Records.{Fields, records_of, record_at, record_numbered}
+use Rattle.twp_notes.specs.FieldNotes.{NOTES_MOST, heading, IsTownshipRecord, IsLineNumber}
+use Rattle.twp_notes.specs.NotesFaults.{HasOnLine}
+
+-- the bytes are few enough, and behind the heading and the township's record stand these
+pub record AreBehind (bytes : List ℕ) (rows : List Fields) : Type 0 where
+  pub size : length bytes ≤ NOTES_MOST
+  pub first : Fields
+  pub second : Fields
+  pub township : Designation
+  pub split : records_of bytes ≡ first ∷ second ∷ rows
+  pub heading_is : first ≡ heading
+  pub township_is : IsTownshipRecord second township
+
+-- the first two records were read, and are right
+abbrev pub behind_of : (bytes : List ℕ) (first second : Fields) (start after rest : List Fields)
+    (township : Designation)
+    → length bytes ≤ NOTES_MOST → start ≡ records_of bytes
+    → start ≡ first ∷ after → after ≡ second ∷ rest → first ≡ heading → IsTownshipRecord second township
+    → AreBehind bytes rest
+behind_of bytes first second start after rest township size all one two heading_is township_is = record {
+  size = size;
+  first = first;
+  second = second;
+  township = township;
+  split = sym all ∙ one ∙ ap (λ (more : List Fields). first ∷ more) two;
+  heading_is = heading_is;
+  township_is = township_is;
+}
+
+-- a line's record by its place behind the first two
+pub record IsPlaced (bytes : List ℕ) (rows : List Fields) (number : ℕ) : Type 0 where
+  pub place : ℕ
+  pub number_is : number ≡ place + 3
+  pub within : place < length rows
+  pub is : record_numbered (records_of bytes) number ≡ record_at rows place
+
+numbered : (first second : Fields) (rows : List Fields) (place : ℕ)
+    → record_numbered (first ∷ second ∷ rows) (place + 3) ≡ record_at rows place
+numbered first second rows place =
+    let e : place + 3 - 1 ≡ suc (suc place) = omega arith in
+    rw e refl
+
+pub placed : (bytes : List ℕ) (rows : List Fields) (number : ℕ) → AreBehind bytes rows
+    → IsLineNumber (records_of bytes) number → IsPlaced bytes rows number
+placed bytes rows number behind is =
+    let long : length (records_of bytes) ≡ suc (suc (length rows)) = ap length behind.split in
+    let from : 3 ≤ number = is.0 in
+    let to : number ≤ length (records_of bytes) = is.1 in
+    let e : number ≡ number - 3 + 3 = omega arith in
+    record {
+      place = number - 3;
+      number_is = e;
+      within = omega arith;
+      is =
+          rw behind.split
+          (subst
+          (λ n. record_numbered (behind.first ∷ behind.second ∷ rows) n ≡ record_at rows (number - 3))
+          (sym e) (numbered behind.first behind.second rows (number - 3)));
+    }
+
+-- the place of a line's record is that of its number
+pub on_line : (Bad : Fields → Type 0) (bytes : List ℕ) (rows : List Fields) (place : ℕ) → AreBehind bytes rows
+    → place < length rows → Bad (record_at rows place) → HasOnLine bytes (place + 3) Bad
+on_line Bad bytes rows place behind within bad =
+    let long : length (records_of bytes) ≡ suc (suc (length rows)) = ap length behind.split in (
+      (omega arith, omega arith),
+      rw behind.split (subst Bad (sym (numbered behind.first behind.second rows place)) bad),
+    )

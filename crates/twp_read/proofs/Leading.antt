@@ -1,0 +1,327 @@
+-- What leads the reader on, token by token: words, marks and white space.
+use Rattle.std.proofs.Common.{◌≡◌, ℕ, ◌+◌, ◌≤◌, true, List, [], ◌∷◌, ◌++◌, Some, length, take, drop, refl}
+use Rattle.std.proofs.Common.{sym, ap, subst, ◌∙◌, append_assoc, arith, codes, length-drop, length-append}
+use Rattle.std.specs.Char.{is_ascii_alphabetic}
+use Rattle.std.specs.List.{AllPass, prefix_len, list_all}
+use Rattle.std.proofs.lemmas.List.Folds.{length-prefix_len}
+use Rattle.std.proofs.lemmas.List.{take-append-drop, drop-drop}
+use Rattle.std.proofs.lemmas.List.Sums.{AllPass-from_list_all, list_all-from_AllPass}
+use Rattle.twp_grammar.specs.declared.item.Item.{Item}
+use Rattle.twp_grammar.specs.declared.kind.Kind.{Kind}
+use Rattle.twp_grammar.specs.declared.kind.Kind.TheVariants.{Half, Quarter, Of, The, And, Comma}
+use Rattle.twp_grammar.specs.declared.state.State.{State}
+use Rattle.twp_grammar.specs.declared.state.State.TheVariants as past
+use Rattle.twp_grammar.specs.declared.state.State.TheVariants.{Start}
+use Rattle.twp_grammar.specs.Tokens.{Token, StartsWith, HasTokens, IsGoodToken, is_white}
+use Rattle.twp_grammar.specs.Tokens.IsToken.{good}
+use Rattle.twp_grammar.specs.Tokens.IsGoodToken.{a_word, a_half, a_quarter, a_comma}
+use Rattle.twp_grammar.specs.Grammar.{class_of}
+use Rattle.twp_grammar.specs.Machine.{next}
+use Rattle.twp_read.specs.TokenSteps.{take_token, run}
+use Rattle.twp_read.specs.Usual.{Leads, end_of}
+use Rattle.twp_grammar.proofs.TokenFacts.{all_white}
+use Rattle.twp_read.proofs.WordFacts.{both}
+use Rattle.twp_read.proofs.Reading.{run-append, go_on}
+use Rattle.twp_read.proofs.ReaderFacts.{Front}
+
+-- the reader goes on by what leads on
+pub goes_further : (text : List ℕ) (at : ℕ) (state : State) (its : List Item) (to : ℕ) (behind : State)
+    (grown : List Item)
+    → Front text at (drop at text) state its → Leads text at state its to behind grown
+    → Front text to (drop to text) behind grown
+goes_further text at state its to behind grown f l =
+    let within : to ≤ length text = l.within in
+    record {
+      tokens = f.tokens ++ l.tokens;
+      before =
+          record { joins = λ left has. rw append_assoc (f.before.joins (l.tokens ++ left) (l.cut left has)) };
+      walked = run-append (Some Start) [] f.tokens l.tokens ∙ ap (λ o. go_on o l.tokens) f.walked ∙ l.walked;
+      within = rw (length-drop to text) (omega arith);
+    }
+
+-- nothing leads nowhere else
+pub leads_nowhere : (text : List ℕ) (at : ℕ) (state : State) (its : List Item) → at ≤ length text
+    → Leads text at state its at state its
+leads_nowhere text at state its within =
+    record { tokens = []; cut = λ left has. has; walked = refl; forward = omega arith; within = within }
+
+-- what leads to where more leads on
+pub leads_then : (text : List ℕ) (at : ℕ) (state : State) (its : List Item) (mid : ℕ) (between : State)
+    (some : List Item) (to : ℕ) (behind : State) (grown : List Item)
+    → Leads text at state its mid between some → Leads text mid between some to behind grown
+    → Leads text at state its to behind grown
+leads_then text at state its mid between some to behind grown f g =
+    let first : at ≤ mid = f.forward in
+    let then : mid ≤ to = g.forward in
+    record {
+      tokens = f.tokens ++ g.tokens;
+      cut = λ left has. rw append_assoc (f.cut (g.tokens ++ left) (g.cut left has));
+      walked = run-append (Some state) its f.tokens g.tokens ∙ ap (λ o. go_on o g.tokens) f.walked ∙ g.walked;
+      forward = omega arith;
+      within = g.within;
+    }
+
+-- one token
+pub leads_token : (text : List ℕ) (at : ℕ) (state : State) (its : List Item) (token : Token) (to : ℕ)
+    (behind : State)
+    → StartsWith at (drop at text) token (drop to text) → end_of token ≡ to → to ≤ length text
+    → next state (class_of token.kind) ≡ Some behind
+    → Leads text at state its to behind (take_token state token.kind token.at its)
+leads_token text at state its token to behind starts ends within is =
+    let place : token.at ≡ at + length starts.space = starts.place in
+    record {
+      tokens = token ∷ [];
+      cut = λ left has. (
+        drop to text,
+        starts,
+        subst (λ (n : ℕ). HasTokens n (drop to text) left) (sym ends) has,
+      );
+      walked = ap (λ o. run o (take_token state token.kind token.at its) []) is;
+      forward = omega arith;
+      within = within;
+    }
+
+-- a space before tokens
+spaced : (text : List ℕ) (at : ℕ) → drop at text ≡ codes " " ++ drop (at + 1) text → (left : List Token)
+    → HasTokens (at + 1) (drop (at + 1) text) left → HasTokens at (drop at text) left
+spaced text at spelt [] has =
+    subst (λ (b : List ℕ). AllPass is_white b) (sym spelt)
+    (AllPass-from_list_all is_white (32 ∷ drop (at + 1) text)
+    (list_all-from_AllPass is_white (drop (at + 1) text) has))
+spaced text at spelt (token ∷ tokens) (rest, starts, more) =
+    let place : token.at ≡ (at + 1) + length starts.space = starts.place in (
+      rest,
+      record {
+        space = 32 ∷ starts.space;
+        white =
+            AllPass-from_list_all is_white (32 ∷ starts.space)
+            (list_all-from_AllPass is_white starts.space starts.white);
+        spelt = spelt ∙ ap (λ b. 32 ∷ b) starts.spelt;
+        place = omega arith;
+        is = starts.is;
+      },
+      more,
+    )
+
+pub leads_space : (text : List ℕ) (at : ℕ) (state : State) (its : List Item)
+    → drop at text ≡ codes " " ++ drop (at + 1) text → at + 1 ≤ length text
+    → Leads text at state its (at + 1) state its
+leads_space text at state its spelt within =
+    record { tokens = []; cut = spaced text at spelt; walked = refl; forward = omega arith; within = within }
+
+abbrev pub made : Kind → List ℕ → ℕ → Token
+made kind text at = record { kind = kind; text = text; at = at }
+
+-- a half and a quarter, right at a place
+half_starts : (text : List ℕ) (at : ℕ) → drop at text ≡ codes "1/2" ++ drop (at + 3) text
+    → StartsWith at (drop at text) (made Half (codes "1/2") at) (drop (at + 3) text)
+half_starts text at spelt =
+    record {
+      space = [];
+      white = AllPass-from_list_all is_white [] refl;
+      spelt = spelt;
+      place = omega arith;
+      is = good (a_half refl refl);
+    }
+
+quarter_starts : (text : List ℕ) (at : ℕ) → drop at text ≡ codes "1/4" ++ drop (at + 3) text
+    → StartsWith at (drop at text) (made Quarter (codes "1/4") at) (drop (at + 3) text)
+quarter_starts text at spelt =
+    record {
+      space = [];
+      white = AllPass-from_list_all is_white [] refl;
+      spelt = spelt;
+      place = omega arith;
+      is = good (a_quarter refl refl);
+    }
+
+-- a fraction behind the letters of its step
+pub half_leads : (text : List ℕ) (at : ℕ) (its : List Item) → drop at text ≡ codes "1/2" ++ drop (at + 3) text
+    → at + 3 ≤ length text → Leads text at past.Side its (at + 3) past.Step its
+half_leads text at its spelt within =
+    leads_token text at past.Side its (made Half (codes "1/2") at) (at + 3) past.Step
+    (half_starts text at spelt) refl within refl
+
+pub quarter_leads : (text : List ℕ) (at : ℕ) (its : List Item)
+    → drop at text ≡ codes "1/4" ++ drop (at + 3) text → at + 3 ≤ length text
+    → Leads text at past.Corner its (at + 3) past.Step its
+quarter_leads text at its spelt within =
+    leads_token text at past.Corner its (made Quarter (codes "1/4") at) (at + 3) past.Step
+    (quarter_starts text at spelt) refl within refl
+
+-- what is left of a text behind some bytes that it goes on with
+pub left_behind : (text : List ℕ) (at n : ℕ) (bytes : List ℕ) → drop at text ≡ bytes
+    → drop (at + n) text ≡ drop n bytes
+left_behind text at n bytes spelt = sym (drop-drop n at text) ∙ ap (λ b. drop n b) spelt
+
+-- `of` and `the` behind a step, and the space behind them
+pub of_the_leads : (text : List ℕ) (at : ℕ) (its : List Item)
+    → drop at text ≡ codes " of the " ++ drop (at + 8) text → at + 8 ≤ length text
+    → Leads text at past.Step its (at + 8) past.OfThe its
+of_the_leads text at its spelt within =
+    let more : List ℕ = drop (at + 8) text in
+    let behind_of : drop (at + 3) text ≡ codes " the " ++ more =
+    left_behind text at 3 (codes " of the " ++ more) spelt in
+    let behind_the : drop (at + 7) text ≡ codes " " ++ more =
+    left_behind text at 7 (codes " of the " ++ more) spelt in
+    let of_starts : StartsWith at (drop at text) (made Of (codes "of") (at + 1)) (drop (at + 3) text) =
+    record {
+      space = codes " ";
+      white = AllPass-from_list_all is_white (codes " ") refl;
+      spelt = rw behind_of spelt;
+      place = refl;
+      is = rw behind_of (good (a_word (record {
+        some = omega arith;
+        all = AllPass-from_list_all is_ascii_alphabetic (codes "of") refl;
+        ends = refl;
+      }) refl));
+    } in
+    let the_starts : StartsWith (at + 3) (drop (at + 3) text) (made The (codes "the") (at + 4))
+    (drop (at + 7) text) = record {
+      space = codes " ";
+      white = AllPass-from_list_all is_white (codes " ") refl;
+      spelt = rw behind_the behind_of;
+      place = omega arith;
+      is = rw behind_the (good (a_word (record {
+        some = omega arith;
+        all = AllPass-from_list_all is_ascii_alphabetic (codes "the") refl;
+        ends = refl;
+      }) refl));
+    } in
+    let the_end : (at + 7) + 1 ≡ at + 8 = omega arith in
+    let space : drop (at + 7) text ≡ codes " " ++ drop ((at + 7) + 1) text = rw the_end behind_the in
+    leads_then text at past.Step its (at + 7) past.OfThe its (at + 8) past.OfThe its
+    (leads_then text at past.Step its (at + 3) past.Of its (at + 7) past.OfThe its
+    (leads_token text at past.Step its (made Of (codes "of") (at + 1)) (at + 3) past.Of of_starts
+    (omega arith) (omega arith) refl)
+    (leads_token text (at + 3) past.Of its (made The (codes "the") (at + 4)) (at + 7) past.OfThe the_starts
+    (omega arith) (omega arith) refl))
+    (subst (λ (n : ℕ). Leads text (at + 7) past.OfThe its n past.OfThe its) the_end
+    (leads_space text (at + 7) past.OfThe its space (omega arith)))
+
+-- a mark right at a place
+pub record IsMark (byte : ℕ) (kind : Kind) : Type 0 where
+  pub is : (rest : List ℕ) → IsGoodToken (byte ∷ []) rest kind
+  pub kept : (state : State) (at : ℕ) (its : List Item) → take_token state kind at its ≡ its
+
+pub the_comma : IsMark 44 Comma
+the_comma = record { is = λ rest. a_comma refl refl; kept = λ state at its. refl }
+
+pub mark_leads : (text : List ℕ) (at byte : ℕ) (kind : Kind) (state behind : State) (its : List Item)
+    → IsMark byte kind → next state (class_of kind) ≡ Some behind → drop at text ≡ byte ∷ drop (at + 1) text
+    → at + 1 ≤ length text → Leads text at state its (at + 1) behind its
+mark_leads text at byte kind state behind its mark is spelt within =
+    let starts : StartsWith at (drop at text) (made kind (byte ∷ []) at) (drop (at + 1) text) =
+    record {
+      space = [];
+      white = AllPass-from_list_all is_white [] refl;
+      spelt = spelt;
+      place = omega arith;
+      is = good (mark.is (drop (at + 1) text));
+    } in
+    subst (λ (js : List Item). Leads text at state its (at + 1) behind js) (mark.kept state at its)
+    (leads_token text at state its (made kind (byte ∷ []) at) (at + 1) behind starts refl within is)
+
+-- `and` behind the comma of a part, and the space behind it
+pub and_leads : (text : List ℕ) (at : ℕ) (its : List Item) → drop at text ≡ codes "and " ++ drop (at + 4) text
+    → at + 4 ≤ length text → Leads text at past.PartComma its (at + 4) past.BeforePart its
+and_leads text at its spelt within =
+    let space : drop (at + 3) text ≡ codes " " ++ drop (at + 4) text =
+    left_behind text at 3 (codes "and " ++ drop (at + 4) text) spelt in
+    let end : (at + 3) + 1 ≡ at + 4 = omega arith in
+    let starts : StartsWith at (drop at text) (made And (codes "and") at) (drop (at + 3) text) = record {
+      space = [];
+      white = AllPass-from_list_all is_white [] refl;
+      spelt = rw space spelt;
+      place = omega arith;
+      is = rw space (good (a_word (record {
+        some = omega arith;
+        all = AllPass-from_list_all is_ascii_alphabetic (codes "and") refl;
+        ends = refl;
+      }) refl));
+    } in
+    leads_then text at past.PartComma its (at + 3) past.BeforePart its (at + 4) past.BeforePart its
+    (leads_token text at past.PartComma its (made And (codes "and") at) (at + 3) past.BeforePart starts refl
+    (omega arith) refl)
+    (subst (λ (n : ℕ). Leads text (at + 3) past.BeforePart its n past.BeforePart its) end
+    (leads_space text (at + 3) past.BeforePart its (rw end space) (omega arith)))
+
+white_append : (xs ys : List ℕ) → list_all is_white xs ≡ true → list_all is_white ys ≡ true
+    → list_all is_white (xs ++ ys) ≡ true
+white_append [] ys h k = k
+white_append (x ∷ xs) ys h k =
+    let parts = both (is_white x) (list_all is_white xs) h in
+    rw parts.0 (white_append xs ys parts.1 k)
+
+-- a token behind white space starts where the white space does
+behind_space : (text : List ℕ) (from at : ℕ) (token : Token) (rest : List ℕ)
+    → at ≡ from + prefix_len is_white (drop from text) → StartsWith at (drop at text) token rest
+    → StartsWith from (drop from text) token rest
+behind_space text from at token rest is s =
+    let bytes : List ℕ = drop from text in
+    let n : ℕ = prefix_len is_white bytes in
+    let left : drop n bytes ≡ drop at text = drop-drop n from text ∙ ap (λ m. drop m text) (sym is) in
+    let size : length (take n bytes) ≡ n = length-prefix_len is_white bytes in
+    let place : token.at ≡ at + length s.space = s.place in
+    record {
+      space = take n bytes ++ s.space;
+      white =
+          AllPass-from_list_all is_white _
+          (white_append (take n bytes) s.space
+          (list_all-from_AllPass is_white (take n bytes) (all_white bytes))
+          (list_all-from_AllPass is_white s.space s.white));
+      spelt =
+          sym (take-append-drop n bytes)
+          ∙ ap (λ b. take n bytes ++ b) (left ∙ s.spelt)
+          ∙ sym (append_assoc (take n bytes) s.space (token.text ++ rest));
+      place = rw (length-append (take n bytes) s.space, size) (omega arith);
+      is = s.is;
+    }
+
+-- white space leads on
+pub white_leads : (text : List ℕ) (from at : ℕ) (state : State) (its : List Item)
+    → at ≡ from + prefix_len is_white (drop from text) → at ≤ length text
+    → Leads text from state its at state its
+white_leads text from at state its is within =
+    record { tokens = []; cut = before; walked = refl; forward = omega arith; within = within }
+  where
+    bytes : List ℕ
+    bytes = drop from text
+
+    behind : drop (prefix_len is_white bytes) bytes ≡ drop at text
+    behind = drop-drop (prefix_len is_white bytes) from text ∙ ap (λ m. drop m text) (sym is)
+
+    before : (left : List Token) → HasTokens at (drop at text) left → HasTokens from (drop from text) left
+    before [] has =
+        let front : List ℕ = take (prefix_len is_white bytes) bytes in
+        let all : list_all is_white (front ++ drop at text) ≡ true =
+        white_append front (drop at text) (list_all-from_AllPass is_white front (all_white bytes))
+        (list_all-from_AllPass is_white (drop at text) has) in
+        subst (λ (b : List ℕ). AllPass is_white b)
+        (ap (λ b. front ++ b) (sym behind) ∙ take-append-drop (prefix_len is_white bytes) bytes)
+        (AllPass-from_list_all is_white (front ++ drop at text) all)
+    before (token ∷ tokens) (rest, starts, more) =
+        (rest, behind_space text from at token rest is starts, more)
+
+-- a comma behind a part, and the space behind it
+pub comma_space_leads : (text : List ℕ) (at : ℕ) (its : List Item)
+    → drop at text ≡ codes ", " ++ drop (at + 2) text → at + 2 ≤ length text
+    → Leads text at past.Step its (at + 2) past.PartComma its
+comma_space_leads text at its spelt within =
+    let space : drop (at + 1) text ≡ codes " " ++ drop (at + 2) text =
+    left_behind text at 1 (codes ", " ++ drop (at + 2) text) spelt in
+    let end : (at + 1) + 1 ≡ at + 2 = omega arith in
+    leads_then text at past.Step its (at + 1) past.PartComma its (at + 2) past.PartComma its
+    (mark_leads text at 44 Comma past.Step past.PartComma its the_comma refl (rw space spelt) (omega arith))
+    (subst (λ (n : ℕ). Leads text (at + 1) past.PartComma its n past.PartComma its) end
+    (leads_space text (at + 1) past.PartComma its (rw end space) (omega arith)))
+
+-- a comma behind a part, and the white space behind it
+pub comma_leads : (text : List ℕ) (at behind : ℕ) (its : List Item)
+    → drop at text ≡ codes "," ++ drop (at + 1) text → at + 1 ≤ length text
+    → behind ≡ (at + 1) + prefix_len is_white (drop (at + 1) text) → behind ≤ length text
+    → Leads text at past.Step its behind past.PartComma its
+comma_leads text at behind its spelt begins is within =
+    leads_then text at past.Step its (at + 1) past.PartComma its behind past.PartComma its
+    (mark_leads text at 44 Comma past.Step past.PartComma its the_comma refl spelt begins)
+    (white_leads text (at + 1) behind past.PartComma its is within)
