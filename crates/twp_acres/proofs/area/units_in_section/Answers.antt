@@ -1,8 +1,10 @@
 -- Lot by lot, what is held is taken off the count and its piece is added; what is left lies off the lots.
 use Rattle.std.proofs.Common.{◌≡◌, ℕ, ◌+◌, ◌-◌, ◌≤◌, sym, arith}
 use Rattle.twp_land.proofs.LotFacts.{few_lots}
-use Rattle.twp_acres.specs.Accounts.{over_by}
-use Rattle.twp_acres.proofs.SectionSums.{places_where, piece_where, places_held, places_not_held, piece_held, piece_not_held, of_lots-none, of_lots-next, lots_within, few_places, sum_of_section}
+use Rattle.twp_acres.specs.steps.Accounts.{over_by}
+use Rattle.twp_acres.proofs.SectionSums.{places_where, piece_where, places_held, places_not_held}
+use Rattle.twp_acres.proofs.SectionSums.{piece_held, piece_not_held, of_lots-none, of_lots-next}
+use Rattle.twp_acres.proofs.SectionSums.{lots_within, few_places, sum_of_section}
 use Rattle.twp_acres.proofs.PieceFacts.{regular_by}
 use Rattle.twp_acres.proofs.AreaFacts.{lot_at_is, grows, bounded}
 use Rattle.twp_acres.proofs.area.units_in_section.Goals as goal
