@@ -25,7 +25,7 @@ use Rattle.twp_acres.specs.declared.account.Account.{Account}
 use Rattle.twp_acres.specs.declared.account.Account.TheVariants as account
 use Rattle.twp_cmd.specs.Commands.{TakesAccounts, account_name, acres, normal, plat, report, township}
 use Rattle.twp_cmd.specs.Commands.{township_with}
-use Rattle.twp_cmd.specs.Parses.{HasAccount, HasValue, IsWhole}
+use Rattle.twp_cmd.specs.steps.Parses.{HasAccount, HasValue, IsWhole}
 use Rattle.twp_cmd.proofs.CommandWalk.{EachFits, Good, IsNoHelp, StoppedWell, defaulted_row}
 use Rattle.twp_cmd.proofs.CommandWalk.{finished_good, first_empty, given_row, is_walked, row_value}
 use Rattle.twp_cmd.proofs.CommandWalk.{second_empty}
