@@ -16,7 +16,7 @@ use Rattle.twp_land.proofs.LandRanges.{nothing_within}
 use Rattle.twp_plat.specs.Plats.{TownshipPlat, IsPlat}
 use Rattle.twp_acres.specs.LandAreas.{section_sum, township_sum}
 use Rattle.twp_acres.specs.PlatAccounts.{lots_held, places_off_lots, printed_units}
-use Rattle.twp_acres.specs.Accounts.{IsAreaBy, over_by, position_units, AreUnitsBy}
+use Rattle.twp_acres.specs.steps.Accounts.{IsAreaBy, over_by, position_units, AreUnitsBy}
 use Rattle.twp_acres.specs.declared.account.Account.{Account}
 use Rattle.twp_acres.specs.declared.account.Account.TheVariants.{Exact, Plat}
 use Rattle.twp_plat.proofs.SectionPieces.{pieces_of}

@@ -6,16 +6,16 @@ use Rattle.std.proofs.lemmas.Bool.{cases_lt, cases_eq}
 use Rattle.twp_grid.specs.Townships.{Designation}
 use Rattle.twp_notes.specs.Records.{Fields, record_at, record_numbered, records_of}
 use Rattle.twp_plat.specs.Plats.{TownshipPlat}
-use Rattle.twp_acres.specs.Names.{has_name}
+use Rattle.twp_acres.specs.steps.Names.{has_name}
 use Rattle.twp_acres.specs.Tracts.{TRACTS_LIMIT, TRACTS_MOST, tracts_heading, tract_records}
 use Rattle.twp_acres.specs.Tracts.{name_in, description_in, IsTractRecord, AreTracts}
 use Rattle.twp_acres.specs.TractFaults.{HasAt, HasAtTract, HasTractFault, IsFirstTractFault, IsFrom}
 use Rattle.twp_acres.specs.TractFaults.{record_of, turn_of, verdict_of, IsNameRepeated}
-use Rattle.twp_acres.specs.TractTaking.{Tally, IsTallyOf, IsNamedAnew, fault_of_stop}
-use Rattle.twp_acres.specs.TractTaking.{IsTractRefused, IsNextRefused, AreTractsRefused}
-use Rattle.twp_acres.specs.TractTaking.{OverlapsTally}
+use Rattle.twp_acres.specs.steps.TractTaking.{Tally, IsTallyOf, IsNamedAnew, fault_of_stop}
+use Rattle.twp_acres.specs.steps.TractTaking.{IsTractRefused, IsNextRefused, AreTractsRefused}
+use Rattle.twp_acres.specs.steps.TractTaking.{OverlapsTally}
 use Rattle.twp_acres.specs.Answers.{IsNoDescription}
-use Rattle.twp_acres.specs.Stops.{IfRefused}
+use Rattle.twp_acres.specs.steps.Stops.{IfRefused}
 use Rattle.twp_acres.specs.declared.stop.Stop.{Stop}
 use Rattle.twp_acres.specs.declared.stop.Stop.TheVariants as stop
 use Rattle.twp_acres.specs.ReportAnswers.{AnswersList, refusal_lines}

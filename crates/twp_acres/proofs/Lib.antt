@@ -8,6 +8,7 @@ pub mod WholeAreas
 pub mod AreaFacts
 pub mod DeviceFacts
 pub mod RunFacts
+pub mod StopFacts
 pub mod OneAnswer
 pub mod FigureFacts
 pub mod OnePlat

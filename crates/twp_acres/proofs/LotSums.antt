@@ -21,7 +21,7 @@ use Rattle.twp_text.specs.CanonicalText.{off_lots}
 use Rattle.twp_acres.specs.LandAreas.{places_of_position, piece_where_held, section_sum}
 use Rattle.twp_acres.specs.LandAreas.{township_sum}
 use Rattle.twp_acres.specs.PlatAccounts.{holds_lot, lots_held, places_off_lots}
-use Rattle.twp_acres.specs.Accounts.{position_units}
+use Rattle.twp_acres.specs.steps.Accounts.{position_units}
 use Rattle.twp_acres.proofs.PositionSums.{positions-ext, positions-both, positions-scale}
 use Rattle.twp_acres.proofs.PositionSums.{total_blocks}
 

@@ -7,7 +7,7 @@ use Rattle.twp_plat.specs.Pieces.{piece, over_of}
 use Rattle.twp_plat.specs.PlatAreas.{ArePieces}
 use Rattle.twp_plat.proofs.FormulaFacts.{piece_terms}
 use Rattle.twp_plat.proofs.RatioFacts.{parts_of_whole}
-use Rattle.twp_acres.specs.Accounts.{over_by, AreUnitsBy}
+use Rattle.twp_acres.specs.steps.Accounts.{over_by, AreUnitsBy}
 use Rattle.twp_acres.specs.declared.account.Account.{Account}
 use Rattle.twp_acres.specs.declared.account.Account.TheVariants.{Exact, Plat}
 use Rattle.twp_acres.proofs.SectionSums.{AreRegular}

@@ -29,7 +29,7 @@ use Rattle.twp_acres.specs.PlatAnswers.{PlatFigures, AreFigures}
 use Rattle.twp_acres.specs.PlatAccounts.{holds_lot, lots_held, places_off_lots, printed_units}
 use Rattle.twp_acres.specs.PlatAccounts.{IsPlatArea}
 use Rattle.twp_acres.specs.PlatAccountLaws.{OnePlatArea, DisjointPlatAreasAdd, PlatAreaIsNear}
-use Rattle.twp_acres.specs.Accounts.{position_units}
+use Rattle.twp_acres.specs.steps.Accounts.{position_units}
 use Rattle.twp_acres.proofs.AreaLaws.{township-ext, township-both, some_places}
 use Rattle.twp_acres.proofs.FigureFacts.{same_lot}
 use Rattle.twp_acres.proofs.LotSums.{filtered, at_lot, over_table, sum_by_lots}

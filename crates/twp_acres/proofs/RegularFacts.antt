@@ -5,7 +5,8 @@ use Rattle.std.proofs.lemmas.Bool.{cases_eq}
 use Rattle.std.proofs.lemmas.Bool.Decides.{nat_tests}
 use Rattle.twp_grid.specs.Winding.{IsSection, StandsAt}
 use Rattle.twp_grid.specs.Lines.{north_run, west_run}
-use Rattle.twp_grid.specs.Lots.{lot_at_position, is_western_number}
+use Rattle.twp_grid.specs.Lots.{lot_at_position}
+use Rattle.twp_grid.specs.steps.WesternSections.{is_western_number}
 use Rattle.twp_grid.proofs.LotFacts.{each, each_of_three, lot_at_is, lot_by_code}
 use Rattle.twp_plat.specs.Plats.{TownshipPlat, IsPlat, closing_quarter_of, ClosingQuarters}
 use Rattle.twp_plat.specs.Plats.{AreClosingQuarters}

@@ -3,12 +3,10 @@ use Rattle.std.proofs.Common.{◌≡◌, ◌≢◌, ℕ, List, [], Option, Some,
 use Rattle.std.proofs.Common.{refl, ap, subst, sym, ◌∙◌, ◌+◌, Bool, true, false, ◌⊎◌, ◌↔◌}
 use Rattle.std.specs.Prelude.{IfOk, IfErr, OnOk, OnErr, IsErrOf, IsOkUnless, is_err, unwrap_or}
 use Rattle.std.specs.Io.KnownBytes.{Appends}
-use Rattle.twp_grid.specs.Devices.{Tells, TakesAtMost}
-use Rattle.twp_notes.specs.FieldNotes.{NOTES_MOST}
-use Rattle.twp_notes.specs.ReadBytes.{TakesFirst}
+use Rattle.twp_grid.specs.Devices.{Tells}
 use Rattle.twp_notes.specs.declared.reading.ReadFault.{ReadFault}
 use Rattle.twp_notes.specs.declared.reading.ReadFault.TheVariants as reading
-use Rattle.twp_acres.specs.PassedFaults.{run_fault_of, IsStopOfPlaces}
+use Rattle.twp_acres.specs.steps.PassedFaults.{run_fault_of, IsStopOfPlaces}
 use Rattle.twp_acres.specs.Runs.{AnswerRelation, AnyFailed, AppendsFront, IsAnswered, IsRun}
 use Rattle.twp_acres.specs.Runs.{Reads, ReadsTwo, RunsOnPlat, Use, used}
 use Rattle.twp_grid.specs.Places.{PLACE_DIGITS}
@@ -20,7 +18,8 @@ use Rattle.twp_text.specs.PlaceFaults.{IsFirstPlaceFault}
 use Rattle.twp_grammar.specs.declared.item.Item.{Item}
 use Rattle.twp_resolve.specs.declared.place_fault.PlaceFault.{PlaceFault}
 use Rattle.twp_acres.specs.Answers.{ArePlatted, IsNoDescription, IsNoPlat, IsRefusal, MakePlat}
-use Rattle.twp_acres.specs.Stops.{IfRefused, IfFailed}
+use Rattle.twp_acres.specs.steps.Stages.{ReadsOnPlat, same_fault}
+use Rattle.twp_acres.specs.steps.Stops.{IfRefused, IfFailed}
 use Rattle.twp_acres.specs.declared.stop.Stop.{Stop}
 use Rattle.twp_acres.specs.declared.stop.Stop.TheVariants as stop
 use Rattle.twp_acres.specs.declared.verdict.RunFault.{RunFault}
@@ -146,32 +145,18 @@ made answer = Ok answer
 abbrev pub unmade : {T : Type 0} → RunFault → Result T RunFault
 unmade fault = Err fault
 
--- the notes were read to their end or to one byte past the limit, unless their reader failed
-abbrev pub TakesNotes : {T : Type 0} → Use → Result T RunFault → Type 0
-TakesNotes notes r =
-    notes.has_failed ≡ false → r ≢ Err Memory → TakesFirst notes.old notes.new (NOTES_MOST + 1)
-
--- and so was the second text, where the notes make a plat
-abbrev pub TakesSecond : {T : Type 0} → Use → Use → ℕ → Result T RunFault → Type 0
-TakesSecond notes second most r =
-    (n : List ℕ) → notes.old ≡ Some n → MakePlat n → notes.has_failed ≡ false → second.has_failed ≡ false
-    → r ≢ Err Memory → TakesFirst second.old second.new (most + 1)
-
 -- a run that had an answer of two texts, and wrote it
 pub run_on_plat : {T : Type 0} (answer : T) (Answers : List ℕ → List ℕ → AnswerRelation) (most : ℕ)
     (notes second out : Use) (unread : Type 0)
     (text : List ℕ) (verdict : Verdict) (r : Result Verdict RunFault)
     → ReadsTwo notes.old second.old MakePlat unread (λ n s. Answers n s text verdict)
-    → (AnyFailed notes.has_failed second.has_failed → ⊥) → (notes.has_failed ≡ true → unread)
-    → TakesAtMost notes.old notes.new (NOTES_MOST + 1) → TakesAtMost second.old second.new (most + 1)
-    → TakesNotes notes (made answer) → TakesSecond notes second most (made answer)
+    → ReadsOnPlat same_fault most notes second unread (made answer)
     → IfOk r (λ v. v ≡ verdict) → OnOk r (Appends out.old out.new text)
     → OnErr r (AppendsFront out.old out.new text)
     → IfErr r (λ fault. fault ≡ Write) → out.has_failed ≡ is_err r
     → RunsOnPlat Answers most notes second out unread r
-run_on_plat answer Answers most notes second out unread text verdict r read none_failed after notes_most
-    second_most
-    notes_exact second_exact is whole front by failed =
+run_on_plat answer Answers most notes second out unread text verdict r read reads is whole front by failed =
+    let none_failed : AnyFailed notes.has_failed second.has_failed → ⊥ = λ any. cc (reads.read.1 any) in
     let wrote : (n s : List ℕ) → Answers n s text verdict → IsRun (Answers n s) out.old out.new r
     = λ n s answers. written (Answers n s) out.old out.new text verdict r answers is whole front by in
     let ran : ReadsTwo notes.old second.old MakePlat unread (λ n s. IsRun (Answers n s) out.old out.new r)
@@ -188,14 +173,14 @@ run_on_plat answer Answers most notes second out unread text verdict r read none
       answers = λ _ _ out_open. verdict_given r out.has_failed failed out_open;
       ran = ran;
       unread = λ n is-n stops. unread_of notes.old second.old n MakePlat unread _ ran is-n stops;
-      unread_after_fault = after;
+      unread_after_fault = reads.unread_after_fault;
       read = ((λ is. absurd (read_answered r by is)), (λ any. absurd (none_failed any)));
       write = write_answered r out.has_failed by failed;
-      notes_most = notes_most;
-      second_most = second_most;
-      notes_exact = λ notes _. notes_exact notes (λ wrong. cc wrong);
-      second_exact =
-          λ n is-n makes notes second _. second_exact n is-n makes notes second (λ wrong. cc wrong);
+      notes_most = reads.notes_most;
+      second_most = reads.second_most;
+      notes_exact = λ notes_open _. reads.notes_exact notes_open (λ wrong. cc wrong);
+      second_exact = λ n is-n makes notes_open second_open _.
+          reads.second_exact n is-n makes notes_open second_open (λ wrong. cc wrong);
     }
 
 -- what stops without an answer, and not by its writer, has written nothing
@@ -223,15 +208,10 @@ pub run_stopped : {T : Type 0} (Answers : List ℕ → List ℕ → AnswerRelati
     (out : Option (List ℕ))
     (out_failed : Bool) (unread : Type 0) (fault : RunFault) (Holds : List ℕ → List ℕ → Type 0)
     → ReadsTwo notes.old second.old MakePlat unread Holds
-    → IsErrOf (unmade {T = T} fault) Read ↔ AnyFailed notes.has_failed second.has_failed
-    → (notes.has_failed ≡ true → unread)
-    → fault ≢ Write → out_failed ≡ false
-    → TakesAtMost notes.old notes.new (NOTES_MOST + 1) → TakesAtMost second.old second.new (most + 1)
-    → TakesNotes notes (unmade {T = T} fault) → TakesSecond notes second most (unmade {T = T} fault)
+    → ReadsOnPlat same_fault most notes second unread (unmade {T = T} fault) → out_failed ≡ false
     → RunsOnPlat Answers most notes second (used out out out_failed) unread (Err fault)
-run_stopped Answers most notes second out out_failed unread fault Holds read by after not_write out_open
-    notes_most second_most
-    notes_exact second_exact =
+run_stopped Answers most notes second out out_failed unread fault Holds read reads out_open =
+    let not_write : fault ≢ Write = reads.no_write in
     let ran : ReadsTwo notes.old second.old MakePlat unread (λ n s. IsRun (Answers n s) out out (Err fault))
     = record {
       first_bytes = read.first_bytes;
@@ -244,17 +224,18 @@ run_stopped Answers most notes second out out_failed unread fault Holds read by 
     record {
       told = λ n s is-n is-s. nothing_written (Answers n s) out fault not_write;
       answers = λ notes_open second_open _.
-          wants_memory fault (λ is. none_failed_of _ _ notes_open second_open (by.0 (ap Err is))) not_write;
+          wants_memory fault (λ is. none_failed_of _ _ notes_open second_open (reads.read.0 (ap Err is)))
+          not_write;
       ran = ran;
       unread = λ n is-n stops. unread_of notes.old second.old n MakePlat unread _ ran is-n stops;
-      unread_after_fault = after;
-      read = ((λ is. by.0 (ap Err (cc is))), (λ any. ap Err (cc (by.1 any))));
+      unread_after_fault = reads.unread_after_fault;
+      read = ((λ is. reads.read.0 (ap Err (cc is))), (λ any. ap Err (cc (reads.read.1 any))));
       write = ((λ is. absurd (not_write (cc is))), (λ failed. cc (out_open, failed)));
-      notes_most = notes_most;
-      second_most = second_most;
-      notes_exact = λ notes not_memory. notes_exact notes (λ is. not_memory (ap Err (cc is)));
-      second_exact = λ n is-n makes notes second not_memory.
-          second_exact n is-n makes notes second (λ is. not_memory (ap Err (cc is)));
+      notes_most = reads.notes_most;
+      second_most = reads.second_most;
+      notes_exact = λ notes_open not_memory. reads.notes_exact notes_open (λ is. not_memory (ap Err (cc is)));
+      second_exact = λ n is-n makes notes_open second_open not_memory.
+          reads.second_exact n is-n makes notes_open second_open (λ is. not_memory (ap Err (cc is)));
     }
 
 -- what was answered is the one answer that there is

@@ -1,6 +1,7 @@
 -- A tally that grows by one tract.
-use Rattle.std.proofs.Common.{◌≡◌, ◌≢◌, ℕ, ◌+◌, ◌<◌, ◌≤◌, ◌||◌, true, false, List, [], ◌∷◌, ◌++◌, length}
-use Rattle.std.proofs.Common.{get_or, ap, refl, sym, ◌∙◌, inl, inr, subst, arith, append_assoc, append-nil}
+use Rattle.std.proofs.Common.{◌≡◌, ◌≢◌, ℕ, ◌+◌, ◌<◌, ◌≤◌, ◌||◌, true, false, List, [], ◌∷◌, ◌++◌}
+use Rattle.std.proofs.Common.{length, get_or, ap, refl, sym, ◌∙◌, inl, inr, subst, arith}
+use Rattle.std.proofs.Common.{append_assoc, append-nil}
 use Rattle.std.specs.Str.{bytes_eq}
 use Rattle.std.proofs.lemmas.Slice.Eq.{bytes_eq-Decides}
 use Rattle.std.proofs.lemmas.List.{length_push}
@@ -13,12 +14,12 @@ use Rattle.twp_land.specs.WholeLots.{HasWholeLots}
 use Rattle.twp_notes.specs.Records.{Fields, record_at, record_numbered, records_of}
 use Rattle.twp_plat.specs.Plats.{TownshipPlat}
 use Rattle.twp_acres.specs.Answers.{Describe}
-use Rattle.twp_acres.specs.Names.{has_name}
-use Rattle.twp_acres.specs.Tracts.{TRACTS_LIMIT, TRACTS_MOST, tracts_heading, tract_records, name_in}
-use Rattle.twp_acres.specs.Tracts.{description_in, IsTract, Overlap, IsLandOfTracts}
-use Rattle.twp_acres.specs.ReportAnswers.{tract_line, IsTractLine, AreTractLines, text_of, total_lines}
-use Rattle.twp_acres.specs.ReportAnswers.{IsAccountOf}
-use Rattle.twp_acres.specs.TractTaking.{Tally, AreTotals, TakesTract, IsTallyOf, EndsAccount}
+use Rattle.twp_acres.specs.steps.Names.{has_name}
+use Rattle.twp_acres.specs.Tracts.{TRACTS_LIMIT, TRACTS_MOST, tracts_heading, tract_records}
+use Rattle.twp_acres.specs.Tracts.{name_in, description_in, IsTract, Overlap, IsLandOfTracts}
+use Rattle.twp_acres.specs.ReportAnswers.{tract_line, IsTractLine, AreTractLines, text_of}
+use Rattle.twp_acres.specs.ReportAnswers.{total_lines, IsAccountOf}
+use Rattle.twp_acres.specs.steps.TractTaking.{Tally, AreTotals, TakesTract, IsTallyOf, EndsAccount}
 use Rattle.twp_acres.proofs.OneAnswer.{one_land}
 use Rattle.twp_acres.proofs.TractLands.{earlier_or_last, either_way, with_left, with_right, no_land}
 use Rattle.twp_acres.proofs.TractLands.{land_next}

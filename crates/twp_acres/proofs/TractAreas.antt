@@ -12,7 +12,7 @@ use Rattle.twp_acres.specs.LandAreas.{section_sum, township_sum, IsLandArea}
 use Rattle.twp_acres.specs.Laws.{township_places}
 use Rattle.twp_acres.specs.ReportAnswers.{other_places}
 use Rattle.twp_acres.specs.TractLaws.{RestAddsUp}
-use Rattle.twp_acres.specs.TractTaking.{AreTotals, TakesArea}
+use Rattle.twp_acres.specs.steps.TractTaking.{AreTotals, TakesArea}
 use Rattle.twp_acres.specs.declared.totals.Totals.{Totals}
 use Rattle.twp_acres.proofs.AreaLaws.{one_land_area, disjoint_areas_add, rest_of_places}
 use Rattle.twp_acres.proofs.AreaLaws.{rest_within, is_place_of}

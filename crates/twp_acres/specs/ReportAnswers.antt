@@ -1,7 +1,7 @@
 -- The answer of the report run: the account of the tracts, or the refusal. Each figure is the
 -- exact area of what it stands for, rounded once, in hundredths of an acre.
 use Rattle.std.specs.Prelude.{◌≡◌, ◌⊎◌, ℕ, ◌<◌, ◌&&◌, Bool, not, List, [], ◌++◌, length}
-use Rattle.std.specs.Prelude.{Some, IfSome, codes, slice_index_or}
+use Rattle.std.specs.Prelude.{Some, codes, slice_index_or}
 use Rattle.std.specs.List.{flat_map}
 use Rattle.twp_grid.specs.Places.{PLACE_DIGITS}
 use Rattle.twp_notes.specs.Records.{Fields, record_at}
@@ -66,11 +66,6 @@ pub record IsAccount (plat : TownshipPlat) (rows : List Fields) (text : List ℕ
 pub record IsAccountOf (plat : TownshipPlat) (bytes text : List ℕ) : Type 0 where
   pub list : IsTractList plat.township bytes
   pub account : IsAccount plat (tract_records bytes) text
-
--- the fault is the first one of the list, or no fault of a list
-abbrev pub AnswersFault : TownshipPlat → List ℕ → TractFault → Type 0
-AnswersFault plat bytes tract_fault =
-    IfSome (verdict_of tract_fault) (λ _. IsFirstTractFault plat.township bytes tract_fault)
 
 -- the lines of the refusal of a list of tracts: one, or two where a tract's description is refused
 abbrev pub refusal_lines : Verdict → List ℕ

@@ -4,7 +4,7 @@ ghost use Rattle.twp_grid.specs.Lots.{number_of_lots, position_of_lot};
 ghost use Rattle.twp_plat.specs.Closing.{CLOSING_MOST};
 ghost use Rattle.twp_plat.specs.Plats.{IsPlat};
 ghost use Rattle.twp_plat.specs.Pieces.{OVER_MOST};
-ghost use Rattle.twp_acres.specs.Accounts.{over_by, AreUnitsBy};
+ghost use Rattle.twp_acres.specs.steps.Accounts.{over_by, AreUnitsBy};
 
 use twp_grid::{Section, lot_place};
 use twp_plat::Plat;

@@ -1,7 +1,9 @@
 ghost use Rattle.std.specs.Prelude.{◌≡◌, ◌++◌, OnOk, IfOk, IfErr};
 ghost use Rattle.twp_acres.specs.Answers.{refusal_line};
 ghost use Rattle.twp_acres.specs.AcresAnswers.{acres_line};
+ghost use Rattle.twp_acres.specs.steps.Stops.{AnswersStop};
 
+use crate::stop::Stop;
 use crate::verdict::{RunFault, Verdict};
 use itoa::Buffer;
 use std::alloc::{AllocError, Global};
@@ -15,8 +17,19 @@ pub struct Answer {
     pub verdict: Verdict,
 }
 
+/// The answer of a run that stopped: its refusal, or none where it failed.
+#[tactic(auto, using(crate::proofs::StopFacts::answers_refusal))]
+pub fn answer_stop(alloc: Global, stop: Stop) -> Result<Answer, RunFault>
+    ensures answer { AnswersStop stop result }
+{
+    match stop {
+        Stop::Refused(refusal) => refuse(alloc, refusal),
+        Stop::Failed(fault) => Err(fault),
+    }
+}
+
 /// The answer of a refusal.
-pub fn refuse(alloc: Global, refusal: Refusal) -> Result<Answer, RunFault>
+fn refuse(alloc: Global, refusal: Refusal) -> Result<Answer, RunFault>
     ensures answer { IfOk result (λ answer.
         (answer.text.items ≡ refusal_line refusal) × (answer.verdict ≡ Verdict.Refused refusal)) }
     ensures memory { IfErr result (λ fault. fault ≡ RunFault.Memory) }

@@ -4,9 +4,9 @@ ghost use Rattle.twp_land.specs.WholeLots.{HasWholeLots};
 ghost use Rattle.twp_plat.specs.Pieces.{OVER_MOST};
 ghost use Rattle.twp_acres.specs.LandAreas.{places_of_position, section_sum, IsLandArea};
 ghost use Rattle.twp_acres.specs.PlatAccounts.{IsPlatArea};
-ghost use Rattle.twp_acres.specs.Accounts.{IsAreaBy, over_by, AreUnitsBy};
-ghost use Rattle.twp_acres.specs.Bounds.{REGULAR_PLACE_UNITS, SECTION_PLACES_MOST};
-ghost use Rattle.twp_acres.specs.Bounds.{SECTION_UNITS_MOST};
+ghost use Rattle.twp_acres.specs.steps.Accounts.{IsAreaBy, over_by, AreUnitsBy};
+ghost use Rattle.twp_acres.specs.steps.Bounds.{REGULAR_PLACE_UNITS, SECTION_PLACES_MOST};
+ghost use Rattle.twp_acres.specs.steps.Bounds.{SECTION_UNITS_MOST};
 
 use crate::account::Account;
 use twp_grid::{Block, PLACES_ACROSS, Section, lot_count, lot_place};

@@ -1,20 +1,16 @@
 //! The answer of the spelling run.
-ghost use Rattle.std.specs.Prelude.{◌≡◌, ◌≢◌, ◌+◌, ◌↔◌, ℕ, List, Some, true, false};
-ghost use Rattle.std.specs.Prelude.{IfOk, IfErr, IsErrOf};
-ghost use Rattle.twp_grid.specs.Devices.{TakesAtMost};
+ghost use Rattle.std.specs.Prelude.{◌≡◌, false, IfOk, IfErr};
 ghost use Rattle.twp_grid.specs.Places.{PLACE_DIGITS};
-ghost use Rattle.twp_notes.specs.FieldNotes.{NOTES_MOST};
-ghost use Rattle.twp_notes.specs.ReadBytes.{TakesFirst};
 ghost use Rattle.twp_land.specs.WholeLots.{HasWholeLots};
 ghost use Rattle.twp_text.specs.CanonicalText.{IsCanonicalText};
 ghost use Rattle.twp_text.specs.TextFaults.{TEXT_LIMIT};
 ghost use Rattle.twp_acres.specs.Answers.{MakePlat};
 ghost use Rattle.twp_acres.specs.NormalAnswers.{IsNormalAnswer};
-ghost use Rattle.twp_acres.specs.Runs.{AnyFailed, ReadsTwo};
+ghost use Rattle.twp_acres.specs.Runs.{ReadsTwo, used};
+ghost use Rattle.twp_acres.specs.steps.Stages.{ReadsOnPlat, same_fault};
 
-use crate::answer::{Answer, refuse};
+use crate::answer::{Answer, answer_stop};
 use crate::stages::{LandOnPlat, read_land_on_plat};
-use crate::stop::Stop;
 use crate::verdict::{RunFault, Verdict};
 use std::alloc::Global;
 use twp_grid::Source;
@@ -30,28 +26,18 @@ pub fn answer_of<N: Source, D: Source>(
 ) -> Result<Answer, RunFault>
     requires notes { N.has_failed notes.old ≡ false }
     requires description { D.has_failed description.old ≡ false }
-    ensures read { IsErrOf result RunFault.Read
-        ↔ AnyFailed (N.has_failed notes.new) (D.has_failed description.new) }
-    ensures unread_after_fault { N.has_failed notes.new ≡ true → description.new ≡ description.old }
-    ensures no_write { IfErr result (λ fault. fault ≢ RunFault.Write) }
-    ensures notes_most { TakesAtMost (N.remaining notes.old)
-        (N.remaining notes.new) (NOTES_MOST + 1) }
-    ensures description_most { TakesAtMost (D.remaining description.old)
-        (D.remaining description.new) (TEXT_LIMIT + 1) }
-    ensures notes_exact { N.has_failed notes.new ≡ false → result ≢ Err RunFault.Memory
-        → TakesFirst (N.remaining notes.old) (N.remaining notes.new) (NOTES_MOST + 1) }
-    ensures description_exact { (n : List ℕ) → N.remaining notes.old ≡ Some n → MakePlat n
-        → N.has_failed notes.new ≡ false → D.has_failed description.new ≡ false
-        → result ≢ Err RunFault.Memory
-        → TakesFirst (D.remaining description.old) (D.remaining description.new) (TEXT_LIMIT + 1) }
+    ensures reads { ReadsOnPlat same_fault TEXT_LIMIT
+        (used (N.remaining notes.old) (N.remaining notes.new) (N.has_failed notes.new))
+        (used (D.remaining description.old) (D.remaining description.new)
+        (D.has_failed description.new))
+        (description.new ≡ description.old) result }
     ensures answer { ReadsTwo (N.remaining notes.old) (D.remaining description.old)
         MakePlat (description.new ≡ description.old)
         (λ n d. IfOk result (λ answer. IsNormalAnswer n d answer.text.items answer.verdict)) }
 {
     match read_land_on_plat::<N, D, Lanes>(alloc, notes, description) {
         Ok(read) => accept(alloc, &read),
-        Err(Stop::Refused(refusal)) => refuse(alloc, refusal),
-        Err(Stop::Failed(fault)) => Err(fault),
+        Err(stop) => answer_stop(alloc, stop),
     }
 }
 

@@ -11,9 +11,8 @@ ghost use Rattle.twp_acres.specs.PlatAnswers.{lot_text, total_text, section_name
 ghost use Rattle.twp_acres.specs.PlatAnswers.{plat_text};
 ghost use Rattle.twp_acres.specs.Runs.{Reads};
 
-use crate::answer::{Answer, refuse};
+use crate::answer::{Answer, answer_stop};
 use crate::stages::read_plat;
-use crate::stop::Stop;
 use crate::verdict::{RunFault, Verdict};
 use itoa::Buffer;
 use std::alloc::{AllocError, Global};
@@ -35,8 +34,7 @@ pub fn answer_of<N: Source>(alloc: Global, notes: &mut N) -> Result<Answer, RunF
 {
     match read_plat(alloc, notes) {
         Ok(plat) => print(alloc, &plat),
-        Err(Stop::Refused(refusal)) => refuse(alloc, refusal),
-        Err(Stop::Failed(fault)) => Err(fault),
+        Err(stop) => answer_stop(alloc, stop),
     }
 }
 

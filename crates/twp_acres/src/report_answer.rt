@@ -1,18 +1,17 @@
 //! The answer of the report run.
-ghost use Rattle.std.specs.Prelude.{◌≡◌, ◌≢◌, ◌+◌, ◌↔◌, ℕ, List, Some, true, false};
+ghost use Rattle.std.specs.Prelude.{◌≡◌, ◌≢◌, ◌+◌, ◌↔◌, Some, true, false};
 ghost use Rattle.std.specs.Prelude.{IfOk, IfErr, IsErrOf};
 ghost use Rattle.twp_grid.specs.Devices.{TakesAtMost};
-ghost use Rattle.twp_notes.specs.FieldNotes.{NOTES_MOST};
 ghost use Rattle.twp_notes.specs.ReadBytes.{TakesFirst};
 ghost use Rattle.twp_acres.specs.Answers.{MakePlat};
 ghost use Rattle.twp_acres.specs.Tracts.{TRACTS_LIMIT};
 ghost use Rattle.twp_acres.specs.TractFaults.{verdict_of};
 ghost use Rattle.twp_acres.specs.ReportAnswers.{IsReportAnswer, AnswersList, refusal_lines};
-ghost use Rattle.twp_acres.specs.Runs.{AnyFailed, Reads, ReadsTwo};
+ghost use Rattle.twp_acres.specs.Runs.{Reads, ReadsTwo, used};
+ghost use Rattle.twp_acres.specs.steps.Stages.{ReadsOnPlat, same_fault};
 
-use crate::answer::{Answer, refuse, write_refusal};
+use crate::answer::{Answer, answer_stop, write_refusal};
 use crate::stages::read_plat;
-use crate::stop::Stop;
 use crate::tract_fault::{TRACTS_LIMIT, TractFault};
 use crate::tracts::account_of;
 use crate::verdict::{RunFault, Verdict};
@@ -30,28 +29,18 @@ pub fn answer_of<N: Source, T: Source>(
 ) -> Result<Answer, RunFault>
     requires notes { N.has_failed notes.old ≡ false }
     requires tracts { T.has_failed tracts.old ≡ false }
-    ensures read { IsErrOf result RunFault.Read
-        ↔ AnyFailed (N.has_failed notes.new) (T.has_failed tracts.new) }
-    ensures unread_after_fault { N.has_failed notes.new ≡ true → tracts.new ≡ tracts.old }
-    ensures no_write { IfErr result (λ fault. fault ≢ RunFault.Write) }
-    ensures notes_most { TakesAtMost (N.remaining notes.old)
-        (N.remaining notes.new) (NOTES_MOST + 1) }
-    ensures tracts_most { TakesAtMost (T.remaining tracts.old)
-        (T.remaining tracts.new) (TRACTS_LIMIT + 1) }
-    ensures notes_exact { N.has_failed notes.new ≡ false → result ≢ Err RunFault.Memory
-        → TakesFirst (N.remaining notes.old) (N.remaining notes.new) (NOTES_MOST + 1) }
-    ensures tracts_exact { (n : List ℕ) → N.remaining notes.old ≡ Some n → MakePlat n
-        → N.has_failed notes.new ≡ false → T.has_failed tracts.new ≡ false
-        → result ≢ Err RunFault.Memory
-        → TakesFirst (T.remaining tracts.old) (T.remaining tracts.new) (TRACTS_LIMIT + 1) }
+    ensures reads { ReadsOnPlat same_fault TRACTS_LIMIT
+        (used (N.remaining notes.old) (N.remaining notes.new) (N.has_failed notes.new))
+        (used (T.remaining tracts.old) (T.remaining tracts.new)
+        (T.has_failed tracts.new))
+        (tracts.new ≡ tracts.old) result }
     ensures answer { ReadsTwo (N.remaining notes.old) (T.remaining tracts.old)
         MakePlat (tracts.new ≡ tracts.old)
         (λ n t. IfOk result (λ answer. IsReportAnswer n t answer.text.items answer.verdict)) }
 {
     match read_plat(alloc, notes) {
         Ok(plat) => report_on(alloc, &plat, tracts),
-        Err(Stop::Refused(refusal)) => refuse(alloc, refusal),
-        Err(Stop::Failed(fault)) => Err(fault),
+        Err(stop) => answer_stop(alloc, stop),
     }
 }
 

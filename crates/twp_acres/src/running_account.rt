@@ -2,10 +2,10 @@
 ghost use Rattle.std.specs.Prelude.{◌≡◌, ◌++◌, ℕ, List, [], false, OnOk, IfErr};
 ghost use Rattle.csv.specs.Records.{fields_of};
 ghost use Rattle.twp_land.specs.Lands.{no_places};
-ghost use Rattle.twp_acres.specs.Names.{has_name};
+ghost use Rattle.twp_acres.specs.steps.Names.{has_name};
 ghost use Rattle.twp_acres.specs.ReportAnswers.{tract_line};
-ghost use Rattle.twp_acres.specs.TractTaking.{tally_of, AreTotals, TakesTract};
-ghost use Rattle.twp_acres.specs.TractTaking.{IsTractRefused, fault_of_stop};
+ghost use Rattle.twp_acres.specs.steps.TractTaking.{tally_of, AreTotals, TakesTract};
+ghost use Rattle.twp_acres.specs.steps.TractTaking.{IsTractRefused, fault_of_stop};
 
 use crate::answer::write_acres_line;
 use crate::area::area_of;

@@ -1,5 +1,5 @@
 //! The stages of a run: the plat of the field notes, and the land of a description on it.
-ghost use Rattle.std.specs.Prelude.{◌≡◌, ◌≢◌, ◌+◌, ◌↔◌, ℕ, List, Some, true, false};
+ghost use Rattle.std.specs.Prelude.{◌≡◌, ◌≢◌, ◌+◌, ◌↔◌, true, false};
 ghost use Rattle.std.specs.Prelude.{IfOk, OnOk, IfErr, IsErrOf};
 ghost use Rattle.twp_grid.specs.Devices.{TakesAtMost};
 ghost use Rattle.twp_grid.specs.Places.{PLACE_DIGITS};
@@ -8,8 +8,9 @@ ghost use Rattle.twp_notes.specs.ReadBytes.{TakesFirst};
 ghost use Rattle.twp_land.specs.WholeLots.{HasWholeLots};
 ghost use Rattle.twp_text.specs.TextFaults.{TEXT_LIMIT};
 ghost use Rattle.twp_acres.specs.Answers.{MakePlat};
-ghost use Rattle.twp_acres.specs.Runs.{AnyFailed, Reads, ReadsTwo};
-ghost use Rattle.twp_acres.specs.Stops.{IfFailed, IsPlatted, IsDescribed, IsRead};
+ghost use Rattle.twp_acres.specs.Runs.{Reads, ReadsTwo, used};
+ghost use Rattle.twp_acres.specs.steps.Stages.{ReadsOnPlat};
+ghost use Rattle.twp_acres.specs.steps.Stops.{IfFailed, IsPlatted, IsDescribed, IsRead};
 ghost use Rattle.twp_acres.specs.declared.stop.Stop.TheVariants.{Failed};
 ghost use Rattle.twp_acres.specs.declared.verdict.RunFault.{RunFault};
 
@@ -37,7 +38,7 @@ pub fn read_plat<N: Source>(alloc: Global, notes: &mut N) -> Result<Plat, Stop>
 }
 
 /// The land of the description that a source gives, on the plat of a township.
-pub fn read_land<D: Source, L: Land>(
+fn read_land<D: Source, L: Land>(
     alloc: Global,
     township: Township,
     description: &mut D,
@@ -92,20 +93,11 @@ pub fn read_land_on_plat<N: Source, D: Source, L: Land>(
 ) -> Result<LandOnPlat<L>, Stop>
     requires notes { N.has_failed notes.old ≡ false }
     requires description { D.has_failed description.old ≡ false }
-    ensures read { IsErrOf result (Failed RunFault.Read)
-        ↔ AnyFailed (N.has_failed notes.new) (D.has_failed description.new) }
-    ensures unread_after_fault { N.has_failed notes.new ≡ true → description.new ≡ description.old }
-    ensures no_write { IfErr result (λ stop. stop ≢ Failed RunFault.Write) }
-    ensures notes_most { TakesAtMost (N.remaining notes.old)
-        (N.remaining notes.new) (NOTES_MOST + 1) }
-    ensures description_most { TakesAtMost (D.remaining description.old)
-        (D.remaining description.new) (TEXT_LIMIT + 1) }
-    ensures notes_exact { N.has_failed notes.new ≡ false → result ≢ Err (Failed RunFault.Memory)
-        → TakesFirst (N.remaining notes.old) (N.remaining notes.new) (NOTES_MOST + 1) }
-    ensures description_exact { (n : List ℕ) → N.remaining notes.old ≡ Some n → MakePlat n
-        → N.has_failed notes.new ≡ false → D.has_failed description.new ≡ false
-        → result ≢ Err (Failed RunFault.Memory)
-        → TakesFirst (D.remaining description.old) (D.remaining description.new) (TEXT_LIMIT + 1) }
+    ensures reads { ReadsOnPlat Failed TEXT_LIMIT
+        (used (N.remaining notes.old) (N.remaining notes.new) (N.has_failed notes.new))
+        (used (D.remaining description.old) (D.remaining description.new)
+        (D.has_failed description.new))
+        (description.new ≡ description.old) result }
     ensures land { ReadsTwo (N.remaining notes.old) (D.remaining description.old)
         MakePlat (description.new ≡ description.old)
         (λ n d. IsRead (λ read. read.plat) (λ read. L.places read.land) n d result) }

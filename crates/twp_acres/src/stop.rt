@@ -14,7 +14,7 @@ pub enum Stop {
 }
 
 impl From<NotesFault> for Stop {
-    ghost use Rattle.twp_acres.specs.PassedFaults.{IsStopOfNotes};
+    ghost use Rattle.twp_acres.specs.steps.PassedFaults.{IsStopOfNotes};
 
     ghost from_gives = { IsStopOfNotes };
 
@@ -28,7 +28,7 @@ impl From<NotesFault> for Stop {
 }
 
 impl From<ReadFault> for Stop {
-    ghost use Rattle.twp_acres.specs.PassedFaults.{IsStopOfReading};
+    ghost use Rattle.twp_acres.specs.steps.PassedFaults.{IsStopOfReading};
 
     ghost from_gives = { IsStopOfReading };
 
@@ -38,7 +38,7 @@ impl From<ReadFault> for Stop {
 }
 
 impl From<PlatFault> for Stop {
-    ghost use Rattle.twp_acres.specs.PassedFaults.{IsStopOfPlat};
+    ghost use Rattle.twp_acres.specs.steps.PassedFaults.{IsStopOfPlat};
 
     ghost from_gives = { IsStopOfPlat };
 
@@ -51,7 +51,7 @@ impl From<PlatFault> for Stop {
 }
 
 impl From<TextFault> for Stop {
-    ghost use Rattle.twp_acres.specs.PassedFaults.{IsStopOfText};
+    ghost use Rattle.twp_acres.specs.steps.PassedFaults.{IsStopOfText};
 
     ghost from_gives = { IsStopOfText };
 
@@ -64,7 +64,7 @@ impl From<TextFault> for Stop {
 }
 
 impl From<PlaceFault> for Stop {
-    ghost use Rattle.twp_acres.specs.PassedFaults.{IsStopOfPlaces};
+    ghost use Rattle.twp_acres.specs.steps.PassedFaults.{IsStopOfPlaces};
 
     ghost from_gives = { IsStopOfPlaces };
 

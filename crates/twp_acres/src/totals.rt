@@ -20,7 +20,7 @@ impl Totals {
     ghost use Rattle.std.specs.Prelude.{ℕ, Bool, OnOk};
     ghost use Rattle.twp_land.specs.Lands.{no_places};
     ghost use Rattle.twp_plat.specs.Plats.{TownshipPlat};
-    ghost use Rattle.twp_acres.specs.TractTaking.{AreTotals, TakesArea, EndsAccount};
+    ghost use Rattle.twp_acres.specs.steps.TractTaking.{AreTotals, TakesArea, EndsAccount};
 
     /// The figures without a tract: the whole township remains.
     pub(crate) fn new(plat: &Plat) -> Totals

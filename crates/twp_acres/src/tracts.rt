@@ -2,8 +2,9 @@
 ghost use Rattle.std.specs.Prelude.{◌≡◌, ◌≤◌, length, IfOk, IfErr};
 ghost use Rattle.twp_notes.specs.Records.{records_left, IsReading};
 ghost use Rattle.twp_acres.specs.Tracts.{TRACTS_LIMIT, TRACTS_MOST};
-ghost use Rattle.twp_acres.specs.ReportAnswers.{IsAccountOf, AnswersFault};
-ghost use Rattle.twp_acres.specs.TractTaking.{tally_of, IsTallyOf, AreTractsRefused};
+ghost use Rattle.twp_acres.specs.ReportAnswers.{IsAccountOf};
+ghost use Rattle.twp_acres.specs.steps.ListFaults.{AnswersFault};
+ghost use Rattle.twp_acres.specs.steps.TractTaking.{tally_of, IsTallyOf, AreTractsRefused};
 
 use crate::running_account::RunningAccount;
 use crate::tract::is_heading;

@@ -56,7 +56,7 @@ impl<T: Drop> From<AllocFailed<T>> for RunFault {
 }
 
 impl From<ReadFault> for RunFault {
-    ghost use Rattle.twp_acres.specs.PassedFaults.{IsRunFaultOf};
+    ghost use Rattle.twp_acres.specs.steps.PassedFaults.{IsRunFaultOf};
 
     ghost from_gives = { IsRunFaultOf };
 

@@ -2,7 +2,6 @@
 //! bench` counts the instructions of each.
 #![tactic(auto)]
 
-mod mixed;
 mod task;
 mod work;
 

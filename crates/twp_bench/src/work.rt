@@ -1,4 +1,4 @@
-use crate::mixed::Mixed;
+use twp_fixtures::Mixed;
 use twp_land::Land;
 
 /// A kind of work on a land. `Blocks` makes the sections and blocks alone, for comparison.
@@ -30,7 +30,7 @@ impl Work {
 
 /// Does the work so many times on a land of 200 mixed blocks, and gives a sum of what it answered.
 pub fn measure<L: Land>(work: Work, times: u32) -> u32 {
-    let mut mixed = Mixed::new();
+    let mut mixed = Mixed::new(1796);
     let mut land = L::empty();
     for _ in 0..200u32 {
         let section = mixed.section();

@@ -12,7 +12,7 @@ use Rattle.clap.specs.declared.error.kind.ErrorKind.TheVariants.{DisplayHelp, Ou
 use Rattle.clap.specs.declared.parser.matches.ArgMatches.{ArgMatches}
 use Rattle.clap.specs.declared.parser.matches.ArgMatches.TheViews.{out-ArgMatches, out-SubCommand}
 use Rattle.twp_cmd.specs.Commands.{IsTownship, township}
-use Rattle.twp_cmd.specs.Parses.{HasAccount, HasValue, IsWhole, ShowsAs}
+use Rattle.twp_cmd.specs.steps.Parses.{HasAccount, HasValue, IsWhole, ShowsAs}
 use Rattle.twp_cmd.specs.Tasks.{IsFaultOf, IsTaskIn, IsTaskOf}
 use Rattle.twp_cmd.specs.declared.task.Task.{Task}
 use Rattle.twp_cmd.specs.declared.task.TaskFault.{TaskFault}

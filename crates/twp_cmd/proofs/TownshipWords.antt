@@ -25,7 +25,7 @@ use Rattle.twp_acres.specs.declared.account.Account.{Account}
 use Rattle.twp_acres.specs.declared.account.Account.TheVariants as account
 use Rattle.twp_cmd.specs.Commands.{TakesAccounts, account_name, acres, normal, plat, report, township}
 use Rattle.twp_cmd.specs.Commands.{township_with}
-use Rattle.twp_cmd.specs.Parses.{HasAccount, HasValue, IsWhole}
+use Rattle.twp_cmd.specs.steps.Parses.{HasAccount, HasValue, IsWhole}
 use Rattle.twp_cmd.proofs.HelpWords.{IsNoHelp, StoppedWell}
 use Rattle.twp_cmd.proofs.CommandWalk.{EachFits, Good, first_empty, second_empty, is_walked}
 use Rattle.twp_cmd.proofs.CommandDefaults.{defaulted_row, finished_good, given_row, row_value}

@@ -71,15 +71,6 @@ report = subcommand_with (codes "report") (codes "NOTES" ∷ codes "TRACTS" ∷ 
 abbrev pub township : ValueParser → App
 township parser = township_with (plat ∷ acres parser ∷ normal ∷ report ∷ [])
 
--- the option of one of the accounts
-abbrev pub IsAccountOption : Rule → Type 0
-IsAccountOption rule =
-    (parser : ValueParser) × TakesAccounts parser × (rule ≡ account_option parser)
-
--- the subcommand that writes acres by one of the accounts
-abbrev pub IsAcres : Shape → Type 0
-IsAcres shape = (parser : ValueParser) × TakesAccounts parser × (shape ≡ acres parser)
-
 -- the command of the subcommands `plat`, `acres` and these others, in their order
 abbrev pub IsTownshipWith : List Shape → App → Type 0
 IsTownshipWith others app = (parser : ValueParser) × TakesAccounts parser

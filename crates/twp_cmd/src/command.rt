@@ -1,7 +1,8 @@
 ghost use Rattle.std.specs.Prelude.{◌≡◌, ◌∷◌, [], IfOk, false, codes};
 ghost use Rattle.clap.specs.Words.{app_of, rule_of, shape_of};
 ghost use Rattle.clap.specs.declared.builder.command.Command.TheViews.{out-Command as fields_of};
-ghost use Rattle.twp_cmd.specs.Commands.{IsAccountOption, IsAcres, IsTownship, IsTownshipWith};
+ghost use Rattle.twp_cmd.specs.Commands.{IsTownship, IsTownshipWith};
+ghost use Rattle.twp_cmd.specs.steps.CommandParts.{IsAccountOption, IsAcres};
 ghost use Rattle.twp_cmd.specs.Commands.{required_word};
 ghost use Rattle.twp_cmd.specs.Commands.{normal as the_normal, plat as the_plat};
 ghost use Rattle.twp_cmd.specs.Commands.{report as the_report};

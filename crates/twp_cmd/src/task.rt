@@ -2,7 +2,7 @@ ghost use Rattle.std.specs.Prelude.{◌≡◌, IfErr, IfOk, Some, map, option_ma
 ghost use Rattle.std.specs.Prelude.{codes};
 ghost use Rattle.clap.specs.Words.{first_of, found_of, kind_of, rows_of, subcommand_rows_of};
 ghost use Rattle.twp_cmd.specs.Commands.{account_name};
-ghost use Rattle.twp_cmd.specs.Parses.{HasAccount, HasValue, IsWhole, ShowsAs};
+ghost use Rattle.twp_cmd.specs.steps.Parses.{HasAccount, HasValue, IsWhole, ShowsAs};
 ghost use Rattle.twp_cmd.specs.Tasks.{IsFaultOf, IsTaskIn, IsTaskOf};
 
 use crate::command::township;

@@ -7,7 +7,7 @@ use Rattle.std.proofs.lemmas.Bool.{cases_lt, eqb-true, ne_eqb, and_parts}
 use Rattle.std.proofs.lemmas.Bool.Decides.{nat_tests}
 use Rattle.twp_grid.specs.Winding.{IsSection}
 use Rattle.twp_grid.specs.Lots.{Lot, lots, lot_at_position, position_of_lot, number_of_lots}
-use Rattle.twp_grid.specs.Lots.{is_western_number}
+use Rattle.twp_grid.specs.steps.WesternSections.{is_western_number}
 
 -- the test holds of every number below n
 unfoldable pub each : ℕ → (ℕ → Bool) → Bool

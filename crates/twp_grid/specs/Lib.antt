@@ -12,3 +12,4 @@ pub mod Townships
 pub mod Texts
 pub mod Devices
 pub mod Laws
+pub mod steps

@@ -1,7 +1,7 @@
 -- The lots of a township's closing sections, and the positions that they fill (Manual of Surveying
 -- Instructions 2009, chapter 3). A position is a quarter-quarter of a section: its column is
 -- counted from the east and its row from the south, 0 to 3.
-use Rattle.std.specs.Prelude.{ℕ, ◌<◌, ◌==◌, ◌&&◌, ◌||◌, Bool, List, [], ◌∷◌, Option, option_map}
+use Rattle.std.specs.Prelude.{ℕ, ◌<◌, ◌==◌, ◌&&◌, List, [], ◌∷◌, Option, option_map}
 use Rattle.std.specs.Prelude.{find, count_by}
 
 -- the positions along a side of a section
@@ -57,9 +57,3 @@ position_of_lot section number =
 -- how many lots a section has
 unfoldable pub number_of_lots : ℕ → ℕ
 number_of_lots section = count_by (λ (l : Lot). l.section == section) lots
-
--- the sections of the western column
-abbrev pub is_western_number : ℕ → Bool
-is_western_number section =
-    (section == 6) || (section == 7) || (section == 18) || (section == 19)
-    || (section == 30) || (section == 31)

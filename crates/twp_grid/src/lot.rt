@@ -1,7 +1,7 @@
 ghost use Rattle.std.specs.Prelude.{◌≡◌, ◌≤◌, ◌↔◌, nat_le, IsSome, IfSome};
 ghost use Rattle.twp_grid.specs.Winding.{IsSection};
 ghost use Rattle.twp_grid.specs.Lots.{IsPosition, lot_at_position, position_of_lot, number_of_lots};
-ghost use Rattle.twp_grid.specs.Lots.{is_western_number};
+ghost use Rattle.twp_grid.specs.steps.WesternSections.{is_western_number};
 
 use crate::section::Section;
 

@@ -14,7 +14,7 @@ use Rattle.std.proofs.lemmas.Bool.{and_right, ne_eqb, eq-eqb, eqb-true}
 use Rattle.twp_grid.specs.Spans.{in_span, Rectangle, in_rectangle}
 use Rattle.twp_grid.specs.Totals.{one_where}
 use Rattle.twp_grid.proofs.LotFacts.{each, each_of_three}
-use Rattle.twp_land.specs.Storage.{AreBlockLanes}
+use Rattle.twp_land.specs.steps.BitLanes.{AreBlockLanes}
 use Rattle.twp_land.proofs.BitFacts.{bit_of_ones}
 use Rattle.twp_land.proofs.BlockFacts.{InSection}
 

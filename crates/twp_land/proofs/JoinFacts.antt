@@ -14,8 +14,9 @@ use Rattle.std.proofs.lemmas.Nat.Bits.{bit_at_and, bit_at_or, bit_at-lt, bit_at-
 use Rattle.std.proofs.lemmas.Bool.{cases_Bool, cases_eq, and_parts, eqb-true, eq-eqb, ne_eqb, not-false}
 use Rattle.std.proofs.lemmas.Bool.Decides.{nat_tests}
 use Rattle.twp_grid.specs.Places.{PLACE_DIGITS, places_across, is_place}
-use Rattle.twp_land.specs.Storage.{held_by_row, held_by_lane, held_by_either, ShareHeld, ShareInRow, IsJoined}
-use Rattle.twp_land.specs.Storage.{AreLanes}
+use Rattle.twp_land.specs.Storage.{held_by_row, held_by_lane, held_by_either, ShareHeld}
+use Rattle.twp_land.specs.steps.RowTests.{ShareInRow, IsJoined}
+use Rattle.twp_land.specs.steps.BitLanes.{AreLanes}
 use Rattle.twp_land.proofs.BitFacts.{or_of_zeros, zeros_of_or, some_or_none}
 
 -- a place of the section

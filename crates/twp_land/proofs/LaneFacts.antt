@@ -21,7 +21,8 @@ use Rattle.twp_grid.specs.Spans.{Rectangle, in_rectangle}
 use Rattle.twp_grid.specs.Totals.{total, one_where}
 use Rattle.twp_grid.proofs.TotalFacts.{total-ext, total-le, total-same}
 use Rattle.twp_land.specs.Lands.{Meets, HoldsAll, count_held}
-use Rattle.twp_land.specs.Storage.{held_by_lane, nothing_held, with_block, AreBlockLanes}
+use Rattle.twp_land.specs.Storage.{held_by_lane, nothing_held, with_block}
+use Rattle.twp_land.specs.steps.BitLanes.{AreBlockLanes}
 use Rattle.twp_land.proofs.BlockFacts.{InSection, place_inside, total_of_block}
 use Rattle.twp_land.proofs.BitFacts.{or_of_zeros, zeros_of_or, sum_is_total, ones_are_total, some_or_none}
 use Rattle.twp_land.proofs.BitFacts.{no_bit}

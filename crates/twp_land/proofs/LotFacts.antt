@@ -5,7 +5,8 @@ use Rattle.std.specs.Option.{SomeIff}
 use Rattle.std.proofs.lemmas.Bool.{eqb-true, cases_lt}
 use Rattle.std.proofs.lemmas.Bool.Decides.{nat_tests}
 use Rattle.twp_grid.specs.Winding.{IsSection}
-use Rattle.twp_grid.specs.Lots.{lots, lot_at_position, position_of_lot, number_of_lots, is_western_number}
+use Rattle.twp_grid.specs.Lots.{lots, lot_at_position, position_of_lot, number_of_lots}
+use Rattle.twp_grid.specs.steps.WesternSections.{is_western_number}
 use Rattle.twp_grid.specs.Places.{PLACE_DIGITS, position_along}
 use Rattle.twp_grid.specs.Spans.{Rectangle, in_span, in_rectangle, position_span, position_block}
 use Rattle.twp_grid.proofs.LotFacts.{each, each_of_three, either, a_section, lot_count_is, lot_outside}

@@ -11,8 +11,9 @@ use Rattle.twp_grid.specs.Spans.{Span, in_span, IsDyadic, Rectangle, in_rectangl
 use Rattle.twp_grid.specs.Totals.{total, one_where}
 use Rattle.twp_grid.proofs.TotalFacts.{total-zero, total-next, total-ext}
 use Rattle.twp_land.specs.Lands.{Meets, HoldsAll, count_held}
-use Rattle.twp_land.specs.Storage.{held_by_row, nothing_held, with_block, SomeHeld, EachHeld, count_in_row}
-use Rattle.twp_land.specs.Storage.{IsFilled, AreFilled}
+use Rattle.twp_land.specs.Storage.{held_by_row, nothing_held, with_block}
+use Rattle.twp_land.specs.steps.RowTests.{SomeHeld, EachHeld, count_in_row}
+use Rattle.twp_land.specs.steps.RowTests.{IsFilled, AreFilled}
 
 pub count_in_row-zero : (row : List Bool) (start : ℕ) → count_in_row row start 0 ≡ 0
 count_in_row-zero row start = total-zero _

@@ -18,7 +18,8 @@ use Rattle.twp_grid.specs.Places.{PLACE_DIGITS, places_across}
 use Rattle.twp_grid.specs.Spans.{in_span, Rectangle, in_rectangle}
 use Rattle.twp_grid.specs.Totals.{one_where}
 use Rattle.twp_land.specs.Lands.{Meets}
-use Rattle.twp_land.specs.Storage.{held_by_lane, with_block, AreBlockLanes}
+use Rattle.twp_land.specs.Storage.{held_by_lane, with_block}
+use Rattle.twp_land.specs.steps.BitLanes.{AreBlockLanes}
 use Rattle.twp_land.proofs.BitFacts.{bit_of_ones, or_of_zeros, zeros_of_or}
 use Rattle.twp_land.proofs.BlockFacts.{InSection}
 use Rattle.twp_land.proofs.LaneFacts.{lanes_meet, lanes_with_block}

@@ -9,7 +9,9 @@ use Rattle.std.proofs.lemmas.Nat.Bits.{bit_at_xor, bit_at-lt, bit_at-zero, same_
 use Rattle.std.proofs.lemmas.Bool.{cases_Bool, and_parts, eqb-true, eq-eqb}
 use Rattle.std.proofs.lemmas.Bool.Decides.{nat_tests}
 use Rattle.twp_grid.specs.Places.{PLACE_DIGITS, places_across, is_place}
-use Rattle.twp_land.specs.Storage.{held_by_row, held_by_lane, SameHeld, AreAlike, AreLanes}
+use Rattle.twp_land.specs.Storage.{held_by_row, held_by_lane, SameHeld}
+use Rattle.twp_land.specs.steps.BitLanes.{AreLanes}
+use Rattle.twp_land.specs.steps.RowTests.{AreAlike}
 use Rattle.twp_land.proofs.BitFacts.{or_of_zeros, zeros_of_or}
 
 -- a place of the section

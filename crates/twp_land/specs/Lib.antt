@@ -1,4 +1,4 @@
 pub mod Lands
 pub mod Storage
 pub mod WholeLots
-pub mod Within
+pub mod steps

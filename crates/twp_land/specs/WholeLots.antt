@@ -1,9 +1,9 @@
 -- Lands that hold each lot whole or not at all, and blocks that hold a place of one.
-use Rattle.std.specs.Prelude.{◌≡◌, ℕ, Bool, Option, Some, ◌+◌, ◌<◌, true, IsSome}
+use Rattle.std.specs.Prelude.{◌≡◌, ℕ, Bool, Option, Some, true, IsSome}
 use Rattle.twp_grid.specs.Winding.{IsSection}
 use Rattle.twp_grid.specs.Lots.{lot_at_position}
 use Rattle.twp_grid.specs.Places.{position_along}
-use Rattle.twp_grid.specs.Spans.{Span, Rectangle, in_rectangle}
+use Rattle.twp_grid.specs.Spans.{Rectangle, in_rectangle}
 
 -- the lot of a section that a place lies in, if it lies in one
 abbrev pub lot_of_place : ℕ → ℕ → ℕ → ℕ → Option ℕ
@@ -19,10 +19,6 @@ pub record IsWholeOrNot (g section lot : ℕ) (held : ℕ → ℕ → Bool) : Ty
 abbrev pub HasWholeLots : ℕ → (ℕ → ℕ → ℕ → Bool) → Type 0
 HasWholeLots g places = (section lot : ℕ) → IsSection section
     → IsWholeOrNot g section lot (places section)
-
--- columns or rows cross others where each begin before the others end
-abbrev pub Cross : Span → Span → Type 0
-Cross span other = (span.start < other.start + other.len) × (other.start < span.start + span.len)
 
 -- the block holds a place of a lot of the section
 pub record HoldsLotPlace (g section : ℕ) (block : Rectangle) : Type 0 where

@@ -1,7 +1,7 @@
 ghost use Rattle.std.specs.Prelude.{◌≡◌, ◌+◌, ◌-◌, ◌^◌, ◌≤◌, length};
 ghost use Rattle.twp_grid.specs.Places.{PLACE_DIGITS, places_across};
 ghost use Rattle.twp_grid.specs.Spans.{IsDyadic};
-ghost use Rattle.twp_land.specs.Storage.{AreBlockLanes, AreLanes};
+ghost use Rattle.twp_land.specs.steps.BitLanes.{AreBlockLanes, AreLanes};
 
 use std::simd::prelude::*;
 use twp_grid::{Block, PLACES_ACROSS};

@@ -23,7 +23,7 @@ impl Plot for LaneRows {
 
     ghost held = { λ plot. held_by_lane plot.lanes };
 
-    ghost use Rattle.twp_land.specs.Within.{lane_within};
+    ghost use Rattle.twp_land.specs.steps.Within.{lane_within};
 
     ghost within = { λ plot column row held. lane_within plot.lanes column row held };
 

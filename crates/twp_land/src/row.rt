@@ -1,7 +1,8 @@
 ghost use Rattle.std.specs.Prelude.{◌≡◌, ◌+◌, ◌≤◌, ◌↔◌, IsTrue};
 ghost use Rattle.twp_grid.specs.Places.{PLACE_DIGITS, places_across};
-ghost use Rattle.twp_land.specs.Storage.{SomeHeld, EachHeld, count_in_row, IsFilled, IsCleared};
-ghost use Rattle.twp_land.specs.Storage.{AreAlike, ShareInRow, IsJoined};
+ghost use Rattle.twp_land.specs.steps.RowTests.{SomeHeld, EachHeld, count_in_row, IsFilled};
+ghost use Rattle.twp_land.specs.steps.RowTests.{IsCleared};
+ghost use Rattle.twp_land.specs.steps.RowTests.{AreAlike, ShareInRow, IsJoined};
 
 use twp_grid::PLACES_ACROSS;
 

@@ -18,7 +18,7 @@ pub struct Rows {
 impl Plot for Rows {
     ghost held = { λ plot. held_by_row plot.rows };
 
-    ghost use Rattle.twp_land.specs.Within.{row_within};
+    ghost use Rattle.twp_land.specs.steps.Within.{row_within};
 
     ghost within = { λ plot column row held. row_within plot.rows column row held };
 

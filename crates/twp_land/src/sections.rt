@@ -39,7 +39,7 @@ impl<P: Plot> Sections<P> {
 impl<P: Plot> Land for Sections<P> {
     ghost places = { λ land. held_by_section P.held land.plots };
 
-    ghost use Rattle.twp_land.specs.Within.{held_within};
+    ghost use Rattle.twp_land.specs.steps.Within.{held_within};
 
     ghost within = { λ land section column row held.
         held_within P.held land.plots section column row P.within held };

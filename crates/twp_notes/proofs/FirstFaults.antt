@@ -9,11 +9,11 @@ use Rattle.twp_notes.specs.Records.{Fields, records_of, record_at, record_number
 use Rattle.twp_notes.specs.FieldNotes.{FIELDS, IsLineNumber, IsNamed, NamesLine, AreNotes, nothing_returned}
 use Rattle.twp_notes.specs.NotesFaults.{HasNoRun, HasNoSection, NamesNoLine, HasNoLength, HasOnLine}
 use Rattle.twp_notes.specs.NotesFaults.{IsRepeated, HasFault, IsFrom, IsFirstFault, AnswersNotes, refusal_of}
-use Rattle.twp_notes.specs.Tables.{entry_of, AreEntries, IsTaken, IsNamedBy, AreTaken, IsLeastMissing}
-use Rattle.twp_notes.specs.LineFaults.{IsRefusedNext, IsRefusedAfter}
+use Rattle.twp_notes.specs.steps.Tables.{entry_of, AreEntries, IsTaken, IsNamedBy, AreTaken, IsLeastMissing}
+use Rattle.twp_notes.specs.steps.LineFaults.{IsRefusedNext, IsRefusedAfter}
 use Rattle.twp_notes.specs.declared.fault.NotesFault.{NotesFault}
 use Rattle.twp_notes.specs.declared.fault.NotesFault.TheVariants as fault
-use Rattle.twp_notes.specs.PassedFaults.{notes_fault_of}
+use Rattle.twp_notes.specs.steps.PassedFaults.{notes_fault_of}
 use Rattle.twp_notes.specs.declared.reading.ReadFault.{ReadFault}
 use Rattle.twp_notes.specs.declared.reading.ReadFault.TheVariants as reading
 use Rattle.twp_notes.specs.declared.returned.Returned.{Returned}

@@ -6,9 +6,9 @@ use Rattle.std.proofs.lemmas.Bool.{cases_lt, cases_eq}
 use Rattle.std.proofs.lemmas.List.{get_or-set_same, get_or-set_other, length-set}
 use Rattle.twp_notes.specs.Records.{Fields, record_at}
 use Rattle.twp_notes.specs.FieldNotes.{NamesLine}
-use Rattle.twp_notes.specs.Tables.{entry_of, TakesDown, IsTaken, IsNamedBy, AreTaken}
+use Rattle.twp_notes.specs.steps.Tables.{entry_of, TakesDown, IsTaken, IsNamedBy, AreTaken}
 use Rattle.twp_notes.specs.declared.returned.Returned.{Returned}
-use Rattle.twp_notes.specs.LineFaults.{IsNotTaken, IsRefusedAfter}
+use Rattle.twp_notes.specs.steps.LineFaults.{IsNotTaken, IsRefusedAfter}
 use Rattle.twp_notes.specs.declared.fault.NotesFault.{NotesFault}
 use Rattle.twp_notes.specs.declared.fault.NotesFault.TheVariants as fault
 use Rattle.twp_notes.proofs.NameFacts.{names_one}

@@ -7,7 +7,8 @@ use Rattle.std.proofs.lemmas.List.{append-nil, take_at, take-take, take_all, len
 use Rattle.std.proofs.lemmas.List.{get_or_push, get_or_append_left, flat_map_more}
 use Rattle.twp_notes.specs.Records.{Fields}
 use Rattle.twp_notes.specs.FieldNotes.{FieldNotes, heading, returned_of}
-use Rattle.twp_notes.specs.NotesTexts.{BeginsWith, record_text, township_fields, AreLineFields}
+use Rattle.twp_notes.specs.NotesTexts.{record_text, township_fields, AreLineFields}
+use Rattle.twp_notes.specs.steps.WrittenFields.{BeginsWith}
 use Rattle.twp_notes.specs.NotesTexts.{AreLineRecords, text_before}
 
 -- bytes begin with themselves

@@ -2,8 +2,6 @@ pub mod Records
 pub mod ReadBytes
 pub mod FieldNotes
 pub mod NotesFaults
-pub mod Tables
-pub mod LineFaults
-pub mod PassedFaults
 pub mod NotesTexts
 pub mod Laws
+pub mod steps

@@ -1,6 +1,6 @@
 -- The text that is written of field notes: the heading, the township, and the lines by rising
 -- index.
-use Rattle.std.specs.Prelude.{◌≡◌, ℕ, ◌+◌, ◌<◌, List, [], ◌∷◌, ◌++◌, length, take, Option, Some}
+use Rattle.std.specs.Prelude.{◌≡◌, ℕ, ◌+◌, ◌<◌, List, [], ◌∷◌, ◌++◌, length, Option, Some}
 use Rattle.std.specs.Prelude.{None, codes, decimal, ⊤}
 use Rattle.std.specs.List.{flat_map}
 use Rattle.twp_measure.specs.LengthTexts.{IsLength, length_text}
@@ -13,8 +13,6 @@ use Rattle.twp_grid.specs.declared.line.Run.TheVariants as run
 use Rattle.twp_notes.specs.Records.{Fields, record_at}
 use Rattle.twp_notes.specs.FieldNotes.{FieldNotes, heading, run_text, returned_of}
 use Rattle.twp_notes.specs.declared.returned.Returned.{Returned}
-use Rattle.twp_notes.specs.declared.writing.Field.{Field}
-use Rattle.twp_notes.specs.declared.writing.Field.TheVariants as field
 
 -- the byte between two fields
 abbrev pub comma : ℕ
@@ -29,13 +27,6 @@ rest_text (field ∷ rest) = comma ∷ (field ++ rest_text rest)
 abbrev pub record_text : Fields → List ℕ
 record_text [] = line_feed ∷ []
 record_text (field ∷ rest) = field ++ rest_text rest
-
--- the text of a field that is written
-abbrev pub field_text : Field → List ℕ
-field_text (field.Letter byte) = byte ∷ []
-field_text (field.Number number) = decimal number
-field_text (field.Distance length) = length_text length
-field_text field.Nothing = []
 
 -- the record of a township
 abbrev pub township_fields : Designation → Fields
@@ -106,7 +97,3 @@ pub record AreWithinLimits (notes : FieldNotes) : Type 0 where
   pub count : length notes.lines ≡ LINE_COUNT
   pub lengths : (line : ℕ) → IsLine line
       → IsLength (returned_of notes line).quarter × IsLength (returned_of notes line).corner
-
--- the first bytes are these
-abbrev pub BeginsWith : List ℕ → List ℕ → Type 0
-BeginsWith front bytes = take (length front) bytes ≡ front

@@ -81,7 +81,7 @@ impl NotesFault {
 }
 
 impl From<ReadFault> for NotesFault {
-    ghost use Rattle.twp_notes.specs.PassedFaults.{IsNotesFaultOf};
+    ghost use Rattle.twp_notes.specs.steps.PassedFaults.{IsNotesFaultOf};
 
     ghost from_gives = { IsNotesFaultOf };
 

@@ -12,7 +12,7 @@ ghost use Rattle.twp_notes.specs.FieldNotes.{FIELDS, heading, IsTownshipRecord};
 ghost use Rattle.twp_notes.specs.FieldNotes.{run_text, IsSectionText};
 ghost use Rattle.twp_notes.specs.FieldNotes.{IsNeighbourText, NamesLine, Returns};
 ghost use Rattle.twp_notes.specs.NotesFaults.{HasNoLength};
-ghost use Rattle.twp_notes.specs.LineFaults.{IsUnnamed};
+ghost use Rattle.twp_notes.specs.steps.LineFaults.{IsUnnamed};
 
 use crate::fault::NotesFault;
 use crate::records::field;

@@ -3,8 +3,8 @@ ghost use Rattle.csv.specs.Records.{fields_of};
 ghost use Rattle.twp_notes.specs.Records.{records_left, IsReading};
 ghost use Rattle.twp_notes.specs.FieldNotes.{NOTES_MOST};
 ghost use Rattle.twp_notes.specs.NotesFaults.{AnswersNotes};
-ghost use Rattle.twp_notes.specs.LineFaults.{IsNotTaken, IsRefusedAfter};
-ghost use Rattle.twp_notes.specs.Tables.{TakesDown, AreTaken};
+ghost use Rattle.twp_notes.specs.steps.LineFaults.{IsNotTaken, IsRefusedAfter};
+ghost use Rattle.twp_notes.specs.steps.Tables.{TakesDown, AreTaken};
 
 use crate::fault::NotesFault;
 use crate::fields::{FIELDS, is_heading, line_of, returned_in, township_of};

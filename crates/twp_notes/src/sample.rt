@@ -3,20 +3,21 @@ use crate::notes::Notes;
 use crate::returned::Returned;
 use std::alloc::Global;
 use std::test::Fail;
-use twp_grid::{EastWest, LINES, NorthSouth, Township};
+use twp_fixtures::UNEVEN;
+use twp_grid::{EastWest, LINES, Line, NorthSouth, Township};
 use twp_measure::Length;
 
-/// A length of chains.
-fn chains(text: &str) -> Result<Length, Fail> {
-    Ok(Length::read(text.as_bytes())?)
+/// What is returned of a line: the chains to its quarter corner and to its end.
+fn returned(quarter: &str, corner: &str) -> Result<Returned, Fail> {
+    Ok(Returned {
+        quarter: Length::read(quarter.as_bytes())?,
+        corner: Length::read(corner.as_bytes())?,
+    })
 }
 
 /// A line of a mile with its quarter corner halfway.
 fn mile() -> Result<Returned, Fail> {
-    Ok(Returned {
-        quarter: chains("40")?,
-        corner: chains("80")?,
-    })
+    returned("40", "80")
 }
 
 /// T. 2 N., R. 3 W.
@@ -32,12 +33,10 @@ pub fn even_notes() -> Result<Notes, Fail> {
 /// Notes of which six closing lines are longer or shorter.
 pub fn uneven_notes() -> Result<Notes, Fail> {
     let mut lines = [mile()?; LINES];
-    lines[4].corner = chains("80.20")?;
-    lines[5].corner = chains("80.40")?;
-    lines[6].corner = chains("80.80")?;
-    lines[47].corner = chains("79.20")?;
-    lines[53].corner = chains("79.60")?;
-    lines[59].corner = chains("79.50")?;
+    for (index, quarter, corner) in UNEVEN {
+        let line = Line::at_index(index).ok_or("a line's index")?;
+        lines[usize::from(line.index())] = returned(quarter, corner)?;
+    }
     Ok(Notes::new(township()?, lines))
 }
 

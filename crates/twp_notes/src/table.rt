@@ -1,7 +1,7 @@
 ghost use Rattle.std.specs.Prelude.{◌≡◌, ℕ, ◌<◌, None, Some, IsSome, IfOk, IfErr, slice_set};
 ghost use Rattle.std.specs.Prelude.{length};
 ghost use Rattle.std.specs.Bool.{OnTrue, OnFalse};
-ghost use Rattle.twp_notes.specs.Tables.{entry_of, AreEntries, IsLeastMissing};
+ghost use Rattle.twp_notes.specs.steps.Tables.{entry_of, AreEntries, IsLeastMissing};
 
 use crate::returned::Returned;
 use std::marker::Model;

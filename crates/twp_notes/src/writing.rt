@@ -4,8 +4,10 @@ ghost use Rattle.twp_grid.specs.Lines.{LINES_ACROSS, north_run, west_run};
 ghost use Rattle.twp_notes.specs.Records.{Fields};
 ghost use Rattle.twp_grid.specs.Texts.{north_south_letter, east_west_letter};
 ghost use Rattle.twp_notes.specs.FieldNotes.{run_text};
-ghost use Rattle.twp_notes.specs.NotesTexts.{field_text, record_text, township_fields, AreNames};
-ghost use Rattle.twp_notes.specs.NotesTexts.{AreLineFields, AppendsNotes, BeginsWith};
+ghost use Rattle.twp_notes.specs.NotesTexts.{record_text, township_fields, AreNames};
+ghost use Rattle.twp_notes.specs.steps.WrittenFields.{field_text};
+ghost use Rattle.twp_notes.specs.NotesTexts.{AreLineFields, AppendsNotes};
+ghost use Rattle.twp_notes.specs.steps.WrittenFields.{BeginsWith};
 ghost use Rattle.twp_notes.specs.NotesTexts.{neighbour_text};
 
 use crate::fields::FIELDS;

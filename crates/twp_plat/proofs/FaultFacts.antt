@@ -9,7 +9,7 @@ use Rattle.twp_notes.specs.FieldNotes.{FieldNotes, returned_of}
 use Rattle.twp_notes.specs.declared.returned.Returned.{Returned}
 use Rattle.twp_plat.specs.Closing.{IsInLimits, last_quarter, CLOSING_LEAST, CLOSING_MOST}
 use Rattle.twp_plat.specs.PlatFaults.{place_of, HasLineFault, IsFirstFault}
-use Rattle.twp_plat.specs.LineFaults.{IsFirstLineFault, AnswersLine}
+use Rattle.twp_plat.specs.steps.LineFaults.{IsFirstLineFault, AnswersLine}
 use Rattle.twp_plat.specs.declared.fault.HalfMile.TheVariants as half
 use Rattle.twp_plat.specs.declared.fault.PlatFault.{PlatFault}
 use Rattle.twp_plat.specs.declared.fault.PlatFault.TheVariants as fault

@@ -8,7 +8,8 @@ use Rattle.twp_grid.proofs.WindingFacts.{same_standing}
 use Rattle.twp_grid.specs.Lines.{IsLine, IsClosing, AreSides, north_run, west_run}
 use Rattle.twp_plat.specs.Closing.{QUARTER_MILE}
 use Rattle.twp_plat.specs.Plats.{TownshipPlat, IsPlat, closing_quarter_of, ClosingQuarters}
-use Rattle.twp_plat.specs.Plats.{AreClosingQuarters, HaveRegularLines, AreInLimits}
+use Rattle.twp_plat.specs.Plats.{AreClosingQuarters}
+use Rattle.twp_plat.specs.steps.SideLimits.{HaveRegularLines, AreInLimits}
 use Rattle.twp_plat.specs.Pieces.{line_length, over_of}
 
 -- where a section stands, and its lines by their indexes

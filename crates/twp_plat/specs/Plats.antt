@@ -1,5 +1,5 @@
 -- The plat that field notes make: the township, and the closing quarters of its lines.
-use Rattle.std.specs.Prelude.{◌≡◌, ℕ, ◌≤◌, ◌⊎◌, List, [], ◌∷◌, length, slice_index_or}
+use Rattle.std.specs.Prelude.{◌≡◌, ℕ, ◌≤◌, List, [], ◌∷◌, length, slice_index_or}
 use Rattle.twp_grid.specs.Lines.{LINE_COUNT, IsLine, IsClosing, AreSides}
 use Rattle.twp_grid.specs.Townships.{Designation}
 use Rattle.twp_notes.specs.FieldNotes.{FieldNotes, returned_of}
@@ -53,16 +53,3 @@ pub record AreClosingQuarters (plat : TownshipPlat) (section : ℕ) (q : Closing
   pub west : q.west ≡ closing_quarter_of plat west_line
   pub north : q.north ≡ closing_quarter_of plat north_line
   pub south : q.south ≡ closing_quarter_of plat south_line
-
--- the closing quarters of a section's lines are within the limits of a plat
-pub record AreInLimits (q : ClosingQuarters) : Type 0 where
-  pub east : (CLOSING_LEAST ≤ q.east) × (q.east ≤ CLOSING_MOST)
-  pub west : (CLOSING_LEAST ≤ q.west) × (q.west ≤ CLOSING_MOST)
-  pub north : (CLOSING_LEAST ≤ q.north) × (q.north ≤ CLOSING_MOST)
-  pub south : (CLOSING_LEAST ≤ q.south) × (q.south ≤ CLOSING_MOST)
-
--- a section's north and south lines are regular, or its east and west lines are
-abbrev pub HaveRegularLines : ClosingQuarters → Type 0
-HaveRegularLines q =
-    ((q.north ≡ QUARTER_MILE) × (q.south ≡ QUARTER_MILE))
-    ⊎ ((q.east ≡ QUARTER_MILE) × (q.west ≡ QUARTER_MILE))

@@ -1,6 +1,6 @@
 ghost use Rattle.std.specs.Prelude.{◌↔◌, IsTrue, pos};
 ghost use Rattle.twp_plat.specs.Closing.{IsRegular};
-ghost use Rattle.twp_plat.specs.LineFaults.{AnswersLine};
+ghost use Rattle.twp_plat.specs.steps.LineFaults.{AnswersLine};
 
 use crate::fault::{HalfMile, PlatFault};
 use twp_grid::Line;

@@ -4,43 +4,12 @@ use crate::rows::Grid;
 use std::alloc::Global;
 use std::process::Abort;
 use std::test::Fail;
+use twp_fixtures::Mixed;
 use twp_grid::{Corner, Side};
 
 // The lengths of the sides that halving 16 places gives, and how many such sides there are: 31 in
 // all, and 31 times 31 blocks.
 const SIDES: [(u8, u8); 5] = [(16, 1), (8, 2), (4, 4), (2, 8), (1, 16)];
-
-// Numbers that look random: each step multiplies by 1,664,525 and adds 1,013,904,223, modulo 2 to
-// the 32nd.
-#[derive(Drop)]
-struct Random {
-    state: u32,
-}
-
-impl Random {
-    fn below(&mut self, bound: u8) -> u8 {
-        self.state = self
-            .state
-            .wrapping_mul(1_664_525)
-            .wrapping_add(1_013_904_223);
-        let high = self.state >> 24;
-        u8::try_from(high.checked_rem(u32::from(bound)).unwrap_or(0)).unwrap_or(0)
-    }
-
-    fn block(&mut self) -> Block {
-        let mut block = Block::whole();
-        for _ in 0..self.below(8) {
-            let side = match self.below(4) {
-                0 => Side::N,
-                1 => Side::S,
-                2 => Side::E,
-                _ => Side::W,
-            };
-            block = block.half(side).unwrap_or(block);
-        }
-        block
-    }
-}
 
 // The block of these columns and rows, by halving the whole section.
 fn reach(column: u8, width: u8, row: u8, height: u8) -> Option<Block> {
@@ -81,12 +50,12 @@ fn lanes_hold_what_was_added(rt: HostRuntime) -> Result<(), Fail> {
 
 // A land of 200 blocks holds their places and no others.
 fn check_added<L: Land>(alloc: Global, rt: &impl Abort) -> Result<(), Fail> {
-    let mut random = Random { state: 1796 };
+    let mut mixed = Mixed::new(1796);
     let mut land = L::empty();
     let mut added = Vec::new(alloc);
     for _ in 0..200u8 {
-        let section = Section::new(random.below(36).wrapping_add(1)).ok_or("a section")?;
-        let block = random.block();
+        let section = mixed.section();
+        let block = mixed.block();
         land.add(section, block);
         added.push((section, block))?;
     }
@@ -131,14 +100,14 @@ fn lanes_tell_961_blocks_apart(rt: HostRuntime) -> Result<(), Fail> {
 #[test]
 fn lanes_answer_as_a_grid_does_behind_1_000_changes(rt: HostRuntime) -> Result<(), Fail> {
     let section = Section::new(21).ok_or("a section")?;
-    let mut random = Random { state: 1805 };
+    let mut mixed = Mixed::new(1805);
     let mut grid = Grid::empty();
     let mut lanes = Lanes::empty();
     for _ in 0..500u16 {
-        let more = random.block();
+        let more = mixed.block();
         grid.add(section, more);
         lanes.add(section, more);
-        let less = random.block();
+        let less = mixed.block();
         grid.remove(section, less);
         lanes.remove(section, less);
     }
@@ -153,12 +122,12 @@ fn lanes_answer_as_a_grid_does_behind_1_000_changes(rt: HostRuntime) -> Result<(
 #[test]
 fn lanes_answer_as_a_grid_does(rt: HostRuntime) -> Result<(), Fail> {
     let section = Section::new(29).ok_or("a section")?;
-    let mut random = Random { state: 1796 };
+    let mut mixed = Mixed::new(1796);
     for block in blocks(rt.alloc(), &rt)? {
         let mut grid = Grid::empty();
         let mut lanes = Lanes::empty();
         for _ in 0..3u8 {
-            let more = random.block();
+            let more = mixed.block();
             grid.add(section, more);
             lanes.add(section, more);
         }
@@ -167,7 +136,7 @@ fn lanes_answer_as_a_grid_does(rt: HostRuntime) -> Result<(), Fail> {
         assert_eq!(&rt; lanes.count(section, block), grid.count(section, block));
         grid.add(section, block);
         lanes.add(section, block);
-        let less = random.block();
+        let less = mixed.block();
         grid.remove(section, less);
         lanes.remove(section, less);
         for column in 0..16u8 {

@@ -1,9 +1,9 @@
 use Rattle.std.proofs.Common.{◌≡◌, ℕ, ◌+◌, ◌-◌, ◌*◌, Bool, refl, sym, subst, arith}
 use Rattle.twp_grid.specs.Places.{PLACE_DIGITS}
 use Rattle.twp_land.proofs.LotFacts.{section_is}
-use Rattle.twp_acres.specs.Bounds.{SECTION_UNITS_MOST}
+use Rattle.twp_acres.specs.steps.Bounds.{SECTION_UNITS_MOST}
 use Rattle.twp_acres.specs.LandAreas.{section_sum}
-use Rattle.twp_acres.specs.Accounts.{over_by}
+use Rattle.twp_acres.specs.steps.Accounts.{over_by}
 use Rattle.twp_acres.proofs.AreaFacts.{IsSumOf, grows, sum-first, sum-next, sum-last, sum-none}
 use Rattle.twp_acres.proofs.AreaFacts.{area_is, land_area}
 use Rattle.twp_acres.proofs.SectionSums.{none_held}

@@ -1,6 +1,6 @@
 use Rattle.std.proofs.Common.{◌-◌, ◌*◌, ◌≤◌}
-use Rattle.twp_acres.specs.Accounts.{over_by}
-use Rattle.twp_acres.specs.Bounds.{SECTION_UNITS_MOST}
+use Rattle.twp_acres.specs.steps.Accounts.{over_by}
+use Rattle.twp_acres.specs.steps.Bounds.{SECTION_UNITS_MOST}
 use Rattle.twp_acres.proofs.AreaFacts.{IsSumOf}
 use Rattle.twp_acres.proofs.area.area_by.Given as goal
 

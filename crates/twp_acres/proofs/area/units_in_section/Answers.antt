@@ -1,7 +1,7 @@
 -- Lot by lot, what is held is taken off the count and its piece is added; what is left lies off the lots.
 use Rattle.std.proofs.Common.{◌≡◌, ℕ, ◌+◌, ◌-◌, ◌≤◌, sym, arith}
 use Rattle.twp_land.proofs.LotFacts.{few_lots}
-use Rattle.twp_acres.specs.Accounts.{over_by}
+use Rattle.twp_acres.specs.steps.Accounts.{over_by}
 use Rattle.twp_acres.proofs.SectionSums.{places_where, piece_where, places_held, places_not_held, piece_held}
 use Rattle.twp_acres.proofs.SectionSums.{piece_not_held, of_lots-none, of_lots-next, lots_within, few_places}
 use Rattle.twp_acres.proofs.SectionSums.{sum_of_section}

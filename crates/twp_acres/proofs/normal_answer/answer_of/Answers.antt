@@ -1,16 +1,22 @@
--- The answer is the refusal that settled the run.
-use Rattle.twp_acres.proofs.RunFacts.{if_ok}
+-- What was read stays read, and what stopped the run is refused.
+use Rattle.std.proofs.Common.{refl}
+use Rattle.twp_text.specs.TextFaults.{TEXT_LIMIT}
+use Rattle.twp_acres.specs.Answers.{IsRefusal}
+use Rattle.twp_acres.specs.NormalAnswers.{IsNormalAnswer}
+use Rattle.twp_acres.proofs.StopFacts.{accepted_on_plat, refused_of_two, stopped_on_plat}
 use Rattle.twp_acres.proofs.normal_answer.answer_of.Goals as goal
 
-pub returns-in-Err-Refused-clause-answer : goal.returns-in-Err-Refused-clause-answer
-returns-in-Err-Refused-clause-answer g c =
-    let settled = c.in-Err-Refused.ensures.land in
-    let refusal = rw c.in-Err-Refused.field-0-is at settled.holds in
-    record {
-      first_bytes = settled.first_bytes;
-      second_bytes = settled.second_bytes;
-      first_tells = settled.first_tells;
-      second_tells = settled.second_tells;
-      holds = if_ok c.refuse.result _ _ c.refuse.ensures.answer (λ answer is. rw is.1 (refusal, is.0));
-      order = settled.order;
-    }
+pub returns-in-Ok-clause-reads : goal.returns-in-Ok-clause-reads
+returns-in-Ok-clause-reads g c =
+    accepted_on_plat TEXT_LIMIT _ _ _ c.in-Ok.read c.accept.result c.in-Ok.ensures.reads
+    c.accept.ensures.memory
+
+pub returns-in-Err-clause-reads : goal.returns-in-Err-clause-reads
+returns-in-Err-clause-reads g c =
+    stopped_on_plat TEXT_LIMIT _ _ _ c.in-Err.stop c.answer_stop.result c.in-Err.ensures.reads
+    c.answer_stop.ensures.answer
+
+pub returns-in-Err-clause-answer : goal.returns-in-Err-clause-answer
+returns-in-Err-clause-answer g c =
+    refused_of_two _ _ _ _ IsRefusal IsNormalAnswer c.in-Err.stop c.answer_stop.result
+    c.in-Err.ensures.land c.answer_stop.ensures.answer (λ n d refusal is. (is, refl))

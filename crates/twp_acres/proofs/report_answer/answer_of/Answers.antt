@@ -1,37 +1,29 @@
 -- Where the notes make no plat the list is as it was.
-use Rattle.std.proofs.Common.{[], inl, inr, refl}
-use Rattle.std.specs.Prelude.{unwrap_or}
-use Rattle.twp_acres.proofs.RunFacts.{some_bytes, if_ok, none_platted}
+use Rattle.std.proofs.Common.{inl, refl}
+use Rattle.std.specs.Prelude.{⊤}
+use Rattle.twp_plat.specs.Plats.{TownshipPlat}
+use Rattle.twp_acres.specs.Answers.{IsNoPlat}
+use Rattle.twp_acres.specs.Tracts.{TRACTS_LIMIT}
+use Rattle.twp_acres.specs.ReportAnswers.{IsReportAnswer}
+use Rattle.twp_acres.specs.steps.Stages.{same_fault}
+use Rattle.twp_acres.proofs.StopFacts.{first_stopped, refused_of_first, second_read, stopped_on_plat}
 use Rattle.twp_acres.proofs.report_answer.answer_of.Goals as goal
 
-pub returns-in-Err-Refused-clause-answer : goal.returns-in-Err-Refused-clause-answer
-returns-in-Err-Refused-clause-answer g c =
-    let told = g.T.Source.remaining c.args.tracts.now in
-    let notes = c.in-Err-Refused.ensures.plat in
-    let refusal = rw c.in-Err-Refused.field-0-is at notes.holds in
-    record {
-      first_bytes = notes.bytes;
-      second_bytes = unwrap_or told [];
-      first_tells = notes.tells;
-      second_tells = some_bytes told;
-      holds = if_ok c.refuse.result _ _ c.refuse.ensures.answer (λ answer is. inl (rw is.1 (refusal, is.0)));
-      order = inr refl;
-    }
+pub returns-in-Ok-clause-reads : goal.returns-in-Ok-clause-reads
+returns-in-Ok-clause-reads g c =
+    let notes = c.in-Ok.ensures in
+    let list = c.report_on.ensures in
+    second_read {P = TownshipPlat} same_fault TRACTS_LIMIT _ _ _ c.in-Ok.plat c.report_on.result
+    notes.read notes.most notes.exact list.read list.no_write list.most list.exact
 
-pub returns-in-Err-Failed-clause-answer : goal.returns-in-Err-Failed-clause-answer
-returns-in-Err-Failed-clause-answer g c =
-    let told = g.T.Source.remaining c.args.tracts.now in
-    let notes = c.in-Err-Failed.ensures.plat in
-    record {
-      first_bytes = notes.bytes;
-      second_bytes = unwrap_or told [];
-      first_tells = notes.tells;
-      second_tells = some_bytes told;
-      holds = tt;
-      order = inr refl;
-    }
+pub returns-in-Err-clause-reads : goal.returns-in-Err-clause-reads
+returns-in-Err-clause-reads g c =
+    let notes = c.in-Err.ensures in
+    stopped_on_plat TRACTS_LIMIT _ _ _ c.in-Err.stop c.answer_stop.result
+    (first_stopped {T = TownshipPlat} {U = ⊤} TRACTS_LIMIT _ _ _ _ c.in-Err.stop notes.read notes.no_write
+    notes.most notes.exact notes.plat c.requires.tracts refl) c.answer_stop.ensures.answer
 
-pub returns-in-Err-Refused-clause-tracts_exact : goal.returns-in-Err-Refused-clause-tracts_exact
-returns-in-Err-Refused-clause-tracts_exact g c n told makes _ _ _ =
-    let notes = rw c.in-Err-Refused.field-0-is at c.in-Err-Refused.ensures.plat in
-    absurd (none_platted _ n c.in-Err-Refused.refusal notes told makes)
+pub returns-in-Err-clause-answer : goal.returns-in-Err-clause-answer
+returns-in-Err-clause-answer g c =
+    refused_of_first _ _ _ _ IsNoPlat IsReportAnswer c.in-Err.stop c.answer_stop.result
+    c.in-Err.ensures.plat c.answer_stop.ensures.answer (λ n t refusal is. inl (is, refl)) refl

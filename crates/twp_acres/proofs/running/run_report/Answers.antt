@@ -10,12 +10,8 @@ returns-in_err-answer g c =
     let stopped = c.in_err-answer.ensures in
     let gone = err_from_is_err_and c.from_residual.result c.from_residual.ensures.1 in
     record {
-      run =
-          rw (gone.1, gone.2)
-          (run_stopped IsReportAnswer TRACTS_LIMIT _ _ _ _ _ c.in_err-answer.field-0.0 _ stopped.answer
-          stopped.read stopped.unread_after_fault stopped.no_write c.requires.out stopped.notes_most
-          stopped.tracts_most
-          stopped.notes_exact stopped.tracts_exact);
+      run = rw (gone.1, gone.2) (run_stopped IsReportAnswer TRACTS_LIMIT _ _ _ _ _
+          c.in_err-answer.field-0.0 _ stopped.answer stopped.reads c.requires.out);
     }
 
 pub returns : goal.returns
@@ -23,10 +19,7 @@ returns g c =
     let answer = c.in_ok-answer.ensures in
     let wrote = c.write_answer.ensures in
     record {
-      run =
-          run_on_plat c.in_ok-answer.answer IsReportAnswer TRACTS_LIMIT _ _ _ _ _ _ c.write_answer.result
-          answer.answer
-          (λ failed. cc (answer.read.1 failed)) answer.unread_after_fault answer.notes_most answer.tracts_most
-          answer.notes_exact answer.tracts_exact wrote.verdict wrote.whole wrote.front wrote.write
-          wrote.failed;
+      run = run_on_plat c.in_ok-answer.answer IsReportAnswer TRACTS_LIMIT _ _ _ _ _ _
+          c.write_answer.result answer.answer answer.reads wrote.verdict wrote.whole wrote.front
+          wrote.write wrote.failed;
     }

@@ -1,8 +1,12 @@
 -- Where the notes make no plat the description is as it was.
-use Rattle.std.proofs.Common.{Err, [], ap, inr, refl, ◌∙◌}
+use Rattle.std.proofs.Common.{[], inr, refl}
 use Rattle.std.specs.Prelude.{unwrap_or}
 use Rattle.std.proofs.lemmas.Result.{err_from_is_err_and}
-use Rattle.twp_acres.proofs.RunFacts.{some_bytes, refused_of_notes, plat_stops_by_fault}
+use Rattle.twp_plat.specs.Plats.{TownshipPlat}
+use Rattle.twp_text.specs.TextFaults.{TEXT_LIMIT}
+use Rattle.twp_acres.specs.declared.stop.Stop.TheVariants as stop
+use Rattle.twp_acres.proofs.RunFacts.{some_bytes, refused_of_notes}
+use Rattle.twp_acres.proofs.StopFacts.{first_stopped, other_stop, other_value, second_read}
 use Rattle.twp_acres.proofs.stages.read_land_on_plat.Goals as goal
 
 pub returns-in_err-plat-clause-land : goal.returns-in_err-plat-clause-land
@@ -21,10 +25,27 @@ returns-in_err-plat-clause-land g c =
       order = inr refl;
     }
 
-pub returns-in_err-plat-clause-description_exact : goal.returns-in_err-plat-clause-description_exact
-returns-in_err-plat-clause-description_exact g c n told makes notes_open _ not_memory =
+pub returns-in_err-plat-clause-reads : goal.returns-in_err-plat-clause-reads
+returns-in_err-plat-clause-reads g c =
     let stopped = c.in_err-plat.ensures in
     let gone = err_from_is_err_and c.from_residual.result c.from_residual.ensures.1 in
-    absurd (plat_stops_by_fault _ n c.in_err-plat.field-0.0 stopped.plat told makes
-    (λ is. cc (stopped.read.0 (ap Err is), notes_open)) stopped.no_write
-    (λ is. not_memory (gone.1 ∙ ap Err (gone.2 ∙ is))))
+    rw (gone.1, gone.2) (first_stopped {T = TownshipPlat} TEXT_LIMIT _ _ _ _ c.in_err-plat.field-0.0
+    stopped.read stopped.no_write stopped.most stopped.exact stopped.plat c.requires.description refl)
+
+pub returns-in_err-land-clause-reads : goal.returns-in_err-land-clause-reads
+returns-in_err-land-clause-reads g c =
+    let notes = c.in_ok-plat.ensures in
+    let stopped = c.in_err-land.ensures in
+    let gone = err_from_is_err_and c.from_residual-in_err-land.result
+    c.from_residual-in_err-land.ensures.1 in
+    rw (gone.1, gone.2) (other_stop TEXT_LIMIT _ _ _ c.in_err-land.field-0.0
+    (second_read {P = TownshipPlat} stop.Failed TEXT_LIMIT _ _ _ c.in_ok-plat.plat _ notes.read
+    notes.most notes.exact stopped.read stopped.no_write stopped.most stopped.exact))
+
+pub returns-clause-reads : goal.returns-clause-reads
+returns-clause-reads g c =
+    let notes = c.in_ok-plat.ensures in
+    let described = c.in_ok-land.ensures in
+    other_value TEXT_LIMIT _ _ _ c.in_ok-land.land _
+    (second_read {P = TownshipPlat} stop.Failed TEXT_LIMIT _ _ _ c.in_ok-plat.plat _ notes.read
+    notes.most notes.exact described.read described.no_write described.most described.exact)

@@ -1,7 +1,7 @@
 -- The heading was read; the tracts behind it were taken or refused.
 use Rattle.std.proofs.Common.{sym, ◌∙◌, subst}
 use Rattle.std.proofs.lemmas.Result.{err_from_is_err_and}
-use Rattle.twp_acres.specs.TractTaking.{AreTractsRefused}
+use Rattle.twp_acres.specs.steps.TractTaking.{AreTractsRefused}
 use Rattle.twp_acres.proofs.TallyFacts.{accepted}
 use Rattle.twp_acres.proofs.FirstTractFaults.{behind_of, first_refused}
 use Rattle.twp_acres.proofs.tracts.account_of.Goals as goal

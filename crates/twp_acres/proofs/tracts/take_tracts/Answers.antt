@@ -3,7 +3,7 @@ use Rattle.std.proofs.Common.{◌≡◌, refl, sym, ◌∙◌, length, subst, ar
 use Rattle.std.proofs.lemmas.Result.{err_from_is_err_and}
 use Rattle.twp_notes.specs.Records.{records_left}
 use Rattle.twp_notes.proofs.Taking.{next_record_is, no_record_left}
-use Rattle.twp_acres.specs.TractTaking.{tally_of, IsTallyOf}
+use Rattle.twp_acres.specs.steps.TractTaking.{tally_of, IsTallyOf}
 use Rattle.twp_acres.proofs.TallyFacts.{no_tally, next_tally}
 use Rattle.twp_acres.proofs.FirstTractFaults.{refused_next}
 use Rattle.twp_acres.proofs.tracts.take_tracts.Goals as goal

@@ -1,7 +1,7 @@
 use Rattle.std.proofs.Common.{◌≡◌, ◌≤◌, length, drop}
 use Rattle.twp_notes.specs.Records.{records_left, IsReading}
 use Rattle.twp_acres.specs.Tracts.{TRACTS_MOST}
-use Rattle.twp_acres.specs.TractTaking.{tally_of, IsTallyOf}
+use Rattle.twp_acres.specs.steps.TractTaking.{tally_of, IsTallyOf}
 use Rattle.twp_acres.proofs.tracts.take_tracts.Given as goal
 
 -- the tracts so far were taken, and the other records are left

@@ -1,5 +1,5 @@
 use Rattle.std.proofs.Common.{◌≡◌, ◌≤◌}
-use Rattle.twp_land.specs.Storage.{count_in_row}
+use Rattle.twp_land.specs.steps.RowTests.{count_in_row}
 use Rattle.twp_land.proofs.row.count_held.Given as goal
 
 abbrev pub invariant-loop-along : goal.invariant-loop-along

@@ -1,6 +1,6 @@
 use Rattle.std.proofs.Common.{◌≡◌, length}
 use Rattle.twp_grid.specs.Places.{PLACE_DIGITS, places_across}
-use Rattle.twp_land.specs.Storage.{IsFilled}
+use Rattle.twp_land.specs.steps.RowTests.{IsFilled}
 use Rattle.twp_land.proofs.row.filled.Given as goal
 
 abbrev pub invariant-loop-along : goal.invariant-loop-along

@@ -3,7 +3,7 @@ use Rattle.std.proofs.Common.{◌≡◌, ◌≤◌, ◌+◌, ◌∷◌, length, 
 use Rattle.std.proofs.lemmas.Result.{err_from_is_err_and}
 use Rattle.csv.specs.Records.{fields_of}
 use Rattle.twp_notes.specs.Records.{records_of, records_left}
-use Rattle.twp_notes.specs.LineFaults.{IsRefusedAfter}
+use Rattle.twp_notes.specs.steps.LineFaults.{IsRefusedAfter}
 use Rattle.twp_notes.proofs.RecordFacts.{few_records}
 use Rattle.twp_notes.proofs.RecordPlaces.{behind_of}
 use Rattle.twp_notes.proofs.FirstFaults.{answer_refused, missing_is_first, notes_of_table}

@@ -2,8 +2,8 @@
 use Rattle.std.proofs.Common.{◌≡◌, ◌+◌, sym, ◌∙◌, length, subst, arith}
 use Rattle.std.proofs.lemmas.Result.{err_from_is_err_and}
 use Rattle.twp_notes.specs.Records.{records_left}
-use Rattle.twp_notes.specs.Tables.{AreTaken}
-use Rattle.twp_notes.specs.LineFaults.{IsNotTaken}
+use Rattle.twp_notes.specs.steps.Tables.{AreTaken}
+use Rattle.twp_notes.specs.steps.LineFaults.{IsNotTaken}
 use Rattle.twp_notes.proofs.Taking.{next_record_is, no_record_left, taken_more, refused_next}
 use Rattle.twp_notes.proofs.parsing.take_lines.Goals as goal
 

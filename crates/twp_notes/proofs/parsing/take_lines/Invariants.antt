@@ -1,6 +1,6 @@
 use Rattle.std.proofs.Common.{◌≡◌, ◌≤◌, length, drop}
 use Rattle.twp_notes.specs.Records.{records_left, IsReading}
-use Rattle.twp_notes.specs.Tables.{AreTaken}
+use Rattle.twp_notes.specs.steps.Tables.{AreTaken}
 use Rattle.twp_notes.proofs.parsing.take_lines.Given as goal
 
 -- the records so far were taken down, and the others are left

@@ -1,7 +1,7 @@
 -- The fields of the record are those of the line.
 use Rattle.std.proofs.Common.{[], ◌∷◌, decimal, refl}
 use Rattle.twp_measure.specs.LengthTexts.{length_text}
-use Rattle.twp_notes.specs.NotesTexts.{field_text}
+use Rattle.twp_notes.specs.steps.WrittenFields.{field_text}
 use Rattle.twp_notes.proofs.TextFacts.{on_ok}
 use Rattle.twp_notes.proofs.writing.write_line.Goals as goal
 

@@ -1,6 +1,6 @@
 -- The fields were appended one after another.
 use Rattle.std.proofs.Common.{◌≡◌, length, arith}
-use Rattle.twp_notes.specs.NotesTexts.{field_text}
+use Rattle.twp_notes.specs.steps.WrittenFields.{field_text}
 use Rattle.twp_notes.proofs.TextFacts.{five_appended, five_mapped, on_ok, on_err, begins_more}
 use Rattle.twp_notes.proofs.writing.write_record.Goals as goal
 

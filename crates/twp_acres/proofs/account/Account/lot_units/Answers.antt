@@ -1,7 +1,7 @@
 use Rattle.std.proofs.Common.{◌≡◌, ℕ, ◌*◌, ap, refl, sym, ◌∙◌}
 use Rattle.twp_land.proofs.LotFacts.{has_lot}
 use Rattle.twp_plat.specs.PlatAreas.{ArePieces}
-use Rattle.twp_acres.specs.Accounts.{ArePrintedUnits}
+use Rattle.twp_acres.specs.steps.Accounts.{ArePrintedUnits}
 use Rattle.twp_plat.proofs.SectionPieces.{piece_at}
 use Rattle.twp_acres.proofs.AreaFacts.{lot_at_is}
 use Rattle.twp_acres.proofs.FigureFacts.{same_lot}

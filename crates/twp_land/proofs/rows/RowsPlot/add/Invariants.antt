@@ -1,4 +1,4 @@
-use Rattle.twp_land.specs.Storage.{AreFilled}
+use Rattle.twp_land.specs.steps.RowTests.{AreFilled}
 use Rattle.twp_land.proofs.rows.RowsPlot.add.Given as goal
 
 abbrev pub invariant-loop-up : goal.invariant-loop-up

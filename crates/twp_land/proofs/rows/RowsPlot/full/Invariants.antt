@@ -1,5 +1,5 @@
 use Rattle.std.proofs.Common.{ℕ, ◌+◌, ◌<◌, [], get_or}
-use Rattle.twp_land.specs.Storage.{EachHeld}
+use Rattle.twp_land.specs.steps.RowTests.{EachHeld}
 use Rattle.twp_land.proofs.rows.RowsPlot.full.Given as goal
 
 abbrev pub invariant-loop-up : goal.invariant-loop-up

@@ -1,5 +1,5 @@
 use Rattle.std.proofs.Common.{ℕ, ◌+◌, ◌<◌, [], get_or}
-use Rattle.twp_land.specs.Storage.{SomeHeld}
+use Rattle.twp_land.specs.steps.RowTests.{SomeHeld}
 use Rattle.twp_land.proofs.rows.RowsPlot.meets.Given as goal
 
 abbrev pub invariant-loop-up : goal.invariant-loop-up

@@ -1,4 +1,4 @@
-use Rattle.twp_land.specs.Storage.{AreCleared}
+use Rattle.twp_land.specs.steps.RowTests.{AreCleared}
 use Rattle.twp_land.proofs.rows.RowsPlot.remove.Given as goal
 
 abbrev pub invariant-loop-up : goal.invariant-loop-up

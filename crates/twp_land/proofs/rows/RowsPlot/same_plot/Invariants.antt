@@ -1,5 +1,5 @@
 use Rattle.std.proofs.Common.{ℕ, ◌<◌, [], get_or}
-use Rattle.twp_land.specs.Storage.{AreAlike}
+use Rattle.twp_land.specs.steps.RowTests.{AreAlike}
 use Rattle.twp_land.proofs.rows.RowsPlot.same_plot.Given as goal
 
 abbrev pub invariant-loop-row : goal.invariant-loop-row

@@ -2,7 +2,7 @@ use Rattle.std.proofs.Common.{◌≡◌, ℕ, ◌<◌, length, Some}
 use Rattle.std.specs.Prelude.{slice_index_or}
 use Rattle.twp_grid.specs.Lines.{LINE_COUNT}
 use Rattle.twp_notes.specs.FieldNotes.{nothing_returned}
-use Rattle.twp_notes.specs.Tables.{entry_of}
+use Rattle.twp_notes.specs.steps.Tables.{entry_of}
 use Rattle.twp_notes.proofs.table.LineTable.complete.Given as goal
 
 -- the lines so far were returned, with these

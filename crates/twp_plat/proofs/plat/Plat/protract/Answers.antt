@@ -1,7 +1,7 @@
 use Rattle.std.proofs.Common.{◌≡◌, Ok, arith}
 use Rattle.std.proofs.lemmas.Grind.{common_steps}
 use Rattle.std.proofs.lemmas.Result.{err_from_is_err_and}
-use Rattle.twp_plat.specs.LineFaults.{AnswersLine, IsFirstLineFault}
+use Rattle.twp_plat.specs.steps.LineFaults.{AnswersLine, IsFirstLineFault}
 use Rattle.twp_plat.proofs.SideFacts.{line_at}
 use Rattle.twp_plat.proofs.FaultFacts.{first_here, taken_down}
 use Rattle.twp_plat.proofs.plat.Plat.protract.Goals as goal

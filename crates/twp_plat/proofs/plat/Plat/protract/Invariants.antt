@@ -1,7 +1,7 @@
 use Rattle.std.proofs.Common.{◌≡◌, ℕ, ◌<◌, length, Ok}
 use Rattle.std.specs.Prelude.{slice_index_or}
 use Rattle.twp_notes.specs.FieldNotes.{returned_of}
-use Rattle.twp_plat.specs.LineFaults.{AnswersLine}
+use Rattle.twp_plat.specs.steps.LineFaults.{AnswersLine}
 use Rattle.twp_plat.proofs.plat.Plat.protract.Given as goal
 
 -- the lines so far are within the limits, with these closing quarters

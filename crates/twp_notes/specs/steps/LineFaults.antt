@@ -4,7 +4,7 @@ use Rattle.std.specs.Prelude.{◌≡◌, ◌≢◌, ℕ, ◌+◌, ◌<◌, List,
 use Rattle.twp_notes.specs.Records.{Fields, record_at}
 use Rattle.twp_notes.specs.FieldNotes.{FIELDS, NamesLine}
 use Rattle.twp_notes.specs.NotesFaults.{HasNoRun, HasNoSection, NamesNoLine, HasNoLength}
-use Rattle.twp_notes.specs.Tables.{entry_of, AreTaken}
+use Rattle.twp_notes.specs.steps.Tables.{entry_of, AreTaken}
 use Rattle.twp_notes.specs.declared.fault.NotesFault.{NotesFault}
 use Rattle.twp_notes.specs.declared.fault.NotesFault.TheVariants as fault
 use Rattle.twp_notes.specs.declared.returned.Returned.{Returned}

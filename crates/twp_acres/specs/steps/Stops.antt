@@ -1,11 +1,14 @@
--- What the stages of a run come to. No public promise speaks of it.
-use Rattle.std.specs.Prelude.{ℕ, Bool, List, Result, Ok, Err, ⊤}
+-- What the stages of a run come to, and how a stop is answered. No public promise speaks of it.
+use Rattle.std.specs.Prelude.{◌≡◌, ℕ, Bool, List, Result, Ok, Err, ⊤}
 use Rattle.twp_grid.specs.Townships.{Designation}
 use Rattle.twp_grid.specs.declared.refusal.Refusal.{Refusal}
 use Rattle.twp_plat.specs.Plats.{TownshipPlat}
 use Rattle.twp_acres.specs.Answers.{ArePlatted, IsNoPlat, Describe, IsNoDescription, IsLandOnPlat}
-use Rattle.twp_acres.specs.Answers.{IsRefusal}
+use Rattle.twp_acres.specs.Answers.{IsRefusal, refusal_line}
+use Rattle.twp_acres.specs.declared.answer.Answer.{Answer}
+use Rattle.twp_acres.specs.declared.verdict.Verdict.TheVariants as verdict
 use Rattle.twp_acres.specs.declared.verdict.RunFault.{RunFault}
+use Rattle.twp_acres.specs.declared.verdict.RunFault.TheVariants as run
 use Rattle.twp_acres.specs.declared.stop.Stop.{Stop}
 use Rattle.twp_acres.specs.declared.stop.Stop.TheVariants as stop
 
@@ -38,3 +41,11 @@ IsRead plat places notes description (Ok read) =
     IsLandOnPlat notes description (plat read) (places read)
 IsRead plat places notes description (Err stopped) =
     IfRefused stopped (IsRefusal notes description)
+
+-- a stop is answered by its refusal, unless memory runs out, or by its fault
+abbrev pub AnswersStop : Stop → Result Answer RunFault → Type 0
+AnswersStop (stop.Refused refusal) (Ok answer) =
+    (answer.text.items ≡ refusal_line refusal) × (answer.verdict ≡ verdict.Refused refusal)
+AnswersStop (stop.Refused refusal) (Err fault) = fault ≡ run.Memory
+AnswersStop (stop.Failed fault) (Ok answer) = ⊥
+AnswersStop (stop.Failed fault) (Err answered) = answered ≡ fault

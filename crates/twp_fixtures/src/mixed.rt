@@ -8,9 +8,9 @@ pub struct Mixed {
 }
 
 impl Mixed {
-    /// The same ones each time.
-    pub fn new() -> Mixed {
-        Mixed { state: 1796 }
+    /// The same ones each time, for each number that they begin with.
+    pub fn new(state: u32) -> Mixed {
+        Mixed { state }
     }
 
     fn next(&mut self) -> u32 {

@@ -1,0 +1,8 @@
+pub mod Accounts
+pub mod Bounds
+pub mod Names
+pub mod Stops
+pub mod Stages
+pub mod TractTaking
+pub mod PassedFaults
+pub mod ListFaults

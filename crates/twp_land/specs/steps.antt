@@ -1,0 +1,4 @@
+pub mod Within
+pub mod RowTests
+pub mod BitLanes
+pub mod Crossing

@@ -1,0 +1,7 @@
+-- Columns or rows that lie partly over others.
+use Rattle.std.specs.Prelude.{◌+◌, ◌<◌}
+use Rattle.twp_grid.specs.Spans.{Span}
+
+-- columns or rows cross others where each begin before the others end
+abbrev pub Cross : Span → Span → Type 0
+Cross span other = (span.start < other.start + other.len) × (other.start < span.start + span.len)

@@ -1,0 +1,4 @@
+pub mod Tables
+pub mod LineFaults
+pub mod PassedFaults
+pub mod WrittenFields
