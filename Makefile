@@ -4,7 +4,9 @@
 # Where `make install` puts the program: in its folder bin.
 PREFIX = /usr/local
 
-run: township
+run:
+	@sh scripts/first_answer.sh
+	@sh scripts/build.sh
 	@cat samples/description.txt samples/b1.csv | ./township
 
 township:

@@ -222,6 +222,23 @@ while read -r name; do
     same "docs/GLOSSARY.md: $name"
 done < names
 
+# docs/ARCHITECTURE.md names every crate and every module.
+for file in "$root"/crates/*/src/*.rt; do
+    module=$(basename "$file" .rt)
+    crate=$(basename "$(dirname "$(dirname "$file")")")
+    [ "$module" != lib ] || module=$crate
+    echo "$crate: $module"
+done > wanted
+while IFS=': ' read -r crate module; do
+    grep -q "\`$module\`" "$docs/ARCHITECTURE.md" && echo "$crate: $module"
+done < wanted > found
+same 'the modules of docs/ARCHITECTURE.md'
+
+# No row of a table is too long to read.
+: > wanted
+awk 'length > 300 { print FILENAME ": " FNR }' "$root"/README.md "$docs"/*.md > found
+same 'rows of tables of 300 characters at most'
+
 # The counts under "Measured" in the README are those of the first block of bench/expected.
 sed -e '/^#/d' -e '/^$/,$d' "$root/bench/expected" > expected
 sed -n '/^## Measured$/,$s/^| \([^|]*\) | \([0-9,]*\) |$/\2 \1/p' "$root/README.md" |

@@ -185,56 +185,69 @@ run < empty; ended 'no input' $? 1 'refused 2 at 1' ''
 run < /dev/zero; ended 'endless input' $? 1 'refused 2 at 1' ''
 
 # Help.
-help_text="Protracts a township from its field notes, and gives the acres of land described on it
+help_text="Draws a township's plat from its field notes, and gives the acres of land described on it
 
 Usage: township <COMMAND>
 
 Commands:
-  plat    Writes the acres of each lot, of each section and of the whole township
-  acres   Writes the acres of the land that a description names
-  normal  Writes the one canonical spelling of the land that a description names
-  report  Writes the account of a list of tracts: the acres of each, of all, and of the rest
+  plat    Print the acres of each lot, of each section, and of the whole township
+  acres   Print the acres of the land described
+  normal  Print the one canonical spelling of the land described
+  report  Print the acres of each tract in a list, of all of them, and of what remains
   help    Print this message or the help of the given subcommand(s)
 
 Options:
-  -h, --help  Print help"
+  -h, --help  Print help
+
+Examples:
+  township plat notes.csv
+  township acres notes.csv land.txt
+  township normal notes.csv land.txt
+  township report notes.csv tracts.csv
+
+With no arguments, township reads standard input: a description of land on the
+first line, and then the field notes. It prints the acres."
 run --help; ended '--help' $? 0 "$help_text" ''
 run -h; ended '-h' $? 0 "$help_text" ''
 run help; ended 'help' $? 0 "$help_text" ''
 cp "$program" other-name
 ./other-name --help > out 2> err; ended 'called by another name' $? 0 "$help_text" ''
-acres_text="Writes the acres of the land that a description names
+acres_text="Print the acres of the land described
 
 Usage: township acres [OPTIONS] <NOTES> <DESCRIPTION>
 
 Arguments:
-  <NOTES>        field notes of the township's 84 section lines, CSV
-  <DESCRIPTION>  description of land, as: sec. 5, lot 1.
+  <NOTES>        Field notes of the township's 84 section lines, as CSV
+  <DESCRIPTION>  Description of land, such as: sec. 5, lot 1.
 
 Options:
-      --account <ACCOUNT>  how each whole lot counts: by its exact area, or by the acres that the plat \
-prints [default: exact] [possible values: exact, plat]
-  -h, --help               Print help"
+      --account <ACCOUNT>  Count each whole lot by its exact area, or by the acres printed on the \
+plat [default: exact] [possible values: exact, plat]
+  -h, --help               Print help
+
+Examples:
+  township acres notes.csv land.txt
+  township acres --account plat notes.csv land.txt"
 run acres --help; ended 'acres --help' $? 0 "$acres_text" ''
 run help acres; ended 'help acres' $? 0 "$acres_text" ''
 run acres missing --help; ended 'help before a missing file' $? 0 "$acres_text" ''
-report_text="Writes the account of a list of tracts: the acres of each, of all, and of the rest
+report_text="Print the acres of each tract in a list, of all of them, and of what remains
 
 Usage: township report <NOTES> <TRACTS>
 
 Arguments:
-  <NOTES>   field notes of the township's 84 section lines, CSV
-  <TRACTS>  list of tracts, CSV: a name and a description in each record
+  <NOTES>   Field notes of the township's 84 section lines, as CSV
+  <TRACTS>  List of tracts, as CSV: a name and a description in each record
 
 Options:
   -h, --help  Print help"
-normal_text="Writes the one canonical spelling of the land that a description names
+normal_text="Print the one canonical spelling of the land described
 
 Usage: township normal <NOTES> <DESCRIPTION>
 
 Arguments:
-  <NOTES>        field notes of the township's 84 section lines, CSV
-  <DESCRIPTION>  description of land, as: sec. 5, lot 1.
+  <NOTES>        Field notes of the township's 84 section lines, as CSV
+  <DESCRIPTION>  Description of land, such as: sec. 5, lot 1.
 
 Options:
   -h, --help  Print help"

@@ -12,6 +12,21 @@ use std::alloc::{AllocError, Global};
 /// The program's name in help and usage, whatever file it was called by.
 const NAME: &str = "township";
 
+/// What help ends with: how the program is called.
+const EXAMPLES: &str = "Examples:
+  township plat notes.csv
+  township acres notes.csv land.txt
+  township normal notes.csv land.txt
+  township report notes.csv tracts.csv
+
+With no arguments, township reads standard input: a description of land on the
+first line, and then the field notes. It prints the acres.";
+
+/// What the help of `acres` ends with.
+const ACRES_EXAMPLES: &str = "Examples:
+  township acres notes.csv land.txt
+  township acres --account plat notes.csv land.txt";
+
 /// The accounts, as the command line names them.
 static ACCOUNTS: [&str; 2] = ["exact", "plat"];
 
@@ -35,8 +50,9 @@ fn measures<'a>(alloc: Global) -> Result<Command<'a>, AllocError>
 {
     Command::new(alloc, NAME)
         .about(
-            "Protracts a township from its field notes, and gives the acres of land described on it",
+            "Draws a township's plat from its field notes, and gives the acres of land described on it",
         )
+        .after_help(EXAMPLES)
         .bin_name(NAME)?
         .subcommand_required(true)
         .subcommand(plat(alloc)?)?
@@ -50,7 +66,7 @@ fn plat<'a>(alloc: Global) -> Result<Command<'a>, AllocError>
         ≡ the_plat) }
 {
     Command::new(alloc, "plat")
-        .about("Writes the acres of each lot, of each section and of the whole township")
+        .about("Print the acres of each lot, of each section, and of the whole township")
         .arg(notes(alloc))
 }
 
@@ -60,7 +76,8 @@ fn acres<'a>(alloc: Global) -> Result<Command<'a>, AllocError>
     ensures shape { IfOk result (λ command. IsAcres (shape_of command)) }
 {
     Command::new(alloc, "acres")
-        .about("Writes the acres of the land that a description names")
+        .about("Print the acres of the land described")
+        .after_help(ACRES_EXAMPLES)
         .arg(notes(alloc))?
         .arg(description(alloc))?
         .arg(account(alloc))
@@ -73,7 +90,7 @@ fn normal<'a>(alloc: Global) -> Result<Command<'a>, AllocError>
         ≡ the_normal) }
 {
     Command::new(alloc, "normal")
-        .about("Writes the one canonical spelling of the land that a description names")
+        .about("Print the one canonical spelling of the land described")
         .arg(notes(alloc))?
         .arg(description(alloc))
 }
@@ -85,7 +102,7 @@ fn report<'a>(alloc: Global) -> Result<Command<'a>, AllocError>
         ≡ the_report) }
 {
     Command::new(alloc, "report")
-        .about("Writes the account of a list of tracts: the acres of each, of all, and of the rest")
+        .about("Print the acres of each tract in a list, of all of them, and of what remains")
         .arg(notes(alloc))?
         .arg(tracts(alloc))
 }
@@ -97,7 +114,7 @@ fn notes<'a>(alloc: Global) -> Arg<'a>
 {
     Arg::new(alloc, "NOTES")
         .required(true)
-        .help("field notes of the township's 84 section lines, CSV")
+        .help("Field notes of the township's 84 section lines, as CSV")
 }
 
 /// The file of a description.
@@ -107,7 +124,7 @@ fn description<'a>(alloc: Global) -> Arg<'a>
 {
     Arg::new(alloc, "DESCRIPTION")
         .required(true)
-        .help("description of land, as: sec. 5, lot 1.")
+        .help("Description of land, such as: sec. 5, lot 1.")
 }
 
 /// The file of a list of tracts.
@@ -116,7 +133,7 @@ fn tracts<'a>(alloc: Global) -> Arg<'a>
     ensures rule { rule_of result ≡ required_word (codes "TRACTS") }
 {
     Arg::new(alloc, "TRACTS").required(true).help(
-        "list of tracts, CSV: a name and a description in each record",
+        "List of tracts, as CSV: a name and a description in each record",
     )
 }
 
@@ -129,5 +146,5 @@ fn account<'a>(alloc: Global) -> Arg<'a>
         .long("account")
         .value_parser(ACCOUNTS.as_slice())
         .default_value("exact")
-        .help("how each whole lot counts: by its exact area, or by the acres that the plat prints")
+        .help("Count each whole lot by its exact area, or by the acres printed on the plat")
 }

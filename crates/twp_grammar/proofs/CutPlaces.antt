@@ -1,7 +1,6 @@
 -- The places of what cuts leave of a section.
-use Rattle.std.proofs.Common.{◌≡◌, ◌==◌, ℕ, zero, suc, ◌+◌, ◌-◌, ◌^◌, ◌<◌, ◌≤◌, ◌&&◌, Bool, true, false, List}
-use Rattle.std.proofs.Common.{[], ◌∷◌, ◌++◌, refl, ◌∙◌, inl, inr, arith, nat_lt, ◌||◌, ◌⊎◌, nat_le}
-use Rattle.std.proofs.Common.{if◌then◌else◌}
+use Rattle.std.proofs.Common.{◌≡◌, ℕ, zero, suc, ◌+◌, ◌^◌, ◌<◌, ◌≤◌, ◌&&◌, Bool, true, false, List, refl, inl}
+use Rattle.std.proofs.Common.{inr, arith, nat_lt, nat_le}
 use Rattle.std.proofs.Math.Nat.{pow-succ'}
 use Rattle.std.proofs.lemmas.Nat.{pow_pos}
 use Rattle.std.proofs.lemmas.Bool.{and_parts, cases_Bool}
@@ -11,7 +10,6 @@ use Rattle.twp_grid.specs.Places.{is_place, IsPlace, PLACE_DIGITS, places_across
 use Rattle.twp_grid.specs.Spans.{Span, in_span, in_rectangle, whole_block}
 use Rattle.twp_grid.proofs.CutFacts.{within_span_of, rows_reached, columns_reached, rows_are_digits}
 use Rattle.twp_grid.proofs.CutFacts.{columns_are_digits}
-use Rattle.twp_grid.specs.declared.block.Side.TheVariants as side
 
 -- a side of so many digits is more than one place where a digit is left
 pub more_left : (k : ℕ) → 1 < 2 ^ k → 0 < k

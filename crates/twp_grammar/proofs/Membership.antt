@@ -1,6 +1,6 @@
 -- What stands in a list.
-use Rattle.std.proofs.Common.{◌≡◌, zero, suc, ◌<◌, ◌⊎◌, List, [], ◌∷◌, ◌++◌, sym, ◌∙◌, inl, inr, arith, ◌||◌}
-use Rattle.std.proofs.Common.{Bool, true, refl}
+use Rattle.std.proofs.Common.{◌≡◌, zero, suc, ◌⊎◌, List, [], ◌∷◌, ◌++◌, sym, inl, inr, arith, Bool, true}
+use Rattle.std.proofs.Common.{refl}
 use Rattle.std.specs.List.{Contains, list_any}
 use Rattle.std.proofs.lemmas.Bool.{cases_Bool}
 

@@ -29,3 +29,7 @@ in_more (step ∷ first) more zero past = absurd (omega arith)
 in_more (step ∷ first) more (suc i) past =
     in_more first more i (omega arith)
     ∙ ap (λ n. slice_get more n) (let e : i - length first ≡ suc i - suc (length first) = omega arith in e)
+
+-- where the first list isn't full, it has all of them
+pub all_first : (first more : List Step) → more ≡ [] → length first ≡ length (first ++ more)
+all_first first more none = sym (ap (λ xs. length (first ++ xs)) none ∙ ap length (append-nil first))

@@ -1,10 +1,9 @@
 -- The tokens of a tree, put in front of others; and the items that a sentence begins with.
-use Rattle.std.proofs.Common.{◌≡◌, List, [], ◌∷◌, ◌++◌, refl, sym, ap, ◌∙◌, inl, inr, append_assoc, ◌<◌, ◌+◌}
-use Rattle.std.proofs.Common.{◌≤◌, Bool, true, false, map}
+use Rattle.std.proofs.Common.{◌≡◌, List, [], ◌∷◌, ◌++◌, refl, sym, ap, ◌∙◌, inl, inr, append_assoc, Bool}
+use Rattle.std.proofs.Common.{true, false, map}
 use Rattle.std.specs.List.{flat_map}
 use Rattle.twp_grammar.specs.Tokens.{Token}
-use Rattle.twp_grammar.specs.Grammar.{of, the, Ebnf, never, nothing, one, ◌⨾◌, ◌∣◌, many, heading}
-use Rattle.twp_grammar.specs.Grammar.{description}
+use Rattle.twp_grammar.specs.Grammar.{Ebnf, never, nothing, one, ◌⨾◌, ◌∣◌, many, heading, description}
 use Rattle.twp_grammar.specs.Items.{token_of, ◌&◌, Tree, tokens, behind, items, numeral, end_of, range_of}
 use Rattle.twp_grammar.specs.Items.{whole_sections_item, parts_items, group_items, heading_item}
 use Rattle.twp_grammar.specs.Items.{BeginWithSections}

@@ -1,7 +1,7 @@
 -- The places that the items of a description name. A place is one of its section's, by column from
 -- the east and row from the south; g is how many binary digits each of both has.
-use Rattle.std.specs.Prelude.{ℕ, ◌==◌, ◌&&◌, nat_le, Bool, true, false, List, [], ◌∷◌, Option, Some, None}
-use Rattle.std.specs.Prelude.{map, ◌≡◌, ◌+◌, ◌≤◌, ◌<◌}
+use Rattle.std.specs.Prelude.{ℕ, ◌==◌, ◌&&◌, nat_le, Bool, true, false, List, [], ◌∷◌, Option, Some}
+use Rattle.std.specs.Prelude.{None, map}
 use Rattle.std.specs.List.{list_any}
 use Rattle.twp_grid.specs.Places.{is_place, binary, begins}
 use Rattle.twp_grid.specs.Cuts.{Cut, rows_asked, columns_asked}
@@ -11,7 +11,6 @@ use Rattle.twp_grammar.specs.declared.item.Item.{Item}
 use Rattle.twp_grammar.specs.declared.item.Item.TheVariants.{Heading, Sections, Lots, Chain, All}
 use Rattle.twp_grammar.specs.declared.item.Step.{Step}
 use Rattle.twp_grammar.specs.declared.item.Step.TheVariants.{Half, Quarter}
-use Rattle.twp_grammar.specs.declared.item.Item.TheVariants as item
 
 -- the half or the quarter that a step of an aliquot part takes
 abbrev pub cut_of : Step → Cut

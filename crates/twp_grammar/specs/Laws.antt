@@ -1,5 +1,5 @@
 -- Laws over the definitions of tokens, sentences and items.
-use Rattle.std.specs.Prelude.{◌≡◌, ℕ, ◌↔◌, List, [], ◌∷◌, ◌++◌}
+use Rattle.std.specs.Prelude.{◌≡◌, ℕ, ◌↔◌, List, [], ◌∷◌}
 use Rattle.twp_grammar.specs.declared.item.Item.{Item}
 use Rattle.twp_grammar.specs.Tokens.{Token, HasTokens}
 use Rattle.twp_grammar.specs.Grammar.{entries, several, number, description}

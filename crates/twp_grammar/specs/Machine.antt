@@ -1,8 +1,7 @@
 -- The least machine that takes the sentences: what may stand behind a beginning of one. proofs/Table
 -- shows that it is the grammar's.
-use Rattle.std.specs.Prelude.{if◌then◌else◌, Bool, true, false, [], ◌∷◌, ◌++◌, Option}
+use Rattle.std.specs.Prelude.{Bool, true, false, Option}
 use Rattle.std.specs.Prelude.{Some, None}
-use Rattle.twp_grammar.specs.declared.item.Step.{Step}
 use Rattle.twp_grammar.specs.declared.state.State.{State}
 use Rattle.twp_grammar.specs.declared.state.State.TheVariants as past
 use Rattle.twp_grammar.specs.Grammar.{Class, sec, lot, all, and, to, inclusive, of, the, t}

@@ -1,10 +1,9 @@
 -- Which lists of tokens are descriptions, and where one that isn't goes wrong; and which texts are
 -- read as items.
-use Rattle.std.specs.Prelude.{◌≡◌, ℕ, ◌+◌, ◌≤◌, ◌<◌, List, ◌∷◌, ◌++◌, length, take, [], ⊤}
+use Rattle.std.specs.Prelude.{◌≡◌, ℕ, ◌+◌, ◌≤◌, ◌<◌, List, ◌∷◌, ◌++◌, length, take}
 use Rattle.twp_grammar.specs.declared.item.Item.{Item}
 use Rattle.twp_grammar.specs.Tokens.{Token, HasTokens}
 use Rattle.twp_grammar.specs.Grammar.{Class, class_of, description}
-use Rattle.twp_grammar.specs.Expected.{named}
 use Rattle.twp_grammar.specs.Items as derived
 
 -- the grammar derives the tokens, and these are the items

@@ -70,9 +70,10 @@ impl Steps {
 
     /// The first steps, which stand beside each other: all of them, or eight.
     #[inline]
-    #[tactic(auto, using(crate::proofs::StepFacts::in_first))]
+    #[tactic(auto, using(crate::proofs::StepFacts::in_first, crate::proofs::StepFacts::all_first))]
     pub fn first(&self) -> &[Step]
         ensures within { length result.now ≤ length self.now }
+        ensures all { length result.now < 8 → length result.now ≡ length self.now }
         ensures front { (index : ℕ) → index < length result.now
             → slice_get self.now index ≡ slice_get result.now index }
     {

@@ -1,7 +1,6 @@
 -- Blocks that share a place, and the blocks of lots.
-use Rattle.std.proofs.Common.{◌≡◌, ◌==◌, ℕ, ◌+◌, ◌-◌, ◌<◌, ◌≤◌, ◌&&◌, ◌||◌, ◌⊎◌, true, Some, ◌∙◌, arith}
-use Rattle.std.proofs.Common.{if◌then◌else◌, ◌/◌, ◌%◌, ◌↔◌, Bool, Option, None, refl, sym, ap, inl, inr}
-use Rattle.std.proofs.Common.{nat_le, nat_lt, is_some, IsSome, IsTrue}
+use Rattle.std.proofs.Common.{◌≡◌, ◌==◌, ℕ, ◌+◌, ◌<◌, ◌≤◌, ◌⊎◌, true, Some, ◌∙◌, arith, ◌/◌, ◌%◌, ◌↔◌, Bool}
+use Rattle.std.proofs.Common.{Option, None, refl, sym, ap, inl, inr, nat_le, nat_lt, is_some, IsSome, IsTrue}
 use Rattle.std.proofs.lemmas.Bool.Decides.{nat_tests}
 use Rattle.twp_grid.specs.Winding.{IsSection}
 use Rattle.twp_grid.specs.Places.{PLACE_DIGITS, is_place, position_along}

@@ -1,5 +1,5 @@
 -- Lands that hold each lot whole or not at all, and blocks that hold a place of one.
-use Rattle.std.specs.Prelude.{◌≡◌, ℕ, Bool, Option, Some, ◌==◌, ◌&&◌, ◌+◌, ◌≤◌, ◌<◌, true, IsSome}
+use Rattle.std.specs.Prelude.{◌≡◌, ℕ, Bool, Option, Some, ◌+◌, ◌<◌, true, IsSome}
 use Rattle.twp_grid.specs.Winding.{IsSection}
 use Rattle.twp_grid.specs.Lots.{lot_at_position}
 use Rattle.twp_grid.specs.Places.{position_along}

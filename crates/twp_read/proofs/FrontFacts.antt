@@ -25,7 +25,7 @@ use Rattle.std.specs.Option.{is_some}
 use Rattle.twp_grammar.specs.Grammar.{class_of, sec, lot, stop, comma, number}
 use Rattle.twp_grammar.specs.Machine.{next}
 use Rattle.twp_read.specs.TokenSteps.{take_token, take_township, take_number, before_parts, with_newest}
-use Rattle.twp_read.specs.Passing.{Leads, IsNumberBehind}
+use Rattle.twp_read.specs.Usual.{Leads, IsNumberBehind}
 use Rattle.twp_read.proofs.Leading.{IsMark, the_comma, mark_leads, made, leads_token, leads_space, leads_then}
 use Rattle.twp_read.proofs.Leading.{left_behind, white_leads}
 

@@ -8,7 +8,7 @@ pub mod WhiteFacts
 pub mod ReaderFacts
 pub mod Leading
 pub mod StandingSteps
-pub mod PassingFacts
+pub mod UsualFacts
 pub mod FrontFacts
 pub mod NumberFacts
 pub mod OneAnswer

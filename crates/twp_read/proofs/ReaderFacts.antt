@@ -1,20 +1,17 @@
 -- What the reader knows between two tokens, and what follows from it where it ends.
-use Rattle.std.proofs.Common.{◌≡◌, ◌<◌, ℕ, ◌+◌, ◌≤◌, Bool, true, false, List, [], ◌∷◌, ◌++◌, Option, Some}
-use Rattle.std.proofs.Common.{None, IsSomeAnd, length, map, reverse, refl, sym, ap, subst, ◌∙◌, inl, inr}
-use Rattle.std.proofs.Common.{append_assoc, arith, drop, length-append, length-drop}
-use Rattle.std.specs.List.{AllPass, flat_map}
+use Rattle.std.proofs.Common.{◌≡◌, ◌<◌, ℕ, ◌+◌, ◌≤◌, true, false, List, [], ◌∷◌, ◌++◌, Option, Some, None}
+use Rattle.std.proofs.Common.{IsSomeAnd, length, reverse, refl, sym, ap, subst, ◌∙◌, append_assoc, arith}
+use Rattle.std.proofs.Common.{drop, length-append, length-drop}
+use Rattle.std.specs.List.{AllPass}
 use Rattle.std.proofs.lemmas.List.{append-nil, reverse-append, take_all}
 use Rattle.std.proofs.Math.Seq.{take-append_seam}
 use Rattle.twp_grammar.specs.declared.item.Item.{Item}
-use Rattle.twp_grammar.specs.declared.item.Item.TheVariants as item
 use Rattle.twp_grammar.specs.declared.state.State.{State}
 use Rattle.twp_grammar.specs.declared.state.State.TheVariants.{Start}
 use Rattle.twp_grid.specs.declared.refusal.Refusal.{Refusal}
 use Rattle.twp_grammar.specs.Tokens.{Token, StartsWith, HasTokens, is_white}
-use Rattle.twp_grammar.specs.Grammar.{Class, class_of, bad_byte, bad_number, heading, description}
-use Rattle.twp_grammar.specs.declared.item.Numeral.{Numeral}
-use Rattle.twp_grammar.specs.Items.{Tree, ◌&◌, behind, items, numeral, end_of, range_of, whole_sections_item}
-use Rattle.twp_grammar.specs.Items.{parts_items, group_items, heading_item, BeginWithSections}
+use Rattle.twp_grammar.specs.Grammar.{Class, class_of, bad_byte, bad_number}
+use Rattle.twp_grammar.specs.Items.{behind, BeginWithSections}
 use Rattle.twp_grammar.specs.Sentences.{IsSentence, HasItems, MayFollow}
 use Rattle.twp_grammar.specs.Machine.{next, is_final}
 use Rattle.twp_read.specs.TokenSteps.{take_token, run}
@@ -27,9 +24,10 @@ use Rattle.twp_grammar.specs.Expected.{expected_of}
 use Rattle.twp_read.specs.TextFaults.{refusal_of, fault_of_bad, refusal, number_of_bad, NoneBad, place_of}
 use Rattle.twp_read.specs.TextFaults.{IsBadToken, IsSyntaxFault, GoesWrong, Helps, HasNoneBad}
 use Rattle.twp_grammar.specs.Sentences.{TEXT_LIMIT, IsReadAs}
-use Rattle.twp_read.specs.Passing.{HasNoneBadBefore}
+use Rattle.twp_read.specs.Usual.{HasNoneBadBefore}
 use Rattle.twp_grammar.proofs.Table.{takes_no_bad_byte, takes_no_bad_number}
 use Rattle.twp_grammar.proofs.TokenFacts.{one_token_list, has_token_list}
+use Rattle.twp_grammar.proofs.TreeFacts.{tree_begins}
 use Rattle.twp_read.proofs.ListWalk.{newest_first}
 use Rattle.twp_read.proofs.Reading.{ended, go_on, run-append, accepted, fault_here, fault_at_end}
 use Rattle.twp_read.proofs.Reading.{what_follows, what_is_told}
@@ -164,29 +162,6 @@ read_whole text at bytes state its f white final limit = record {
       subst (λ (js : List Item). HasItems f.tokens js) (turned_round its [] ∙ append-nil (reverse its))
       (accepted f.tokens state its f.walked final);
 }
-
--- a sentence names sections first
-behind_heading : (h : Tree heading) (first last : Numeral) (whole : Bool) (more : List Item)
-    → BeginWithSections (heading_item h ∷ item.Sections first last whole ∷ more)
-behind_heading (letter & st & n & side & st2 & c & r & st3 & m & way & st4 & c2) first last whole more = tt
-
-pub tree_begins : (v : Tree description) → BeginWithSections (items v)
-tree_begins (inl h & inl (word & st & n & inl (mark & v)) & more & end) =
-    behind_heading h (numeral n) (numeral n) false
-    (parts_items v ++ flat_map (behind (behind group_items)) more)
-tree_begins (inl h & inl (word & st & n & inr _) & more & end) =
-    behind_heading h (numeral n) (numeral n) true (flat_map (behind (behind group_items)) more)
-tree_begins (inl h & inr (word & st & (n & inl thru & others) & w) & more & end) =
-    behind_heading h (numeral n) (end_of thru) true
-    (map whole_sections_item (map (behind range_of) others) ++ flat_map (behind (behind group_items)) more)
-tree_begins (inl h & inr (word & st & (n & inr (s & second) & others) & w) & more & end) =
-    behind_heading h (numeral n) (numeral n) true
-    (whole_sections_item (range_of second) ∷ map whole_sections_item (map (behind range_of) others)
-    ++ flat_map (behind (behind group_items)) more)
-tree_begins (inr _ & inl (word & st & n & inl (mark & v)) & more & end) = tt
-tree_begins (inr _ & inl (word & st & n & inr _) & more & end) = tt
-tree_begins (inr _ & inr (word & st & (n & inl thru & others) & w) & more & end) = tt
-tree_begins (inr _ & inr (word & st & (n & inr (s & second) & others) & w) & more & end) = tt
 
 pub begins : (text : List ℕ) (its : List Item) → IsReadAs text its → BeginWithSections its
 begins text its read =

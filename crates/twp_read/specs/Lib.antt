@@ -1,4 +1,4 @@
 pub mod TextFaults
-pub mod Passing
+pub mod Usual
 pub mod Laws
 pub mod TokenSteps

@@ -12,7 +12,7 @@ use Rattle.twp_read.specs.declared.change.Change.{Change}
 use Rattle.twp_grammar.specs.Items.{north_or_south, east_or_west}
 use Rattle.twp_grammar.specs.declared.state.State.{State}
 use Rattle.twp_grammar.specs.Tokens.{Token}
-use Rattle.twp_grammar.specs.Grammar.{class_of, lot, all, and, of, the, half, number}
+use Rattle.twp_grammar.specs.Grammar.{class_of}
 use Rattle.twp_grammar.specs.Machine.{next, is_in_chain}
 use Rattle.twp_grid.specs.declared.township.NorthSouth.TheVariants as ns
 use Rattle.twp_grid.specs.declared.township.EastWest.TheVariants as ew

@@ -2,15 +2,15 @@ ghost use Rattle.std.specs.Prelude.{◌≡◌, ◌≤◌, List, length, IfOk, If
 ghost use Rattle.std.specs.Prelude.{MatchOption, MatchResult};
 ghost use Rattle.twp_read.specs.TextFaults.{refusal_of, fault_of_bad, HasNoneBad, GoesWrong, Helps};
 ghost use Rattle.twp_read.specs.TextFaults.{IsBadToken, IsFirstTextFault};
-ghost use Rattle.twp_read.specs.Passing.{HasNoneBadBefore};
+ghost use Rattle.twp_read.specs.Usual.{HasNoneBadBefore};
 
 use crate::fault::{TEXT_LIMIT, TextFault};
 use crate::items::Items;
-use crate::passing::behind_fraction;
+use crate::reached::Reached;
 use crate::token::{Tokens, first_token};
 use std::alloc::Global;
 use std::marker::Model;
-use twp_grammar::{Expected, Item, Kind};
+use twp_grammar::{Expected, Item, Kind, State};
 
 /// There is room from the start for an item for each so many bytes: fine aliquot parts take some
 /// twenty.
@@ -64,7 +64,10 @@ impl Description {
         ensures helps { IfErr result (Helps text.now) }
     {
         let mut items = Items::with_room(alloc, text.len() / BYTES_TO_ITEM)?;
-        let mut reached = items.take_heading(text)?;
+        let mut reached = Reached {
+            at: 0,
+            state: State::Start,
+        };
         'tokens: loop {
             reached = items.take_usual(alloc, text, reached)?;
             let Some(token) = first_token(text, reached.at) else {
@@ -74,7 +77,10 @@ impl Description {
                 return Err(fault_of(text, reached.at, token.at, reached.state.expected()));
             };
             items.take(alloc, reached.state, token.kind, token.at as u32)?;
-            reached = behind_fraction(text, token.at + token.text.len(), behind);
+            reached = Reached {
+                at: token.at + token.text.len(),
+                state: behind,
+            };
         }
         if !reached.state.is_final() {
             return Err(fault_of(text, reached.at, text.len(), reached.state.expected()));

@@ -1,18 +1,8 @@
 ghost use Rattle.std.specs.Prelude.{◌≡◌, ◌≤◌, ◌∷◌, ◌+◌, [], length, IfOk, OnOk};
 ghost use Rattle.twp_grammar.specs.Items.{north_or_south, east_or_west};
-ghost use Rattle.twp_read.specs.Passing.{Leads, IsStepAt};
 ghost use Rattle.twp_grammar.specs.declared.item.Item.{Item};
-ghost use Rattle.twp_grammar.specs.Sentences.{TEXT_LIMIT};
 
 use crate::change::{Change, change_item};
-use crate::growing::take_more_steps;
-use crate::numbers::{
-    COMMA, Listed, ahead, behind_joining_word, behind_list_comma, number_at, number_behind,
-};
-use crate::passing::{
-    Reached, UsualStep, ahead_of_part, behind_and, behind_step, goes_on, step_at,
-};
-use crate::white::behind_white;
 use std::alloc::{AllocError, Global};
 use std::marker::Model;
 use twp_grammar::{Item, Kind, Numeral, State, Step, Steps};
@@ -21,7 +11,7 @@ use twp_grid::{Corner, EastWest, NorthSouth, Side};
 /// The items of the tokens so far. Contracts see them with the newest first.
 #[derive(Drop)]
 pub struct Items {
-    items: Vec<Item>,
+    pub(crate) items: Vec<Item>,
 }
 
 impl Model for Items {
@@ -65,8 +55,9 @@ impl Items {
         Ok(())
     }
 
+    /// Changes the newest item, if there is one.
     #[inline(always)]
-    fn change(&mut self, change: Change) -> Result<(), AllocError>
+    pub(crate) fn change(&mut self, change: Change) -> Result<(), AllocError>
         ensures { OnOk result (self.new ≡ with_newest change self.old) }
     {
         let Some(item) = self.items.last_mut() else {
@@ -174,167 +165,14 @@ impl Items {
         }
     }
 
-    /// Takes what stands next, as long as it is spelled as is usual: as it stands, and not token by
-    /// token. Gives the place that is reached so, and the state there.
-    #[inline(always)]
-    pub fn take_usual(
-        &mut self,
-        alloc: Global,
-        text: &[u8],
-        from: Reached,
-    ) -> Result<Reached, AllocError>
-        requires place { from.at ≤ length text.now }
-        requires limit { length text.now ≤ TEXT_LIMIT }
-        ensures { IfOk result
-            (λ to. Leads text.now from.at from.state self.old to.at to.state self.new) }
-    {
-        let section = self.take_section(text, from)?;
-        let lots = self.take_lots(text, section)?;
-        let list = self.take_list(text, lots)?;
-        self.take_parts(alloc, text, list)
-    }
-
-    /// Takes the numbers that a list of lots or of sections goes on with, and what joins them.
-    #[inline(always)]
-    fn take_list(&mut self, text: &[u8], from: Reached) -> Result<Reached, AllocError>
-        requires place { from.at ≤ length text.now }
-        requires limit { length text.now ≤ TEXT_LIMIT }
-        ensures { IfOk result
-            (λ to. Leads text.now from.at from.state self.old to.at to.state self.new) }
-    {
-        if Listed::in_state(from.state).is_none() {
-            return Ok(from);
-        }
-        let mut reached = self.take_numbers(text, from)?;
-        'words: while let Some(word) = behind_joining_word(text, reached) {
-            let joined = self.take_joined(text, word)?;
-            reached = self.take_numbers(text, joined)?;
-        }
-        Ok(reached)
-    }
-
-    /// Takes the numbers that a list goes on with, as long as each stands behind a comma, and a
-    /// comma behind the last of them.
-    #[inline(always)]
-    fn take_numbers(&mut self, text: &[u8], from: Reached) -> Result<Reached, AllocError>
-        requires place { from.at ≤ length text.now }
-        requires limit { length text.now ≤ TEXT_LIMIT }
-        ensures { IfOk result
-            (λ to. Leads text.now from.at from.state self.old to.at to.state self.new) }
-    {
-        let Some(list) = Listed::in_state(from.state) else {
-            return Ok(from);
-        };
-        let mut reached = ahead(text, from);
-        'numbers: while goes_on(text, reached.at, b",") {
-            let next = behind_white(text, reached.at + COMMA);
-            let Some(number) = number_at(text, next) else {
-                return Ok(behind_list_comma(text, reached, next));
-            };
-            self.push(list.entry(number.numeral))?;
-            let behind = Reached {
-                at: number.end,
-                state: list.state(),
-            };
-            reached = ahead(text, behind);
-        }
-        Ok(reached)
-    }
-
-    /// Takes the number behind a word that joins it to a list, if one stands there.
-    #[inline(always)]
-    fn take_joined(&mut self, text: &[u8], word: Reached) -> Result<Reached, AllocError>
-        requires place { word.at ≤ length text.now }
-        requires limit { length text.now ≤ TEXT_LIMIT }
-        ensures { IfOk result
-            (λ to. Leads text.now word.at word.state self.old to.at to.state self.new) }
-    {
-        let Some(number) = number_behind(text, word.at) else {
-            return Ok(word);
-        };
-        if let Some(list) = Listed::behind_and(word.state) {
-            self.push(list.entry(number.numeral))?;
-            return Ok(Reached {
-                at: number.end,
-                state: list.state(),
-            });
-        }
-        let Some(list) = Listed::behind_to(word.state) else {
-            return Ok(word);
-        };
-        self.change(Change::Last(number.numeral))?;
-        Ok(Reached {
-            at: number.end,
-            state: list.last_state(),
-        })
-    }
-
-    /// Takes what stands next of a chain, and the parts behind it, as long as each step is spelled
-    /// as is usual.
-    #[inline(always)]
-    fn take_parts(
-        &mut self,
-        alloc: Global,
-        text: &[u8],
-        from: Reached,
-    ) -> Result<Reached, AllocError>
-        requires place { from.at ≤ length text.now }
-        requires limit { length text.now ≤ TEXT_LIMIT }
-        ensures { IfOk result
-            (λ to. Leads text.now from.at from.state self.old to.at to.state self.new) }
-    {
-        let begun = self.take_more(text, from)?;
-        let mut reached = ahead_of_part(text, begun);
-        while reached.state.begins_part() {
-            if let Some(first) = step_at(text, reached.at) {
-                self.before_parts(reached.state)?;
-                reached = self.take_chain(alloc, text, reached.at, first)?;
-            } else if let Some(behind) = behind_and(text, reached) {
-                reached = behind;
-            } else {
-                break;
-            }
-        }
-        Ok(reached)
-    }
-
-    /// Takes what the newest item goes on by, where it is a chain that may go on.
-    #[inline(always)]
-    fn take_more(&mut self, text: &[u8], from: Reached) -> Result<Reached, AllocError>
-        requires { from.at ≤ length text.now }
-        ensures { IfOk result
-            (λ to. Leads text.now from.at from.state self.old to.at to.state self.new) }
-    {
-        if !from.state.is_in_chain() {
-            return Ok(from);
-        }
-        let Some(item) = self.items.last_mut() else {
-            return Ok(from);
-        };
-        take_more_steps(item, text, from)
-    }
-
-    /// Takes a chain whose first step is known, and the comma behind it.
-    #[inline(always)]
-    fn take_chain(
-        &mut self,
-        alloc: Global,
-        text: &[u8],
-        at: usize,
-        first: UsualStep,
-    ) -> Result<Reached, AllocError>
-        requires first { IsStepAt text.now at first.step first.size }
-        requires limit { length text.now ≤ TEXT_LIMIT }
-        ensures { IfOk result (λ to. Leads text.now (at + first.size) State.Step
-            (Item.Chain (first.step ∷ []) at ∷ self.old) to.at to.state self.new) }
-    {
-        self.push_chain(alloc, first.step, at as u32)?;
-        self.take_more(text, behind_step(at + first.size))
-    }
-
     /// A chain of one step.
     #[inline(always)]
-    fn push_chain(&mut self, alloc: Global, step: Step, at: u32) -> Result<(), AllocError>
+    pub(crate) fn push_chain(
+        &mut self,
+        alloc: Global,
+        step: Step,
+        at: u32,
+    ) -> Result<(), AllocError>
         ensures { OnOk result (self.new ≡ Item.Chain (step ∷ []) at ∷ self.old) }
     {
         let mut steps = Steps::none(alloc);

@@ -6,14 +6,12 @@
 mod change;
 mod description;
 mod fault;
-mod front;
-mod growing;
 mod items;
 pub mod laws;
 mod lexeme;
-mod numbers;
-mod passing;
+mod reached;
 mod token;
+mod usual;
 mod white;
 mod word;
 

@@ -1,8 +1,7 @@
 -- Aliquot parts: the block that their steps leave, and the places of it.
 use Rattle.std.proofs.Common.{Some, slice_get, ◌≡◌, ◌==◌, ℕ, zero, suc, ◌+◌, ◌-◌, ◌^◌, ◌<◌, ◌≤◌, ◌&&◌, Bool}
 use Rattle.std.proofs.Common.{true, false, List, [], ◌∷◌, ◌++◌, length, drop, refl, ap, ◌∙◌, inl, inr, arith}
-use Rattle.std.proofs.Common.{length-append, IfSome, Option, None, nat_lt}
-use Rattle.std.proofs.lemmas.Bool.Decides.{nat_tests}
+use Rattle.std.proofs.Common.{length-append, IfSome, Option, None}
 use Rattle.std.proofs.lemmas.Bool.{cases_Bool}
 use Rattle.std.proofs.Math.Path.{fun_ext}
 use Rattle.std.proofs.Math.Seq.{drop-length}
@@ -14,14 +13,14 @@ use Rattle.twp_grid.specs.Cuts.{Cut, row_asked, column_asked, rows_asked, column
 use Rattle.twp_grid.specs.Cuts.{reached}
 use Rattle.twp_grid.specs.Cuts.Cut.{half, quarter}
 use Rattle.twp_grid.specs.Places.{is_place}
-use Rattle.twp_grid.specs.Spans.{Span, in_span, Rectangle, whole_block}
+use Rattle.twp_grid.specs.Spans.{Rectangle, whole_block}
 use Rattle.twp_grid.proofs.CutFacts.{held_as_asked, sides_as_asked}
 use Rattle.twp_land.specs.Lands.{block_places}
 use Rattle.twp_grammar.specs.declared.item.Step.{Step}
 use Rattle.twp_grammar.specs.declared.item.Item.TheVariants.{Chain}
 use Rattle.twp_grammar.specs.ItemPlaces.{cut_of, cuts_of, item_places}
 use Rattle.twp_grammar.specs.ItemPlaces.{item_of}
-use Rattle.twp_resolve.specs.Taking.{CanCut, IsCutTo}
+use Rattle.twp_resolve.specs.ResolvingSteps.{CanCut, IsCutTo}
 use Rattle.twp_grammar.proofs.CutPlaces.{more_left, more_than_one, outside, inside}
 
 axis_more : (g : ℕ) (asked more : List ℕ) (len : ℕ) → length asked ≤ g → len ≡ 2 ^ (g - length asked)

@@ -1,6 +1,6 @@
 -- Ranges of sections and of lots: the places that they name, added block by block.
-use Rattle.std.proofs.Common.{◌≡◌, ◌==◌, ℕ, ◌+◌, ◌-◌, ◌<◌, ◌≤◌, ◌&&◌, ◌||◌, ◌⊎◌, Bool, true, false, Option}
-use Rattle.std.proofs.Common.{Some, None, refl, sym, ap, ◌∙◌, inl, inr, arith, nat_le, nat_lt, IsSome}
+use Rattle.std.proofs.Common.{◌≡◌, ◌==◌, ℕ, ◌-◌, ◌<◌, ◌≤◌, ◌&&◌, ◌||◌, ◌⊎◌, Bool, true, false, Option, Some}
+use Rattle.std.proofs.Common.{None, refl, sym, ap, ◌∙◌, inl, inr, arith, nat_le, nat_lt, IsSome}
 use Rattle.std.proofs.Common.{if◌then◌else◌}
 use Rattle.std.proofs.Math.Path.{fun_ext}
 use Rattle.std.proofs.lemmas.Bool.{cases_Bool, and_parts, eqb-true}
@@ -15,7 +15,7 @@ use Rattle.twp_land.specs.WholeLots.{lot_of_place}
 use Rattle.twp_land.proofs.LotFacts.{block_of}
 use Rattle.twp_grammar.specs.ItemPlaces.{is_lot_from}
 use Rattle.twp_grammar.specs.OnPlat.{HasLot}
-use Rattle.twp_resolve.specs.Taking.{sections_from, lots_from, AreAdded}
+use Rattle.twp_resolve.specs.ResolvingSteps.{sections_from, lots_from, AreAdded}
 use Rattle.twp_land.proofs.LotBlocks.{in_lot_block, share_of_meets, meets_of_share}
 use Rattle.twp_grammar.proofs.CutPlaces.{whole_is_place}
 use Rattle.twp_land.proofs.LotBlocks.{lot_is_place}

@@ -1,5 +1,5 @@
 -- Laws of the places that items name.
-use Rattle.std.specs.Prelude.{◌≡◌, ℕ, ◌↔◌, Bool, List, [], ◌∷◌, ◌++◌, Result}
+use Rattle.std.specs.Prelude.{◌≡◌, ℕ, Bool, List, Result}
 use Rattle.twp_grammar.specs.declared.item.Item.{Item}
 use Rattle.twp_grid.specs.Townships.{Designation}
 use Rattle.twp_resolve.specs.declared.place_fault.PlaceFault.{PlaceFault}

@@ -1,7 +1,6 @@
 -- The first fault of items that don't lie on the plat without overlap.
 use Rattle.std.specs.Prelude.{◌≡◌, ◌≢◌, ◌⊎◌, ℕ, ◌≤◌, ◌<◌, Bool, List, Option, Some}
 use Rattle.std.specs.Prelude.{Result, Ok, Err, slice_get, take}
-use Rattle.std.specs.List.{All}
 use Rattle.twp_grid.specs.Winding.{IsSection}
 use Rattle.twp_grid.specs.Cuts.{AreWithin}
 use Rattle.twp_grid.specs.Townships.{Designation, designation}

@@ -5,18 +5,18 @@ ghost use Rattle.twp_grid.specs.Places.{PLACE_DIGITS};
 ghost use Rattle.twp_grid.specs.Cuts.{AreWithin, part_of, reached};
 ghost use Rattle.twp_grid.specs.Townships.{Designation};
 ghost use Rattle.twp_grammar.specs.ItemPlaces.{cut_of, cuts_of};
-ghost use Rattle.twp_resolve.specs.Taking.{CanCut, IsCutTo, IsTaken, IsFirstFlaw};
+ghost use Rattle.twp_resolve.specs.ResolvingSteps.{CanCut, IsCutTo, IsTaken, IsFirstFlaw};
 ghost use Rattle.twp_grammar.specs.declared.item.Item.TheVariants.{Chain};
 ghost use Rattle.twp_grammar.specs.declared.item.Step.{Step as TakenStep};
 
+use crate::blocks::add_block;
 use crate::place_fault::PlaceFault;
-use crate::taking::add_block;
 use twp_grammar::{Step, Steps};
 use twp_grid::{Block, Section};
 use twp_land::{Land, holds_of_lot};
 
 /// Takes an aliquot part of a section.
-pub(crate) fn take_chain<L: Land>(
+pub(crate) fn resolve_chain<L: Land>(
     land: &mut L,
     section: Section,
     steps: &Steps,
@@ -29,17 +29,17 @@ pub(crate) fn take_chain<L: Land>(
         → IsFirstFlaw PLACE_DIGITS township section (Chain steps.now at) (L.places land.old) fault) }
 {
     if let Some(place) = place_of(steps) {
-        return take_block(land, section, place, at);
+        return resolve_block(land, section, place, at);
     }
     let Some(block) = block_of(steps) else {
         return Err(PlaceFault::TooFine { at });
     };
-    take_block(land, section, block, at)
+    resolve_block(land, section, block, at)
 }
 
 /// Takes the block that an aliquot part's steps leave of a section.
 #[inline(always)]
-fn take_block<L: Land>(
+fn resolve_block<L: Land>(
     land: &mut L,
     section: Section,
     block: Block,

@@ -2,12 +2,12 @@
 //! don't lie on it without overlap.
 #![tactic(auto)]
 
+mod blocks;
 mod chain;
 pub mod laws;
 mod place_fault;
 mod ranges;
 mod resolving;
-mod taking;
 
 pub use place_fault::PlaceFault;
 pub use resolving::{resolve, resolve_into};

@@ -5,18 +5,18 @@ ghost use Rattle.twp_grid.specs.Townships.{Designation};
 ghost use Rattle.twp_grid.specs.Winding.{IsSection};
 ghost use Rattle.twp_land.specs.Lands.{SharePlace};
 ghost use Rattle.twp_grammar.specs.OnPlat.{HasLot};
-ghost use Rattle.twp_resolve.specs.Taking.{sections_from, lots_from, AreAdded, IsTaken, IsFirstFlaw};
+ghost use Rattle.twp_resolve.specs.ResolvingSteps.{sections_from, lots_from, AreAdded, IsTaken, IsFirstFlaw};
 ghost use Rattle.twp_grammar.specs.declared.item.Item.TheVariants.{Sections, Lots};
 
+use crate::blocks::add_block;
 use crate::place_fault::PlaceFault;
-use crate::taking::add_block;
 use twp_grammar::Numeral;
 use twp_grid::{Block, Section, lot_count};
 use twp_land::Land;
 
 /// Takes the sections from the first to the last, and gives the first. They are added where they
 /// are whole; else parts of the one section follow.
-pub(crate) fn take_sections<L: Land>(
+pub(crate) fn resolve_sections<L: Land>(
     land: &mut L,
     first: Numeral,
     last: Numeral,
@@ -41,7 +41,7 @@ pub(crate) fn take_sections<L: Land>(
 }
 
 /// Takes the section's lots from the first to the last.
-pub(crate) fn take_lots<L: Land>(
+pub(crate) fn resolve_lots<L: Land>(
     land: &mut L,
     section: Section,
     first: Numeral,

@@ -1,19 +1,20 @@
-ghost use Rattle.std.specs.Prelude.{◌≡◌, ◌↔◌, ◌⊎◌, IsSome, IfOk, OnOk, IfErr, IsTrue, is_ok};
+ghost use Rattle.std.specs.Prelude.{◌≡◌, ◌≢◌, ◌↔◌, ◌⊎◌, IsSome, IfOk, OnOk, IfErr, IsTrue, is_ok};
 ghost use Rattle.std.specs.Prelude.{MatchResult};
 ghost use Rattle.twp_grid.specs.Places.{PLACE_DIGITS};
-ghost use Rattle.twp_grid.specs.Townships.{Designation};
+ghost use Rattle.twp_grid.specs.Townships.{Designation, designation};
 ghost use Rattle.twp_land.specs.WholeLots.{HasWholeLots};
 ghost use Rattle.twp_grammar.specs.ItemPlaces.{section_behind};
 ghost use Rattle.twp_grammar.specs.OnPlat.{AreOnPlat, IsLandOfItems};
 ghost use Rattle.twp_resolve.specs.PlaceFaults.{IsFirstPlaceFault};
-ghost use Rattle.twp_resolve.specs.Taking.{IsTaken, IsFirstFlaw, IsBeforeParts, number_of_section};
+ghost use Rattle.twp_resolve.specs.ResolvingSteps.{IsTaken, IsFirstFlaw, IsBeforeParts};
+ghost use Rattle.twp_resolve.specs.ResolvingSteps.{number_of_section};
 
-use crate::chain::take_chain;
+use crate::blocks::add_block;
+use crate::chain::resolve_chain;
 use crate::place_fault::PlaceFault;
-use crate::ranges::{take_lots, take_sections};
-use crate::taking::{add_block, take_heading};
+use crate::ranges::{resolve_lots, resolve_sections};
 use twp_grammar::Item;
-use twp_grid::{Block, Section, Township};
+use twp_grid::{Block, EastWest, NorthSouth, Section, Township};
 use twp_land::Land;
 use twp_read::Description;
 
@@ -50,13 +51,13 @@ pub fn resolve_into<L: Land>(
     let mut section = None;
     land.clear();
     for item in items {
-        section = take_item(land, section, item, township)?;
+        section = resolve_item(land, section, item, township)?;
     }
     Ok(())
 }
 
 /// Takes an item into the land of the items before it, and gives the section of what follows.
-fn take_item<L: Land>(
+fn resolve_item<L: Land>(
     land: &mut L,
     section: Option<Section>,
     item: &Item,
@@ -77,15 +78,40 @@ fn take_item<L: Land>(
             range,
             east_west,
             at,
-        } => take_heading(*number, *north_south, *range, *east_west, *at, township)?,
+        } => resolve_heading(*number, *north_south, *range, *east_west, *at, township)?,
         Item::Sections { first, last, whole } => {
-            return Ok(Some(take_sections(land, *first, *last, *whole)?));
+            return Ok(Some(resolve_sections(land, *first, *last, *whole)?));
         }
-        Item::Lots { first, last } => take_lots(land, section.unwrap(), *first, *last)?,
-        Item::Chain { steps, at } => take_chain(land, section.unwrap(), steps, *at)?,
+        Item::Lots { first, last } => resolve_lots(land, section.unwrap(), *first, *last)?,
+        Item::Chain { steps, at } => resolve_chain(land, section.unwrap(), steps, *at)?,
         Item::All { at } => add_block(land, section.unwrap(), Block::whole(), *at)?,
     }
     Ok(section)
+}
+
+/// Resolves a heading: it names the township of the plat, or it is refused.
+fn resolve_heading(
+    number: u16,
+    north_south: NorthSouth,
+    range: u16,
+    east_west: EastWest,
+    at: u32,
+    township: Township,
+) -> Result<(), PlaceFault>
+    ensures { MatchResult result
+        (λ _. designation number north_south range east_west ≡ township)
+        (λ fault. (fault ≡ PlaceFault.OtherTownship at)
+        × (designation number north_south range east_west ≢ township)) }
+{
+    if number == u16::from(township.number())
+        && north_south == township.north_south()
+        && range == u16::from(township.range())
+        && east_west == township.east_west()
+    {
+        Ok(())
+    } else {
+        Err(PlaceFault::OtherTownship { at })
+    }
 }
 
 #[cfg(test)]

@@ -5,56 +5,69 @@ use twp_acres::Account;
 
 /// What `township --help` says.
 const PROGRAM_HELP: &str =
-    "Protracts a township from its field notes, and gives the acres of land described on it
+    "Draws a township's plat from its field notes, and gives the acres of land described on it
 
 Usage: township <COMMAND>
 
 Commands:
-  plat    Writes the acres of each lot, of each section and of the whole township
-  acres   Writes the acres of the land that a description names
-  normal  Writes the one canonical spelling of the land that a description names
-  report  Writes the account of a list of tracts: the acres of each, of all, and of the rest
+  plat    Print the acres of each lot, of each section, and of the whole township
+  acres   Print the acres of the land described
+  normal  Print the one canonical spelling of the land described
+  report  Print the acres of each tract in a list, of all of them, and of what remains
   help    Print this message or the help of the given subcommand(s)
 
 Options:
   -h, --help  Print help
+
+Examples:
+  township plat notes.csv
+  township acres notes.csv land.txt
+  township normal notes.csv land.txt
+  township report notes.csv tracts.csv
+
+With no arguments, township reads standard input: a description of land on the
+first line, and then the field notes. It prints the acres.
 ";
 
 /// What `township plat --help` says.
-const PLAT_HELP: &str = "Writes the acres of each lot, of each section and of the whole township
+const PLAT_HELP: &str = "Print the acres of each lot, of each section, and of the whole township
 
 Usage: township plat <NOTES>
 
 Arguments:
-  <NOTES>  field notes of the township's 84 section lines, CSV
+  <NOTES>  Field notes of the township's 84 section lines, as CSV
 
 Options:
   -h, --help  Print help
 ";
 
 /// What `township acres --help` says.
-const ACRES_HELP: &str = "Writes the acres of the land that a description names
+const ACRES_HELP: &str = "Print the acres of the land described
 
 Usage: township acres [OPTIONS] <NOTES> <DESCRIPTION>
 
 Arguments:
-  <NOTES>        field notes of the township's 84 section lines, CSV
-  <DESCRIPTION>  description of land, as: sec. 5, lot 1.
+  <NOTES>        Field notes of the township's 84 section lines, as CSV
+  <DESCRIPTION>  Description of land, such as: sec. 5, lot 1.
 
 Options:
-      --account <ACCOUNT>  how each whole lot counts: by its exact area, or by the acres that the \
-plat prints [default: exact] [possible values: exact, plat]
+      --account <ACCOUNT>  Count each whole lot by its exact area, or by the acres printed on \
+the plat [default: exact] [possible values: exact, plat]
   -h, --help               Print help
+
+Examples:
+  township acres notes.csv land.txt
+  township acres --account plat notes.csv land.txt
 ";
 
 /// What `township normal --help` says.
-const NORMAL_HELP: &str = "Writes the one canonical spelling of the land that a description names
+const NORMAL_HELP: &str = "Print the one canonical spelling of the land described
 
 Usage: township normal <NOTES> <DESCRIPTION>
 
 Arguments:
-  <NOTES>        field notes of the township's 84 section lines, CSV
-  <DESCRIPTION>  description of land, as: sec. 5, lot 1.
+  <NOTES>        Field notes of the township's 84 section lines, as CSV
+  <DESCRIPTION>  Description of land, such as: sec. 5, lot 1.
 
 Options:
   -h, --help  Print help
@@ -62,13 +75,13 @@ Options:
 
 /// What `township report --help` says.
 const REPORT_HELP: &str =
-    "Writes the account of a list of tracts: the acres of each, of all, and of the rest
+    "Print the acres of each tract in a list, of all of them, and of what remains
 
 Usage: township report <NOTES> <TRACTS>
 
 Arguments:
-  <NOTES>   field notes of the township's 84 section lines, CSV
-  <TRACTS>  list of tracts, CSV: a name and a description in each record
+  <NOTES>   Field notes of the township's 84 section lines, as CSV
+  <TRACTS>  List of tracts, as CSV: a name and a description in each record
 
 Options:
   -h, --help  Print help

@@ -6,7 +6,7 @@ use Rattle.twp_cmd.proofs.command.acres.Goals as goal
 
 pub returns-clause-shape : goal.returns-clause-shape
 returns-clause-shape c =
-    let named : app_of c.about.result ≡ new_app (codes "acres") = search rules in
+    let named : app_of c.after_help.result ≡ new_app (codes "acres") = search rules in
     let first = c.in_ok-arg.ensures.shape c.notes.ensures.local ∙ ap₂ with_rule named c.notes.ensures.rule in
     let both =
     c.in_ok-arg-2.ensures.shape c.description.ensures.local

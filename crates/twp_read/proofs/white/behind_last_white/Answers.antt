@@ -1,4 +1,4 @@
-use Rattle.std.proofs.Common.{arith, sym, ◌∙◌}
+use Rattle.std.proofs.Common.{arith, sym}
 use Rattle.twp_read.proofs.WhiteFacts.{one_more_white}
 use Rattle.twp_read.proofs.white.behind_last_white.Goals as goal
 

@@ -5,7 +5,7 @@ use Rattle.std.proofs.lemmas.Result.{err_from_is_err_and}
 use Rattle.twp_grid.specs.Places.{PLACE_DIGITS}
 use Rattle.twp_land.specs.WholeLots.{HasWholeLots}
 use Rattle.twp_grammar.specs.OnPlat.{IsLandOfItems}
-use Rattle.twp_resolve.specs.Taking.{number_of_section}
+use Rattle.twp_resolve.specs.ResolvingSteps.{number_of_section}
 use Rattle.twp_resolve.proofs.LandLots.{land_has_whole_lots}
 use Rattle.twp_resolve.proofs.PlaceAnswers.{no_fault}
 use Rattle.twp_resolve.proofs.ResolvingFacts.{taken_none, taken_next, refused_here, taken_all}
@@ -22,8 +22,8 @@ loop-item-init g c = record {
       (rw c.items-items.ensures.items c.items-items.ensures.sections_first);
 }
 
-pub take_item-requires : goal.take_item-requires
-take_item-requires g c =
+pub resolve_item-requires : goal.resolve_item-requires
+resolve_item-requires g c =
     may_be_taken c.loop-item.section c.items-items.result.now c.loop-item.item-index c.item-item.result
     c.loop-item-test.true (sym c.item-item.is) c.loop-item.invariant.known
 
@@ -58,7 +58,7 @@ loop-item-preserved g c =
     let taken =
     taken_next PLACE_DIGITS c.args.township c.items-items.result.now c.loop-item.item-index
     (number_of_section c.loop-item.section) c.item-item.result (g.L.Land.places c.loop-item.land)
-    (g.L.Land.places c.take_item.new.land)
+    (g.L.Land.places c.resolve_item.new.land)
     c.loop-item-test.true (sym c.item-item.is) so_far.taken c.in_ok-section.ensures.taken in
     record {
       taken = rw c.in_ok-section.ensures.behind taken;

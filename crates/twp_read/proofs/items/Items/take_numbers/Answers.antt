@@ -1,10 +1,10 @@
 -- One more number of the list, or the comma behind the last.
-use Rattle.std.proofs.Common.{◌≡◌, ℕ, ◌+◌, ◌<◌, ◌≤◌, List, length, drop, refl, sym, arith}
+use Rattle.std.proofs.Common.{◌≡◌, ℕ, ◌+◌, ◌<◌, ◌≤◌, List, length, drop, refl, arith}
 use Rattle.std.specs.List.{prefix_len}
 use Rattle.twp_grammar.specs.Tokens.{is_white}
 use Rattle.twp_grammar.specs.declared.item.Item.{Item}
-use Rattle.twp_read.specs.declared.passing.Reached.{Reached}
-use Rattle.twp_read.specs.Passing.{Leads}
+use Rattle.twp_read.specs.declared.reached.Reached.{Reached}
+use Rattle.twp_read.specs.Usual.{Leads}
 use Rattle.twp_read.proofs.Leading.{leads_then}
 use Rattle.twp_read.proofs.NumberFacts.{entry_leads, goes_on_behind}
 use Rattle.twp_read.proofs.items.Items.take_numbers.Goals as goal

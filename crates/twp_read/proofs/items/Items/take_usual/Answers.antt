@@ -1,7 +1,7 @@
 use Rattle.std.proofs.Common.{ℕ, List}
 use Rattle.twp_grammar.specs.declared.item.Item.{Item}
-use Rattle.twp_read.specs.declared.passing.Reached.{Reached}
-use Rattle.twp_read.specs.Passing.{Leads}
+use Rattle.twp_read.specs.declared.reached.Reached.{Reached}
+use Rattle.twp_read.specs.Usual.{Leads}
 use Rattle.twp_read.proofs.NewestItem.{if_ok}
 use Rattle.twp_read.proofs.Leading.{leads_then}
 use Rattle.twp_read.proofs.items.Items.take_usual.Goals as goal
@@ -10,7 +10,9 @@ pub returns : goal.returns
 returns c =
     let text : List ℕ = c.args.text.now in
     let from : Reached = c.args.from in
-    let begun : List Item = c.args.self.now in
+    let before : List Item = c.args.self.now in
+    let begun : Reached = c.in_ok-begun.begun in
+    let with_begun : List Item = c.take_begun.new.self in
     let section : Reached = c.in_ok-section.section in
     let sectioned : List Item = c.take_section.new.self in
     let lots : Reached = c.in_ok-lots.lots in
@@ -20,10 +22,13 @@ returns c =
     let grown : List Item = c.take_parts.new.self in
     if_ok c.take_parts.result
     (λ to. Leads text list.at list.state listed to.at to.state grown)
-    (λ to. Leads text from.at from.state begun to.at to.state grown)
-    (λ to leads. leads_then text from.at from.state begun list.at list.state listed to.at to.state grown
-    (leads_then text from.at from.state begun lots.at lots.state begun_lots list.at list.state listed
-    (leads_then text from.at from.state begun section.at section.state sectioned lots.at lots.state
-    begun_lots c.in_ok-section.ensures c.in_ok-lots.ensures)
-    c.in_ok-list.ensures) leads)
+    (λ to. Leads text from.at from.state before to.at to.state grown)
+    (λ to leads. leads_then text from.at from.state before list.at list.state listed to.at to.state grown
+    (leads_then text from.at from.state before lots.at lots.state begun_lots list.at list.state listed
+    (leads_then text from.at from.state before section.at section.state sectioned lots.at lots.state
+    begun_lots
+    (leads_then text from.at from.state before begun.at begun.state with_begun section.at section.state
+    sectioned
+    c.in_ok-begun.ensures c.in_ok-section.ensures)
+    c.in_ok-lots.ensures) c.in_ok-list.ensures) leads)
     c.take_parts.ensures

@@ -1,0 +1,233 @@
+-- What the reader takes as a whole leads it on as if it were cut token by token.
+use Rattle.std.proofs.Common.{◌≡◌, ◌==◌, ℕ, ◌+◌, Bool, true, List, [], ◌∷◌, ◌++◌, Some, length, drop, refl}
+use Rattle.std.proofs.Common.{sym, ap, subst, ◌∙◌, arith}
+use Rattle.std.specs.List.{starts_with}
+use Rattle.std.specs.Option.{is_some}
+use Rattle.std.proofs.lemmas.Bool.Decides.{Decides-eqb}
+use Rattle.std.proofs.lemmas.List.{drop-drop}
+use Rattle.std.proofs.lemmas.Slice.Eq.{starts_is}
+use Rattle.twp_grid.specs.declared.block.Side.TheVariants as side
+use Rattle.twp_read.specs.declared.change.Change.TheVariants.{Grown}
+use Rattle.twp_grammar.specs.declared.item.Item.{Item}
+use Rattle.twp_grammar.specs.declared.item.Item.TheVariants.{Chain}
+use Rattle.twp_grammar.specs.declared.item.Step.{Step}
+use Rattle.twp_grammar.specs.declared.item.Step.TheVariants as step
+use Rattle.twp_grammar.specs.declared.kind.Kind.{Kind}
+use Rattle.twp_grammar.specs.declared.state.State.{State}
+use Rattle.twp_grammar.specs.declared.state.State.TheVariants as past
+use Rattle.twp_grammar.specs.Grammar.{class_of, lot}
+use Rattle.twp_grammar.specs.Machine.{next, is_in_chain}
+use Rattle.twp_read.specs.TokenSteps.{take_token, with_newest, before_parts}
+use Rattle.twp_read.specs.Usual.{Leads, StandsAt, IsStepAt, letters_of, fraction_of}
+use Rattle.twp_read.proofs.Leading.{leads_then, leads_token}
+
+-- a chain goes on with the letters of a step and with its fraction
+record GrowsBy (state : State) (it : Step) : Type 0 where
+  between : State
+  letters : next state (class_of (letters_of it)) ≡ Some between
+  fraction : next between (class_of (fraction_of it)) ≡ Some past.Step
+  grown : (at : ℕ) (its : List Item) → take_token state (letters_of it) at its ≡ with_newest (Grown it) its
+  kept : (at : ℕ) (its : List Item) → take_token between (fraction_of it) at its ≡ its
+
+grown_by : {state : State} {it : Step} (between : State)
+    → next state (class_of (letters_of it)) ≡ Some between
+    → next between (class_of (fraction_of it)) ≡ Some past.Step
+    → ((at : ℕ) (its : List Item) → take_token state (letters_of it) at its ≡ with_newest (Grown it) its)
+    → ((at : ℕ) (its : List Item) → take_token between (fraction_of it) at its ≡ its)
+    → GrowsBy state it
+grown_by between letters fraction grown kept =
+    record { between = between; letters = letters; fraction = fraction; grown = grown; kept = kept }
+
+grows_by : (state : State) (it : Step) → is_in_chain state ≡ true → GrowsBy state it
+grows_by past.Step (step.Half side.N) h = grown_by past.Side refl refl (λ at its. refl) (λ at its. refl)
+grows_by past.Step (step.Half side.S) h = grown_by past.Side refl refl (λ at its. refl) (λ at its. refl)
+grows_by past.Step (step.Half side.E) h = grown_by past.Side refl refl (λ at its. refl) (λ at its. refl)
+grows_by past.Step (step.Half side.W) h = grown_by past.Side refl refl (λ at its. refl) (λ at its. refl)
+grows_by past.Step (step.Quarter corner) h = grown_by past.Corner refl refl (λ at its. refl) (λ at its. refl)
+grows_by past.Of (step.Half side.N) h = grown_by past.Side refl refl (λ at its. refl) (λ at its. refl)
+grows_by past.Of (step.Half side.S) h = grown_by past.Side refl refl (λ at its. refl) (λ at its. refl)
+grows_by past.Of (step.Half side.E) h = grown_by past.Side refl refl (λ at its. refl) (λ at its. refl)
+grows_by past.Of (step.Half side.W) h = grown_by past.Side refl refl (λ at its. refl) (λ at its. refl)
+grows_by past.Of (step.Quarter corner) h = grown_by past.Corner refl refl (λ at its. refl) (λ at its. refl)
+grows_by past.OfThe (step.Half side.N) h = grown_by past.Side refl refl (λ at its. refl) (λ at its. refl)
+grows_by past.OfThe (step.Half side.S) h = grown_by past.Side refl refl (λ at its. refl) (λ at its. refl)
+grows_by past.OfThe (step.Half side.E) h = grown_by past.Side refl refl (λ at its. refl) (λ at its. refl)
+grows_by past.OfThe (step.Half side.W) h = grown_by past.Side refl refl (λ at its. refl) (λ at its. refl)
+grows_by past.OfThe (step.Quarter corner) h = grown_by past.Corner refl refl (λ at its. refl) (λ at its. refl)
+grows_by _ it h = cc h
+
+stands_leads : (text : List ℕ) (at : ℕ) (state : State) (its : List Item) (kind : Kind) (size : ℕ)
+    (behind : State) (grown : List Item)
+    → StandsAt text at kind size → next state (class_of kind) ≡ Some behind
+    → ((place : ℕ) → take_token state kind place its ≡ grown)
+    → Leads text at state its (at + size) behind grown
+stands_leads text at state its kind size behind grown s is grows =
+    let step_is : next state (class_of s.token.kind) ≡ Some behind =
+    ap (λ k. next state (class_of k)) s.kind_is ∙ is in
+    let grown_is : take_token state s.token.kind s.token.at its ≡ grown =
+    ap (λ k. take_token state k s.token.at its) s.kind_is ∙ grows s.token.at in
+    subst (λ (js : List Item). Leads text at state its (at + size) behind js) grown_is
+    (leads_token text at state its s.token (at + size) behind s.starts s.ends s.within step_is)
+
+-- a chain goes on with a step
+pub step_leads : (text : List ℕ) (from : ℕ) (begun : State) (its : List Item) (at : ℕ) (state : State)
+    (some : List Item) (it : Step) (size : ℕ)
+    → is_in_chain state ≡ true → Leads text from begun its at state some → IsStepAt text at it size
+    → Leads text from begun its (at + size) past.Step (with_newest (Grown it) some)
+step_leads text from begun its at state some it size in_chain so_far s =
+    let by : GrowsBy state it = grows_by state it in_chain in
+    let grown : List Item = with_newest (Grown it) some in
+    let end : (at + s.letters_size) + s.fraction_size ≡ at + size = rw (s.size_is) (omega arith) in
+    let letters : Leads text at state some (at + s.letters_size) by.between grown =
+    stands_leads text at state some (letters_of it) s.letters_size by.between grown s.letters by.letters
+    (λ place. by.grown place some) in
+    let fraction : Leads text (at + s.letters_size) by.between grown
+    ((at + s.letters_size) + s.fraction_size) past.Step grown =
+    stands_leads text (at + s.letters_size) by.between grown (fraction_of it) s.fraction_size past.Step
+    grown s.fraction by.fraction (λ place. by.kept place grown) in
+    leads_then text from begun its at state some (at + size) past.Step grown so_far
+    (subst (λ (n : ℕ). Leads text at state some n past.Step grown) end
+    (leads_then text at state some (at + s.letters_size) by.between grown
+    ((at + s.letters_size) + s.fraction_size) past.Step grown letters fraction))
+
+-- a part begins with the letters of a step and with its fraction
+record BeginsWith (state : State) (it : Step) : Type 0 where
+  between : State
+  letters : next state (class_of (letters_of it)) ≡ Some between
+  fraction : next between (class_of (fraction_of it)) ≡ Some past.Step
+  begun : (at : ℕ) (its : List Item)
+      → take_token state (letters_of it) at its ≡ Chain (it ∷ []) at ∷ before_parts state its
+  kept : (at : ℕ) (its : List Item) → take_token between (fraction_of it) at its ≡ its
+
+begun_by : {state : State} {it : Step} (between : State)
+    → next state (class_of (letters_of it)) ≡ Some between
+    → next between (class_of (fraction_of it)) ≡ Some past.Step
+    → ((at : ℕ) (its : List Item)
+    → take_token state (letters_of it) at its ≡ Chain (it ∷ []) at ∷ before_parts state its)
+    → ((at : ℕ) (its : List Item) → take_token between (fraction_of it) at its ≡ its)
+    → BeginsWith state it
+begun_by between letters fraction begun kept =
+    record { between = between; letters = letters; fraction = fraction; begun = begun; kept = kept }
+
+part_begins_with : (state : State) (it : Step) → is_some (next state lot) ≡ true → BeginsWith state it
+part_begins_with past.SectionNumber (step.Half side.N) h =
+    begun_by past.Side refl refl (λ at its. refl) (λ at its. refl)
+part_begins_with past.SectionNumber (step.Half side.S) h =
+    begun_by past.Side refl refl (λ at its. refl) (λ at its. refl)
+part_begins_with past.SectionNumber (step.Half side.E) h =
+    begun_by past.Side refl refl (λ at its. refl) (λ at its. refl)
+part_begins_with past.SectionNumber (step.Half side.W) h =
+    begun_by past.Side refl refl (λ at its. refl) (λ at its. refl)
+part_begins_with past.SectionNumber (step.Quarter which) h =
+    begun_by past.Corner refl refl (λ at its. refl) (λ at its. refl)
+part_begins_with past.SectionComma (step.Half side.N) h =
+    begun_by past.Side refl refl (λ at its. refl) (λ at its. refl)
+part_begins_with past.SectionComma (step.Half side.S) h =
+    begun_by past.Side refl refl (λ at its. refl) (λ at its. refl)
+part_begins_with past.SectionComma (step.Half side.E) h =
+    begun_by past.Side refl refl (λ at its. refl) (λ at its. refl)
+part_begins_with past.SectionComma (step.Half side.W) h =
+    begun_by past.Side refl refl (λ at its. refl) (λ at its. refl)
+part_begins_with past.SectionComma (step.Quarter which) h =
+    begun_by past.Corner refl refl (λ at its. refl) (λ at its. refl)
+part_begins_with past.LotComma (step.Half side.N) h =
+    begun_by past.Side refl refl (λ at its. refl) (λ at its. refl)
+part_begins_with past.LotComma (step.Half side.S) h =
+    begun_by past.Side refl refl (λ at its. refl) (λ at its. refl)
+part_begins_with past.LotComma (step.Half side.E) h =
+    begun_by past.Side refl refl (λ at its. refl) (λ at its. refl)
+part_begins_with past.LotComma (step.Half side.W) h =
+    begun_by past.Side refl refl (λ at its. refl) (λ at its. refl)
+part_begins_with past.LotComma (step.Quarter which) h =
+    begun_by past.Corner refl refl (λ at its. refl) (λ at its. refl)
+part_begins_with past.LotLastComma (step.Half side.N) h =
+    begun_by past.Side refl refl (λ at its. refl) (λ at its. refl)
+part_begins_with past.LotLastComma (step.Half side.S) h =
+    begun_by past.Side refl refl (λ at its. refl) (λ at its. refl)
+part_begins_with past.LotLastComma (step.Half side.E) h =
+    begun_by past.Side refl refl (λ at its. refl) (λ at its. refl)
+part_begins_with past.LotLastComma (step.Half side.W) h =
+    begun_by past.Side refl refl (λ at its. refl) (λ at its. refl)
+part_begins_with past.LotLastComma (step.Quarter which) h =
+    begun_by past.Corner refl refl (λ at its. refl) (λ at its. refl)
+part_begins_with past.LotAnd (step.Half side.N) h =
+    begun_by past.Side refl refl (λ at its. refl) (λ at its. refl)
+part_begins_with past.LotAnd (step.Half side.S) h =
+    begun_by past.Side refl refl (λ at its. refl) (λ at its. refl)
+part_begins_with past.LotAnd (step.Half side.E) h =
+    begun_by past.Side refl refl (λ at its. refl) (λ at its. refl)
+part_begins_with past.LotAnd (step.Half side.W) h =
+    begun_by past.Side refl refl (λ at its. refl) (λ at its. refl)
+part_begins_with past.LotAnd (step.Quarter which) h =
+    begun_by past.Corner refl refl (λ at its. refl) (λ at its. refl)
+part_begins_with past.BeforePart (step.Half side.N) h =
+    begun_by past.Side refl refl (λ at its. refl) (λ at its. refl)
+part_begins_with past.BeforePart (step.Half side.S) h =
+    begun_by past.Side refl refl (λ at its. refl) (λ at its. refl)
+part_begins_with past.BeforePart (step.Half side.E) h =
+    begun_by past.Side refl refl (λ at its. refl) (λ at its. refl)
+part_begins_with past.BeforePart (step.Half side.W) h =
+    begun_by past.Side refl refl (λ at its. refl) (λ at its. refl)
+part_begins_with past.BeforePart (step.Quarter which) h =
+    begun_by past.Corner refl refl (λ at its. refl) (λ at its. refl)
+part_begins_with past.PartComma (step.Half side.N) h =
+    begun_by past.Side refl refl (λ at its. refl) (λ at its. refl)
+part_begins_with past.PartComma (step.Half side.S) h =
+    begun_by past.Side refl refl (λ at its. refl) (λ at its. refl)
+part_begins_with past.PartComma (step.Half side.E) h =
+    begun_by past.Side refl refl (λ at its. refl) (λ at its. refl)
+part_begins_with past.PartComma (step.Half side.W) h =
+    begun_by past.Side refl refl (λ at its. refl) (λ at its. refl)
+part_begins_with past.PartComma (step.Quarter which) h =
+    begun_by past.Corner refl refl (λ at its. refl) (λ at its. refl)
+part_begins_with _ it h = cc h
+
+-- a token that stands at a place leads on from there
+token_leads : (text : List ℕ) (at : ℕ) (state : State) (its : List Item) (kind : Kind) (size : ℕ)
+    (behind : State) (grown : List Item) (s : StandsAt text at kind size)
+    → next state (class_of kind) ≡ Some behind → take_token state kind at its ≡ grown
+    → Leads text at state its (at + size) behind grown
+token_leads text at state its kind size behind grown s is grows =
+    let step_is : next state (class_of s.token.kind) ≡ Some behind =
+    ap (λ k. next state (class_of k)) s.kind_is ∙ is in
+    let grown_is : take_token state s.token.kind s.token.at its ≡ grown =
+    ap (λ k. take_token state k s.token.at its) s.kind_is
+    ∙ ap (λ n. take_token state kind n its) s.here
+    ∙ grows in
+    subst (λ (js : List Item). Leads text at state its (at + size) behind js) grown_is
+    (leads_token text at state its s.token (at + size) behind s.starts s.ends s.within step_is)
+
+-- the first step of a part leads on, and then what follows the step
+pub first_leads : (text : List ℕ) (at : ℕ) (state : State) (its : List Item) (it : Step) (size to : ℕ)
+    (behind : State) (grown : List Item)
+    → true ≡ is_some (next state lot) → IsStepAt text at it size
+    → Leads text (at + size) past.Step (Chain (it ∷ []) at ∷ before_parts state its) to behind grown
+    → Leads text at state its to behind grown
+first_leads text at state its it size to behind grown begins s more =
+    let by : BeginsWith state it = part_begins_with state it (sym begins) in
+    let begun : List Item = Chain (it ∷ []) at ∷ before_parts state its in
+    let end : (at + s.letters_size) + s.fraction_size ≡ at + size = rw (s.size_is) (omega arith) in
+    let letters : Leads text at state its (at + s.letters_size) by.between begun =
+    token_leads text at state its (letters_of it) s.letters_size by.between begun s.letters by.letters
+    (by.begun at its) in
+    let fraction : Leads text (at + s.letters_size) by.between begun
+    ((at + s.letters_size) + s.fraction_size) past.Step begun =
+    token_leads text (at + s.letters_size) by.between begun (fraction_of it) s.fraction_size past.Step
+    begun s.fraction by.fraction (by.kept (at + s.letters_size) begun) in
+    let both : Leads text at state its (at + size) past.Step begun =
+    subst (λ (n : ℕ). Leads text at state its n past.Step begun) end
+    (leads_then text at state its (at + s.letters_size) by.between begun
+    ((at + s.letters_size) + s.fraction_size) past.Step begun letters fraction) in
+    leads_then text at state its (at + size) past.Step begun to behind grown both more
+
+-- what a test of the bytes at a place says
+pub begins_there : (text : List ℕ) (at : ℕ) (bytes left : List ℕ) (found : Bool) → left ≡ drop at text
+    → found ≡ starts_with ◌==◌ left bytes → found ≡ true
+    → drop at text ≡ bytes ++ drop (at + length bytes) text
+begins_there text at bytes left found left_is value is_true =
+    let spelt : left ≡ bytes ++ drop (length bytes) left =
+    (starts_is Decides-eqb left bytes found value).0 is_true in
+    sym left_is
+    ∙ spelt
+    ∙ ap (λ b. bytes ++ drop (length bytes) b) left_is
+    ∙ ap (λ b. bytes ++ b) (drop-drop (length bytes) at text)

@@ -1,0 +1,16 @@
+use Rattle.std.proofs.Common.{◌≤◌, ℕ, List, ◌∷◌, length, ◌-◌}
+use Rattle.twp_grammar.specs.declared.item.Item.{Item}
+use Rattle.twp_grammar.specs.declared.item.Item.TheVariants.{Chain}
+use Rattle.twp_read.specs.Usual.{Leads}
+use Rattle.twp_read.proofs.usual.chain.take_steps.Given as goal
+
+-- the steps so far led here, wherever their chain begins and whatever stands before it
+abbrev pub invariant-loop-behind : goal.invariant-loop-behind
+invariant-loop-behind l =
+    (l.reached.at ≤ length l.text)
+    × ((place : ℕ) (items : List Item)
+    → Leads l.text l.fn.from.at l.fn.from.state (Chain l.fn.steps place ∷ items)
+    l.reached.at l.reached.state (Chain l.steps place ∷ items))
+
+abbrev pub decreases-loop-behind : goal.decreases-loop-behind
+decreases-loop-behind l = length l.text - l.reached.at

@@ -1,0 +1,8 @@
+use Rattle.twp_read.proofs.Leading.{white_leads}
+use Rattle.twp_read.proofs.usual.part.ahead_of_part.Goals as goal
+
+pub returns : goal.returns
+returns c =
+    λ items.
+    white_leads c.args.text.now c.args.from.at c.behind_white.result c.args.from.state items
+    c.behind_white.ensures.value c.behind_white.ensures.range

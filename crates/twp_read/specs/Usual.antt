@@ -1,0 +1,150 @@
+-- What the reader takes as a whole, though it is several tokens. No public promise speaks of it.
+use Rattle.std.specs.Prelude.{◌≡◌, ◌⊎◌, ◌≤◌, ◌<◌, ℕ, ◌+◌, true, List, [], ◌∷◌, ◌++◌, Option, Some, None}
+use Rattle.std.specs.Prelude.{length}
+use Rattle.std.specs.Prelude.{drop}
+use Rattle.std.specs.List.{prefix_len}
+use Rattle.twp_grid.specs.declared.block.Side.TheVariants as side
+use Rattle.twp_grid.specs.declared.township.NorthSouth.TheVariants as ns
+use Rattle.twp_grid.specs.declared.township.EastWest.TheVariants as ew
+use Rattle.twp_grammar.specs.declared.item.Item.{Item}
+use Rattle.twp_grammar.specs.declared.item.Item.TheVariants.{Lots, Sections}
+use Rattle.twp_grammar.specs.declared.item.Step.{Step}
+use Rattle.twp_grammar.specs.declared.item.Step.TheVariants as step
+use Rattle.twp_grammar.specs.declared.kind.Kind.{Kind}
+use Rattle.twp_grammar.specs.declared.kind.Kind.TheVariants.{NorthSouth, EastWest, Corner, Half}
+use Rattle.twp_grammar.specs.declared.kind.Kind.TheVariants.{Quarter}
+use Rattle.twp_read.specs.declared.usual.list.Listed.{Listed}
+use Rattle.twp_read.specs.declared.usual.list.Listed.TheVariants as listed
+use Rattle.twp_grammar.specs.declared.state.State.{State}
+use Rattle.twp_grammar.specs.declared.state.State.TheVariants as past
+use Rattle.twp_grammar.specs.Tokens.{Token, StartsWith, HasTokens, is_white, kind_among, words}
+use Rattle.twp_grammar.specs.Cutting.{small_letter}
+use Rattle.twp_grammar.specs.declared.item.Numeral.{Numeral}
+use Rattle.twp_grammar.specs.Grammar.{number}
+use Rattle.twp_grammar.specs.Machine.{next}
+use Rattle.twp_read.specs.TokenSteps.{run, take_number}
+use Rattle.twp_read.specs.TextFaults.{NoneBad}
+
+-- The tokens of a text between two places lead the machine from a state and items to others.
+pub record Leads (text : List ℕ) (at : ℕ) (state : State) (items : List Item)
+    (to : ℕ) (behind : State) (grown : List Item) : Type 0 where
+  pub tokens : List Token
+  pub cut : (left : List Token) → HasTokens to (drop to text) left
+      → HasTokens at (drop at text) (tokens ++ left)
+  pub walked : run (Some state) items tokens ≡ Some (behind, grown)
+  pub forward : at ≤ to
+  pub within : to ≤ length text
+
+-- what the letters of a step are, and what its fraction is
+abbrev pub letters_of : Step → Kind
+letters_of (step.Half side.N) = NorthSouth ns.N
+letters_of (step.Half side.S) = NorthSouth ns.S
+letters_of (step.Half side.E) = EastWest ew.E
+letters_of (step.Half side.W) = EastWest ew.W
+letters_of (step.Quarter corner) = Corner corner
+
+abbrev pub fraction_of : Step → Kind
+fraction_of (step.Half side) = Half
+fraction_of (step.Quarter corner) = Quarter
+
+-- where a token ends
+abbrev pub end_of : Token → ℕ
+end_of token = token.at + length token.text
+
+-- at a place of a text stands a token of this kind, as so many bytes
+pub record StandsAt (text : List ℕ) (at : ℕ) (kind : Kind) (size : ℕ) : Type 0 where
+  pub token : Token
+  pub starts : StartsWith at (drop at text) token (drop (at + size) text)
+  pub kind_is : token.kind ≡ kind
+  pub here : token.at ≡ at
+  pub ends : end_of token ≡ at + size
+  pub within : at + size ≤ length text
+
+-- at a place of a text stand the letters of a step, and its fraction right behind them
+pub record IsStepAt (text : List ℕ) (at : ℕ) (step : Step) (size : ℕ) : Type 0 where
+  pub letters_size : ℕ
+  pub letters : StandsAt text at (letters_of step) letters_size
+  pub fraction_size : ℕ
+  pub fraction : StandsAt text (at + letters_size) (fraction_of step) fraction_size
+  pub size_is : size ≡ letters_size + fraction_size
+  pub some : 0 < size
+
+-- a letter is that of a half
+pub record AreHalf (first : ℕ) (it : Step) : Type 0 where
+  pub small : ℕ
+  pub letter : Some small ≡ small_letter first
+  pub letters : kind_among (small ∷ []) words ≡ letters_of it
+  pub fraction : fraction_of it ≡ Half
+
+-- two letters are those of a quarter
+pub record AreQuarter (first second : ℕ) (it : Step) : Type 0 where
+  pub small : ℕ
+  pub letter : Some small ≡ small_letter first
+  pub behind : ℕ
+  pub letter_behind : Some behind ≡ small_letter second
+  pub letters : kind_among (small ∷ behind ∷ []) words ≡ letters_of it
+  pub fraction : fraction_of it ≡ Quarter
+
+-- five bytes begin with a step: with the letter of a half and 1/2 or its sign, or with those of a
+-- quarter and 1/4 or its sign
+abbrev pub BeginWithStep : ℕ → ℕ → ℕ → ℕ → ℕ → Step → ℕ → Type 0
+BeginWithStep first second third fourth fifth it size =
+    (AreHalf first it × (size ≡ 4) × (second ≡ 49) × (third ≡ 47) × (fourth ≡ 50))
+    ⊎ (AreQuarter first second it × (size ≡ 5) × (third ≡ 49) × (fourth ≡ 47) × (fifth ≡ 52))
+    ⊎ (AreHalf first it × (size ≡ 3) × (second ≡ 0xC2) × (third ≡ 0xBD))
+    ⊎ (AreQuarter first second it × (size ≡ 4) × (third ≡ 0xC2) × (fourth ≡ 0xBC))
+
+-- a number is the next token of a text from a place on, and ends at another
+abbrev pub IsNumberBehind : List ℕ → ℕ → Numeral → ℕ → Type 0
+IsNumberBehind text from it end =
+    (state behind : State) (items : List Item) → next state number ≡ Some behind
+    → Leads text from state items end behind (take_number state it items)
+
+-- all the white space from a place on ends at another
+abbrev pub IsBehindWhite : List ℕ → ℕ → ℕ → Type 0
+IsBehindWhite text from at = (at ≡ from + prefix_len is_white (drop from text)) × (at ≤ length text)
+
+-- the item of a number in a list
+abbrev pub entry_of : Listed → Numeral → Item
+entry_of listed.Lots it = Lots it it
+entry_of listed.Sections it = Sections it it true
+
+-- the state behind a number in a list
+abbrev pub state_behind : Listed → State
+state_behind listed.Lots = past.LotNumber
+state_behind listed.Sections = past.ListNumber
+
+-- the state behind the last number of a range in a list
+abbrev pub last_state_behind : Listed → State
+last_state_behind listed.Lots = past.LotLast
+last_state_behind listed.Sections = past.ListLast
+
+-- what a list is of that goes on in a state by a comma and a number
+abbrev pub listed_in : State → Option Listed
+listed_in past.LotNumber = Some listed.Lots
+listed_in past.LotLast = Some listed.Lots
+listed_in past.LotInclusive = Some listed.Lots
+listed_in past.SectionNumber = Some listed.Sections
+listed_in past.ListNumber = Some listed.Sections
+listed_in past.ListLast = Some listed.Sections
+listed_in past.ListInclusive = Some listed.Sections
+listed_in _ = None
+
+-- what a list is of whose next number stands behind `and`
+abbrev pub listed_behind_and : State → Option Listed
+listed_behind_and past.LotAnd = Some listed.Lots
+listed_behind_and past.ListAnd = Some listed.Sections
+listed_behind_and _ = None
+
+-- what a list is of that has a range whose last number stands behind `to`
+abbrev pub listed_behind_to : State → Option Listed
+listed_behind_to past.LotTo = Some listed.Lots
+listed_behind_to past.ListTo = Some listed.Sections
+listed_behind_to _ = None
+
+-- no bad token stands in a text before this place, behind which its other tokens stand
+pub record HasNoneBadBefore (text : List ℕ) (at : ℕ) : Type 0 where
+  pub tokens : List Token
+  pub joins : (left : List Token) → HasTokens at (drop at text) left → HasTokens 0 text (tokens ++ left)
+  pub none_bad : NoneBad tokens
+  pub within : at ≤ length text

@@ -1,0 +1,68 @@
+//! A chain that goes on by steps that are spelled as is usual.
+ghost use Rattle.std.specs.Prelude.{◌≡◌, ◌≤◌, ◌∷◌, ℕ, List, length, true, IfOk};
+ghost use Rattle.twp_grammar.specs.declared.item.Item.{Item};
+ghost use Rattle.twp_grammar.specs.declared.item.Item.TheVariants.{Chain};
+ghost use Rattle.twp_grammar.specs.Machine.{is_in_chain};
+ghost use Rattle.twp_read.specs.Usual.{Leads};
+
+use crate::reached::Reached;
+use crate::usual::part::{behind_comma, behind_of_the};
+use crate::usual::step::step_at;
+use std::alloc::AllocError;
+use twp_grammar::{Item, State, Steps};
+
+/// Takes the steps by which a chain goes on, and the comma behind it.
+#[inline(always)]
+pub fn take_more_steps(item: &mut Item, text: &[u8], from: Reached) -> Result<Reached, AllocError>
+    requires place { from.at ≤ length text.now }
+    requires chain { is_in_chain from.state ≡ true }
+    ensures { IfOk result (λ to. (items : List Item)
+        → Leads text.now from.at from.state (item.old ∷ items)
+        to.at to.state (item.new ∷ items)) }
+{
+    if let Item::Chain { steps, .. } = item {
+        let end = take_steps(steps, text, from)?;
+        return Ok(behind_comma(text, end));
+    }
+    Ok(from)
+}
+
+/// Takes the steps by which a chain goes on, as long as each is spelled as is usual: those that
+/// stand right behind each other, and those behind `of the`.
+#[inline(always)]
+fn take_steps(steps: &mut Steps, text: &[u8], from: Reached) -> Result<Reached, AllocError>
+    requires place { from.at ≤ length text.now }
+    requires chain { is_in_chain from.state ≡ true }
+    ensures within { IfOk result (λ to. to.at ≤ length text.now) }
+    ensures leads { IfOk result (λ to. (place : ℕ) (items : List Item)
+        → Leads text.now from.at from.state (Chain steps.old place ∷ items)
+        to.at to.state (Chain steps.new place ∷ items)) }
+{
+    let mut reached = take_adjoining(steps, text, from)?;
+    while let Some(behind) = behind_of_the(text, reached) {
+        reached = take_adjoining(steps, text, behind)?;
+    }
+    Ok(reached)
+}
+
+/// Takes the steps that stand right behind each other.
+#[inline(always)]
+fn take_adjoining(steps: &mut Steps, text: &[u8], from: Reached) -> Result<Reached, AllocError>
+    requires place { from.at ≤ length text.now }
+    requires chain { is_in_chain from.state ≡ true }
+    ensures within { IfOk result (λ to. to.at ≤ length text.now) }
+    ensures forward { IfOk result (λ to. from.at ≤ to.at) }
+    ensures leads { IfOk result (λ to. (place : ℕ) (items : List Item)
+        → Leads text.now from.at from.state (Chain steps.old place ∷ items)
+        to.at to.state (Chain steps.new place ∷ items)) }
+{
+    let mut reached = from;
+    while let Some(usual) = step_at(text, reached.at) {
+        steps.push(usual.step)?;
+        reached = Reached {
+            at: reached.at + usual.size,
+            state: State::Step,
+        };
+    }
+    Ok(reached)
+}

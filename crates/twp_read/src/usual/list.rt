@@ -1,0 +1,292 @@
+//! Numbers, and how a list of lots or of sections goes on with them.
+ghost use Rattle.std.specs.Prelude.{◌≡◌, ◌≤◌, ◌<◌, ◌+◌, ◌++◌, false, List, length, drop, codes};
+ghost use Rattle.std.specs.Prelude.{IfOk, IfSome, IsTrue};
+ghost use Rattle.twp_grammar.specs.Tokens.{is_white};
+ghost use Rattle.twp_grammar.specs.declared.item.Item.{Item as TakenItem};
+ghost use Rattle.twp_read.specs.Usual.{IsNumberBehind, IsBehindWhite, Leads, entry_of};
+ghost use Rattle.twp_read.specs.Usual.{state_behind, last_state_behind, listed_in};
+ghost use Rattle.twp_read.specs.Usual.{listed_behind_and, listed_behind_to};
+ghost use Rattle.twp_grammar.specs.Sentences.{TEXT_LIMIT};
+
+use crate::change::Change;
+use crate::items::Items;
+use crate::lexeme::{byte_at, digits, lexeme_at};
+use crate::reached::Reached;
+use crate::usual::bytes::goes_on;
+use crate::white::behind_white;
+use std::alloc::AllocError;
+use twp_grammar::{Item, Kind, Numeral, State};
+
+/// How many bytes a comma has.
+const COMMA: usize = 1;
+
+/// A number, and the place behind it.
+#[derive(Clone, Copy)]
+pub struct UsualNumber {
+    pub numeral: Numeral,
+    pub end: usize,
+}
+
+/// What a list is of.
+#[derive(Clone, Copy)]
+pub enum Listed {
+    Lots,
+    Sections,
+}
+
+impl Listed {
+    /// What a list is of that goes on in a state by a comma and a number.
+    #[inline(always)]
+    pub fn in_state(state: State) -> Option<Listed>
+        ensures { result ≡ listed_in state }
+    {
+        match state {
+            State::LotNumber | State::LotLast | State::LotInclusive => Some(Listed::Lots),
+            State::SectionNumber | State::ListNumber => Some(Listed::Sections),
+            State::ListLast | State::ListInclusive => Some(Listed::Sections),
+            _ => None,
+        }
+    }
+
+    /// What a list is of whose next number stands behind `and`.
+    #[inline(always)]
+    pub fn behind_and(state: State) -> Option<Listed>
+        ensures { result ≡ listed_behind_and state }
+    {
+        match state {
+            State::LotAnd => Some(Listed::Lots),
+            State::ListAnd => Some(Listed::Sections),
+            _ => None,
+        }
+    }
+
+    /// What a list is of that has a range whose last number stands behind `to`.
+    #[inline(always)]
+    pub fn behind_to(state: State) -> Option<Listed>
+        ensures { result ≡ listed_behind_to state }
+    {
+        match state {
+            State::LotTo => Some(Listed::Lots),
+            State::ListTo => Some(Listed::Sections),
+            _ => None,
+        }
+    }
+
+    /// The state behind the last number of a range.
+    #[inline(always)]
+    pub fn last_state(self) -> State
+        ensures { result ≡ last_state_behind self }
+    {
+        match self {
+            Listed::Lots => State::LotLast,
+            Listed::Sections => State::ListLast,
+        }
+    }
+
+    /// The item of one of its numbers.
+    #[inline(always)]
+    pub fn entry(self, number: Numeral) -> Item
+        ensures { result ≡ entry_of self number }
+    {
+        match self {
+            Listed::Lots => Item::Lots {
+                first: number,
+                last: number,
+            },
+            Listed::Sections => Item::Sections {
+                first: number,
+                last: number,
+                whole: true,
+            },
+        }
+    }
+
+    /// The state behind one of its numbers.
+    #[inline(always)]
+    pub fn state(self) -> State
+        ensures { result ≡ state_behind self }
+    {
+        match self {
+            Listed::Lots => State::LotNumber,
+            Listed::Sections => State::ListNumber,
+        }
+    }
+}
+
+/// The number that is the next token of a text from a place on.
+#[inline(always)]
+pub fn number_behind(text: &[u8], from: usize) -> Option<UsualNumber>
+    requires place { from ≤ length text.now }
+    requires limit { length text.now ≤ TEXT_LIMIT }
+    ensures number { IfSome result (λ it. IsNumberBehind text.now from it.numeral it.end) }
+    ensures within { IfSome result (λ it. it.end ≤ length text.now) }
+    ensures forward { IfSome result (λ it. from < it.end) }
+{
+    number_at(text, behind_white(text, from))
+}
+
+/// The number that stands right at a place.
+#[inline(always)]
+pub fn number_at(text: &[u8], at: usize) -> Option<UsualNumber>
+    requires place { at ≤ length text.now }
+    requires limit { length text.now ≤ TEXT_LIMIT }
+    ensures number { IfSome result (λ it. IsNumberBehind text.now at it.numeral it.end) }
+    ensures within { IfSome result (λ it. it.end ≤ length text.now) }
+    ensures forward { IfSome result (λ it. at < it.end) }
+{
+    if !byte_at(text, at, 0).is_ascii_digit() {
+        return None;
+    }
+    let number = digits(text, at);
+    let Kind::Number(value) = number.kind else {
+        return None;
+    };
+    Some(UsualNumber {
+        numeral: Numeral {
+            value,
+            at: at as u32,
+        },
+        end: at + number.size,
+    })
+}
+
+/// Passes over white space.
+#[inline(always)]
+pub fn ahead(text: &[u8], from: Reached) -> Reached
+    requires { from.at ≤ length text.now }
+    ensures leads { (items : List TakenItem)
+        → Leads text.now from.at from.state items result.at result.state items }
+    ensures same { result.state ≡ from.state }
+{
+    Reached {
+        at: behind_white(text, from.at),
+        state: from.state,
+    }
+}
+
+/// Passes over a comma and the white space behind it, where the tokens so far may go on by one.
+#[inline(always)]
+pub fn behind_list_comma(text: &[u8], comma: Reached, next: usize) -> Reached
+    requires spelt { drop comma.at text.now ≡ codes "," ++ drop (comma.at + 1) text.now }
+    requires within { comma.at + 1 ≤ length text.now }
+    requires next { IsBehindWhite text.now (comma.at + 1) next }
+    ensures { (items : List TakenItem)
+        → Leads text.now comma.at comma.state items result.at result.state items }
+{
+    match comma.state.next(Kind::Comma) {
+        Some(state) => Reached { at: next, state },
+        None => comma,
+    }
+}
+
+/// The place behind `and`, or behind `to` or a word for it, in letters of any kind, if one stands
+/// right there and the tokens so far may go on by it.
+#[inline(always)]
+pub fn behind_joining_word(text: &[u8], from: Reached) -> Option<Reached>
+    requires { from.at ≤ length text.now }
+    ensures leads { IfSome result (λ word. (items : List TakenItem)
+        → Leads text.now from.at from.state items word.at word.state items) }
+    ensures forward { IfSome result (λ word. from.at < word.at) }
+{
+    if !begins_joining_word(byte_at(text, from.at, 0)) {
+        return None;
+    }
+    let word = lexeme_at(text, from.at);
+    match word.kind {
+        Kind::And => Some(Reached {
+            at: from.at + word.size,
+            state: from.state.next(Kind::And)?,
+        }),
+        Kind::To => Some(Reached {
+            at: from.at + word.size,
+            state: from.state.next(Kind::To)?,
+        }),
+        _ => None,
+    }
+}
+
+/// Whether `and`, `to`, `thru` or `through` may begin with a byte.
+#[inline(always)]
+fn begins_joining_word(byte: u8) -> bool
+    ensures some { IsTrue result → 0 < byte }
+    ensures dark { IsTrue result → is_white byte ≡ false }
+{
+    matches!(byte, b'a' | b't' | b'A' | b'T')
+}
+
+impl Items {
+    /// Takes the numbers that a list of lots or of sections goes on with, and what joins them.
+    #[inline(always)]
+    pub(crate) fn take_list(&mut self, text: &[u8], from: Reached) -> Result<Reached, AllocError>
+        requires place { from.at ≤ length text.now }
+        requires limit { length text.now ≤ TEXT_LIMIT }
+        ensures { IfOk result
+            (λ to. Leads text.now from.at from.state self.old to.at to.state self.new) }
+    {
+        if Listed::in_state(from.state).is_none() {
+            return Ok(from);
+        }
+        let mut reached = self.take_numbers(text, from)?;
+        'words: while let Some(word) = behind_joining_word(text, reached) {
+            let joined = self.take_joined(text, word)?;
+            reached = self.take_numbers(text, joined)?;
+        }
+        Ok(reached)
+    }
+
+    /// Takes the numbers that a list goes on with, as long as each stands behind a comma, and a
+    /// comma behind the last of them.
+    #[inline(always)]
+    fn take_numbers(&mut self, text: &[u8], from: Reached) -> Result<Reached, AllocError>
+        requires place { from.at ≤ length text.now }
+        requires limit { length text.now ≤ TEXT_LIMIT }
+        ensures { IfOk result
+            (λ to. Leads text.now from.at from.state self.old to.at to.state self.new) }
+    {
+        let Some(list) = Listed::in_state(from.state) else {
+            return Ok(from);
+        };
+        let mut reached = ahead(text, from);
+        'numbers: while goes_on(text, reached.at, b",") {
+            let next = behind_white(text, reached.at + COMMA);
+            let Some(number) = number_at(text, next) else {
+                return Ok(behind_list_comma(text, reached, next));
+            };
+            self.push(list.entry(number.numeral))?;
+            let behind = Reached {
+                at: number.end,
+                state: list.state(),
+            };
+            reached = ahead(text, behind);
+        }
+        Ok(reached)
+    }
+
+    /// Takes the number behind a word that joins it to a list, if one stands there.
+    #[inline(always)]
+    fn take_joined(&mut self, text: &[u8], word: Reached) -> Result<Reached, AllocError>
+        requires place { word.at ≤ length text.now }
+        requires limit { length text.now ≤ TEXT_LIMIT }
+        ensures { IfOk result
+            (λ to. Leads text.now word.at word.state self.old to.at to.state self.new) }
+    {
+        let Some(number) = number_behind(text, word.at) else {
+            return Ok(word);
+        };
+        if let Some(list) = Listed::behind_and(word.state) {
+            self.push(list.entry(number.numeral))?;
+            return Ok(Reached {
+                at: number.end,
+                state: list.state(),
+            });
+        }
+        let Some(list) = Listed::behind_to(word.state) else {
+            return Ok(word);
+        };
+        self.change(Change::Last(number.numeral))?;
+        Ok(Reached {
+            at: number.end,
+            state: list.last_state(),
+        })
+    }
+}

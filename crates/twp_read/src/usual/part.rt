@@ -1,0 +1,192 @@
+//! Parts in their usual spelling: their steps, and what stands between them.
+ghost use Rattle.std.specs.Prelude.{◌≡◌, ◌≤◌, ◌<◌, ◌∷◌, ◌+◌, [], true, List, length, IfOk, IfSome};
+ghost use Rattle.twp_grammar.specs.declared.item.Item.{Item as TakenItem};
+ghost use Rattle.twp_grammar.specs.Machine.{is_in_chain};
+ghost use Rattle.twp_grammar.specs.Sentences.{TEXT_LIMIT};
+ghost use Rattle.twp_read.specs.Usual.{Leads, IsStepAt};
+
+use crate::items::Items;
+use crate::reached::Reached;
+use crate::usual::bytes::goes_on;
+use crate::usual::chain::take_more_steps;
+use crate::usual::step::{UsualStep, step_at};
+use crate::white::behind_white;
+use std::alloc::{AllocError, Global};
+use twp_grammar::State;
+
+/// How many bytes a half or a quarter has.
+const FRACTION: usize = 3;
+
+/// How many bytes `of the` has, with a space on either side.
+const OF_THE: usize = 8;
+
+/// How many bytes a comma has.
+const COMMA: usize = 1;
+
+/// How many bytes a comma has, with a space behind it.
+const COMMA_SPACE: usize = 2;
+
+/// How many bytes `and` has, with a space behind it.
+const AND: usize = 4;
+
+impl Items {
+    /// Takes what stands next of a chain, and the parts behind it, as long as each step is spelled
+    /// as is usual.
+    #[inline(always)]
+    pub(crate) fn take_parts(
+        &mut self,
+        alloc: Global,
+        text: &[u8],
+        from: Reached,
+    ) -> Result<Reached, AllocError>
+        requires place { from.at ≤ length text.now }
+        requires limit { length text.now ≤ TEXT_LIMIT }
+        ensures { IfOk result
+            (λ to. Leads text.now from.at from.state self.old to.at to.state self.new) }
+    {
+        let begun = self.take_more(text, from)?;
+        let mut reached = ahead_of_part(text, begun);
+        while reached.state.begins_part() {
+            if let Some(first) = step_at(text, reached.at) {
+                self.before_parts(reached.state)?;
+                reached = self.take_chain(alloc, text, reached.at, first)?;
+            } else if let Some(behind) = behind_and(text, reached) {
+                reached = behind;
+            } else {
+                break;
+            }
+        }
+        Ok(reached)
+    }
+
+    /// Takes what the newest item goes on by, where it is a chain that may go on.
+    #[inline(always)]
+    fn take_more(&mut self, text: &[u8], from: Reached) -> Result<Reached, AllocError>
+        requires { from.at ≤ length text.now }
+        ensures { IfOk result
+            (λ to. Leads text.now from.at from.state self.old to.at to.state self.new) }
+    {
+        if !from.state.is_in_chain() {
+            return Ok(from);
+        }
+        let Some(item) = self.items.last_mut() else {
+            return Ok(from);
+        };
+        take_more_steps(item, text, from)
+    }
+
+    /// Takes a chain whose first step is known, and the comma behind it.
+    #[inline(always)]
+    fn take_chain(
+        &mut self,
+        alloc: Global,
+        text: &[u8],
+        at: usize,
+        first: UsualStep,
+    ) -> Result<Reached, AllocError>
+        requires first { IsStepAt text.now at first.step first.size }
+        requires limit { length text.now ≤ TEXT_LIMIT }
+        ensures { IfOk result (λ to. Leads text.now (at + first.size) State.Step
+            (TakenItem.Chain (first.step ∷ []) at ∷ self.old) to.at to.state self.new) }
+    {
+        self.push_chain(alloc, first.step, at as u32)?;
+        self.take_more(text, behind_step(at + first.size))
+    }
+}
+
+/// Passes over the half or the quarter that mostly stands behind the letters of a step. It says
+/// nothing more of the items; what is spelled otherwise is left as it is.
+#[inline(always)]
+pub fn behind_fraction(text: &[u8], from: Reached) -> Reached
+    requires { from.at ≤ length text.now }
+    ensures { (items : List TakenItem)
+        → Leads text.now from.at from.state items result.at result.state items }
+{
+    match from.state {
+        State::Side if goes_on(text, from.at, b"1/2") => behind_step(from.at + FRACTION),
+        State::Corner if goes_on(text, from.at, b"1/4") => behind_step(from.at + FRACTION),
+        _ => from,
+    }
+}
+
+/// The place behind a step.
+#[inline(always)]
+pub fn behind_step(at: usize) -> Reached
+    ensures { result ≡ record { at = at; state = State.Step } }
+{
+    Reached {
+        at,
+        state: State::Step,
+    }
+}
+
+/// The place behind `of the`, if it stands behind a step in these very bytes.
+#[inline(always)]
+pub fn behind_of_the(text: &[u8], end: Reached) -> Option<Reached>
+    requires { end.at ≤ length text.now }
+    ensures leads { IfSome result (λ behind. (items : List TakenItem)
+        → Leads text.now end.at end.state items behind.at behind.state items) }
+    ensures chain { IfSome result (λ behind. is_in_chain behind.state ≡ true) }
+    ensures forward { IfSome result (λ behind. end.at < behind.at) }
+{
+    match end.state {
+        State::Step if goes_on(text, end.at, b" of the ") => Some(Reached {
+            at: end.at + OF_THE,
+            state: State::OfThe,
+        }),
+        _ => None,
+    }
+}
+
+/// Passes over the white space ahead of a part.
+#[inline(always)]
+pub fn ahead_of_part(text: &[u8], from: Reached) -> Reached
+    requires { from.at ≤ length text.now }
+    ensures { (items : List TakenItem)
+        → Leads text.now from.at from.state items result.at result.state items }
+{
+    if !from.state.begins_part() {
+        return from;
+    }
+    Reached {
+        at: behind_white(text, from.at),
+        state: from.state,
+    }
+}
+
+/// Passes over the comma behind a part, and the space behind the comma, or the end of the line.
+#[inline(always)]
+pub fn behind_comma(text: &[u8], end: Reached) -> Reached
+    requires { end.at ≤ length text.now }
+    ensures { (items : List TakenItem)
+        → Leads text.now end.at end.state items result.at result.state items }
+{
+    match end.state {
+        State::Step if goes_on(text, end.at, b", ") => Reached {
+            at: end.at + COMMA_SPACE,
+            state: State::PartComma,
+        },
+        State::Step if goes_on(text, end.at, b",") => Reached {
+            at: behind_white(text, end.at + COMMA),
+            state: State::PartComma,
+        },
+        _ => end,
+    }
+}
+
+/// The place behind `and`, if it stands behind the comma of a part in these very bytes.
+#[inline(always)]
+pub fn behind_and(text: &[u8], comma: Reached) -> Option<Reached>
+    requires { comma.at ≤ length text.now }
+    ensures leads { IfSome result (λ behind. (items : List TakenItem)
+        → Leads text.now comma.at comma.state items behind.at behind.state items) }
+    ensures forward { IfSome result (λ behind. comma.at < behind.at) }
+{
+    match comma.state {
+        State::PartComma if goes_on(text, comma.at, b"and ") => Some(Reached {
+            at: comma.at + AND,
+            state: State::BeforePart,
+        }),
+        _ => None,
+    }
+}

@@ -1,0 +1,131 @@
+//! What a description says of a section, up to its first lot, in its usual spelling.
+ghost use Rattle.std.specs.Prelude.{◌≡◌, ◌≤◌, ◌+◌, List, Some, length, IfOk, IfSome};
+ghost use Rattle.twp_grammar.specs.declared.item.Item.{Item as TakenItem};
+ghost use Rattle.twp_grammar.specs.Grammar.{number};
+ghost use Rattle.twp_grammar.specs.Machine.{next};
+ghost use Rattle.twp_grammar.specs.Sentences.{TEXT_LIMIT};
+ghost use Rattle.twp_read.specs.TokenSteps.{before_parts};
+ghost use Rattle.twp_read.specs.Usual.{Leads};
+
+use crate::items::Items;
+use crate::reached::Reached;
+use crate::usual::bytes::goes_on;
+use crate::usual::list::{Listed, number_behind};
+use crate::white::behind_white;
+use std::alloc::AllocError;
+use twp_grammar::{Item, State};
+
+/// How many bytes `sec. ` has.
+const SEC: usize = 5;
+
+/// How many bytes `Section ` has.
+const SECTION: usize = 8;
+
+/// How many bytes `lots ` has.
+const LOTS: usize = 5;
+
+/// How many bytes `, lots ` has.
+const COMMA_LOTS: usize = 7;
+
+/// How many bytes a colon has.
+const COLON: usize = 1;
+
+impl Items {
+    /// Takes a section as `sec. 5`, and the colon behind it.
+    #[inline(always)]
+    pub(crate) fn take_section(&mut self, text: &[u8], from: Reached) -> Result<Reached, AllocError>
+        requires place { from.at ≤ length text.now }
+        requires limit { length text.now ≤ TEXT_LIMIT }
+        ensures { IfOk result
+            (λ to. Leads text.now from.at from.state self.old to.at to.state self.new) }
+    {
+        let Some(word) = behind_sec(text, from) else {
+            return Ok(from);
+        };
+        let Some(number) = number_behind(text, word.at) else {
+            return Ok(from);
+        };
+        self.push(Item::Sections {
+            first: number.numeral,
+            last: number.numeral,
+            whole: true,
+        })?;
+        if !goes_on(text, number.end, b":") {
+            return Ok(Reached {
+                at: number.end,
+                state: State::SectionNumber,
+            });
+        }
+        self.before_parts(State::SectionNumber)?;
+        Ok(Reached {
+            at: number.end + COLON,
+            state: State::BeforePart,
+        })
+    }
+
+    /// Takes the first of several lots as `lots 1`.
+    #[inline(always)]
+    pub(crate) fn take_lots(&mut self, text: &[u8], from: Reached) -> Result<Reached, AllocError>
+        requires place { from.at ≤ length text.now }
+        requires limit { length text.now ≤ TEXT_LIMIT }
+        ensures { IfOk result
+            (λ to. Leads text.now from.at from.state self.old to.at to.state self.new) }
+    {
+        let Some(word) = behind_lots(text, from) else {
+            return Ok(from);
+        };
+        let Some(number) = number_behind(text, word) else {
+            return Ok(from);
+        };
+        self.before_parts(from.state)?;
+        self.push(Listed::Lots.entry(number.numeral))?;
+        Ok(Reached {
+            at: number.end,
+            state: State::LotNumber,
+        })
+    }
+}
+
+/// The place behind the word that a section begins with, if it is spelled as `sec. ` or `Section `.
+#[inline(always)]
+fn behind_sec(text: &[u8], from: Reached) -> Option<Reached>
+    requires { from.at ≤ length text.now }
+    ensures leads { IfSome result (λ word. (items : List TakenItem)
+        → Leads text.now from.at from.state items word.at word.state items) }
+    ensures number { IfSome result (λ word. next word.state number ≡ Some State.SectionNumber) }
+{
+    if !from.state.begins_sections() {
+        return None;
+    }
+    let at = behind_white(text, from.at);
+    if goes_on(text, at, b"Section ") {
+        return Some(Reached {
+            at: at + SECTION,
+            state: State::SectionWord,
+        });
+    }
+    if goes_on(text, at, b"sec. ") {
+        return Some(Reached {
+            at: at + SEC,
+            state: State::SectionStop,
+        });
+    }
+    None
+}
+
+/// The place behind the word that several lots begin with, if it stands there as `lots `, behind the
+/// number of a section as `, lots `.
+#[inline(always)]
+fn behind_lots(text: &[u8], from: Reached) -> Option<usize>
+    requires { from.at ≤ length text.now }
+    ensures leads { IfSome result (λ word. (items : List TakenItem)
+        → Leads text.now from.at from.state items word State.Lot
+        (before_parts from.state items)) }
+    ensures within { IfSome result (λ word. word ≤ length text.now) }
+{
+    match from.state {
+        State::SectionNumber if goes_on(text, from.at, b", lots ") => Some(from.at + COMMA_LOTS),
+        state if state.begins_part() && goes_on(text, from.at, b"lots ") => Some(from.at + LOTS),
+        _ => None,
+    }
+}

@@ -1,0 +1,54 @@
+-- What each kind of item answers is what the item answers.
+use Rattle.std.proofs.lemmas.Result.{err_from_is_err_and}
+use Rattle.twp_resolve.specs.ResolvingSteps.{number_of_section}
+use Rattle.twp_resolve.proofs.ItemFlaws.{heading_taken, heading_refused, all_taken, all_refused}
+use Rattle.twp_resolve.proofs.resolving.resolve_item.Goals as goal
+use Rattle.twp_resolve.proofs.resolving.resolve_item.Goals.{in-Heading+in_ok-resolve_heading-in-Heading}
+use Rattle.twp_resolve.proofs.resolving.resolve_item.Goals.{in-Lots+in_ok-resolve_lots-in-Lots}
+use Rattle.twp_resolve.proofs.resolving.resolve_item.Goals.{in-Chain+in_ok-resolve_chain-in-Chain}
+use Rattle.twp_resolve.proofs.resolving.resolve_item.Goals.{in-All+in_ok-add_block-in-All}
+
+pub returns-in_err-resolve_heading-in-Heading-clause-refused :
+    goal.returns-in_err-resolve_heading-in-Heading-clause-refused
+returns-in_err-resolve_heading-in-Heading-clause-refused g c =
+    let it = c.in-Heading in
+    let gone = err_from_is_err_and c.from_residual.result c.from_residual.ensures.1 in
+    rw (gone.1, gone.2, (c.in_err-resolve_heading-in-Heading.ensures).0, it.is)
+    (heading_refused (number_of_section c.args.section) it.number it.north_south it.range it.east_west it.at
+    (g.L.Land.places c.args.land.now) c.args.township (c.in_err-resolve_heading-in-Heading.ensures).1)
+
+pub returns-in-Sections-clause-taken : goal.returns-in-Sections-clause-taken
+returns-in-Sections-clause-taken g c =
+    rw c.in-Sections.is
+    (c.in_ok-resolve_sections-in-Sections.ensures.taken c.args.township (number_of_section c.args.section))
+
+pub returns-in_err-add_block-in-All-clause-refused :
+    goal.returns-in_err-add_block-in-All-clause-refused
+returns-in_err-add_block-in-All-clause-refused g c =
+    let meets = rw c.whole.ensures at (c.in_err-add_block-in-All.ensures).1 in
+    let gone =
+    err_from_is_err_and c.from_residual-in_err-add_block-in-All.result
+    c.from_residual-in_err-add_block-in-All.ensures.1 in
+    rw (gone.1, gone.2, (c.in_err-add_block-in-All.ensures).0, c.in-All.is, c.unwrap-in-All.ensures)
+    (all_refused c.unwrap-in-All.result c.in-All.at (g.L.Land.places c.args.land.now) c.args.township meets)
+
+pub returns-clause-taken : goal.returns-clause-taken
+returns-clause-taken g c = elim c.match-item.branch [
+  | in-Heading+in_ok-resolve_heading-in-Heading w ↦
+      let it = w.in-Heading in
+      rw (w.land-is, it.is)
+      (heading_taken (number_of_section c.args.section) it.number it.north_south it.range it.east_west it.at
+      (g.L.Land.places c.args.land.now) c.args.township w.in_ok-resolve_heading-in-Heading.ensures)
+  | in-Lots+in_ok-resolve_lots-in-Lots w ↦
+      rw (w.land-is, w.in-Lots.is, w.unwrap.ensures)
+      (w.in_ok-resolve_lots-in-Lots.ensures.taken c.args.township)
+  | in-Chain+in_ok-resolve_chain-in-Chain w ↦
+      rw (w.land-is, w.in-Chain.is, w.unwrap-in-Chain.ensures)
+      (w.in_ok-resolve_chain-in-Chain.ensures.taken c.args.township)
+  | in-All+in_ok-add_block-in-All w ↦
+      let free = rw w.whole.ensures at (w.in_ok-add_block-in-All.ensures).0 in
+      let grown = rw w.whole.ensures at (w.in_ok-add_block-in-All.ensures).1 in
+      rw (w.land-is, w.in-All.is, w.unwrap-in-All.ensures)
+      (all_taken w.unwrap-in-All.result w.in-All.at (g.L.Land.places c.args.land.now)
+      (g.L.Land.places w.add_block.new.land) c.args.township free grown)
+]

@@ -1,0 +1,75 @@
+-- What each step of resolving does with an item: it is taken into the land of the items before it,
+-- or its first flaw is answered. No public promise speaks of it; proofs/ResolvingFacts shows that
+-- the steps lead to the land of all items, or to the first fault.
+use Rattle.std.specs.Prelude.{◌≡◌, ◌==◌, ◌&&◌, nat_le, ℕ, ◌≤◌, Bool, List, drop}
+use Rattle.std.specs.Prelude.{Option}
+use Rattle.std.specs.Option.{option_map_or}
+use Rattle.twp_grid.specs.Blocks.{CanHalve, CanQuarter}
+use Rattle.twp_grid.specs.Cuts.{Cut, AreWithin, reached}
+use Rattle.twp_grid.specs.Cuts.Cut.{half, quarter}
+use Rattle.twp_grid.specs.Places.{is_place}
+use Rattle.twp_grid.specs.Spans.{Rectangle}
+use Rattle.twp_grid.specs.Townships.{Designation}
+use Rattle.twp_land.specs.Lands.{union, SharePlace}
+use Rattle.twp_land.specs.WholeLots.{lot_of_place}
+use Rattle.twp_grammar.specs.declared.item.Item.{Item}
+use Rattle.twp_grammar.specs.declared.item.Item.TheVariants as item
+use Rattle.twp_resolve.specs.declared.place_fault.PlaceFault.{PlaceFault}
+use Rattle.twp_grammar.specs.declared.item.Step.{Step}
+use Rattle.twp_grammar.specs.ItemPlaces.{cuts_of, is_lot_from, item_places}
+use Rattle.twp_grammar.specs.OnPlat.{LiesOnPlat}
+use Rattle.twp_resolve.specs.PlaceFaults.{Flaw, HasFlaw, turn_of, fault_of_flaw}
+use Rattle.twp_resolve.specs.PlaceFaults.{offset_of_flaw}
+use Rattle.twp_grammar.specs.ItemPlaces.{item_of}
+
+-- the block is large enough for the cut
+abbrev pub CanCut : Rectangle → Cut → Type 0
+CanCut block (half side) = CanHalve block side
+CanCut block (quarter corner) = CanQuarter block
+
+-- all places of the sections from a first number to a last
+abbrev pub sections_from : ℕ → ℕ → ℕ → ℕ → ℕ → ℕ → Bool
+sections_from g first last section column row =
+    is_place g column row && (nat_le first section && nat_le section last)
+
+-- the places of a section's lots from a first number to a last
+abbrev pub lots_from : ℕ → ℕ → ℕ → ℕ → ℕ → ℕ → ℕ → Bool
+lots_from g section first last other column row =
+    is_place g column row
+    && ((section == other) && is_lot_from first last (lot_of_place g section column row))
+
+-- none of these places was held, and now they all are
+pub record AreAdded (places old new : ℕ → ℕ → ℕ → Bool) : Type 0 where
+  pub apart : ¬ SharePlace old places
+  pub added : new ≡ union old places
+
+-- the item lies on the plat, none of its places was held, and now they all are
+pub record IsTaken (g : ℕ) (township : Designation) (section : ℕ) (some : Item)
+    (old new : ℕ → ℕ → ℕ → Bool) : Type 0 where
+  pub lies : LiesOnPlat g township section some
+  pub apart : ¬ SharePlace old (item_places g (item_of section some))
+  pub added : new ≡ union old (item_places g (item_of section some))
+
+-- the fault is the item's first flaw, behind items of this land
+pub record IsFirstFlaw (g : ℕ) (township : Designation) (section : ℕ) (some : Item)
+    (earlier : ℕ → ℕ → ℕ → Bool) (fault : PlaceFault) : Type 0 where
+  pub flaw : Flaw
+  pub has : HasFlaw g township earlier section some flaw
+  pub first : (other : Flaw) → HasFlaw g township earlier section some other
+      → turn_of flaw ≤ turn_of other
+  pub fault_is : fault ≡ fault_of_flaw flaw (offset_of_flaw some flaw)
+
+-- the number of the section named last, or 0
+abbrev pub number_of_section : Option ℕ → ℕ
+number_of_section section = option_map_or (λ number. number) section 0
+
+-- a heading, or sections: what may stand where no section was named yet
+abbrev pub IsBeforeParts : Item → Type 0
+IsBeforeParts (item.Heading number north_south range east_west at) = Unit {0}
+IsBeforeParts (item.Sections first last whole) = Unit {0}
+IsBeforeParts other = ⊥
+
+-- what steps leave, from the last to the one at an index
+pub record IsCutTo (g : ℕ) (steps : List Step) (index : ℕ) (block : Rectangle) : Type 0 where
+  pub within : AreWithin g (cuts_of (drop index steps))
+  pub block_is : block ≡ reached g (cuts_of (drop index steps))
