@@ -27,10 +27,13 @@ abbrev pub stopped : {T E : Type 0} → E → Result T E
 stopped by = Err by
 
 -- an answer can't be read exactly where the stage before it couldn't
-pub read_of_stop : {T : Type 0} (by : Stop) (r : Result Answer RunFault) (HasFailed : Type 0) → AnswersStop by r
+pub read_of_stop : {T : Type 0} (by : Stop) (r : Result Answer RunFault) (HasFailed : Type 0)
+    → AnswersStop by r
     → IsErrOf (stopped {T = T} by) (stop.Failed Read) ↔ HasFailed → IsErrOf r Read ↔ HasFailed
-read_of_stop (stop.Refused refusal) (Ok answer) HasFailed is read = ((λ wrong. cc wrong), (λ failed. cc (read.1 failed)))
-read_of_stop (stop.Refused refusal) (Err fault) HasFailed is read = ((λ wrong. cc (is, wrong)), (λ failed. cc (read.1 failed)))
+read_of_stop (stop.Refused refusal) (Ok answer) HasFailed is read =
+    ((λ wrong. cc wrong), (λ failed. cc (read.1 failed)))
+read_of_stop (stop.Refused refusal) (Err fault) HasFailed is read =
+    ((λ wrong. cc (is, wrong)), (λ failed. cc (read.1 failed)))
 read_of_stop (stop.Failed fault) (Ok answer) HasFailed is read = absurd is
 read_of_stop (stop.Failed fault) (Err answered) HasFailed is read =
     ((λ wrong. read.0 (cc (is, wrong))), (λ failed. cc (is, read.1 failed)))
@@ -51,7 +54,8 @@ memory_of_stop (stop.Failed fault) (Ok answer) is not_memory wrong = absurd is
 memory_of_stop (stop.Failed fault) (Err answered) is not_memory wrong = not_memory (cc (is, wrong))
 
 -- the answer of a stop promises what the stage did that stopped
-pub stopped_on_plat : {T : Type 0} (most : ℕ) (notes second : Use) (unread : Type 0) (by : Stop) (r : Result Answer RunFault)
+pub stopped_on_plat : {T : Type 0} (most : ℕ) (notes second : Use) (unread : Type 0) (by : Stop)
+    (r : Result Answer RunFault)
     → ReadsOnPlat stop.Failed most notes second unread (stopped {T = T} by) → AnswersStop by r
     → ReadsOnPlat same_fault most notes second unread r
 stopped_on_plat {T = T} most notes second unread by r reads is = record {
@@ -60,7 +64,8 @@ stopped_on_plat {T = T} most notes second unread by r reads is = record {
   no_write = write_of_stop by r is reads.no_write;
   notes_most = reads.notes_most;
   second_most = reads.second_most;
-  notes_exact = λ notes_open not_memory. reads.notes_exact notes_open (memory_of_stop {T = T} by r is not_memory);
+  notes_exact =
+      λ notes_open not_memory. reads.notes_exact notes_open (memory_of_stop {T = T} by r is not_memory);
   second_exact = λ n told makes notes_open second_open not_memory.
       reads.second_exact n told makes notes_open second_open (memory_of_stop {T = T} by r is not_memory);
 }
@@ -70,12 +75,14 @@ memory_reads : (r : Result Answer RunFault) → IfErr r (λ fault. fault ≡ Mem
 memory_reads (Ok answer) memory wrong = cc wrong
 memory_reads (Err fault) memory wrong = cc (memory, wrong)
 
-memory_writes : (r : Result Answer RunFault) → IfErr r (λ fault. fault ≡ Memory) → IfErr r (λ fault. fault ≢ Write)
+memory_writes : (r : Result Answer RunFault) → IfErr r (λ fault. fault ≡ Memory)
+    → IfErr r (λ fault. fault ≢ Write)
 memory_writes (Ok answer) memory = tt
 memory_writes (Err fault) memory = λ wrong. cc (memory, wrong)
 
 -- and it promises what the stage did whose value it is made of
-pub accepted_on_plat : {T : Type 0} (most : ℕ) (notes second : Use) (unread : Type 0) (value : T) (r : Result Answer RunFault)
+pub accepted_on_plat : {T : Type 0} (most : ℕ) (notes second : Use) (unread : Type 0) (value : T)
+    (r : Result Answer RunFault)
     → ReadsOnPlat stop.Failed most notes second unread (had value) → IfErr r (λ fault. fault ≡ Memory)
     → ReadsOnPlat same_fault most notes second unread r
 accepted_on_plat most notes second unread value r reads memory = record {
@@ -85,7 +92,9 @@ accepted_on_plat most notes second unread value r reads memory = record {
   notes_most = reads.notes_most;
   second_most = reads.second_most;
   notes_exact = λ notes_open _. reads.notes_exact notes_open (λ wrong. cc wrong);
-  second_exact = λ n told makes notes_open second_open _. reads.second_exact n told makes notes_open second_open (λ wrong. cc wrong);
+  second_exact =
+      λ n told makes notes_open second_open _.
+      reads.second_exact n told makes notes_open second_open (λ wrong. cc wrong);
 }
 
 -- the same of any value, and of any stop
@@ -99,7 +108,9 @@ other_value most notes second unread value other reads = record {
   notes_most = reads.notes_most;
   second_most = reads.second_most;
   notes_exact = λ notes_open _. reads.notes_exact notes_open (λ wrong. cc wrong);
-  second_exact = λ n told makes notes_open second_open _. reads.second_exact n told makes notes_open second_open (λ wrong. cc wrong);
+  second_exact =
+      λ n told makes notes_open second_open _.
+      reads.second_exact n told makes notes_open second_open (λ wrong. cc wrong);
 }
 
 pub other_stop : {T U : Type 0} (most : ℕ) (notes second : Use) (unread : Type 0) (by : Stop)
@@ -122,14 +133,18 @@ takes_nothing None most = let least : 0 ≤ most = omega arith in ([], tt, least
 takes_nothing (Some bytes) most = let least : 0 ≤ most = omega arith in ([], refl, least)
 
 -- where the notes stop a run the second text isn't read
-pub first_stopped : {T U : Type 0} (most : ℕ) (notes : Use) (second : Option (List ℕ)) (second_failed : Bool) (unread : Type 0) (by : Stop)
+pub first_stopped : {T U : Type 0} (most : ℕ) (notes : Use) (second : Option (List ℕ)) (second_failed : Bool)
+    (unread : Type 0) (by : Stop)
     → IsErrOf (stopped {T = T} by) (stop.Failed Read) ↔ (notes.has_failed ≡ true) → by ≢ stop.Failed Write
     → TakesAtMost notes.old notes.new (NOTES_MOST + 1)
-    → (notes.has_failed ≡ false → stopped {T = T} by ≢ Err (stop.Failed Memory) → TakesFirst notes.old notes.new (NOTES_MOST + 1))
+    → (notes.has_failed ≡ false → stopped {T = T} by ≢ Err (stop.Failed Memory)
+    → TakesFirst notes.old notes.new (NOTES_MOST + 1))
     → Reads notes.old (λ n. IfRefused by (IsNoPlat n)) → second_failed ≡ false → unread
     → ReadsOnPlat stop.Failed most notes (used second second second_failed) unread (stopped {T = U} by)
-first_stopped {T = T} {U = U} most notes second second_failed unread by read no_write notes_most notes_exact plat second_open left =
-    let fails : AnyFailed notes.has_failed second_failed → stopped {T = U} by ≡ Err (stop.Failed Read) = of_any in
+first_stopped {T = T} {U = U} most notes second second_failed unread by read no_write notes_most notes_exact
+    plat second_open left =
+    let fails : AnyFailed notes.has_failed second_failed → stopped {T = U} by ≡ Err (stop.Failed Read) =
+    of_any in
     record {
       read = ((λ is. inl (read.0 (ap Err (cc is)))), fails);
       unread_after_fault = λ _. left;
@@ -138,7 +153,8 @@ first_stopped {T = T} {U = U} most notes second second_failed unread by read no_
       second_most = takes_nothing second (most + 1);
       notes_exact = λ notes_open not_memory. notes_exact notes_open (λ is. not_memory (ap Err (cc is)));
       second_exact = λ n told makes notes_open _ not_memory.
-          absurd (plat_stops_by_fault notes.old n by plat told makes (λ is. cc (read.0 (ap Err is), notes_open)) no_write
+          absurd (plat_stops_by_fault notes.old n by plat told makes (λ is.
+          cc (read.0 (ap Err is), notes_open)) no_write
           (λ is. not_memory (ap Err is)));
     }
   where
@@ -147,15 +163,18 @@ first_stopped {T = T} {U = U} most notes second second_failed unread by read no_
     of_any (inr failed) = cc (second_open, failed)
 
 -- where they make a plat it is
-pub second_read : {P T E : Type 0} (passed_on : RunFault → E) (most : ℕ) (notes second : Use) (unread : Type 0) (plat : P) (r : Result T E)
+pub second_read : {P T E : Type 0} (passed_on : RunFault → E) (most : ℕ) (notes second : Use)
+    (unread : Type 0) (plat : P) (r : Result T E)
     → IsErrOf (had {E = Stop} plat) (stop.Failed Read) ↔ (notes.has_failed ≡ true)
     → TakesAtMost notes.old notes.new (NOTES_MOST + 1)
-    → (notes.has_failed ≡ false → had {E = Stop} plat ≢ Err (stop.Failed Memory) → TakesFirst notes.old notes.new (NOTES_MOST + 1))
+    → (notes.has_failed ≡ false → had {E = Stop} plat ≢ Err (stop.Failed Memory)
+    → TakesFirst notes.old notes.new (NOTES_MOST + 1))
     → IsErrOf r (passed_on Read) ↔ (second.has_failed ≡ true) → IfErr r (λ fault. fault ≢ passed_on Write)
     → TakesAtMost second.old second.new (most + 1)
     → (second.has_failed ≡ false → r ≢ Err (passed_on Memory) → TakesFirst second.old second.new (most + 1))
     → ReadsOnPlat passed_on most notes second unread r
-second_read passed_on most notes second unread plat r read notes_most notes_exact second_is_read no_write second_most second_exact =
+second_read passed_on most notes second unread plat r read notes_most notes_exact second_is_read no_write
+    second_most second_exact =
     record {
       read = ((λ is. inr (second_is_read.0 is)), of_any);
       unread_after_fault = λ failed. cc (read.1 failed);
@@ -171,35 +190,47 @@ second_read passed_on most notes second unread plat r read notes_most notes_exac
     of_any (inr failed) = second_is_read.1 failed
 
 -- what stopped a run is refused in its answer
-pub refused_answer : (Is : Refusal → Type 0) (Answers : AnswerRelation) (by : Stop) (r : Result Answer RunFault)
-    → IfRefused by Is → AnswersStop by r → ((refusal : Refusal) → Is refusal → Answers (refusal_line refusal) (verdict.Refused refusal))
+pub refused_answer : (Is : Refusal → Type 0) (Answers : AnswerRelation) (by : Stop)
+    (r : Result Answer RunFault)
+    → IfRefused by Is → AnswersStop by r
+    → ((refusal : Refusal) → Is refusal → Answers (refusal_line refusal) (verdict.Refused refusal))
     → IfOk r (λ answer. Answers answer.text.items answer.verdict)
-refused_answer Is Answers (stop.Refused refusal) (Ok answer) holds is answers = rw (is.0, is.1) (answers refusal holds)
+refused_answer Is Answers (stop.Refused refusal) (Ok answer) holds is answers =
+    rw (is.0, is.1) (answers refusal holds)
 refused_answer Is Answers (stop.Refused refusal) (Err fault) holds is answers = tt
 refused_answer Is Answers (stop.Failed fault) (Ok answer) holds is answers = absurd is
 refused_answer Is Answers (stop.Failed fault) (Err answered) holds is answers = tt
 
 -- so of two texts, the second of which may not be read
-pub refused_of_two : (first second : Option (List ℕ)) (GoesOn : List ℕ → Type 0) (unread : Type 0) (Is : List ℕ → List ℕ → Refusal → Type 0)
+pub refused_of_two : (first second : Option (List ℕ)) (GoesOn : List ℕ → Type 0) (unread : Type 0)
+    (Is : List ℕ → List ℕ → Refusal → Type 0)
     (Answers : List ℕ → List ℕ → AnswerRelation) (by : Stop) (r : Result Answer RunFault)
     → ReadsTwo first second GoesOn unread (λ n s. IfRefused by (Is n s)) → AnswersStop by r
-    → ((n s : List ℕ) (refusal : Refusal) → Is n s refusal → Answers n s (refusal_line refusal) (verdict.Refused refusal))
-    → ReadsTwo first second GoesOn unread (λ n s. IfOk r (λ answer. Answers n s answer.text.items answer.verdict))
+    → ((n s : List ℕ) (refusal : Refusal) → Is n s refusal
+    → Answers n s (refusal_line refusal) (verdict.Refused refusal))
+    → ReadsTwo first second GoesOn unread
+    (λ n s. IfOk r (λ answer. Answers n s answer.text.items answer.verdict))
 refused_of_two first second GoesOn unread Is Answers by r read is answers = record {
   first_bytes = read.first_bytes;
   second_bytes = read.second_bytes;
   first_tells = read.first_tells;
   second_tells = read.second_tells;
-  holds = refused_answer (Is read.first_bytes read.second_bytes) (Answers read.first_bytes read.second_bytes) by r read.holds is
+  holds =
+      refused_answer (Is read.first_bytes read.second_bytes) (Answers read.first_bytes read.second_bytes) by r
+      read.holds is
       (answers read.first_bytes read.second_bytes);
   order = read.order;
 }
 
-pub refused_of_first : (first second : Option (List ℕ)) (GoesOn : List ℕ → Type 0) (unread : Type 0) (Is : List ℕ → Refusal → Type 0)
+pub refused_of_first : (first second : Option (List ℕ)) (GoesOn : List ℕ → Type 0) (unread : Type 0)
+    (Is : List ℕ → Refusal → Type 0)
     (Answers : List ℕ → List ℕ → AnswerRelation) (by : Stop) (r : Result Answer RunFault)
     → Reads first (λ n. IfRefused by (Is n)) → AnswersStop by r
-    → ((n s : List ℕ) (refusal : Refusal) → Is n refusal → Answers n s (refusal_line refusal) (verdict.Refused refusal)) → unread
-    → ReadsTwo first second GoesOn unread (λ n s. IfOk r (λ answer. Answers n s answer.text.items answer.verdict))
+    → ((n s : List ℕ) (refusal : Refusal) → Is n refusal
+    → Answers n s (refusal_line refusal) (verdict.Refused refusal))
+    → unread
+    → ReadsTwo first second GoesOn unread
+    (λ n s. IfOk r (λ answer. Answers n s answer.text.items answer.verdict))
 refused_of_first first second GoesOn unread Is Answers by r read is answers left = record {
   first_bytes = read.bytes;
   second_bytes = unwrap_or second [];
@@ -211,9 +242,11 @@ refused_of_first first second GoesOn unread Is Answers by r read is answers left
 }
 
 -- and so of one text
-pub refused_of_one : (first : Option (List ℕ)) (Is : List ℕ → Refusal → Type 0) (Answers : List ℕ → AnswerRelation) (by : Stop)
+pub refused_of_one : (first : Option (List ℕ)) (Is : List ℕ → Refusal → Type 0)
+    (Answers : List ℕ → AnswerRelation) (by : Stop)
     (r : Result Answer RunFault) → Reads first (λ n. IfRefused by (Is n)) → AnswersStop by r
-    → ((n : List ℕ) (refusal : Refusal) → Is n refusal → Answers n (refusal_line refusal) (verdict.Refused refusal))
+    → ((n : List ℕ) (refusal : Refusal) → Is n refusal
+    → Answers n (refusal_line refusal) (verdict.Refused refusal))
     → Reads first (λ n. IfOk r (λ answer. Answers n answer.text.items answer.verdict))
 refused_of_one first Is Answers by r read is answers = record {
   bytes = read.bytes;
@@ -223,7 +256,8 @@ refused_of_one first Is Answers by r read is answers = record {
 
 -- a refusal is answered by its line, where there is memory
 pub answers_refusal : (refusal : Refusal) (r : Result Answer RunFault)
-    → IfOk r (λ answer. (answer.text.items ≡ refusal_line refusal) × (answer.verdict ≡ verdict.Refused refusal))
+    → IfOk r
+    (λ answer. (answer.text.items ≡ refusal_line refusal) × (answer.verdict ≡ verdict.Refused refusal))
     → IfErr r (λ fault. fault ≡ Memory) → AnswersStop (stop.Refused refusal) r
 answers_refusal refusal (Ok answer) is memory = is
 answers_refusal refusal (Err fault) is memory = memory
