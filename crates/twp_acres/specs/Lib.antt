@@ -1,4 +1,3 @@
-pub mod LandAreas
 pub mod Answers
 pub mod AcresAnswers
 pub mod Runs
@@ -7,10 +6,8 @@ pub mod Tracts
 pub mod TractFaults
 pub mod ReportAnswers
 pub mod TractLaws
-pub mod PlatAccounts
 pub mod AccountAnswers
 pub mod NormalAnswers
 pub mod NormalLaws
 pub mod Laws
-pub mod PlatAccountLaws
 pub mod steps

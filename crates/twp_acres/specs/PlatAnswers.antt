@@ -1,44 +1,14 @@
--- The answer of the plat run: the printed plat, or the refusal. Each figure is the exact area of
--- what it stands for, rounded once, in hundredths of an acre.
-use Rattle.std.specs.Prelude.{◌≡◌, ℕ, zero, suc, List, [], ◌∷◌, ◌++◌, Some, codes, decimal}
-use Rattle.twp_measure.specs.Areas.{Fraction, IsRounded}
+-- The answer of the plat run: the printed plat, or the refusal.
+use Rattle.std.specs.Prelude.{◌≡◌, ℕ, zero, suc, List, [], ◌∷◌, ◌++◌, codes, decimal}
 use Rattle.twp_measure.specs.Acres.{acres_text}
-use Rattle.twp_grid.specs.Winding.{SECTION_COUNT, IsSection}
-use Rattle.twp_grid.specs.Lots.{number_of_lots, position_of_lot}
+use Rattle.twp_grid.specs.Winding.{SECTION_COUNT}
+use Rattle.twp_grid.specs.Lots.{number_of_lots}
 use Rattle.twp_grid.specs.Texts.{line_feed}
 use Rattle.twp_plat.specs.Plats.{TownshipPlat}
-use Rattle.twp_plat.specs.PlatAreas.{IsSectionArea, IsTownshipArea}
-use Rattle.twp_plat.specs.LotFigures.{IsLotFigure}
+use Rattle.twp_area.specs.PlatFigures.{PlatFigures, AreFigures}
 use Rattle.twp_acres.specs.Answers.{AnswersRefusal, ArePlatted, IsNoPlat}
 use Rattle.twp_acres.specs.declared.verdict.Verdict.{Verdict}
 use Rattle.twp_acres.specs.declared.verdict.Verdict.TheVariants.{Accepted, Refused, TractRefused}
-
--- the figure of a section: the sum of its pieces, rounded
-pub record IsSectionFigure (plat : TownshipPlat) (section hundredths : ℕ) : Type 0 where
-  pub area : Fraction
-  pub area_is : IsSectionArea plat section area
-  pub rounded : IsRounded area hundredths
-
--- the figure of the township: the sum of its sections' areas, rounded
-pub record IsTownshipFigure (plat : TownshipPlat) (hundredths : ℕ) : Type 0 where
-  pub area : Fraction
-  pub area_is : IsTownshipArea plat area
-  pub rounded : IsRounded area hundredths
-
--- the figures of a plat: of lots by section and number, of sections, and of the township
-pub record PlatFigures : Type 0 where
-  pub lots : ℕ → ℕ → ℕ
-  pub sections : ℕ → ℕ
-  pub township : ℕ
-
--- these are the plat's figures
-pub record AreFigures (plat : TownshipPlat) (figures : PlatFigures) : Type 0 where
-  pub lots : (section lot column row : ℕ) → IsSection section
-      → position_of_lot section lot ≡ Some (column, row)
-      → IsLotFigure plat section column row (figures.lots section lot)
-  pub sections : (section : ℕ) → IsSection section
-      → IsSectionFigure plat section (figures.sections section)
-  pub township : IsTownshipFigure plat figures.township
 
 -- the texts of the numbers from 1 on, one behind the other
 unfoldable pub texts_to : ℕ → (ℕ → List ℕ) → List ℕ

@@ -1,5 +1,3 @@
-pub mod Accounts
-pub mod Bounds
 pub mod Names
 pub mod Stops
 pub mod Stages

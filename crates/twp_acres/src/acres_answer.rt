@@ -7,9 +7,9 @@ ghost use Rattle.twp_acres.specs.AccountAnswers.{IsAcresAnswerBy};
 ghost use Rattle.twp_acres.specs.Runs.{ReadsTwo, used};
 ghost use Rattle.twp_acres.specs.steps.Stages.{ReadsOnPlat, same_fault};
 
-use crate::account::Account;
+use twp_area::Account;
 use crate::answer::{Answer, answer_stop, write_acres_line};
-use crate::area::area_by;
+use twp_area::area_by;
 use crate::stages::read_land_on_plat;
 use crate::verdict::{RunFault, Verdict};
 use std::alloc::Global;

@@ -1,11 +1,9 @@
-//! The areas of lands on a plat, as exact fractions, and the runs: each reads field notes and what
-//! goes with them, and writes one answer.
+//! The runs: each reads field notes and what goes with them, and writes one answer. The areas of
+//! lands, which they answer, come from `twp_area`.
 #![tactic(auto)]
 
-mod account;
 mod acres_answer;
 mod answer;
-mod area;
 pub mod laws;
 mod names;
 mod normal_answer;
@@ -22,7 +20,7 @@ mod tracts;
 mod verdict;
 mod writing;
 
-pub use account::Account;
-pub use area::{area_of, plat_area_of};
 pub use running::{run_acres, run_acres_as, run_normal, run_plat, run_report};
+pub use twp_area::{Account, area_of, plat_area_of};
+pub use tract_fault::TractFault;
 pub use verdict::{RunFault, Verdict};

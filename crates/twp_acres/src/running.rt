@@ -15,7 +15,7 @@ ghost use Rattle.twp_acres.specs.ReportAnswers.{IsReportAnswer};
 ghost use Rattle.twp_acres.specs.Tracts.{TRACTS_LIMIT};
 ghost use Rattle.twp_acres.specs.Runs.{AppendsFront, IsAnswered, IsRun, Reads, RunsOnPlat, used};
 
-use crate::account::Account;
+use twp_area::Account;
 use crate::answer::Answer;
 use crate::verdict::{RunFault, Verdict};
 use crate::writing::write_whole;
@@ -205,6 +205,3 @@ fn write_answer<W: Sink>(out: &mut W, answer: &Answer) -> Result<Verdict, RunFau
         Err(_) => Err(RunFault::Write),
     }
 }
-
-#[cfg(test)]
-mod tests;

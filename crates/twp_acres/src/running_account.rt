@@ -8,7 +8,7 @@ ghost use Rattle.twp_acres.specs.steps.TractTaking.{tally_of, AreTotals, TakesTr
 ghost use Rattle.twp_acres.specs.steps.TractTaking.{IsTractRefused, fault_of_stop};
 
 use crate::answer::write_acres_line;
-use crate::area::area_of;
+use twp_area::area_of;
 use crate::names::Names;
 use crate::stages::describe_into;
 use crate::stop::Stop;

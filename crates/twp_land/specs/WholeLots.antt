@@ -1,5 +1,5 @@
 -- Lands that hold each lot whole or not at all, and blocks that hold a place of one.
-use Rattle.std.specs.Prelude.{◌≡◌, ℕ, Bool, Option, Some, true, IsSome}
+use Rattle.std.specs.Prelude.{◌≡◌, ◌&&◌, ℕ, Bool, Option, Some, true, IsSome, is_none}
 use Rattle.twp_grid.specs.Winding.{IsSection}
 use Rattle.twp_grid.specs.Lots.{lot_at_position}
 use Rattle.twp_grid.specs.Places.{position_along}
@@ -9,6 +9,10 @@ use Rattle.twp_grid.specs.Spans.{Rectangle, in_rectangle}
 abbrev pub lot_of_place : ℕ → ℕ → ℕ → ℕ → Option ℕ
 lot_of_place g section column row =
     lot_at_position section (position_along g column) (position_along g row)
+
+-- of one section's places, those that are held and lie in no lot
+abbrev pub off_lots : ℕ → ℕ → (ℕ → ℕ → Bool) → ℕ → ℕ → Bool
+off_lots g section held column row = held column row && is_none (lot_of_place g section column row)
 
 -- of one section's places, two that lie in one lot are both held, or both not
 pub record IsWholeOrNot (g section lot : ℕ) (held : ℕ → ℕ → Bool) : Type 0 where

@@ -11,7 +11,7 @@ use Rattle.twp_grid.specs.Blocks.{quarter_of}
 use Rattle.twp_grid.specs.Lots.{lot_at_position}
 use Rattle.twp_grid.specs.Places.{PLACE_DIGITS, position_along}
 use Rattle.twp_land.specs.WholeLots.{lot_of_place}
-use Rattle.twp_spell.specs.CanonicalText.{off_lots}
+use Rattle.twp_land.specs.WholeLots.{off_lots}
 use Rattle.twp_grid.specs.Spans.{Span, in_span, Rectangle}
 use Rattle.twp_grid.proofs.CutFacts.{sides_as_asked}
 use Rattle.twp_grammar.specs.ItemPlaces.{cuts_of}

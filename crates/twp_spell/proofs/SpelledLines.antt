@@ -8,7 +8,8 @@ use Rattle.twp_grammar.specs.declared.item.Step.TheVariants.{Half, Quarter}
 use Rattle.twp_grammar.specs.ItemPlaces.{ItemOfSection}
 use Rattle.twp_grammar.specs.ItemPlaces.{item_of}
 use Rattle.twp_spell.specs.WrittenParts.{Part, square, half_of_square, IsFull}
-use Rattle.twp_spell.specs.CanonicalText.{part_text, with_commas, lots_entry, off_lots, HoldsEach}
+use Rattle.twp_land.specs.WholeLots.{off_lots}
+use Rattle.twp_spell.specs.CanonicalText.{part_text, with_commas, lots_entry, HoldsEach}
 use Rattle.twp_spell.specs.CanonicalText.{IsSectionList, all, by_parts, IsSectionText, IsSectionOfLand}
 use Rattle.std.proofs.lemmas.Bool.{and_parts}
 use Rattle.twp_land.specs.WholeLots.{lot_of_place}

@@ -18,7 +18,8 @@ use Rattle.twp_grammar.specs.ItemPlaces.{item_of}
 use Rattle.twp_spell.specs.Listing.{AreListed}
 use Rattle.twp_spell.specs.WrittenParts.{Part, steps_of_part, IsInPart, IsWritten, StandsAhead}
 use Rattle.twp_spell.specs.WrittenParts.{AreWrittenParts}
-use Rattle.twp_spell.specs.CanonicalText.{off_lots, HoldsEach, IsLotHeld}
+use Rattle.twp_land.specs.WholeLots.{off_lots}
+use Rattle.twp_spell.specs.CanonicalText.{HoldsEach, IsLotHeld}
 use Rattle.twp_grammar.proofs.Membership.{Among, among_contains, contains_among, among_left, among_right}
 use Rattle.twp_grammar.proofs.Membership.{among_either}
 use Rattle.twp_spell.proofs.Listings.{InOrder, pairs_order, order_both}

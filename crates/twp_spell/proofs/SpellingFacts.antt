@@ -13,7 +13,8 @@ use Rattle.twp_grid.specs.Winding.{IsSection}
 use Rattle.twp_land.specs.WholeLots.{lot_of_place}
 use Rattle.twp_spell.specs.Listing.{AreListed}
 use Rattle.twp_spell.specs.WrittenParts.{Part, AreWrittenParts}
-use Rattle.twp_spell.specs.CanonicalText.{part_text, with_commas, lots_entry, off_lots, HoldsSome, HoldsEach}
+use Rattle.twp_land.specs.WholeLots.{off_lots}
+use Rattle.twp_spell.specs.CanonicalText.{part_text, with_commas, lots_entry, HoldsSome, HoldsEach}
 use Rattle.twp_spell.specs.CanonicalText.{IsLotHeld, IsSectionText, heading_line, line_end, land_lines}
 use Rattle.twp_spell.specs.CanonicalText.{IsSectionOfLand, IsCanonicalText}
 use Rattle.twp_spell.specs.CanonicalText.IsSectionList.{all, by_parts}

@@ -1,5 +1,5 @@
 -- The canonical text of a land: one text for each set of places, however it was described.
-use Rattle.std.specs.Prelude.{◌≡◌, ℕ, ◌<◌, ◌&&◌, Bool, true, List, [], ◌∷◌, ◌++◌, Some, is_none}
+use Rattle.std.specs.Prelude.{◌≡◌, ℕ, ◌<◌, Bool, true, List, [], ◌∷◌, ◌++◌, Some}
 use Rattle.std.specs.Prelude.{map, codes, decimal}
 use Rattle.std.specs.List.{flat_map, join_by, AllZip}
 use Rattle.twp_grid.specs.Winding.{IsSection}
@@ -11,7 +11,7 @@ use Rattle.twp_grid.specs.declared.block.Side.{Side}
 use Rattle.twp_grid.specs.declared.block.Side.TheVariants.{N, S, E, W}
 use Rattle.twp_grid.specs.declared.block.Corner.{Corner}
 use Rattle.twp_grid.specs.declared.block.Corner.TheVariants.{NE, NW, SW, SE}
-use Rattle.twp_land.specs.WholeLots.{lot_of_place}
+use Rattle.twp_land.specs.WholeLots.{lot_of_place, off_lots}
 use Rattle.twp_grammar.specs.declared.item.Step.{Step}
 use Rattle.twp_grammar.specs.declared.item.Step.TheVariants.{Half, Quarter}
 use Rattle.twp_spell.specs.Listing.{AreListed}
@@ -49,10 +49,6 @@ abbrev pub lots_entry : List ℕ → List (List ℕ)
 lots_entry [] = []
 lots_entry (lot ∷ []) = (codes "lot " ++ decimal lot) ∷ []
 lots_entry (lot ∷ more) = (codes "lots " ++ with_commas (map decimal (lot ∷ more))) ∷ []
-
--- of one section's places, those that are held and lie in no lot
-abbrev pub off_lots : ℕ → ℕ → (ℕ → ℕ → Bool) → ℕ → ℕ → Bool
-off_lots g section held column row = held column row && is_none (lot_of_place g section column row)
 
 -- some place of the section is held
 pub record HoldsSome (g : ℕ) (held : ℕ → ℕ → Bool) : Type 0 where

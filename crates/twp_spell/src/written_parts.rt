@@ -5,7 +5,8 @@ ghost use Rattle.twp_grid.specs.Blocks.{CanQuarter};
 ghost use Rattle.twp_grid.specs.declared.block.Corner.{Corner};
 ghost use Rattle.twp_spell.specs.WrittenParts.{Part, IsFull, AreWrittenParts};
 ghost use Rattle.twp_spell.specs.WrittenParts.Part.{square};
-ghost use Rattle.twp_spell.specs.CanonicalText.{off_lots, HoldsEach};
+ghost use Rattle.twp_land.specs.WholeLots.{off_lots};
+ghost use Rattle.twp_spell.specs.CanonicalText.{HoldsEach};
 ghost use Rattle.twp_spell.specs.Spelling.{IsBlockOf, AreOfSquare, AreOfQuarter};
 ghost use Rattle.twp_spell.specs.Spelling.{AreWritten, AreFull, quarters_text};
 

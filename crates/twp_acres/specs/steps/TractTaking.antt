@@ -12,7 +12,7 @@ use Rattle.twp_notes.specs.Records.{Fields, record_at}
 use Rattle.twp_plat.specs.Plats.{TownshipPlat}
 use Rattle.twp_acres.specs.Answers.{Describe, IsNoDescription}
 use Rattle.twp_acres.specs.AcresAnswers.{AreHundredthsOf}
-use Rattle.twp_acres.specs.LandAreas.{IsLandArea}
+use Rattle.twp_area.specs.LandAreas.{IsLandArea}
 use Rattle.twp_acres.specs.steps.Names.{has_name}
 use Rattle.twp_acres.specs.Tracts.{TRACTS_MOST, name_in, description_in}
 use Rattle.twp_acres.specs.Tracts.{IsTractRecord, AreTracts, IsLandOfTracts}

@@ -3,7 +3,7 @@ use Rattle.std.specs.Prelude.{◌≡◌, ◌≢◌, ◌⊎◌, List, Option, Som
 use Rattle.clap.specs.Words.{Row, Text, first_of}
 use Rattle.clap.specs.declared.error.kind.ErrorKind.{ErrorKind}
 use Rattle.clap.specs.declared.error.kind.ErrorKind.TheVariants.{DisplayHelp, OutOfMemory}
-use Rattle.twp_acres.specs.declared.account.Account.{Account}
+use Rattle.twp_area.specs.declared.account.Account.{Account}
 use Rattle.twp_cmd.specs.Commands.{account_name}
 use Rattle.twp_cmd.specs.declared.task.TaskFault.{TaskFault}
 use Rattle.twp_cmd.specs.declared.task.TaskFault.TheVariants.{Usage, Help, Memory}

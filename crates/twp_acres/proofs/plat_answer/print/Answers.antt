@@ -1,7 +1,7 @@
 use Rattle.std.proofs.Common.{◌≡◌, ◌-◌, ap, refl, sym, ◌∙◌, arith}
 use Rattle.twp_land.proofs.LotFacts.{section_is}
 use Rattle.twp_acres.specs.PlatAnswers.{section_line}
-use Rattle.twp_acres.proofs.FigureFacts.{no_texts, lines_grow, lines_end}
+use Rattle.twp_acres.proofs.PlatTexts.{no_texts, lines_grow, lines_end}
 use Rattle.twp_acres.proofs.plat_answer.print.Goals as goal
 
 pub loop-number-init : goal.loop-number-init

@@ -1,5 +1,6 @@
 use Rattle.std.proofs.Common.{◌≡◌, ◌-◌, ◌≤◌}
-use Rattle.twp_acres.specs.PlatAnswers.{PlatFigures, AreFigures, texts_to, section_line}
+use Rattle.twp_area.specs.PlatFigures.{PlatFigures, AreFigures}
+use Rattle.twp_acres.specs.PlatAnswers.{texts_to, section_line}
 use Rattle.twp_acres.proofs.plat_answer.print.Given as goal
 
 -- the lines of the sections so far were written

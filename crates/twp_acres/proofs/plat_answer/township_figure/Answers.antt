@@ -1,5 +1,5 @@
 use Rattle.std.proofs.Common.{arith}
-use Rattle.twp_acres.proofs.FigureFacts.{same_township, figures_of}
+use Rattle.twp_area.proofs.FigureFacts.{same_township, figures_of}
 use Rattle.twp_acres.proofs.plat_answer.township_figure.Goals as goal
 
 pub returns-clause-figure : goal.returns-clause-figure

@@ -3,7 +3,8 @@ use Rattle.std.proofs.Common.{◌≡◌, ◌++◌, codes, decimal, sym, ap, ◌�
 use Rattle.std.proofs.lemmas.Bool.{false≢true}
 use Rattle.twp_grid.specs.Places.{PLACE_DIGITS}
 use Rattle.twp_spell.specs.WrittenParts.{AreWrittenParts}
-use Rattle.twp_spell.specs.CanonicalText.{off_lots, HoldsEach}
+use Rattle.twp_land.specs.WholeLots.{off_lots}
+use Rattle.twp_spell.specs.CanonicalText.{HoldsEach}
 use Rattle.twp_spell.specs.Spelling.{AreWritten}
 use Rattle.twp_spell.specs.SpellingSteps.{HasSection}
 use Rattle.twp_spell.proofs.HeldFacts.{each_of_all, all_of_each}

@@ -1,5 +1,0 @@
-use Rattle.twp_acres.proofs.PlatLaws as laws
-use Rattle.twp_acres.proofs.laws.disjoint_plat_areas_add.Goals as goal
-
-pub returns : goal.returns
-returns c = laws.disjoint_plat_areas_add

@@ -1,0 +1,10 @@
+pub mod PositionSums
+pub mod RegularFacts
+pub mod SectionSums
+pub mod PieceFacts
+pub mod LotSums
+pub mod AreaLaws
+pub mod WholeAreas
+pub mod AreaFacts
+pub mod FigureFacts
+pub mod PlatLaws

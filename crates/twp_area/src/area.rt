@@ -1,0 +1,108 @@
+ghost use Rattle.std.specs.Prelude.{◌≡◌, ℕ, ◌*◌, ◌≤◌};
+ghost use Rattle.twp_grid.specs.Places.{PLACE_DIGITS};
+ghost use Rattle.twp_land.specs.WholeLots.{HasWholeLots};
+ghost use Rattle.twp_plat.specs.Pieces.{OVER_MOST};
+ghost use Rattle.twp_area.specs.LandAreas.{places_of_position, section_sum, IsLandArea};
+ghost use Rattle.twp_area.specs.PlatAccounts.{IsPlatArea};
+ghost use Rattle.twp_area.specs.PlatAccounts.{IsAreaBy};
+ghost use Rattle.twp_area.specs.steps.Accounts.{over_by, AreUnitsBy};
+ghost use Rattle.twp_area.specs.steps.Bounds.{REGULAR_PLACE_UNITS, SECTION_PLACES_MOST};
+ghost use Rattle.twp_area.specs.steps.Bounds.{SECTION_UNITS_MOST};
+
+use crate::account::Account;
+use twp_grid::{Block, PLACES_ACROSS, Section, lot_count, lot_place};
+use twp_land::Land;
+use twp_measure::Area;
+use twp_plat::Plat;
+
+/// How many positions a side of a section has.
+const POSITIONS_ACROSS: u8 = 4;
+
+/// How many places a side of a position has, and how many the position.
+const PLACES_TO_POSITION: u8 = PLACES_ACROSS as u8 / POSITIONS_ACROSS;
+
+const PLACES_OF_POSITION: u32 = PLACES_TO_POSITION as u32 * PLACES_TO_POSITION as u32;
+
+/// The side of a position that is no lot, in thousandths of a chain.
+const QUARTER_MILE: u128 = 20_000;
+
+/// The area of a place that lies in no lot, in square thousandths.
+const REGULAR_PLACE: u128 = QUARTER_MILE * QUARTER_MILE / PLACES_OF_POSITION as u128;
+
+/// The area of a land: each place counts as a sixteenth of its position's area on the plat, and
+/// nothing is rounded (this project's rule; a lot is taken whole: Specifications for Descriptions
+/// of Land).
+pub fn area_of<L: Land>(plat: &Plat, land: &L) -> Area
+    requires whole { HasWholeLots PLACE_DIGITS (L.places land.now) }
+    ensures { IsLandArea PLACE_DIGITS plat.now (L.places land.now) result }
+{
+    area_by(Account::Exact, plat, land)
+}
+
+/// The plat area of a land: each lot counts with the acres that the plat prints of it, and each
+/// place off the lots with a sixteenth of 40 acres (this project's rule).
+pub fn plat_area_of<L: Land>(plat: &Plat, land: &L) -> Area
+    requires whole { HasWholeLots PLACE_DIGITS (L.places land.now) }
+    ensures { IsPlatArea PLACE_DIGITS plat.now (L.places land.now) result }
+{
+    area_by(Account::Plat, plat, land)
+}
+
+/// The area of a land by an account: `area_of` or `plat_area_of`.
+pub fn area_by<L: Land>(account: Account, plat: &Plat, land: &L) -> Area
+    requires whole { HasWholeLots PLACE_DIGITS (L.places land.now) }
+    ensures { IsAreaBy account PLACE_DIGITS plat.now (L.places land.now) result }
+{
+    let over = account.over(plat);
+    let Some((first, last)) = land.sections() else {
+        return Area::zero(over);
+    };
+    let mut units = 0;
+    for number in first.number()..last.number() + 1 {
+        let section = Section::new(number).unwrap();
+        if !land.meets(section, Block::whole()) {
+            continue;
+        }
+        units += units_in_section(account, plat, land, section);
+    }
+    Area::new(units, over).unwrap()
+}
+
+/// What a land holds of a section, in parts of the account's denominator. A lot is held whole, so
+/// one of its places tells whether it is held, and then its units are added; what is off the lots
+/// is counted.
+fn units_in_section<L: Land>(account: Account, plat: &Plat, land: &L, section: Section) -> u128
+    requires whole { HasWholeLots PLACE_DIGITS (L.places land.now) }
+    ensures sum { (units : ℕ → ℕ → ℕ → ℕ) → AreUnitsBy account plat.now units
+        → places_of_position PLACE_DIGITS * result
+        ≡ section_sum PLACE_DIGITS (units section) (L.places land.now section) }
+    ensures most { result ≤ SECTION_UNITS_MOST * over_by account plat.now }
+{
+    let over = account.over(plat);
+    let mut off_lots = land.count(section, Block::whole());
+    let mut units = 0;
+    for lot in 1..lot_count(section) + 1 {
+        let (column, row) = lot_place(section, lot).unwrap();
+        if land.holds(
+            section,
+            column * PLACES_TO_POSITION,
+            row * PLACES_TO_POSITION,
+        ) {
+            off_lots -= PLACES_OF_POSITION;
+            units += account.lot_units(plat, section, lot);
+        }
+    }
+    units + regular_units(off_lots, over)
+}
+
+/// So many places that lie in no lot, in parts of a denominator.
+fn regular_units(places: u32, over: u64) -> u128
+    requires places { places ≤ SECTION_PLACES_MOST }
+    requires over { over ≤ OVER_MOST }
+    ensures { result ≡ REGULAR_PLACE_UNITS * (over * places) }
+{
+    REGULAR_PLACE * (u128::from(over) * u128::from(places))
+}
+
+#[cfg(test)]
+mod tests;

@@ -1,0 +1,10 @@
+//! The areas of lands on a plat, as exact fractions: a sum over places, or by the acres that the
+//! plat prints of whole lots.
+#![tactic(auto)]
+
+mod account;
+mod area;
+pub mod laws;
+
+pub use account::Account;
+pub use area::{area_by, area_of, plat_area_of};

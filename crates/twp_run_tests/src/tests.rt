@@ -1,0 +1,68 @@
+use std::alloc::Global;
+use std::test::Fail;
+use twp_acres::{RunFault, Verdict, run_acres};
+use twp_grid::{Bytes, Device, Refusal};
+
+mod accounts;
+mod acres;
+mod example;
+mod failing_readers;
+mod failing_writers;
+mod limits;
+mod normal;
+mod pieces;
+mod plat;
+mod refusals;
+mod report;
+mod tract_faults;
+mod worst;
+
+/// What a run is to answer.
+#[derive(Clone, Copy)]
+enum Said {
+    Acres(&'static str),
+    Text(&'static str),
+    Refused(u8, u32),
+    /// A tract's record, and the refusal of its description.
+    TractRefused(u32, u8, u32),
+}
+
+/// What a run of notes and a description writes, and its verdict.
+fn answer_to(alloc: Global, notes: &[u8], description: &[u8]) -> Result<(Vec<u8>, Verdict), Fail> {
+    let mut out = Device::new(Vec::new(alloc));
+    let mut text = Bytes::new(description);
+    let verdict = run_acres(alloc, &mut Bytes::new(notes), &mut text, &mut out)?;
+    Ok((out.get().clone()?, verdict))
+}
+
+/// The text that is to be written, and its verdict.
+fn expected(alloc: Global, said: Said) -> Result<(Vec<u8>, Verdict), Fail> {
+    let (text, verdict) = match said {
+        Said::Acres(acres) => (format!(in alloc; "{acres} acres\n")?, Verdict::Accepted),
+        Said::Text(text) => (String::from_str(alloc, text)?, Verdict::Accepted),
+        Said::Refused(number, at) => (
+            format!(in alloc; "refused {number} at {at}\n")?,
+            Verdict::Refused(Refusal { number, at }),
+        ),
+        Said::TractRefused(at, number, offset) => (
+            format!(in alloc; "refused 83 at {at}\nrefused {number} at {offset}\n")?,
+            Verdict::TractRefused {
+                at,
+                inner: Refusal { number, at: offset },
+            },
+        ),
+    };
+    Ok((Vec::from_slice(alloc, text.as_bytes())?, verdict))
+}
+
+#[test]
+fn tells_faults(rt: HostRuntime) -> Result<(), Fail> {
+    for (fault, text) in [
+        (RunFault::Read, "cannot read"),
+        (RunFault::Write, "cannot write"),
+        (RunFault::Memory, "out of memory"),
+    ] {
+        assert_eq!(rt; fault.to_string(rt.alloc())?.as_str(), text);
+    }
+    Ok(())
+}
