@@ -2,8 +2,8 @@
 use super::Said::{Acres, Refused};
 use super::example::Call;
 use super::expected;
-use twp_acres::Account;
 use std::test::Fail;
+use twp_acres::Account;
 use twp_grid::Bytes;
 use twp_samples::{even, uneven};
 

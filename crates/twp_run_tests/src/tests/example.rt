@@ -2,11 +2,11 @@
 use super::Said;
 use super::plat::UNEVEN_PLAT;
 use super::report::{ACCOUNT, LIST};
-use twp_acres::Account;
-use twp_acres::{run_acres, run_acres_as, run_normal, run_plat, run_report};
-use twp_acres::{RunFault, Verdict};
 use std::alloc::Global;
 use std::test::Fail;
+use twp_acres::{
+    Account, RunFault, Verdict, run_acres, run_acres_as, run_normal, run_plat, run_report,
+};
 use twp_grid::{Device, Sink, Source};
 
 /// Which run it is.

@@ -1,11 +1,11 @@
 //! Readers that fail: nothing is written, and what failed isn't read on.
 use super::example::{Call, Example, each_run};
 use super::expected;
-use twp_acres::RunFault;
 use std::alloc::Global;
 use std::io::ErrorKind;
 use std::process::Abort;
 use std::test::Fail;
+use twp_acres::RunFault;
 use twp_devices::Reader;
 use twp_grid::{Device, Source};
 use twp_samples::{even, uneven};

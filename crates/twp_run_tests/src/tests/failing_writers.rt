@@ -1,11 +1,11 @@
 //! Writers that fail: what was written is a front of the answer.
 use super::example::{Example, each_run};
 use super::expected;
-use twp_acres::{RunFault, Verdict};
 use std::alloc::Global;
 use std::io::ErrorKind;
 use std::process::Abort;
 use std::test::Fail;
+use twp_acres::{RunFault, Verdict};
 use twp_devices::Writer;
 use twp_grid::{Bytes, Device};
 use twp_samples::{even, uneven};

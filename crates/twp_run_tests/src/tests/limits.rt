@@ -3,9 +3,9 @@
 use super::Said::{Acres, Refused};
 use super::example::Call;
 use super::{answer_to, expected};
-use twp_acres::Verdict;
 use std::alloc::Global;
 use std::test::Fail;
+use twp_acres::Verdict;
 use twp_devices::Reader;
 use twp_grid::{Bytes, Device};
 use twp_samples::{even, text_of, uneven, with_record};

@@ -1,10 +1,9 @@
 //! Canonical texts of lands.
 use super::Said::Refused;
 use super::expected;
-use twp_acres::run_normal;
-use twp_acres::Verdict;
 use std::alloc::Global;
 use std::test::Fail;
+use twp_acres::{Verdict, run_normal};
 use twp_grid::{Bytes, Device};
 use twp_samples::even;
 

@@ -1,10 +1,9 @@
 //! The printed plat.
 use super::Said::Refused;
 use super::expected;
-use twp_acres::run_plat;
-use twp_acres::Verdict;
 use std::alloc::Global;
 use std::test::Fail;
+use twp_acres::{Verdict, run_plat};
 use twp_grid::{Bytes, Device};
 use twp_samples::{even, text_of, uneven};
 

@@ -1,10 +1,9 @@
 //! The account of tracts.
 use super::Said::{Refused, TractRefused};
 use super::{Said, expected};
-use twp_acres::run_report;
-use twp_acres::Verdict;
 use std::alloc::Global;
 use std::test::Fail;
+use twp_acres::{Verdict, run_report};
 use twp_grid::{Bytes, Device, Refusal};
 use twp_samples::{even, uneven};
 
