@@ -10,27 +10,22 @@ ghost use Rattle.twp_area.specs.steps.Bounds.{REGULAR_PLACE_UNITS, SECTION_PLACE
 ghost use Rattle.twp_area.specs.steps.Bounds.{SECTION_UNITS_MOST};
 
 use crate::account::Account;
-use twp_grid::{Block, PLACES_ACROSS, Section, lot_count, lot_place};
+use twp_grid::{Block, PLACES_TO_POSITION, Section, lot_count, lot_place};
 use twp_land::Land;
 use twp_measure::Area;
-use twp_plat::Plat;
+use twp_plat::{Plat, QUARTER_MILE};
 
-/// How many positions a side of a section has.
-const POSITIONS_ACROSS: u8 = 4;
-
-/// How many places a side of a position has, and how many the position.
-const PLACES_TO_POSITION: u8 = PLACES_ACROSS as u8 / POSITIONS_ACROSS;
-
+/// The places of a position.
 const PLACES_OF_POSITION: u32 = PLACES_TO_POSITION as u32 * PLACES_TO_POSITION as u32;
 
-/// The side of a position that is no lot, in thousandths of a chain.
-const QUARTER_MILE: u128 = 20_000;
+/// The area of a position that is no lot, in square thousandths of a chain.
+const REGULAR_POSITION: u128 = QUARTER_MILE as u128 * QUARTER_MILE as u128;
 
-/// The area of a place that lies in no lot, in square thousandths.
-const REGULAR_PLACE: u128 = QUARTER_MILE * QUARTER_MILE / PLACES_OF_POSITION as u128;
+/// The area of a place in such a position.
+const REGULAR_PLACE: u128 = REGULAR_POSITION / PLACES_OF_POSITION as u128;
 
-/// The area of a land: each place counts as a sixteenth of its position's area on the plat, and
-/// nothing is rounded (this project's rule; a lot is taken whole: Specifications for Descriptions
+/// The area of a land: each place counts with its share of its position's area on the plat, which
+/// all places of the position have alike, and nothing is rounded (this project's rule; a lot is taken whole: Specifications for Descriptions
 /// of Land).
 pub fn area_of<L: Land>(plat: &Plat, land: &L) -> Area
     requires whole { HasWholeLots PLACE_DIGITS (L.places land.now) }
@@ -40,7 +35,7 @@ pub fn area_of<L: Land>(plat: &Plat, land: &L) -> Area
 }
 
 /// The plat area of a land: each lot counts with the acres that the plat prints of it, and each
-/// place off the lots with a sixteenth of 40 acres (this project's rule).
+/// place off the lots with its share of 40 acres (this project's rule).
 pub fn plat_area_of<L: Land>(plat: &Plat, land: &L) -> Area
     requires whole { HasWholeLots PLACE_DIGITS (L.places land.now) }
     ensures { IsPlatArea PLACE_DIGITS plat.now (L.places land.now) result }

@@ -1,12 +1,16 @@
 -- The lots of a township's closing sections, and the positions that they fill (Manual of Surveying
 -- Instructions 2009, chapter 3). A position is a quarter-quarter of a section: its column is
 -- counted from the east and its row from the south, 0 to 3.
-use Rattle.std.specs.Prelude.{ℕ, ◌<◌, ◌==◌, ◌&&◌, List, [], ◌∷◌, Option, option_map}
+use Rattle.std.specs.Prelude.{◌*◌, ℕ, ◌<◌, ◌==◌, ◌&&◌, List, [], ◌∷◌, Option, option_map}
 use Rattle.std.specs.Prelude.{find, count_by}
 
 -- the positions along a side of a section
 abbrev pub POSITIONS_ACROSS : ℕ
 POSITIONS_ACROSS = 4
+
+-- the positions of a section
+abbrev pub POSITIONS : ℕ
+POSITIONS = POSITIONS_ACROSS * POSITIONS_ACROSS
 
 -- the column and the row of a position
 abbrev pub IsPosition : ℕ → ℕ → Type 0

@@ -1,6 +1,5 @@
 -- The places of a section, the smallest parts of it that a description names: each side of the
--- section is halved g times (16 places to a side today). A place's column is counted from the east
--- and its row from the south.
+-- section is halved g times. A place's column is counted from the east and its row from the south.
 use Rattle.std.specs.Prelude.{ℕ, zero, suc, ◌/◌, ◌%◌, ◌^◌, ◌<◌, ◌==◌, ◌&&◌, nat_lt, Bool, true}
 use Rattle.std.specs.Prelude.{false, List, [], ◌∷◌}
 use Rattle.twp_grid.specs.Lots.{POSITIONS_ACROSS}

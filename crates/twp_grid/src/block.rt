@@ -37,7 +37,7 @@ pub enum Corner {
 
 /// A rectangle of a section's places: the whole section, a position, and each half and quarter of a
 /// block, which are the aliquot parts (Specifications for Descriptions of Land). A place's column
-/// is counted from the east and its row from the south, 0 to 15 (this project's limit).
+/// is counted from the east and its row from the south, from 0 to less than `PLACES_ACROSS`.
 #[derive(Clone, Copy, Debug, PartialEq, Eq, Hash)]
 pub struct Block {
     columns: Span,
@@ -131,7 +131,7 @@ impl Block {
         Some(Block { columns, rows })
     }
 
-    /// The easternmost column, 0 to 15.
+    /// The easternmost column, less than `PLACES_ACROSS`.
     pub fn column(self) -> u8
         ensures value { result ≡ self.columns.start }
         ensures dyadic { IsDyadic PLACE_DIGITS self.columns }
@@ -139,7 +139,7 @@ impl Block {
         self.columns.start()
     }
 
-    /// The southernmost row, 0 to 15.
+    /// The southernmost row, less than `PLACES_ACROSS`.
     pub fn row(self) -> u8
         ensures value { result ≡ self.rows.start }
         ensures dyadic { IsDyadic PLACE_DIGITS self.rows }
@@ -147,7 +147,7 @@ impl Block {
         self.rows.start()
     }
 
-    /// How many columns, 1 to 16.
+    /// How many columns, from 1 to `PLACES_ACROSS`.
     pub fn width(self) -> u8
         ensures value { result ≡ self.columns.len }
         ensures dyadic { IsDyadic PLACE_DIGITS self.columns }
@@ -155,7 +155,7 @@ impl Block {
         self.columns.len()
     }
 
-    /// How many rows, 1 to 16.
+    /// How many rows, from 1 to `PLACES_ACROSS`.
     pub fn height(self) -> u8
         ensures value { result ≡ self.rows.len }
         ensures dyadic { IsDyadic PLACE_DIGITS self.rows }

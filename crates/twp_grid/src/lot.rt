@@ -5,6 +5,9 @@ ghost use Rattle.twp_grid.specs.steps.WesternSections.{is_western_number};
 
 use crate::section::Section;
 
+/// The positions along a side of a section.
+pub const POSITIONS_ACROSS: u8 = 4;
+
 /// The lot that fills a position of a section, if one does. The column is counted from the east and
 /// the row from the south, 0 to 3; outside there is none. Lots stand along the half miles that
 /// errors of measurement are thrown into (Manual of Surveying Instructions 2009, chapter 3).
@@ -13,7 +16,7 @@ pub fn lot_at(section: Section, column: u8, row: u8) -> Option<u8>
     ensures lot { result ≡ lot_at_position section column row }
     ensures section { IsSection section }
 {
-    if column > 3 || row > 3 {
+    if column >= POSITIONS_ACROSS || row >= POSITIONS_ACROSS {
         return None;
     }
     if is_northern(section) && row == 3 {

@@ -3,13 +3,14 @@ ghost use Rattle.std.specs.Option.{SomeIff};
 ghost use Rattle.twp_grid.specs.Lots.{POSITIONS_ACROSS};
 ghost use Rattle.twp_grid.specs.Places.{PLACE_DIGITS};
 
+use crate::lot::POSITIONS_ACROSS;
 use std::marker::Model;
 
 /// The places along a side of a section: each side is halved four times (this project's limit).
 pub const PLACES_ACROSS: usize = 1 << 4;
 
 /// The places along a side of a position.
-const PLACES_TO_POSITION: usize = PLACES_ACROSS / 4;
+pub const PLACES_TO_POSITION: u8 = PLACES_ACROSS as u8 / POSITIONS_ACROSS;
 
 /// Columns or rows of places in succession, of those that halving a section's side gives.
 #[derive(Clone, Copy, Debug, PartialEq, Eq, Hash)]
@@ -52,12 +53,12 @@ impl Span {
         ensures { SomeIff result (position < POSITIONS_ACROSS)
             (position_span PLACE_DIGITS position) }
     {
-        if position >= 4 {
+        if position >= POSITIONS_ACROSS {
             return None;
         }
         Some(Span {
-            start: usize::from(position) * PLACES_TO_POSITION,
-            len: PLACES_TO_POSITION,
+            start: usize::from(position) * usize::from(PLACES_TO_POSITION),
+            len: usize::from(PLACES_TO_POSITION),
         })
     }
 
@@ -88,7 +89,7 @@ impl Span {
         })
     }
 
-    /// The first column or row, 0 to 15.
+    /// The first column or row, from 0.
     pub(crate) fn start(self) -> u8
         ensures value { result ≡ self.start }
         ensures dyadic { IsDyadic PLACE_DIGITS self }
@@ -96,7 +97,7 @@ impl Span {
         self.start as u8
     }
 
-    /// How many, 1 to 16.
+    /// How many, from 1 to `PLACES_ACROSS`.
     pub(crate) fn len(self) -> u8
         ensures value { result ≡ self.len }
         ensures dyadic { IsDyadic PLACE_DIGITS self }

@@ -7,7 +7,7 @@ ghost use Rattle.twp_land.specs.Lands.{Meets, HoldsAll, SharePlace, SamePlaces, 
 use twp_grid::{Block, SECTIONS, Section};
 
 /// A set of places of a township. A place's column is counted from the east and its row from the
-/// south of its section, 0 to 15 (this project's limit).
+/// south of its section, less than `PLACES_ACROSS`.
 pub trait Land: Drop {
     /// Whether the set holds the place of a section, a column and a row.
     ghost places: { Self → ℕ → ℕ → ℕ → Bool };

@@ -5,10 +5,7 @@ ghost use Rattle.twp_land.specs.Lands.{Meets};
 ghost use Rattle.twp_land.specs.WholeLots.{HoldsLotPlace};
 ghost use Rattle.twp_land.specs.steps.Crossing.{Cross};
 
-use twp_grid::{Block, Section, lot_at, lot_count};
-
-/// The places along a side of a position.
-const PLACES_TO_POSITION: u8 = 4;
+use twp_grid::{Block, PLACES_TO_POSITION, Section, lot_at, lot_count};
 
 /// Whether a block of a section holds a place of a lot. Most sections have none, and a block no
 /// larger than a position lies in one, of which one look tells.

@@ -1,6 +1,7 @@
 -- Laws over the definitions.
 use Rattle.std.specs.Prelude.{◌≡◌, ◌≢◌, ℕ, ◌<◌, pos, Result}
 use Rattle.twp_measure.specs.Areas.{Fraction}
+use Rattle.twp_grid.specs.Lots.{POSITIONS_ACROSS}
 use Rattle.twp_notes.specs.FieldNotes.{FieldNotes}
 use Rattle.twp_plat.specs.Plats.{TownshipPlat, IsPlat, IsPlatOf, ClosingQuarters}
 use Rattle.twp_plat.specs.Plats.{AreClosingQuarters}
@@ -27,25 +28,25 @@ NotesGivePlats = (notes : FieldNotes) (plat : TownshipPlat) → IsPlatOf notes p
 -- a position has one area over a denominator
 abbrev pub OneArea : Type 0
 OneArea = (plat : TownshipPlat) (section column row : ℕ) (area area' : Fraction)
-    → column < 4 → row < 4
+    → column < POSITIONS_ACROSS → row < POSITIONS_ACROSS
     → IsPieceArea plat section column row area → IsPieceArea plat section column row area'
     → area.over ≡ area'.over → area ≡ area'
 
 -- interpolation between the lines is the formula
 abbrev pub PieceIsFormula : Type 0
-PieceIsFormula = (q : ClosingQuarters) (column row : ℕ) → column < 4 → row < 4
+PieceIsFormula = (q : ClosingQuarters) (column row : ℕ) → column < POSITIONS_ACROSS → row < POSITIONS_ACROSS
     → IsSame (piece q column row) (formula q column row)
 
 -- outside section 6 a piece is a whole number of units
 abbrev pub PieceIsWhole : Type 0
 PieceIsWhole = (plat : TownshipPlat) (section column row : ℕ) (q : ClosingQuarters)
-    → IsPlat plat → AreClosingQuarters plat section q → section ≢ 6 → column < 4 → row < 4
+    → IsPlat plat → AreClosingQuarters plat section q → section ≢ 6 → column < POSITIONS_ACROSS → row < POSITIONS_ACROSS
     → (units : ℕ) × IsSame (piece q column row) (whole units)
 
 -- each piece is a whole number of parts of the plat's denominator: the division leaves no rest
 abbrev pub PieceIsOver : Type 0
 PieceIsOver = (plat : TownshipPlat) (section column row : ℕ) (q : ClosingQuarters)
-    → IsPlat plat → AreClosingQuarters plat section q → column < 4 → row < 4
+    → IsPlat plat → AreClosingQuarters plat section q → column < POSITIONS_ACROSS → row < POSITIONS_ACROSS
     → (units : ℕ) × IsSame (piece q column row) (ratio (pos units) (over_of plat))
 
 -- the denominator is that of section 6

@@ -1,23 +1,21 @@
 ghost use Rattle.std.specs.Prelude.{◌≡◌, ℕ, ◌*◌, ◌<◌, ◌≤◌};
+ghost use Rattle.twp_grid.specs.Lots.{POSITIONS_ACROSS, POSITIONS};
 ghost use Rattle.twp_grid.specs.Totals.{total, over_positions};
 ghost use Rattle.twp_plat.specs.Closing.{CLOSING_MOST};
 ghost use Rattle.twp_plat.specs.Pieces.{over_of, OVER_MOST};
 ghost use Rattle.twp_plat.specs.PlatAreas.{ArePieces, IsSectionArea, IsTownshipArea};
 
 use crate::plat::Plat;
-use twp_grid::{SECTIONS, Section};
+use twp_grid::{POSITIONS_ACROSS, SECTIONS, Section};
 use twp_measure::Area;
 
-/// How many positions stand beside each other in a section, and how many one above the other.
-const POSITIONS_ACROSS: u8 = 4;
-
 impl Plat {
-    /// The area of a section: the sum of its 16 positions' areas, exact.
+    /// The area of a section: the sum of its positions' areas, exact.
     pub fn section_area(&self, section: Section) -> Area
         ensures sum { IsSectionArea self.now section result }
         ensures units { (pieces : ℕ → ℕ → ℕ → ℕ) → ArePieces self.now pieces
             → result.units ≡ over_positions (pieces section) }
-        ensures most { result.units ≤ 16 * (CLOSING_MOST * CLOSING_MOST * OVER_MOST) }
+        ensures most { result.units ≤ POSITIONS * (CLOSING_MOST * CLOSING_MOST * OVER_MOST) }
     {
         let mut area = Area::zero(self.over());
         for row in 0..POSITIONS_ACROSS {
@@ -40,11 +38,11 @@ impl Plat {
 
     /// The area of a section's positions of one row.
     fn row_area(&self, section: Section, row: u8) -> Area
-        requires { row < 4 }
+        requires { row < POSITIONS_ACROSS }
         ensures over { result.over ≡ over_of self.now }
         ensures units { (pieces : ℕ → ℕ → ℕ → ℕ) → ArePieces self.now pieces
-            → result.units ≡ total 4 (λ column. pieces section column row) }
-        ensures most { result.units ≤ 4 * (CLOSING_MOST * CLOSING_MOST * OVER_MOST) }
+            → result.units ≡ total POSITIONS_ACROSS (λ column. pieces section column row) }
+        ensures most { result.units ≤ POSITIONS_ACROSS * (CLOSING_MOST * CLOSING_MOST * OVER_MOST) }
     {
         let mut area = Area::zero(self.over());
         for column in 0..POSITIONS_ACROSS {

@@ -10,5 +10,6 @@ mod lot_figure;
 mod piece;
 mod plat;
 
+pub use closing::QUARTER_MILE;
 pub use fault::{HalfMile, PlatFault};
 pub use plat::Plat;

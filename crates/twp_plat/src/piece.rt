@@ -1,4 +1,5 @@
 ghost use Rattle.std.specs.Prelude.{◌≡◌, ◌+◌, ◌*◌, ◌≤◌, ◌<◌, pos, ◌+ℤ◌, ◌-ℤ◌, ◌*ℤ◌};
+ghost use Rattle.twp_grid.specs.Lots.{POSITIONS_ACROSS};
 ghost use Rattle.twp_plat.specs.Closing.{CLOSING_MOST};
 ghost use Rattle.twp_plat.specs.Ratios.{ratio, whole, IsSame};
 ghost use Rattle.twp_plat.specs.steps.SideLimits.{HaveRegularLines};
@@ -42,8 +43,8 @@ impl SideQuarters {
     /// The area of a position, in whole units: of a section with regular lines, all pieces are.
     pub fn whole_units(self, column: u8, row: u8) -> u64
         requires regular { HaveRegularLines self }
-        requires column { column < 4 }
-        requires row { row < 4 }
+        requires column { column < POSITIONS_ACROSS }
+        requires row { row < POSITIONS_ACROSS }
         ensures piece { IsSame (piece self column row) (whole result) }
         ensures most { result ≤ CLOSING_MOST * CLOSING_MOST }
     {
@@ -53,8 +54,8 @@ impl SideQuarters {
     /// The area of a position in parts of a unit: four times its mean width times its mean height,
     /// times the lengths of the lines along which these run.
     pub fn parts(self, column: u8, row: u8) -> u64
-        requires column { column < 4 }
-        requires row { row < 4 }
+        requires column { column < POSITIONS_ACROSS }
+        requires row { row < POSITIONS_ACROSS }
         ensures piece { IsSame (piece self column row) (ratio (pos result) (divisor_of self)) }
         ensures most { result ≤ CLOSING_MOST * CLOSING_MOST * divisor_of self }
     {
@@ -71,7 +72,7 @@ impl SideQuarters {
 
     /// Twice the mean width of a position, times the west line's length.
     fn doubled_width(self, column: u8, row: u8) -> u64
-        requires { row < 4 }
+        requires { row < POSITIONS_ACROSS }
         ensures value { pos result ≡ both_widths self column row }
         ensures most { result ≤ 2 * CLOSING_MOST * west_length self }
     {
@@ -84,7 +85,7 @@ impl SideQuarters {
 
     /// Twice the mean height of a position, times the north line's length.
     fn doubled_height(self, column: u8, row: u8) -> u64
-        requires { column < 4 }
+        requires { column < POSITIONS_ACROSS }
         ensures value { pos result ≡ both_heights self column row }
         ensures most { result ≤ 2 * CLOSING_MOST * north_length self }
     {

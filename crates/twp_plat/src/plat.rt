@@ -1,4 +1,5 @@
 ghost use Rattle.std.specs.Prelude.{◌≡◌, ◌*◌, ◌≤◌, ◌<◌, pos};
+ghost use Rattle.twp_grid.specs.Lots.{POSITIONS_ACROSS};
 ghost use Rattle.twp_plat.specs.Closing.{CLOSING_MOST};
 ghost use Rattle.twp_plat.specs.Plats.{IsPlat, AreClosingQuarters, closing_quarter_of};
 ghost use Rattle.twp_plat.specs.Plats.{IsQuarterOnPlat};
@@ -63,8 +64,8 @@ impl Plat {
     /// its mean width times its mean height, interpolated between the section's lines (this
     /// project's rule).
     pub fn piece_area(&self, section: Section, column: u8, row: u8) -> Area
-        requires column { column < 4 }
-        requires row { row < 4 }
+        requires column { column < POSITIONS_ACROSS }
+        requires row { row < POSITIONS_ACROSS }
         ensures piece { IsPieceArea self.now section column row result }
         ensures over { result.over ≡ over_of self.now }
         ensures most { result.units ≤ CLOSING_MOST * CLOSING_MOST * result.over }
@@ -91,8 +92,8 @@ impl Plat {
 
     /// A position's area in parts of the plat's denominator: outside section 6 it is whole units.
     fn units(&self, section: Section, column: u8, row: u8) -> u128
-        requires column { column < 4 }
-        requires row { row < 4 }
+        requires column { column < POSITIONS_ACROSS }
+        requires row { row < POSITIONS_ACROSS }
         ensures piece { IsPieceArea self.now section column row
             (record { units = result; over = over_of self.now }) }
         ensures most { result ≤ CLOSING_MOST * CLOSING_MOST * over_of self.now }
