@@ -16,7 +16,7 @@ use Rattle.std.proofs.Math.Nat.{two-pow-succ, mod-eq_of_lt, mul_comm, mul-sub}
 use Rattle.std.proofs.Math.Pow.{pow_mono}
 use Rattle.twp_grid.specs.Spans.{Span, in_span}
 use Rattle.twp_grid.specs.Totals.{total, one_where}
-use Rattle.twp_grid.proofs.LotFacts.{each, each_of_three}
+use Rattle.twp_land.specs.steps.BitLanes.{LANE_BITS}
 use Rattle.twp_grid.proofs.TotalFacts.{total-zero, total-ext, total-front}
 
 -- a run of ones is a span
@@ -102,36 +102,31 @@ some_or_none (suc n) test = elim (cases_Bool (test n)) [
   ]
 ]
 
--- so many ones, at their number
-abbrev ones_table : List ℕ
-ones_table =
-    0 ∷ 1 ∷ 3 ∷ 7 ∷ 15 ∷ 31 ∷ 63 ∷ 127 ∷ 255 ∷ 511 ∷ 1023 ∷ 2047 ∷ 4095 ∷ 8191 ∷ 16383 ∷ 32767 ∷ 65535 ∷ []
+-- ones from the bit of a start on, as they are computed
+abbrev pub computed_ones : ℕ → ℕ → ℕ
+computed_ones start len =
+    (1 * 2 ^ len % 18446744073709551616 - 1) * 2 ^ start % 18446744073709551616
 
-ones_test : each 1 (λ a. each 1 (λ b. each 17 (λ len. get_or ones_table len 0 == 2 ^ len - 1))) ≡ true
-unfolding each
-ones_test = refl
-
--- ones from the bit of a start on
-pub shifted_ones : (start len : ℕ) → start + len ≤ 16
-    → get_or ones_table len 0 * 2 ^ start % 4294967296 ≡ 2 ^ (start + len) - 2 ^ start
+-- they are the ones from the start to the end, and fit a lane
+pub shifted_ones : (start len : ℕ) → start + len ≤ LANE_BITS
+    → computed_ones start len ≡ 2 ^ (start + len) - 2 ^ start
 shifted_ones start len within =
-    let ones : get_or ones_table len 0 ≡ 2 ^ len - 1 =
-    eqb-true _ _
-    (each_of_three 1 1 17 (λ a b len. get_or ones_table len 0 == 2 ^ len - 1) 0 0 len ones_test
-    (omega arith) (omega arith) (omega arith)) in
-    let product : get_or ones_table len 0 * 2 ^ start ≡ 2 ^ (start + len) - 2 ^ start =
-    ap (λ n. n * 2 ^ start) ones
-    ∙ mul_comm (2 ^ len - 1) (2 ^ start)
+    let few : 2 ^ len ≤ 2 ^ LANE_BITS = pow_mono {i = len} {j = LANE_BITS} (omega (arith, within)) in
+    let most : 2 ^ (start + len) ≤ 2 ^ LANE_BITS = pow_mono {i = start + len} {j = LANE_BITS} within in
+    let ones : 1 * 2 ^ len % 18446744073709551616 ≡ 2 ^ len =
+    ap (λ n. n % 18446744073709551616) (omega arith) ∙ mod-eq_of_lt (omega (arith, few)) in
+    let product : (2 ^ len - 1) * 2 ^ start ≡ 2 ^ (start + len) - 2 ^ start =
+    mul_comm (2 ^ len - 1) (2 ^ start)
     ∙ mul-sub (2 ^ start) (2 ^ len) 1
     ∙ omega (arith, pow-add 2 start len) in
-    let most : 2 ^ (start + len) ≤ 2 ^ 16 = pow_mono {i = start + len} {j = 16} within in
-    ap (λ n. n % 4294967296) product ∙ mod-eq_of_lt (omega arith)
+    ap (λ n. (n - 1) * 2 ^ start % 18446744073709551616) ones
+    ∙ ap (λ n. n % 18446744073709551616) product
+    ∙ mod-eq_of_lt (omega (arith, most))
 
-pub ones_fit_a_lane : (start len : ℕ) → start + len ≤ 16
-    → get_or ones_table len 0 * 2 ^ start % 4294967296 < 65536
+pub ones_fit_a_lane : (start len : ℕ) → start + len ≤ LANE_BITS → computed_ones start len < 2 ^ LANE_BITS
 ones_fit_a_lane start len within =
-    let most : 2 ^ (start + len) ≤ 2 ^ 16 = pow_mono {i = start + len} {j = 16} within in
-    omega (arith, shifted_ones start len within, pow_pos start, pow_pos (start + len))
+    let most : 2 ^ (start + len) ≤ 2 ^ LANE_BITS = pow_mono {i = start + len} {j = LANE_BITS} within in
+    omega (arith, shifted_ones start len within, most, pow_pos start, pow_pos (start + len))
 
 -- lanes of no bits
 pub no_bit : (n column row : ℕ) → (bit_at (get_or (replicate n 0) row 0) column == 1) ≡ false

@@ -14,7 +14,7 @@ use Rattle.std.proofs.lemmas.Bool.{and_right, ne_eqb, eq-eqb, eqb-true}
 use Rattle.twp_grid.specs.Spans.{in_span, Rectangle, in_rectangle}
 use Rattle.twp_grid.specs.Totals.{one_where}
 use Rattle.twp_grid.proofs.LotFacts.{each, each_of_three}
-use Rattle.twp_land.specs.steps.BitLanes.{AreBlockLanes}
+use Rattle.twp_land.specs.steps.BitLanes.{LANE_BITS, AreBlockLanes}
 use Rattle.twp_land.proofs.BitFacts.{bit_of_ones}
 use Rattle.twp_land.proofs.BlockFacts.{InSection}
 
@@ -22,42 +22,45 @@ use Rattle.twp_land.proofs.BlockFacts.{InSection}
 abbrev pub row_bits : List ℕ
 row_bits = 1 ∷ 2 ∷ 4 ∷ 8 ∷ 16 ∷ 32 ∷ 64 ∷ 128 ∷ 256 ∷ 512 ∷ 1024 ∷ 2048 ∷ 4096 ∷ 8192 ∷ 16384 ∷ 32768 ∷ []
 
-powers_test : each 1 (λ a. each 1 (λ b. each 16 (λ row. get_or row_bits row 0 == 2 ^ row))) ≡ true
+powers_test : each 1 (λ a. each 1 (λ b. each LANE_BITS (λ row. get_or row_bits row 0 == 2 ^ row))) ≡ true
 unfolding each
 powers_test = refl
 
-row_bit : (row : ℕ) → row < 16 → get_or row_bits row 0 ≡ 2 ^ row
+row_bit : (row : ℕ) → row < LANE_BITS → get_or row_bits row 0 ≡ 2 ^ row
 row_bit row below =
     eqb-true _ _
-    (each_of_three 1 1 16 (λ a b row. get_or row_bits row 0 == 2 ^ row) 0 0 row powers_test (omega arith)
+    (each_of_three 1 1 LANE_BITS (λ a b row. get_or row_bits row 0 == 2 ^ row) 0 0 row powers_test
+    (omega arith)
     (omega arith) below)
 
 -- the lanes whose rows' bits are set
 abbrev chosen : ℕ → List Bool
-chosen rows = zip2 (λ a b. a == b) (zip2 bit_and (replicate 16 rows) row_bits) row_bits
+chosen rows = zip2 (λ a b. a == b) (zip2 bit_and (replicate LANE_BITS rows) row_bits) row_bits
 
 abbrev pub selected : ℕ → ℕ → List ℕ
 selected rows columns =
     sel_l
-    (map (top 15)
-    (zip2 (λ a b. cond (a == b) (2 ^ 16 - 1) 0) (zip2 bit_and (replicate 16 rows) row_bits) row_bits))
-    (replicate 16 columns) (replicate 16 0)
+    (map (top (LANE_BITS - 1))
+    (zip2 (λ a b. cond (a == b) (2 ^ LANE_BITS - 1) 0) (zip2 bit_and (replicate LANE_BITS rows) row_bits)
+    row_bits))
+    (replicate LANE_BITS columns) (replicate LANE_BITS 0)
 
 selected_is : (rows columns : ℕ)
-    → selected rows columns ≡ sel_l (chosen rows) (replicate 16 columns) (replicate 16 0)
+    → selected rows columns ≡ sel_l (chosen rows) (replicate LANE_BITS columns) (replicate LANE_BITS 0)
 selected_is rows columns =
-    ap (λ tests. sel_l tests (replicate 16 columns) (replicate 16 0))
-    (tops_compared w16 (λ a b. a == b) (zip2 bit_and (replicate 16 rows) row_bits) row_bits)
+    ap (λ tests. sel_l tests (replicate LANE_BITS columns) (replicate LANE_BITS 0))
+    (tops_compared w16 (λ a b. a == b) (zip2 bit_and (replicate LANE_BITS rows) row_bits) row_bits)
 
-length_chosen : (rows : ℕ) → length (chosen rows) ≡ 16
+length_chosen : (rows : ℕ) → length (chosen rows) ≡ LANE_BITS
 length_chosen rows = refl
 
-chosen_at : (rows row : ℕ) → row < 16 → get_or (chosen rows) row false ≡ (bit_at rows row == 1)
+chosen_at : (rows row : ℕ) → row < LANE_BITS → get_or (chosen rows) row false ≡ (bit_at rows row == 1)
 chosen_at rows row below =
-    get_or-zip2 (λ a b. a == b) (zip2 bit_and (replicate 16 rows) row_bits) row_bits row 0 0 false below below
+    get_or-zip2 (λ a b. a == b) (zip2 bit_and (replicate LANE_BITS rows) row_bits) row_bits row 0 0 false
+    below below
     ∙ ap (λ n. n == get_or row_bits row 0)
-    (get_or-zip2 bit_and (replicate 16 rows) row_bits row 0 0 0 below below
-    ∙ ap (λ n. bit_and n (get_or row_bits row 0)) (get_or-replicate 16 row rows 0 below))
+    (get_or-zip2 bit_and (replicate LANE_BITS rows) row_bits row 0 0 0 below below
+    ∙ ap (λ n. bit_and n (get_or row_bits row 0)) (get_or-replicate LANE_BITS row rows 0 below))
     ∙ ap (λ power. bit_and rows power == power) (row_bit row below)
     ∙ ap (λ n. n == 2 ^ row) (and_pow rows row)
     ∙ test (bit_at rows row) (2 ^ row) (bit_at-lt rows row) (pow_pos row)
@@ -67,16 +70,17 @@ chosen_at rows row below =
     test (suc zero) power small some = eq-eqb _ _ (omega arith)
     test (suc (suc bit)) power small some = absurd (omega arith)
 
-selected_at : (rows columns row : ℕ) → row < 16
+selected_at : (rows columns row : ℕ) → row < LANE_BITS
     → get_or (selected rows columns) row 0 ≡ cond (bit_at rows row == 1) columns 0
 selected_at rows columns row below =
     ap (λ lanes. get_or lanes row 0) (selected_is rows columns)
-    ∙ get_or-sel_l (chosen rows) (replicate 16 columns) (replicate 16 0) row 0 below below below
-    ∙ ap (λ test. cond test (get_or (replicate 16 columns) row 0) (get_or (replicate 16 0) row 0))
+    ∙ get_or-sel_l (chosen rows) (replicate LANE_BITS columns) (replicate LANE_BITS 0) row 0 below below below
+    ∙ ap
+    (λ test. cond test (get_or (replicate LANE_BITS columns) row 0) (get_or (replicate LANE_BITS 0) row 0))
     (chosen_at rows row below)
-    ∙ ap (λ n. cond (bit_at rows row == 1) n (get_or (replicate 16 0) row 0))
-    (get_or-replicate 16 row columns 0 below)
-    ∙ ap (λ n. cond (bit_at rows row == 1) columns n) (get_or-replicate 16 row 0 0 below)
+    ∙ ap (λ n. cond (bit_at rows row == 1) n (get_or (replicate LANE_BITS 0) row 0))
+    (get_or-replicate LANE_BITS row columns 0 below)
+    ∙ ap (λ n. cond (bit_at rows row == 1) columns n) (get_or-replicate LANE_BITS row 0 0 below)
 
 pub are_block_lanes : (block : Rectangle) (rows columns : ℕ) → InSection block
     → rows ≡ 2 ^ (block.rows.start + block.rows.len) - 2 ^ block.rows.start
@@ -95,11 +99,11 @@ are_block_lanes block rows columns lies rows-are columns-are = record {
     and_true true = refl
     and_true false = refl
 
-    small : (test : Bool) → cond test columns 0 < 2 ^ 16
+    small : (test : Bool) → cond test columns 0 < 2 ^ LANE_BITS
     small true =
-        let most : 2 ^ (block.columns.start + block.columns.len) ≤ 2 ^ 16 =
-        pow_mono {i = block.columns.start + block.columns.len} {j = 16} lies.columns in
-        omega (arith, columns-are, pow_pos block.columns.start, pow_pos 16)
+        let most : 2 ^ (block.columns.start + block.columns.len) ≤ 2 ^ LANE_BITS =
+        pow_mono {i = block.columns.start + block.columns.len} {j = LANE_BITS} lies.columns in
+        omega (arith, columns-are, pow_pos block.columns.start, pow_pos LANE_BITS)
     small false = omega arith
 
     row_is : (row : ℕ) → bit_at rows row ≡ one_where (in_span block.rows row)

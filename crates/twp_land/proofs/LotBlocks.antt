@@ -1,24 +1,32 @@
 -- Blocks that share a place, and the blocks of lots.
-use Rattle.std.proofs.Common.{◌≡◌, ◌==◌, ℕ, ◌+◌, ◌<◌, ◌≤◌, ◌⊎◌, true, Some, ◌∙◌, arith, ◌/◌, ◌%◌, ◌↔◌, Bool}
+use Rattle.std.proofs.Common.{◌≡◌, ◌==◌, ◌*◌, ◌||◌, not, ℕ, ◌+◌, ◌<◌, ◌≤◌, ◌⊎◌, true, Some, ◌∙◌, arith, ◌/◌}
+use Rattle.std.proofs.Common.{◌%◌, ◌↔◌, Bool}
 use Rattle.std.proofs.Common.{Option, None, refl, sym, ap, inl, inr, nat_le, nat_lt, is_some, IsSome, IsTrue}
 use Rattle.std.proofs.lemmas.Bool.Decides.{nat_tests}
 use Rattle.twp_grid.specs.Winding.{IsSection}
-use Rattle.twp_grid.specs.Places.{PLACE_DIGITS, is_place, position_along}
+use Rattle.twp_grid.specs.Places.{PLACE_DIGITS, places_across, places_to_position, is_place, position_along}
 use Rattle.twp_land.specs.WholeLots.{lot_of_place, HoldsLotPlace}
 use Rattle.twp_land.specs.steps.Crossing.{Cross}
 use Rattle.twp_land.proofs.LotFacts.{fills, block_of, in_lot, lot_inside}
-use Rattle.std.proofs.lemmas.Bool.{cases_lt, and_parts, eqb-true}
-use Rattle.twp_grid.specs.Lots.{lot_at_position, position_of_lot, number_of_lots}
+use Rattle.std.proofs.lemmas.Bool.{cases_lt, and_parts, eqb-true, eq-eqb}
+use Rattle.twp_grid.specs.Lots.{POSITIONS_ACROSS, lot_at_position, position_of_lot, number_of_lots}
 use Rattle.twp_grid.specs.Spans.{Span, in_span, IsDyadic, Rectangle, in_rectangle, position_block}
+use Rattle.twp_grid.proofs.LotFacts.{each, each_of_three}
+use Rattle.std.proofs.lemmas.Nat.{div-add-mod', mul-le}
+use Rattle.std.proofs.Math.Nat.{mul_assoc}
 use Rattle.twp_land.specs.Lands.{Meets, block_places, SharePlace}
+
+-- the places along a side of a position
+abbrev POSITION : ℕ
+POSITION = places_to_position PLACE_DIGITS
 
 -- a place of a lot is a place
 pub lot_is_place : (s n c r : ℕ) → IsSection s → lot_of_place PLACE_DIGITS s c r ≡ Some n
     → is_place PLACE_DIGITS c r ≡ true
 lot_is_place s n c r range is =
     let there = fills s (position_along PLACE_DIGITS c) (position_along PLACE_DIGITS r) n range is in
-    let in-column : position_along PLACE_DIGITS c < 4 = there.in_column in
-    let in-row : position_along PLACE_DIGITS r < 4 = there.in_row in
+    let in-column : position_along PLACE_DIGITS c < POSITIONS_ACROSS = there.in_column in
+    let in-row : position_along PLACE_DIGITS r < POSITIONS_ACROSS = there.in_row in
     grind (arith, nat_tests)
 
 -- a column or row of both spans
@@ -126,29 +134,42 @@ lot_is_below s end block range all none held =
         let most : n ≤ number_of_lots s = there.most in
         none n held.column held.row there.least (omega arith) held.inside is
 
--- a block no larger than a position lies in one
-size_of : (n : ℕ) → 0 < n → n ≤ 4 → (n ≡ 1) ⊎ ((n ≡ 2) ⊎ ((n ≡ 3) ⊎ (n ≡ 4)))
-size_of n some most = elim (cases_lt n 2) [
-  | inl less ↦ inl (omega arith)
-  | inr two ↦ elim (cases_lt n 3) [
-    | inl less ↦ inr (inl (omega arith))
-    | inr three ↦ elim (cases_lt n 4) [
-      | inl less ↦ inr (inr (inl (omega arith)))
-      | inr four ↦ inr (inr (inr (omega arith)))
+-- a length that divides a section's side, and is no more than a position's, divides this too
+divides_test : each 1 (λ a. each 1 (λ b. each (POSITION + 1) (λ n.
+    not (places_across PLACE_DIGITS % n == 0) || (POSITION / n * n == POSITION)))) ≡ true
+unfolding each
+divides_test = refl
+
+divides_position : (n : ℕ) → n ≤ POSITION → places_across PLACE_DIGITS % n ≡ 0
+    → POSITION / n * n ≡ POSITION
+divides_position n most divides =
+    let divided : (places_across PLACE_DIGITS % n == 0) ≡ true = eq-eqb _ 0 divides in
+    eqb-true _ _ (ap (λ t. not t || (POSITION / n * n == POSITION)) (sym divided)
+    ∙ each_of_three 1 1 (POSITION + 1)
+    (λ a b n. not (places_across PLACE_DIGITS % n == 0) || (POSITION / n * n == POSITION)) 0 0 n divides_test
+    (omega arith) (omega arith) (omega (arith, most)))
+
+-- so a block no larger than a position lies in one
+in_position : (n start place : ℕ) → 0 < n → n ≤ POSITION → places_across PLACE_DIGITS % n ≡ 0
+    → start % n ≡ 0 → start ≤ place → place < start + n → place / POSITION ≡ start / POSITION
+in_position n start place some most divides aligned least less =
+    let parts : ℕ = POSITION / n in
+    let before : ℕ = start / n in
+    let position : ℕ = start / POSITION in
+    let parts_are : parts * n ≡ POSITION = divides_position n most divides in
+    let start_is : before * n + start % n ≡ start = div-add-mod' start n in
+    let ends : (position + 1) * parts * n ≡ (position + 1) * POSITION =
+    mul_assoc (position + 1) parts n ∙ ap (λ p. (position + 1) * p) parts_are in
+    elim (cases_lt before ((position + 1) * parts)) [
+      | inl below ↦
+          let whole = mul-le (before + 1) n ((position + 1) * parts) n (omega (arith, below)) (omega arith) in
+          omega (arith, whole, ends, start_is, aligned, least, less)
+      | inr from ↦
+          let whole = mul-le ((position + 1) * parts) n before n from (omega arith) in
+          absurd (omega (arith, whole, ends, start_is, aligned))
     ]
-  ]
-]
 
-in_position : (n start place : ℕ) → 0 < n → n ≤ 4 → 16 % n ≡ 0 → start % n ≡ 0 → start ≤ place
-    → place < start + n → place / 4 ≡ start / 4
-in_position n start place some most divides aligned least less = elim (size_of n some most) [
-  | inl one ↦ omega arith
-  | inr (inl two) ↦ let even : start % 2 ≡ 0 = rw two at aligned in omega arith
-  | inr (inr (inl three)) ↦ let third : 16 % 3 ≡ 0 = rw three at divides in absurd (cc third)
-  | inr (inr (inr four)) ↦ let fourth : start % 4 ≡ 0 = rw four at aligned in omega arith
-]
-
-along_position : (span : Span) (place : ℕ) → IsDyadic PLACE_DIGITS span → span.len ≤ 4
+along_position : (span : Span) (place : ℕ) → IsDyadic PLACE_DIGITS span → span.len ≤ POSITION
     → in_span span place ≡ true → position_along PLACE_DIGITS place ≡ position_along PLACE_DIGITS span.start
 along_position span place dyadic most inside =
     let both = and_parts (nat_le span.start place) (nat_lt place (span.start + span.len)) inside in
@@ -159,8 +180,9 @@ first_in : (span : Span) → 0 < span.len → in_span span span.start ≡ true
 first_in span some = grind (arith, nat_tests)
 
 pub small_holds : (section : ℕ) (block : Rectangle) → IsDyadic PLACE_DIGITS block.columns
-    → IsDyadic PLACE_DIGITS block.rows → block.columns.len ≤ 4 → block.rows.len ≤ 4
-    → IsTrue (is_some (lot_at_position section (block.columns.start / 4) (block.rows.start / 4)))
+    → IsDyadic PLACE_DIGITS block.rows → block.columns.len ≤ POSITION → block.rows.len ≤ POSITION
+    → IsTrue
+    (is_some (lot_at_position section (block.columns.start / POSITION) (block.rows.start / POSITION)))
     ↔ HoldsLotPlace PLACE_DIGITS section block
 small_holds section block columns rows wide high = (
   λ is. record {
@@ -172,10 +194,10 @@ small_holds section block columns rows wide high = (
   λ held.
       let both = and_parts (in_span block.columns held.column) (in_span block.rows held.row) held.inside in
       let there : lot_of_place PLACE_DIGITS section held.column held.row
-      ≡ lot_at_position section (block.columns.start / 4) (block.rows.start / 4) =
+      ≡ lot_at_position section (block.columns.start / POSITION) (block.rows.start / POSITION) =
       ap (λ n. lot_at_position section n (position_along PLACE_DIGITS held.row))
       (along_position block.columns held.column columns wide both.0)
-      ∙ ap (λ n. lot_at_position section (block.columns.start / 4) n)
+      ∙ ap (λ n. lot_at_position section (block.columns.start / POSITION) n)
       (along_position block.rows held.row rows high both.1) in
       ap is_some (sym there) ∙ held.of_lot,
 )

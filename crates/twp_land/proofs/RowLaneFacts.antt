@@ -19,7 +19,7 @@ use Rattle.twp_grid.specs.Spans.{in_span, Rectangle, in_rectangle}
 use Rattle.twp_grid.specs.Totals.{one_where}
 use Rattle.twp_land.specs.Lands.{Meets}
 use Rattle.twp_land.specs.Storage.{held_by_lane, with_block}
-use Rattle.twp_land.specs.steps.BitLanes.{AreBlockLanes}
+use Rattle.twp_land.specs.steps.BitLanes.{LANE_BITS, AreBlockLanes}
 use Rattle.twp_land.proofs.BitFacts.{bit_of_ones, or_of_zeros, zeros_of_or}
 use Rattle.twp_land.proofs.BlockFacts.{InSection}
 use Rattle.twp_land.proofs.LaneFacts.{lanes_meet, lanes_with_block}
@@ -61,11 +61,11 @@ module _ (lanes : List ℕ) (bits : ℕ) (block : Rectangle) (count : length lan
     ];
   }
     where
-      bits_fit : bits < 2 ^ 16
+      bits_fit : bits < 2 ^ LANE_BITS
       bits_fit =
-          let most : 2 ^ (block.columns.start + block.columns.len) ≤ 2 ^ 16 =
-          pow_mono {i = block.columns.start + block.columns.len} {j = 16} lies.columns in
-          omega (arith, are, pow_pos block.columns.start, pow_pos 16)
+          let most : 2 ^ (block.columns.start + block.columns.len) ≤ 2 ^ LANE_BITS =
+          pow_mono {i = block.columns.start + block.columns.len} {j = LANE_BITS} lies.columns in
+          omega (arith, are, pow_pos block.columns.start, pow_pos LANE_BITS)
 
       and_true : (test : Bool) → one_where test ≡ one_where (test && true)
       and_true true = refl

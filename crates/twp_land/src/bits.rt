@@ -6,38 +6,39 @@ ghost use Rattle.twp_land.specs.steps.BitLanes.{AreBlockLanes, AreLanes};
 use std::simd::prelude::*;
 use twp_grid::{Block, PLACES_ACROSS};
 
-/// In each lane the bit of the lane's row.
-const ROW_BITS: [u16; PLACES_ACROSS] = [
-    1, 2, 4, 8, 16, 32, 64, 128, 256, 512, 1024, 2048, 4096, 8192, 16384, 32768,
-];
+/// A row's places: a bit for each column.
+pub(crate) type Lane = u16;
 
-/// So many ones, from none to one for each column.
-const ONES: [u16; PLACES_ACROSS + 1] = [
-    0, 1, 3, 7, 15, 31, 63, 127, 255, 511, 1023, 2047, 4095, 8191, 16383, 32767, 65535,
+/// A lane for each row of a section.
+pub(crate) type LaneVector = u16x16;
+
+/// In each lane the bit of the lane's row.
+const ROW_BITS: [Lane; PLACES_ACROSS] = [
+    1, 2, 4, 8, 16, 32, 64, 128, 256, 512, 1024, 2048, 4096, 8192, 16384, 32768,
 ];
 
 /// The lanes of a section's rows as a vector.
 #[inline(always)]
-pub(crate) fn vector(lanes: &[u16]) -> u16x16
+pub(crate) fn vector(lanes: &[Lane]) -> LaneVector
     requires { length lanes.now ≡ places_across PLACE_DIGITS }
     ensures lanes { result ≡ lanes.now }
     ensures below { AreLanes lanes.now }
 {
-    u16x16::from_slice(lanes)
+    LaneVector::from_slice(lanes)
 }
 
 /// So many ones from the bit of a start.
 #[inline(always)]
-pub(crate) fn ones(start: u8, len: u8) -> u16
+pub(crate) fn ones(start: u8, len: u8) -> Lane
     requires { start + len ≤ places_across PLACE_DIGITS }
     ensures { result ≡ 2 ^ (start + len) - 2 ^ start }
 {
-    (u32::from(ONES[usize::from(len)]) << u32::from(start)) as u16
+    (((1_u64 << len) - 1) << start) as Lane
 }
 
 /// The bits of a block's columns.
 #[inline(always)]
-pub(crate) fn column_bits(block: Block) -> u16
+pub(crate) fn column_bits(block: Block) -> Lane
     ensures value { result
         ≡ 2 ^ (block.columns.start + block.columns.len) - 2 ^ block.columns.start }
     ensures dyadic { IsDyadic PLACE_DIGITS block.columns }
@@ -47,15 +48,15 @@ pub(crate) fn column_bits(block: Block) -> u16
 
 /// In the lane of each row of a block, the bits of its columns.
 #[inline(always)]
-pub(crate) fn block_lanes(block: Block) -> u16x16
+pub(crate) fn block_lanes(block: Block) -> LaneVector
     ensures lanes { AreBlockLanes block result }
     ensures rows { IsDyadic PLACE_DIGITS block.rows }
     ensures columns { IsDyadic PLACE_DIGITS block.columns }
 {
-    let rows = u16x16::splat(ones(block.row(), block.height()));
-    let columns = u16x16::splat(column_bits(block));
+    let rows = LaneVector::splat(ones(block.row(), block.height()));
+    let columns = LaneVector::splat(column_bits(block));
     let row_bits = vector(&ROW_BITS);
     (rows & row_bits)
         .simd_eq(row_bits)
-        .select(columns, u16x16::splat(0))
+        .select(columns, LaneVector::splat(0))
 }

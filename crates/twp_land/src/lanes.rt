@@ -1,4 +1,4 @@
-use crate::bits::{block_lanes, column_bits, vector};
+use crate::bits::{Lane, block_lanes, column_bits, vector};
 use crate::plot::Plot;
 use crate::sections::Sections;
 use std::simd::prelude::*;
@@ -15,7 +15,7 @@ pub type Lanes = Sections<LaneRows>;
 /// is made for it. A block of more rows takes all lanes at once.
 #[derive(Clone, Copy, Debug)]
 pub struct LaneRows {
-    lanes: [u16; PLACES_ACROSS],
+    lanes: [Lane; PLACES_ACROSS],
 }
 
 impl Plot for LaneRows {

@@ -6,15 +6,19 @@ use Rattle.twp_grid.specs.Places.{PLACE_DIGITS, places_across}
 use Rattle.twp_grid.specs.Spans.{Rectangle, in_rectangle}
 use Rattle.twp_grid.specs.Totals.{one_where}
 
+-- a lane has a bit for each column
+abbrev pub LANE_BITS : ℕ
+LANE_BITS = places_across PLACE_DIGITS
+
 -- a lane of so many bits for each row, and in it the bits of the columns that the block has there
 pub record AreBlockLanes (block : Rectangle) (lanes : List ℕ) : Type 0 where
   pub count : length lanes ≡ places_across PLACE_DIGITS
   pub below : (row : ℕ) → row < places_across PLACE_DIGITS
-      → slice_index_or lanes row 0 < 2 ^ places_across PLACE_DIGITS
+      → slice_index_or lanes row 0 < 2 ^ LANE_BITS
   pub bits : (column row : ℕ) → row < places_across PLACE_DIGITS
       → bit_at (slice_index_or lanes row 0) column ≡ one_where (in_rectangle block column row)
 
 -- each lane has no more bits than there are columns
 abbrev pub AreLanes : List ℕ → Type 0
 AreLanes lanes =
-    (row : ℕ) → row < length lanes → slice_index_or lanes row 0 < 2 ^ places_across PLACE_DIGITS
+    (row : ℕ) → row < length lanes → slice_index_or lanes row 0 < 2 ^ LANE_BITS
