@@ -15,6 +15,9 @@ use Rattle.twp_land.specs.WholeLots.{HasWholeLots}
 use Rattle.twp_land.proofs.LandRanges.{nothing_within}
 use Rattle.twp_plat.specs.Plats.{TownshipPlat, IsPlat}
 use Rattle.twp_area.specs.LandAreas.{section_sum, township_sum}
+use Rattle.twp_area.specs.steps.Bounds.{OF_POSITION, SECTION_PLACES_MOST, LOTS_MOST, SECTION_UNITS_MOST}
+use Rattle.twp_area.specs.steps.Bounds.{REGULAR_UNITS, REGULAR_PLACE_UNITS}
+use Rattle.twp_plat.specs.Closing.{CLOSING_MOST}
 use Rattle.twp_area.specs.PlatAccounts.{lots_held, places_off_lots, printed_units}
 use Rattle.twp_area.specs.PlatAccounts.{IsAreaBy}
 use Rattle.twp_area.specs.steps.Accounts.{over_by, position_units, AreUnitsBy}
@@ -46,12 +49,14 @@ grows (suc n) k units more first most added =
     rw e' (omega arith)
 
 -- what is added up of a section is bounded
-pub bounded : (lots units places over regular : ℕ) → lots ≤ 7 → places ≤ 256
-    → units ≤ lots * (625000000 * over) → regular ≡ 25000000 * (over * places)
-    → units + regular ≤ 14375000000 * over
+pub bounded : (lots units places over regular : ℕ) → lots ≤ LOTS_MOST → places ≤ SECTION_PLACES_MOST
+    → units ≤ lots * (CLOSING_MOST * CLOSING_MOST * over) → regular ≡ REGULAR_PLACE_UNITS * (over * places)
+    → units + regular ≤ SECTION_UNITS_MOST * over
 bounded lots units places over regular few few' most is =
-    let first = mul-le lots (625000000 * over) 7 (625000000 * over) few (omega arith) in
-    let second = mul-le over places over 256 (omega arith) few' in
+    let first =
+    mul-le lots (CLOSING_MOST * CLOSING_MOST * over) LOTS_MOST (CLOSING_MOST * CLOSING_MOST * over) few
+    (omega arith) in
+    let second = mul-le over places over SECTION_PLACES_MOST (omega arith) few' in
     omega arith
 
 -- the sums over the places of sections 1, 2 and so on
@@ -62,13 +67,14 @@ sections_sum pieces places count =
 -- what was added up of so many sections
 abbrev pub IsSumOf : Account → TownshipPlat → (ℕ → ℕ → ℕ → Bool) → ℕ → ℕ → Type 0
 IsSumOf account plat places count units =
-    (pieces : ℕ → ℕ → ℕ → ℕ) → AreUnitsBy account plat pieces → 16 * units ≡ sections_sum pieces places count
+    (pieces : ℕ → ℕ → ℕ → ℕ) → AreUnitsBy account plat pieces
+    → OF_POSITION * units ≡ sections_sum pieces places count
 
 pub sum-next : (account : Account) (plat : TownshipPlat) (places : ℕ → ℕ → ℕ → Bool)
     (number section units more : ℕ)
     → 1 ≤ number → section ≡ number → IsSumOf account plat places (number - 1) units
     → ((pieces : ℕ → ℕ → ℕ → ℕ) → AreUnitsBy account plat pieces
-    → 16 * more ≡ section_sum PLACE_DIGITS (pieces section) (places section))
+    → OF_POSITION * more ≡ section_sum PLACE_DIGITS (pieces section) (places section))
     → IsSumOf account plat places (number + 1 - 1) (units + more)
 sum-next account plat places number section units more first is so_far added pieces are =
     let last : number - 1 + 1 ≡ section = omega arith in
@@ -86,7 +92,8 @@ sum-next account plat places number section units more first is so_far added pie
     both units more _ _ _ (so_far pieces are) (added pieces are)
     (all ∙ next ∙ ap (λ t. sections_sum pieces places (number - 1) + t) same)
   where
-    both : (u m s s' sum : ℕ) → 16 * u ≡ s → 16 * m ≡ s' → sum ≡ s + s' → 16 * (u + m) ≡ sum
+    both : (u m s s' sum : ℕ) → OF_POSITION * u ≡ s → OF_POSITION * m ≡ s' → sum ≡ s + s'
+        → OF_POSITION * (u + m) ≡ sum
     both u m s s' sum e e' is = omega arith
 
 -- the sum over more sections, of which no place is held
@@ -147,29 +154,32 @@ pub land_area : (account : Account) (plat : TownshipPlat) (places : ℕ → ℕ 
 land_area Exact plat places number units over area is whole over_is all sum area_is =
     let has = pieces_of plat is in
     let count : number - 1 ≡ 36 = omega arith in
-    let total_is : 16 * units ≡ township_sum PLACE_DIGITS has.pieces places =
+    let total_is : OF_POSITION * units ≡ township_sum PLACE_DIGITS has.pieces places =
     rw count at (sum has.pieces has.are) in
     rw area_is (record { pieces = has.pieces; are = has.are; over_is = over_is; sum_is = total_is })
 land_area Plat plat places number units over area is whole over_is all sum area_is =
     let (figures, are) = plat_figures plat is in
     let lot_units : ℕ → ℕ → ℕ = λ section lot. HUNDREDTH_OF_AN_ACRE * figures.lots section lot in
     let count : number - 1 ≡ 36 = omega arith in
-    let total_is : 16 * units ≡ township_sum PLACE_DIGITS (position_units lot_units 400000000) places =
+    let total_is : OF_POSITION * units
+    ≡ township_sum PLACE_DIGITS (position_units lot_units REGULAR_UNITS) places =
     rw count at
-    (sum (position_units lot_units 400000000) (record { figures = figures; are = are; units_are = refl })) in
-    let by_lots = sum_by_lots PLACE_DIGITS (omega arith) lot_units 400000000 places whole in
+    (sum (position_units lot_units REGULAR_UNITS)
+    (record { figures = figures; are = are; units_are = refl })) in
+    let by_lots = sum_by_lots PLACE_DIGITS (omega arith) lot_units REGULAR_UNITS places whole in
     let units_are : units
     ≡ sum_by (printed_units figures) (lots_held PLACE_DIGITS places)
-    + 25000000 * places_off_lots PLACE_DIGITS places =
+    + REGULAR_PLACE_UNITS * places_off_lots PLACE_DIGITS places =
     parts units _ _ (total_is ∙ sym by_lots) in
     rw area_is (record {
       figures = figures;
       are = are;
-      share = 25000000;
+      share = REGULAR_PLACE_UNITS;
       share_is = refl;
       over_is = over_is;
       sum_is = units_are;
     })
   where
-    parts : (units lots off : ℕ) → 16 * units ≡ 16 * lots + 400000000 * off → units ≡ lots + 25000000 * off
+    parts : (units lots off : ℕ) → OF_POSITION * units ≡ OF_POSITION * lots + REGULAR_UNITS * off
+        → units ≡ lots + REGULAR_PLACE_UNITS * off
     parts units lots off is = omega arith

@@ -2,6 +2,8 @@
 use Rattle.std.proofs.Common.{◌≡◌, ◌≢◌, ℕ, zero, suc, ◌+◌, ◌*◌, ◌<◌, ◌≤◌, ap, refl, sym, ◌∙◌, inl, inr, arith}
 use Rattle.std.proofs.lemmas.Bool.{cases_eq}
 use Rattle.twp_grid.specs.Places.{PLACE_DIGITS}
+use Rattle.twp_grid.specs.Lots.{POSITIONS_ACROSS}
+use Rattle.twp_area.specs.steps.Bounds.{ACROSS, TO_POSITION}
 use Rattle.twp_grid.specs.Spans.{whole_block, position_block}
 use Rattle.twp_grid.specs.Totals.{total, total_over, over_positions}
 use Rattle.twp_grid.proofs.TotalFacts.{total-ext, total-add, total-both, total-scale, total-swap}
@@ -87,10 +89,12 @@ total_blocks (suc m) n f =
 pub by_position : (f : ℕ → ℕ → ℕ) → total_over (whole_block PLACE_DIGITS) f ≡ over_positions (λ column row.
     total_over (position_block PLACE_DIGITS column row) f)
 by_position f =
-    total-ext 16 _ (λ up. total 16 (λ along. f along up))
-    (λ up _. total-ext 16 _ (λ along. f along up) (λ along _. at along up))
-    ∙ total_blocks 4 4 (λ up. total 16 (λ along. f along up))
-    ∙ total-ext 4 (λ row. total 4 (λ up. total 16 (λ along. f along (row * 4 + up)))) _ (λ row _. in_rows row)
+    total-ext ACROSS _ (λ up. total ACROSS (λ along. f along up))
+    (λ up _. total-ext ACROSS _ (λ along. f along up) (λ along _. at along up))
+    ∙ total_blocks POSITIONS_ACROSS TO_POSITION (λ up. total ACROSS (λ along. f along up))
+    ∙ total-ext POSITIONS_ACROSS
+    (λ row. total TO_POSITION (λ up. total ACROSS (λ along. f along (row * TO_POSITION + up)))) _
+    (λ row _. in_rows row)
   where
     at : (along up : ℕ) → f (0 + along) (0 + up) ≡ f along up
     at along up =
@@ -99,10 +103,13 @@ by_position f =
         ap (λ c. f c (0 + up)) e ∙ ap (λ r. f along r) e'
 
     in_rows : (row : ℕ)
-        → total 4 (λ up. total 16 (λ along. f along (row * 4 + up)))
-        ≡ total 4 (λ column. total 4 (λ up. total 4 (λ along. f (column * 4 + along) (row * 4 + up))))
+        → total TO_POSITION (λ up. total ACROSS (λ along. f along (row * TO_POSITION + up)))
+        ≡ total POSITIONS_ACROSS (λ column. total TO_POSITION (λ up. total TO_POSITION (λ along.
+        f (column * TO_POSITION + along) (row * TO_POSITION + up))))
     in_rows row =
-        total-ext 4 (λ up. total 16 (λ along. f along (row * 4 + up)))
-        (λ up. total 4 (λ column. total 4 (λ along. f (column * 4 + along) (row * 4 + up))))
-        (λ up _. total_blocks 4 4 (λ along. f along (row * 4 + up)))
-        ∙ total-swap 4 4 (λ up column. total 4 (λ along. f (column * 4 + along) (row * 4 + up)))
+        total-ext TO_POSITION (λ up. total ACROSS (λ along. f along (row * TO_POSITION + up)))
+        (λ up. total POSITIONS_ACROSS (λ column. total TO_POSITION (λ along.
+        f (column * TO_POSITION + along) (row * TO_POSITION + up))))
+        (λ up _. total_blocks POSITIONS_ACROSS TO_POSITION (λ along. f along (row * TO_POSITION + up)))
+        ∙ total-swap TO_POSITION POSITIONS_ACROSS
+        (λ up column. total TO_POSITION (λ along. f (column * TO_POSITION + along) (row * TO_POSITION + up)))

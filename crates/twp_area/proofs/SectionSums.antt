@@ -12,6 +12,8 @@ use Rattle.twp_land.specs.Lands.{count_held, Meets}
 use Rattle.twp_land.specs.WholeLots.{lot_of_place, IsWholeOrNot}
 use Rattle.twp_land.proofs.LotFacts.{fills, has_lot}
 use Rattle.twp_area.specs.LandAreas.{piece_where_held, section_sum}
+use Rattle.twp_area.specs.steps.Bounds.{ACROSS, TO_POSITION, OF_POSITION, SECTION_PLACES_MOST}
+use Rattle.twp_area.specs.steps.Bounds.{REGULAR_UNITS, REGULAR_PLACE_UNITS}
 use Rattle.twp_area.proofs.PositionSums.{positions-ext, positions-le, positions-zero, positions-both}
 use Rattle.twp_area.proofs.PositionSums.{positions-scale, positions_differ, by_position}
 
@@ -30,29 +32,31 @@ off_lots section n f column row = if is_below (lot_at_position section column ro
 
 -- a position's places, where its first place is held
 abbrev pub places_where : (ℕ → ℕ → Bool) → ℕ → ℕ → ℕ
-places_where held column row = if held (column * 4) (row * 4) then 16 else 0
+places_where held column row = if held (column * TO_POSITION) (row * TO_POSITION) then OF_POSITION else 0
 
 -- a position's piece, where its first place is held
 abbrev pub piece_where : (ℕ → ℕ → Bool) → (ℕ → ℕ → ℕ) → ℕ → ℕ → ℕ
-piece_where held pieces column row = if held (column * 4) (row * 4) then pieces column row else 0
+piece_where held pieces column row =
+    if held (column * TO_POSITION) (row * TO_POSITION) then pieces column row else 0
 
 -- as a test of the first place tells
-pub places_held : (held : ℕ → ℕ → Bool) (column row : ℕ) (test : Bool) → test ≡ held (column * 4) (row * 4)
-    → test ≡ true → places_where held column row ≡ 16
-places_held held column row test is holds = ap (λ b. if b then 16 else 0) (sym is ∙ holds)
+pub places_held : (held : ℕ → ℕ → Bool) (column row : ℕ) (test : Bool)
+    → test ≡ held (column * TO_POSITION) (row * TO_POSITION)
+    → test ≡ true → places_where held column row ≡ OF_POSITION
+places_held held column row test is holds = ap (λ b. if b then OF_POSITION else 0) (sym is ∙ holds)
 
 pub places_not_held : (held : ℕ → ℕ → Bool) (column row : ℕ) (test : Bool)
-    → test ≡ held (column * 4) (row * 4) → test ≡ false → places_where held column row ≡ 0
-places_not_held held column row test is holds = ap (λ b. if b then 16 else 0) (sym is ∙ holds)
+    → test ≡ held (column * TO_POSITION) (row * TO_POSITION) → test ≡ false → places_where held column row ≡ 0
+places_not_held held column row test is holds = ap (λ b. if b then OF_POSITION else 0) (sym is ∙ holds)
 
 pub piece_held : (held : ℕ → ℕ → Bool) (pieces : ℕ → ℕ → ℕ) (column row : ℕ) (test : Bool)
-    → test ≡ held (column * 4) (row * 4) → test ≡ true
+    → test ≡ held (column * TO_POSITION) (row * TO_POSITION) → test ≡ true
     → piece_where held pieces column row ≡ pieces column row
 piece_held held pieces column row test is holds =
     ap (λ b. if b then pieces column row else 0) (sym is ∙ holds)
 
 pub piece_not_held : (held : ℕ → ℕ → Bool) (pieces : ℕ → ℕ → ℕ) (column row : ℕ) (test : Bool)
-    → test ≡ held (column * 4) (row * 4) → test ≡ false
+    → test ≡ held (column * TO_POSITION) (row * TO_POSITION) → test ≡ false
     → piece_where held pieces column row ≡ 0
 piece_not_held held pieces column row test is holds =
     ap (λ b. if b then pieces column row else 0) (sym is ∙ holds)
@@ -107,19 +111,19 @@ of_lots-next section n column row f range most position is =
         other (ap (λ (p : ℕ × ℕ). p.0) equal, ap (λ (p : ℕ × ℕ). p.1) equal) in
         rw (there, passed lot differs) refl
 
--- a section has 256 places
-pub few_places : (held : ℕ → ℕ → Bool) → count_held held (whole_block PLACE_DIGITS) ≤ 256
+-- a section has no more places
+pub few_places : (held : ℕ → ℕ → Bool) → count_held held (whole_block PLACE_DIGITS) ≤ SECTION_PLACES_MOST
 few_places held =
-    let inner : (up : ℕ) → total 16 (λ along. one_where (held (0 + along) (0 + up))) ≤ 16 = λ up.
+    let inner : (up : ℕ) → total ACROSS (λ along. one_where (held (0 + along) (0 + up))) ≤ ACROSS = λ up.
     let most =
-    total-le 16 (λ along. one_where (held (0 + along) (0 + up))) (λ along. 1)
+    total-le ACROSS (λ along. one_where (held (0 + along) (0 + up))) (λ along. 1)
     (λ along _. one (held (0 + along) (0 + up))) in
-    let ones = total-same 16 1 in
+    let ones = total-same ACROSS 1 in
     omega arith in
     let most =
-    total-le 16 (λ up. total 16 (λ along. one_where (held (0 + along) (0 + up)))) (λ up. 16)
+    total-le ACROSS (λ up. total ACROSS (λ along. one_where (held (0 + along) (0 + up)))) (λ up. ACROSS)
     (λ up _. inner up) in
-    let rows = total-same 16 16 in
+    let rows = total-same ACROSS ACROSS in
     omega arith
   where
     one : (b : Bool) → one_where b ≤ 1
@@ -132,7 +136,8 @@ pub held_by_position : (held : ℕ → ℕ → Bool)
 held_by_position held = by_position (λ column row. one_where (held column row))
 
 -- a place of a position lies in it
-along_position : (position k : ℕ) → k < 4 → position_along PLACE_DIGITS (position * 4 + k) ≡ position
+along_position : (position k : ℕ) → k < TO_POSITION
+    → position_along PLACE_DIGITS (position * TO_POSITION + k) ≡ position
 along_position position k below = omega arith
 
 -- a lot is held whole or not at all, as its first place tells
@@ -140,57 +145,67 @@ pub held_of_lot : (section lot column row : ℕ) (held : ℕ → ℕ → Bool)
     → IsWholeOrNot PLACE_DIGITS section lot held → lot_at_position section column row ≡ Some lot
     → held_of held column row ≡ places_where held column row
 held_of_lot section lot column row held whole is =
-    total-ext 4 (λ up. total 4 (λ along. one_where (held (column * 4 + along) (row * 4 + up))))
-    (λ up. 4 * one_where (held (column * 4) (row * 4))) (λ up in_up.
-    total-ext 4 (λ along. one_where (held (column * 4 + along) (row * 4 + up)))
-    (λ along. one_where (held (column * 4) (row * 4))) (λ along in_along.
+    total-ext TO_POSITION (λ up. total TO_POSITION (λ along.
+    one_where (held (column * TO_POSITION + along) (row * TO_POSITION + up))))
+    (λ up. TO_POSITION * one_where (held (column * TO_POSITION) (row * TO_POSITION))) (λ up in_up.
+    total-ext TO_POSITION (λ along. one_where (held (column * TO_POSITION + along) (row * TO_POSITION + up)))
+    (λ along. one_where (held (column * TO_POSITION) (row * TO_POSITION))) (λ along in_along.
     ap one_where (alike along up in_along in_up))
-    ∙ total-same 4 (one_where (held (column * 4) (row * 4))))
-    ∙ total-same 4 (4 * one_where (held (column * 4) (row * 4)))
-    ∙ sixteen (held (column * 4) (row * 4))
+    ∙ total-same TO_POSITION (one_where (held (column * TO_POSITION) (row * TO_POSITION))))
+    ∙ total-same TO_POSITION (TO_POSITION * one_where (held (column * TO_POSITION) (row * TO_POSITION)))
+    ∙ sixteen (held (column * TO_POSITION) (row * TO_POSITION))
   where
-    sixteen : (b : Bool) → 4 * (4 * one_where b) ≡ (if b then 16 else 0)
+    sixteen : (b : Bool) → TO_POSITION * (TO_POSITION * one_where b) ≡ (if b then OF_POSITION else 0)
     sixteen true = refl
     sixteen false = refl
 
-    first : (position : ℕ) → position_along PLACE_DIGITS (position * 4) ≡ position
+    first : (position : ℕ) → position_along PLACE_DIGITS (position * TO_POSITION) ≡ position
     first position = omega arith
 
-    alike : (along up : ℕ) → along < 4 → up < 4
-        → held (column * 4 + along) (row * 4 + up) ≡ held (column * 4) (row * 4)
+    alike : (along up : ℕ) → along < TO_POSITION → up < TO_POSITION
+        → held (column * TO_POSITION + along) (row * TO_POSITION + up)
+        ≡ held (column * TO_POSITION) (row * TO_POSITION)
     alike along up in_along in_up =
-        let there : lot_of_place PLACE_DIGITS section (column * 4 + along) (row * 4 + up) ≡ Some lot =
+        let there : lot_of_place PLACE_DIGITS section (column * TO_POSITION + along) (row * TO_POSITION + up)
+        ≡ Some lot =
         rw (along_position column along in_along, along_position row up in_up) is in
-        let at : lot_of_place PLACE_DIGITS section (column * 4) (row * 4) ≡ Some lot =
+        let at : lot_of_place PLACE_DIGITS section (column * TO_POSITION) (row * TO_POSITION) ≡ Some lot =
         rw (first column, first row) is in
-        whole.alike (column * 4 + along) (row * 4 + up) (column * 4) (row * 4) there at
+        whole.alike (column * TO_POSITION + along) (row * TO_POSITION + up) (column * TO_POSITION)
+        (row * TO_POSITION) there at
 
 -- the sum over a position's places is its piece times the places that are held
 pub position_sum : (held : ℕ → ℕ → Bool) (pieces : ℕ → ℕ → ℕ) (column row : ℕ)
     → total_over (position_block PLACE_DIGITS column row) (piece_where_held PLACE_DIGITS pieces held)
     ≡ pieces column row * held_of held column row
 position_sum held pieces column row =
-    total-ext 4
-    (λ up. total 4 (λ along. piece_where_held PLACE_DIGITS pieces held (column * 4 + along) (row * 4 + up)))
-    (λ up. pieces column row * total 4 (λ along. one_where (held (column * 4 + along) (row * 4 + up))))
+    total-ext TO_POSITION
+    (λ up. total TO_POSITION (λ along.
+    piece_where_held PLACE_DIGITS pieces held (column * TO_POSITION + along) (row * TO_POSITION + up)))
+    (λ up. pieces column row * total TO_POSITION (λ along.
+    one_where (held (column * TO_POSITION + along) (row * TO_POSITION + up))))
     (λ up in_up.
-    total-ext 4 (λ along. piece_where_held PLACE_DIGITS pieces held (column * 4 + along) (row * 4 + up))
-    (λ along. pieces column row * one_where (held (column * 4 + along) (row * 4 + up))) (λ along in_along.
+    total-ext TO_POSITION (λ along.
+    piece_where_held PLACE_DIGITS pieces held (column * TO_POSITION + along) (row * TO_POSITION + up))
+    (λ along. pieces column row * one_where (held (column * TO_POSITION + along) (row * TO_POSITION + up)))
+    (λ along in_along.
     at along up in_along in_up)
-    ∙ total-scale 4 (pieces column row) (λ along. one_where (held (column * 4 + along) (row * 4 + up))))
-    ∙ total-scale 4 (pieces column row)
-    (λ up. total 4 (λ along. one_where (held (column * 4 + along) (row * 4 + up))))
+    ∙ total-scale TO_POSITION (pieces column row)
+    (λ along. one_where (held (column * TO_POSITION + along) (row * TO_POSITION + up))))
+    ∙ total-scale TO_POSITION (pieces column row)
+    (λ up.
+    total TO_POSITION (λ along. one_where (held (column * TO_POSITION + along) (row * TO_POSITION + up))))
   where
     where_held : (b : Bool) (p : ℕ) → (if b then p else 0) ≡ p * one_where b
     where_held true p = omega arith
     where_held false p = omega arith
 
-    at : (along up : ℕ) → along < 4 → up < 4
-        → piece_where_held PLACE_DIGITS pieces held (column * 4 + along) (row * 4 + up)
-        ≡ pieces column row * one_where (held (column * 4 + along) (row * 4 + up))
+    at : (along up : ℕ) → along < TO_POSITION → up < TO_POSITION
+        → piece_where_held PLACE_DIGITS pieces held (column * TO_POSITION + along) (row * TO_POSITION + up)
+        ≡ pieces column row * one_where (held (column * TO_POSITION + along) (row * TO_POSITION + up))
     at along up in_along in_up =
         rw (along_position column along in_along, along_position row up in_up)
-        (where_held (held (column * 4 + along) (row * 4 + up)) (pieces column row))
+        (where_held (held (column * TO_POSITION + along) (row * TO_POSITION + up)) (pieces column row))
 
 -- so many of the places are taken off with a lot
 pub lots_within : (section n : ℕ) (held : ℕ → ℕ → Bool) → IsSection section
@@ -218,14 +233,14 @@ record AtPosition (over section last : ℕ) (held : ℕ → ℕ → Bool) (piece
   places_are : held_of held column row
       ≡ off_lots section last (held_of held) column row + of_lots section last (places_where held) column row
   sum_is : pieces column row * held_of held column row
-      ≡ 16 * of_lots section last (piece_where held pieces) column row
-      + 400000000 * over * off_lots section last (held_of held) column row
+      ≡ OF_POSITION * of_lots section last (piece_where held pieces) column row
+      + REGULAR_UNITS * over * off_lots section last (held_of held) column row
 
 -- off its lots, a section's positions are regular
 abbrev pub AreRegular : ℕ → ℕ → (ℕ → ℕ → ℕ) → Type 0
 AreRegular over section pieces =
     (column row : ℕ) → IsPosition column row → lot_at_position section column row ≡ None
-    → pieces column row ≡ 400000000 * over
+    → pieces column row ≡ REGULAR_UNITS * over
 
 at_position : (over section last : ℕ) (held : ℕ → ℕ → Bool) (pieces : ℕ → ℕ → ℕ) (column row : ℕ)
     (lot : Option ℕ)
@@ -246,11 +261,13 @@ at_position over section last held pieces column row (Some lot) are range whole 
     let all = held_of_lot section lot column row held (whole lot) there in
     record {
       places_are = rw (there, test, all) (omega arith);
-      sum_is = rw (there, test, all) (in_lot (held (column * 4) (row * 4)) (pieces column row) over);
+      sum_is =
+          rw (there, test, all)
+          (in_lot (held (column * TO_POSITION) (row * TO_POSITION)) (pieces column row) over);
     }
   where
     in_lot : (b : Bool) (p over : ℕ)
-        → p * (if b then 16 else 0) ≡ 16 * (if b then p else 0) + 400000000 * over * 0
+        → p * (if b then OF_POSITION else 0) ≡ OF_POSITION * (if b then p else 0) + REGULAR_UNITS * over * 0
     in_lot true p over = omega arith
     in_lot false p over = omega arith
 
@@ -261,7 +278,7 @@ pub sum_of_section : (over section last count units : ℕ) (held : ℕ → ℕ �
     → count + over_positions (of_lots section last (places_where held))
     ≡ count_held held (whole_block PLACE_DIGITS)
     → units ≡ over_positions (of_lots section last (piece_where held pieces))
-    → 16 * (units + 25000000 * (over * count)) ≡ section_sum PLACE_DIGITS pieces held
+    → OF_POSITION * (units + REGULAR_PLACE_UNITS * (over * count)) ≡ section_sum PLACE_DIGITS pieces held
 sum_of_section over section last count units held pieces are range whole most taken gained =
     let each : (column row : ℕ) → column < 4 → row < 4 → AtPosition over section last held pieces column row =
     λ column row in_column in_row.
@@ -279,28 +296,33 @@ sum_of_section over section last count units held pieces are range whole most ta
     let lots : ℕ → ℕ → ℕ = of_lots section last (piece_where held pieces) in
     let off : ℕ → ℕ → ℕ = off_lots section last (held_of held) in
     let sum : section_sum PLACE_DIGITS pieces held
-    ≡ 16 * over_positions lots + 400000000 * over * over_positions off =
+    ≡ OF_POSITION * over_positions lots + REGULAR_UNITS * over * over_positions off =
     by_position (piece_where_held PLACE_DIGITS pieces held)
     ∙ positions-ext (λ column row.
     total_over (position_block PLACE_DIGITS column row) (piece_where_held PLACE_DIGITS pieces held))
-    (λ column row. 16 * lots column row + 400000000 * over * off column row) (λ column row in_column in_row.
+    (λ column row. OF_POSITION * lots column row + REGULAR_UNITS * over * off column row)
+    (λ column row in_column in_row.
     position_sum held pieces column row ∙ (each column row in_column in_row).sum_is)
-    ∙ positions-both (λ column row. 16 * lots column row) (λ column row. 400000000 * over * off column row)
-    ∙ ap (λ t. t + over_positions (λ column row. 400000000 * over * off column row)) (positions-scale 16 lots)
-    ∙ ap (λ t. 16 * over_positions lots + t) (positions-scale (400000000 * over) off) in
+    ∙ positions-both (λ column row. OF_POSITION * lots column row)
+    (λ column row. REGULAR_UNITS * over * off column row)
+    ∙ ap (λ t. t + over_positions (λ column row. REGULAR_UNITS * over * off column row))
+    (positions-scale OF_POSITION lots)
+    ∙ ap (λ t. OF_POSITION * over_positions lots + t) (positions-scale (REGULAR_UNITS * over) off) in
     product units count over (over_positions lots) (over_positions off) gained rest ∙ sym sum
   where
     product : (units count over lots off : ℕ) → units ≡ lots → count ≡ off
-        → 16 * (units + 25000000 * (over * count)) ≡ 16 * lots + 400000000 * over * off
+        → OF_POSITION * (units + REGULAR_PLACE_UNITS * (over * count))
+        ≡ OF_POSITION * lots + REGULAR_UNITS * over * off
     product units count over lots off same same' = rw (same, same') (omega arith)
 
 -- the sum over a section of which no place is held
 pub none_held : (pieces : ℕ → ℕ → ℕ) (held : ℕ → ℕ → Bool) → ¬ Meets held (whole_block PLACE_DIGITS)
     → section_sum PLACE_DIGITS pieces held ≡ 0
 none_held pieces held none =
-    total-all_zero 16
-    (λ up. total 16 (λ along. piece_where_held PLACE_DIGITS pieces held (0 + along) (0 + up))) (λ up in_up.
-    total-all_zero 16 (λ along. piece_where_held PLACE_DIGITS pieces held (0 + along) (0 + up))
+    total-all_zero ACROSS
+    (λ up. total ACROSS (λ along. piece_where_held PLACE_DIGITS pieces held (0 + along) (0 + up)))
+    (λ up in_up.
+    total-all_zero ACROSS (λ along. piece_where_held PLACE_DIGITS pieces held (0 + along) (0 + up))
     (λ along in_along.
     let inside : in_rectangle (whole_block PLACE_DIGITS) (0 + along) (0 + up) ≡ true =
     grind (arith, nat_tests) in

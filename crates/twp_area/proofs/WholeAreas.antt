@@ -9,6 +9,7 @@ use Rattle.twp_grid.specs.Totals.{total, total_over, one_where, over_positions}
 use Rattle.twp_grid.proofs.TotalFacts.{total-ext, total-same, total-scale, total-all_zero}
 use Rattle.twp_land.specs.Storage.{is_section}
 use Rattle.twp_area.specs.LandAreas.{piece_where_held, section_sum}
+use Rattle.twp_area.specs.steps.Bounds.{ACROSS, TO_POSITION, OF_POSITION}
 use Rattle.twp_area.specs.Laws.{section_places, township_places, SectionAreaIsOfLand, TownshipAreaIsOfLand}
 use Rattle.twp_area.proofs.PositionSums.{positions-ext, positions-scale, by_position, total_differs}
 use Rattle.twp_area.proofs.SectionSums.{held_of, position_sum}
@@ -24,46 +25,50 @@ by_pieces pieces held =
     (λ column row. pieces column row * held_of held column row)
     (λ column row _ _. position_sum held pieces column row)
 
--- where all its places are held, a position counts 16 times
+-- where all its places are held, a position counts once for each
 all_held : (held : ℕ → ℕ → Bool) (column row : ℕ) → column < 4 → row < 4
-    → ((column row : ℕ) → column < 16 → row < 16 → held column row ≡ true) → held_of held column row ≡ 16
+    → ((column row : ℕ) → column < ACROSS → row < ACROSS → held column row ≡ true)
+    → held_of held column row ≡ OF_POSITION
 all_held held column row in_column in_row all =
-    total-ext 4 (λ up. total 4 (λ along. one_where (held (column * 4 + along) (row * 4 + up)))) (λ up. 4)
+    total-ext TO_POSITION (λ up. total TO_POSITION (λ along.
+    one_where (held (column * TO_POSITION + along) (row * TO_POSITION + up)))) (λ up. TO_POSITION)
     (λ up in_up.
-    total-ext 4 (λ along. one_where (held (column * 4 + along) (row * 4 + up))) (λ along. 1)
+    total-ext TO_POSITION (λ along. one_where (held (column * TO_POSITION + along) (row * TO_POSITION + up)))
+    (λ along. 1)
     (λ along in_along.
-    ap one_where (all (column * 4 + along) (row * 4 + up) (omega arith) (omega arith)))
-    ∙ total-same 4 1)
-    ∙ total-same 4 4
+    ap one_where (all (column * TO_POSITION + along) (row * TO_POSITION + up) (omega arith) (omega arith)))
+    ∙ total-same TO_POSITION 1)
+    ∙ total-same TO_POSITION TO_POSITION
 
 -- the sum over a section that is held whole
 section_whole : (pieces : ℕ → ℕ → ℕ) (held : ℕ → ℕ → Bool)
-    → ((column row : ℕ) → column < 16 → row < 16 → held column row ≡ true)
-    → section_sum PLACE_DIGITS pieces held ≡ 16 * over_positions pieces
+    → ((column row : ℕ) → column < ACROSS → row < ACROSS → held column row ≡ true)
+    → section_sum PLACE_DIGITS pieces held ≡ OF_POSITION * over_positions pieces
 section_whole pieces held all =
     by_pieces pieces held
     ∙ positions-ext (λ column row. pieces column row * held_of held column row)
-    (λ column row. 16 * pieces column row) (λ column row in_column in_row.
+    (λ column row. OF_POSITION * pieces column row) (λ column row in_column in_row.
     let count = all_held held column row in_column in_row all in rw count (order (pieces column row)))
-    ∙ positions-scale 16 pieces
+    ∙ positions-scale OF_POSITION pieces
   where
-    order : (p : ℕ) → p * 16 ≡ 16 * p
+    order : (p : ℕ) → p * OF_POSITION ≡ OF_POSITION * p
     order p = omega arith
 
 -- the sum over a section of which nothing is held
 pub section_none : (pieces : ℕ → ℕ → ℕ) (held : ℕ → ℕ → Bool) → ((column row : ℕ) → held column row ≡ false)
     → section_sum PLACE_DIGITS pieces held ≡ 0
 section_none pieces held none =
-    total-all_zero 16
-    (λ up. total 16 (λ along. piece_where_held PLACE_DIGITS pieces held (0 + along) (0 + up))) (λ up _.
-    total-all_zero 16 (λ along. piece_where_held PLACE_DIGITS pieces held (0 + along) (0 + up)) (λ along _.
+    total-all_zero ACROSS
+    (λ up. total ACROSS (λ along. piece_where_held PLACE_DIGITS pieces held (0 + along) (0 + up))) (λ up _.
+    total-all_zero ACROSS (λ along. piece_where_held PLACE_DIGITS pieces held (0 + along) (0 + up))
+    (λ along _.
     rw (none (0 + along) (0 + up)) refl))
 
 -- a place of the section
-place_is : (column row : ℕ) → column < 16 → row < 16 → is_place PLACE_DIGITS column row ≡ true
+place_is : (column row : ℕ) → column < ACROSS → row < ACROSS → is_place PLACE_DIGITS column row ≡ true
 place_is column row in_column in_row =
-    let c : nat_lt column 16 ≡ true = grind (arith, nat_tests) in
-    let r : nat_lt row 16 ≡ true = grind (arith, nat_tests) in
+    let c : nat_lt column ACROSS ≡ true = grind (arith, nat_tests) in
+    let r : nat_lt row ACROSS ≡ true = grind (arith, nat_tests) in
     rw (c, r) refl
 
 pub section_area_is_of_land : SectionAreaIsOfLand
@@ -71,7 +76,7 @@ section_area_is_of_land plat section area range is =
     let sums : ℕ → ℕ = λ before.
     section_sum PLACE_DIGITS (is.pieces (before + 1)) (section_places PLACE_DIGITS section (before + 1)) in
     let here : section - 1 + 1 ≡ section = omega (arith, range.0) in
-    let last : sums (section - 1) ≡ 16 * over_positions (is.pieces section) =
+    let last : sums (section - 1) ≡ OF_POSITION * over_positions (is.pieces section) =
     rw here
     (section_whole (is.pieces section) (section_places PLACE_DIGITS section section)
     (λ column row in_column in_row.
@@ -82,29 +87,29 @@ section_area_is_of_land plat section area range is =
     let differs : total 36 sums + 0 ≡ total 36 (λ before. 0) + sums (section - 1) =
     total_differs 36 (section - 1) (λ before. 0) sums (omega (arith, range.1)) others in
     let none = total-same 36 0 in
-    let sum : total 36 sums ≡ 16 * over_positions (is.pieces section) = omega arith in
+    let sum : total 36 sums ≡ OF_POSITION * over_positions (is.pieces section) = omega arith in
     record {
       pieces = is.pieces;
       are = is.are;
       over_is = is.over_is;
-      sum_is = ap (λ u. 16 * u) is.sum_is ∙ sym sum;
+      sum_is = ap (λ u. OF_POSITION * u) is.sum_is ∙ sym sum;
     }
 
 pub township_area_is_of_land : TownshipAreaIsOfLand
 township_area_is_of_land plat area is =
     let sums : ℕ → ℕ =
     λ before. section_sum PLACE_DIGITS (is.pieces (before + 1)) (township_places PLACE_DIGITS (before + 1)) in
-    let each : total 36 sums ≡ total 36 (λ before. 16 * over_positions (is.pieces (before + 1))) =
-    total-ext 36 sums (λ before. 16 * over_positions (is.pieces (before + 1))) (λ before below.
+    let each : total 36 sums ≡ total 36 (λ before. OF_POSITION * over_positions (is.pieces (before + 1))) =
+    total-ext 36 sums (λ before. OF_POSITION * over_positions (is.pieces (before + 1))) (λ before below.
     section_whole (is.pieces (before + 1)) (township_places PLACE_DIGITS (before + 1))
     (λ column row in_column in_row.
     rw (number_is (before + 1) (omega arith) (omega arith)) (place_is column row in_column in_row))) in
-    let sum = each ∙ total-scale 36 16 (λ before. over_positions (is.pieces (before + 1))) in
+    let sum = each ∙ total-scale 36 OF_POSITION (λ before. over_positions (is.pieces (before + 1))) in
     record {
       pieces = is.pieces;
       are = is.are;
       over_is = is.over_is;
-      sum_is = ap (λ u. 16 * u) is.sum_is ∙ sym sum;
+      sum_is = ap (λ u. OF_POSITION * u) is.sum_is ∙ sym sum;
     }
   where
     number_is : (section : ℕ) → 1 ≤ section → section ≤ 36 → is_section section ≡ true

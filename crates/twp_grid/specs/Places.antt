@@ -6,7 +6,7 @@ use Rattle.twp_grid.specs.Lots.{POSITIONS_ACROSS}
 
 -- how many binary digits a place's column and row have today (this project's limit)
 abbrev pub PLACE_DIGITS : ℕ
-PLACE_DIGITS = 4
+PLACE_DIGITS = 5
 
 -- the places along a side of a section
 abbrev pub places_across : ℕ → ℕ

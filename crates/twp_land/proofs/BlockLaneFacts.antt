@@ -1,7 +1,7 @@
 -- The lanes of a block: of each row the columns, where the block has the row.
 use Rattle.std.proofs.Common.{◌≡◌, ◌==◌, ℕ, zero, suc, ◌+◌, ◌-◌, ◌*◌, ◌^◌, ◌<◌, ◌≤◌, ◌&&◌, Bool, true, false}
 use Rattle.std.proofs.Common.{List, [], ◌∷◌, length, get_or, ap, refl, sym, ◌∙◌, arith, replicate, map, cond}
-use Rattle.std.proofs.Common.{w16}
+use Rattle.std.proofs.Common.{w32}
 use Rattle.std.proofs.Math.Pow.{pow_mono}
 use Rattle.std.specs.Int.{bit_at}
 use Rattle.std.specs.Int.Bits.{bit_and}
@@ -20,7 +20,10 @@ use Rattle.twp_land.proofs.BlockFacts.{InSection}
 
 -- in each lane the bit of its row
 abbrev pub row_bits : List ℕ
-row_bits = 1 ∷ 2 ∷ 4 ∷ 8 ∷ 16 ∷ 32 ∷ 64 ∷ 128 ∷ 256 ∷ 512 ∷ 1024 ∷ 2048 ∷ 4096 ∷ 8192 ∷ 16384 ∷ 32768 ∷ []
+row_bits =
+    1 ∷ 2 ∷ 4 ∷ 8 ∷ 16 ∷ 32 ∷ 64 ∷ 128 ∷ 256 ∷ 512 ∷ 1024 ∷ 2048 ∷ 4096 ∷ 8192 ∷ 16384 ∷ 32768 ∷ 65536 ∷
+    131072 ∷ 262144 ∷ 524288 ∷ 1048576 ∷ 2097152 ∷ 4194304 ∷ 8388608 ∷ 16777216 ∷ 33554432 ∷ 67108864 ∷
+    134217728 ∷ 268435456 ∷ 536870912 ∷ 1073741824 ∷ 2147483648 ∷ []
 
 powers_test : each 1 (λ a. each 1 (λ b. each LANE_BITS (λ row. get_or row_bits row 0 == 2 ^ row))) ≡ true
 unfolding each
@@ -49,7 +52,7 @@ selected_is : (rows columns : ℕ)
     → selected rows columns ≡ sel_l (chosen rows) (replicate LANE_BITS columns) (replicate LANE_BITS 0)
 selected_is rows columns =
     ap (λ tests. sel_l tests (replicate LANE_BITS columns) (replicate LANE_BITS 0))
-    (tops_compared w16 (λ a b. a == b) (zip2 bit_and (replicate LANE_BITS rows) row_bits) row_bits)
+    (tops_compared w32 (λ a b. a == b) (zip2 bit_and (replicate LANE_BITS rows) row_bits) row_bits)
 
 length_chosen : (rows : ℕ) → length (chosen rows) ≡ LANE_BITS
 length_chosen rows = refl

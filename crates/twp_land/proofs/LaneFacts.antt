@@ -1,7 +1,7 @@
 -- A section's places as they are kept in lanes of bits.
 use Rattle.std.proofs.Common.{◌≡◌, ◌↔◌, IsTrue, ◌≢◌, ◌==◌, ℕ, zero, suc, ◌+◌, ◌*◌, ◌%◌, ◌^◌, ◌<◌, ◌≤◌, ◌||◌}
 use Rattle.std.proofs.Common.{◌⊎◌, Bool, true, false, not, List, [], ◌∷◌, length, get_or, nat_lt, ap, refl}
-use Rattle.std.proofs.Common.{sym, ◌∙◌, inl, inr, arith, replicate, min, max, map, Fits, w16}
+use Rattle.std.proofs.Common.{sym, ◌∙◌, inl, inr, arith, replicate, min, max, map, Fits, w32}
 use Rattle.std.proofs.Math.Path.{fun_ext}
 use Rattle.std.proofs.Math.Nat.{min-zero}
 use Rattle.std.specs.Int.{bit_at}
@@ -57,10 +57,6 @@ bit_as_test lanes column row in-column in-row =
     test zero below = refl
     test (suc zero) below = refl
     test (suc (suc bit)) below = absurd (omega arith)
-
-map_same : (xs : List ℕ) → map (λ n. n) xs ≡ xs
-map_same [] = refl
-map_same (x ∷ xs) = ap (λ rest. x ∷ rest) (map_same xs)
 
 -- The lanes of a set and of a block, of the same length.
 module _ (lanes block_lanes : List ℕ) (block : Rectangle) (count : length lanes ≡ places_across PLACE_DIGITS)
@@ -328,23 +324,16 @@ module _ (lanes block_lanes : List ℕ) (block : Rectangle) (count : length lane
           (λ column _. at_most_one (held_by_lane lanes column row) (in_rectangle block column row)) in
           omega (arith, ones_of_row row below, most, total-same (places_across PLACE_DIGITS) 1)
 
-  pub count_in_lanes : fold_l (λ s n. s + n) 0 (map (λ n. n) ones) ≡ count_held (held_by_lane lanes) block
-  count_in_lanes =
-      ap (λ ones. fold_l (λ s n. s + n) 0 ones) (map_same ones)
-      ∙ fold-sum 0 ones ∙ omega (arith, count_of_lanes)
+  pub count_in_lanes : fold_l (λ s n. s + n) 0 ones ≡ count_held (held_by_lane lanes) block
+  count_in_lanes = fold-sum 0 ones ∙ omega (arith, count_of_lanes)
 
-  pub ones_fit : Each1 (Fits w16) ones
-  ones_fit =
-      Each1-weaker (λ n. n ≤ places_across PLACE_DIGITS) (Fits w16) (λ n most. record { fits = omega arith })
-      ones ones_below
-
-  pub sums_fit : Steps (λ s n. Fits w16 (s + n)) (λ s n. s + n) 0 (map (λ n. n) ones)
+  pub sums_fit : Steps (λ s n. Fits w32 (s + n)) (λ s n. s + n) 0 ones
   sums_fit =
       let most = sum_bound (places_across PLACE_DIGITS) ones ones_below in
       let few : length ones ≡ places_across PLACE_DIGITS =
       length-map both (λ n. count_ones n) ∙ length_both in
       let least : sum_l ones ≤ places_across PLACE_DIGITS * places_across PLACE_DIGITS = rw few at most in
-      rw (map_same ones) (sum_fits w16 0 ones (omega arith))
+      sum_fits w32 0 ones (omega arith)
 
 -- lanes of no bits hold nothing
 pub held_in_no_lanes : (n : ℕ) → held_by_lane (replicate n 0) ≡ nothing_held

@@ -1,6 +1,6 @@
 -- A section's places without those of a block, as they are kept.
 use Rattle.std.proofs.Common.{◌≡◌, ◌==◌, ℕ, zero, suc, ◌-◌, ◌<◌, ◌&&◌, Bool, true, false, not, List, length}
-use Rattle.std.proofs.Common.{get_or, nat_lt, ap, refl, sym, ◌∙◌, inl, inr, arith, min, map, w16}
+use Rattle.std.proofs.Common.{get_or, nat_lt, ap, refl, sym, ◌∙◌, inl, inr, arith, min, map, w32}
 use Rattle.std.proofs.Math.Path.{fun_ext}
 use Rattle.std.specs.Int.{bit_at, bit_not}
 use Rattle.std.specs.Int.Bits.{bit_and}
@@ -56,17 +56,17 @@ held_after_clearing rows block cleared are =
 module _ (lanes block_lanes : List ℕ) (block : Rectangle) (count : length lanes ≡ places_across PLACE_DIGITS)
     (are : AreBlockLanes block block_lanes) where
   abbrev off_block : List ℕ
-  off_block = map (λ n. bit_not w16 n) block_lanes
+  off_block = map (λ n. bit_not w32 n) block_lanes
 
   length_off : length off_block ≡ places_across PLACE_DIGITS
-  length_off = length-map block_lanes (λ n. bit_not w16 n) ∙ are.count
+  length_off = length-map block_lanes (λ n. bit_not w32 n) ∙ are.count
 
   bit_off_block : (column row : ℕ) → column < places_across PLACE_DIGITS → row < places_across PLACE_DIGITS
       → bit_at (get_or off_block row 0) column ≡ 1 - one_where (in_rectangle block column row)
   bit_off_block column row in-column in-row =
       ap (λ n. bit_at n column)
-      (get_or-map (λ n. bit_not w16 n) block_lanes row 0 0 (omega (arith, are.count)))
-      ∙ bit_at_not w16 (get_or block_lanes row 0) column (are.below row in-row) in-column
+      (get_or-map (λ n. bit_not w32 n) block_lanes row 0 0 (omega (arith, are.count)))
+      ∙ bit_at_not w32 (get_or block_lanes row 0) column (are.below row in-row) in-column
       ∙ ap (λ bit. 1 - bit) (are.bits column row in-row)
 
   bit_of_rest : (column row : ℕ) → column < places_across PLACE_DIGITS → row < places_across PLACE_DIGITS

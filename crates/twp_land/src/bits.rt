@@ -7,14 +7,16 @@ use std::simd::prelude::*;
 use twp_grid::{Block, PLACES_ACROSS};
 
 /// A row's places: a bit for each column.
-pub(crate) type Lane = u16;
+pub(crate) type Lane = u32;
 
 /// A lane for each row of a section.
-pub(crate) type LaneVector = u16x16;
+pub(crate) type LaneVector = u32x32;
 
 /// In each lane the bit of the lane's row.
 const ROW_BITS: [Lane; PLACES_ACROSS] = [
     1, 2, 4, 8, 16, 32, 64, 128, 256, 512, 1024, 2048, 4096, 8192, 16384, 32768,
+    65536, 131072, 262144, 524288, 1048576, 2097152, 4194304, 8388608,
+    16777216, 33554432, 67108864, 134217728, 268435456, 536870912, 1073741824, 2147483648,
 ];
 
 /// The lanes of a section's rows as a vector.

@@ -55,7 +55,7 @@ impl Plot for LaneRows {
     #[inline]
     fn count(&self, block: Block) -> u32 {
         let held = vector(&self.lanes) & block_lanes(block);
-        u32::from(held.count_ones().strict_reduce_sum())
+        held.count_ones().strict_reduce_sum()
     }
 
     #[inline]

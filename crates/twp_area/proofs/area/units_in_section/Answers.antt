@@ -2,6 +2,7 @@
 use Rattle.std.proofs.Common.{◌≡◌, ℕ, ◌+◌, ◌-◌, ◌≤◌, sym, arith}
 use Rattle.twp_land.proofs.LotFacts.{few_lots}
 use Rattle.twp_area.specs.steps.Accounts.{over_by}
+use Rattle.twp_area.specs.steps.Bounds.{SECTION_PLACES_MOST}
 use Rattle.twp_area.proofs.SectionSums.{places_where, piece_where, places_held, places_not_held, piece_held}
 use Rattle.twp_area.proofs.SectionSums.{piece_not_held, of_lots-none, of_lots-next, lots_within, few_places}
 use Rattle.twp_area.proofs.SectionSums.{sum_of_section}
@@ -121,7 +122,7 @@ pub returns-clause-most : goal.returns-clause-most
 returns-clause-most g c =
     let few = few_places (g.L.Land.places c.args.land.now c.args.section) in
     let few' = few_lots c.args.section c.lot_count-lot-end.ensures.section in
-    let places : c.loop-lot.off_lots ≤ 256 = omega (arith, c.loop-lot.invariant.taken) in
+    let places : c.loop-lot.off_lots ≤ SECTION_PLACES_MOST = omega (arith, c.loop-lot.invariant.taken) in
     let regular = rw c.over-over.ensures.value at c.regular_units.ensures in
     bounded (c.loop-lot.lot - 1) c.loop-lot.units c.loop-lot.off_lots (over_by c.args.account c.args.plat.now)
     c.regular_units.result (omega arith) places c.loop-lot.invariant.most regular
