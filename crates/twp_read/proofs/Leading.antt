@@ -17,8 +17,8 @@ use Rattle.twp_grammar.specs.Tokens.IsToken.{good}
 use Rattle.twp_grammar.specs.Tokens.IsGoodToken.{a_word, a_half, a_quarter, a_comma}
 use Rattle.twp_grammar.specs.Grammar.{class_of}
 use Rattle.twp_grammar.specs.Machine.{next}
-use Rattle.twp_read.specs.TokenSteps.{take_token, run}
-use Rattle.twp_read.specs.Usual.{Leads, end_of}
+use Rattle.twp_read.specs.steps.TokenSteps.{take_token, run}
+use Rattle.twp_read.specs.steps.Usual.{Leads, end_of}
 use Rattle.twp_grammar.proofs.TokenFacts.{all_white}
 use Rattle.twp_read.proofs.WordFacts.{both}
 use Rattle.twp_read.proofs.Reading.{run-append, go_on}

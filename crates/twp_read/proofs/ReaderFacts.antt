@@ -14,7 +14,7 @@ use Rattle.twp_grammar.specs.Grammar.{Class, class_of, bad_byte, bad_number}
 use Rattle.twp_grammar.specs.Items.{behind, BeginWithSections}
 use Rattle.twp_grammar.specs.Sentences.{IsSentence, HasItems, MayFollow}
 use Rattle.twp_grammar.specs.Machine.{next, is_final}
-use Rattle.twp_read.specs.TokenSteps.{take_token, run}
+use Rattle.twp_read.specs.steps.TokenSteps.{take_token, run}
 use Rattle.twp_grammar.specs.declared.kind.Kind.{Kind}
 use Rattle.twp_grammar.specs.declared.kind.Kind.TheVariants.{BadByte, BadNumber}
 use Rattle.twp_read.specs.declared.fault.TextFault.{TextFault}
@@ -24,7 +24,7 @@ use Rattle.twp_grammar.specs.Expected.{expected_of}
 use Rattle.twp_read.specs.TextFaults.{refusal_of, fault_of_bad, refusal, number_of_bad, NoneBad, place_of}
 use Rattle.twp_read.specs.TextFaults.{IsBadToken, IsSyntaxFault, GoesWrong, Helps, HasNoneBad}
 use Rattle.twp_grammar.specs.Sentences.{TEXT_LIMIT, IsReadAs}
-use Rattle.twp_read.specs.Usual.{HasNoneBadBefore}
+use Rattle.twp_read.specs.steps.Usual.{HasNoneBadBefore}
 use Rattle.twp_grammar.proofs.Table.{takes_no_bad_byte, takes_no_bad_number}
 use Rattle.twp_grammar.proofs.TokenFacts.{one_token_list, has_token_list}
 use Rattle.twp_grammar.proofs.TreeFacts.{tree_begins}

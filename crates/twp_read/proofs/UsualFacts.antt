@@ -17,8 +17,8 @@ use Rattle.twp_grammar.specs.declared.state.State.{State}
 use Rattle.twp_grammar.specs.declared.state.State.TheVariants as past
 use Rattle.twp_grammar.specs.Grammar.{class_of, lot}
 use Rattle.twp_grammar.specs.Machine.{next, is_in_chain}
-use Rattle.twp_read.specs.TokenSteps.{take_token, with_newest, before_parts}
-use Rattle.twp_read.specs.Usual.{Leads, StandsAt, IsStepAt, letters_of, fraction_of}
+use Rattle.twp_read.specs.steps.TokenSteps.{take_token, with_newest, before_parts}
+use Rattle.twp_read.specs.steps.Usual.{Leads, StandsAt, IsStepAt, letters_of, fraction_of}
 use Rattle.twp_read.proofs.Leading.{leads_then, leads_token}
 
 -- a chain goes on with the letters of a step and with its fraction

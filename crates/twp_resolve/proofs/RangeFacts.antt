@@ -15,7 +15,7 @@ use Rattle.twp_land.specs.WholeLots.{lot_of_place}
 use Rattle.twp_land.proofs.LotFacts.{block_of}
 use Rattle.twp_grammar.specs.ItemPlaces.{is_lot_from}
 use Rattle.twp_grammar.specs.OnPlat.{HasLot}
-use Rattle.twp_resolve.specs.ResolvingSteps.{sections_from, lots_from, AreAdded}
+use Rattle.twp_resolve.specs.steps.ResolvingSteps.{sections_from, lots_from, AreAdded}
 use Rattle.twp_land.proofs.LotBlocks.{in_lot_block, share_of_meets, meets_of_share}
 use Rattle.twp_grammar.proofs.CutPlaces.{whole_is_place}
 use Rattle.twp_land.proofs.LotBlocks.{lot_is_place}

@@ -18,7 +18,7 @@ use Rattle.twp_land.specs.WholeLots.{HoldsLotPlace}
 use Rattle.twp_spell.specs.WrittenParts.{Part, steps_of_part, IsInPart, IsFull}
 use Rattle.twp_spell.specs.WrittenParts.Part.{square, half_of_square}
 use Rattle.twp_land.specs.WholeLots.{off_lots}
-use Rattle.twp_spell.specs.Spelling.{IsBlockOf}
+use Rattle.twp_spell.specs.steps.Spelling.{IsBlockOf}
 use Rattle.twp_grammar.proofs.CutPlaces.{outside, inside, more_left, more_than_one}
 use Rattle.twp_spell.proofs.SquareFacts.{quarter_steps, columns_long, rows_long, square_within, square_fits}
 use Rattle.twp_spell.proofs.SquareFacts.{half_within}

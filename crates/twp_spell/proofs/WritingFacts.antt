@@ -14,8 +14,8 @@ use Rattle.twp_spell.specs.WrittenParts.{AreWrittenParts}
 use Rattle.twp_spell.specs.WrittenParts.Part.{square, half_of_square}
 use Rattle.twp_land.specs.WholeLots.{off_lots}
 use Rattle.twp_spell.specs.CanonicalText.{step_text, part_text, HoldsEach}
-use Rattle.twp_spell.specs.Spelling.{quarter_on, AreOfSquare, AreOfQuarter, IsChoice, IsOffChosen}
-use Rattle.twp_spell.specs.Spelling.{quarters_text, parts_text, AreWritten, IsBlockOf}
+use Rattle.twp_spell.specs.steps.Spelling.{quarter_on, AreOfSquare, AreOfQuarter, IsChoice, IsOffChosen}
+use Rattle.twp_spell.specs.steps.Spelling.{quarters_text, parts_text, AreWritten, IsBlockOf}
 use Rattle.twp_grid.specs.Spans.{Rectangle, whole_block}
 use Rattle.twp_land.specs.WholeLots.{lot_of_place}
 use Rattle.twp_spell.proofs.SquareFacts.{square_within}

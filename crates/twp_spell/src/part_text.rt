@@ -4,7 +4,7 @@ ghost use Rattle.std.specs.Prelude.{MatchOption, codes};
 ghost use Rattle.twp_grammar.specs.declared.item.Step.TheVariants.{Half, Quarter};
 ghost use Rattle.twp_spell.specs.WrittenParts.{IsOnSide};
 ghost use Rattle.twp_spell.specs.CanonicalText.{step_text};
-ghost use Rattle.twp_spell.specs.Spelling.{PART_MOST, PIECES_MOST, quarter_on};
+ghost use Rattle.twp_spell.specs.steps.Spelling.{PART_MOST, PIECES_MOST, quarter_on};
 
 use crate::path::Path;
 use crate::pieces::Pieces;
@@ -87,7 +87,7 @@ fn is_on_side(side: Side, corner: Corner) -> bool
 }
 
 /// The first of a half's two quarters.
-#[tactic(auto, unfolding(crate::specs::Spelling::quarter_on))]
+#[tactic(auto, unfolding(crate::specs::steps::Spelling::quarter_on))]
 fn first_quarter(side: Side) -> Corner
     ensures { result ≡ quarter_on side }
 {

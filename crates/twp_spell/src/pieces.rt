@@ -1,7 +1,7 @@
 //! A few written parts that are appended to a text together.
 ghost use Rattle.std.specs.Prelude.{◌≡◌, ◌+◌, ◌++◌, ◌≤◌, [], length, codes, OnOk};
 ghost use Rattle.twp_spell.specs.CanonicalText.{step_text};
-ghost use Rattle.twp_spell.specs.Spelling.{PART_MOST, PIECES_MOST};
+ghost use Rattle.twp_spell.specs.steps.Spelling.{PART_MOST, PIECES_MOST};
 ghost use Rattle.twp_grammar.specs.declared.item.Step.TheVariants.{Half, Quarter};
 
 use crate::path::{PATH_BYTES, PATH_QUARTER_BYTES, Path, quarter_text};

@@ -4,8 +4,8 @@ ghost use Rattle.twp_grid.specs.Places.{PLACE_DIGITS};
 ghost use Rattle.twp_grid.specs.declared.block.Corner.{Corner};
 ghost use Rattle.twp_spell.specs.WrittenParts.{IsFull};
 ghost use Rattle.twp_spell.specs.WrittenParts.Part.{square};
-ghost use Rattle.twp_spell.specs.Spelling.{AreOfSquare, AreOfQuarter, AreWritten, AreFull};
-ghost use Rattle.twp_spell.specs.Spelling.{PART_MOST, PIECES_MOST, chosen_of, quarters_text};
+ghost use Rattle.twp_spell.specs.steps.Spelling.{AreOfSquare, AreOfQuarter, AreWritten, AreFull};
+ghost use Rattle.twp_spell.specs.steps.Spelling.{PART_MOST, PIECES_MOST, chosen_of, quarters_text};
 
 use crate::full_quarters::FullQuarters;
 use crate::part_text::{half_at, push_half};

@@ -7,8 +7,8 @@ ghost use Rattle.twp_spell.specs.WrittenParts.{Part, IsFull, AreWrittenParts};
 ghost use Rattle.twp_spell.specs.WrittenParts.Part.{square};
 ghost use Rattle.twp_land.specs.WholeLots.{off_lots};
 ghost use Rattle.twp_spell.specs.CanonicalText.{HoldsEach};
-ghost use Rattle.twp_spell.specs.Spelling.{IsBlockOf, AreOfSquare, AreOfQuarter};
-ghost use Rattle.twp_spell.specs.Spelling.{AreWritten, AreFull, quarters_text};
+ghost use Rattle.twp_spell.specs.steps.Spelling.{IsBlockOf, AreOfSquare, AreOfQuarter};
+ghost use Rattle.twp_spell.specs.steps.Spelling.{AreWritten, AreFull, quarters_text};
 
 use crate::full_quarters::FullQuarters;
 use crate::part_text::{half_at, write_full_quarter, write_half};

@@ -2,8 +2,8 @@
 ghost use Rattle.std.specs.Prelude.{◌≡◌, ◌≤◌, ◌∷◌, ◌+◌, List, length, IfOk, IfSome};
 ghost use Rattle.twp_grammar.specs.declared.item.Item.{Item as TakenItem};
 ghost use Rattle.twp_read.specs.declared.change.Change.TheVariants.{TownshipSide, RangeSide};
-ghost use Rattle.twp_read.specs.TokenSteps.{with_newest};
-ghost use Rattle.twp_read.specs.Usual.{Leads};
+ghost use Rattle.twp_read.specs.steps.TokenSteps.{with_newest};
+ghost use Rattle.twp_read.specs.steps.Usual.{Leads};
 ghost use Rattle.twp_grammar.specs.Sentences.{TEXT_LIMIT};
 
 use crate::items::Items;

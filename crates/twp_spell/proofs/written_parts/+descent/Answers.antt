@@ -6,7 +6,7 @@ use Rattle.std.proofs.lemmas.Bool.{false≢true}
 use Rattle.twp_grid.specs.Places.{PLACE_DIGITS}
 use Rattle.twp_spell.specs.WrittenParts.Part.{square}
 use Rattle.twp_land.specs.WholeLots.{off_lots}
-use Rattle.twp_spell.specs.Spelling.{AreOfSquare}
+use Rattle.twp_spell.specs.steps.Spelling.{AreOfSquare}
 use Rattle.twp_spell.proofs.DescentLists.{of_empty}
 use Rattle.twp_spell.proofs.HalfQuarters.{choice_made}
 use Rattle.twp_spell.proofs.PathFacts.{path_of_quarter}

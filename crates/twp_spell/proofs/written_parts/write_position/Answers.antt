@@ -2,7 +2,7 @@
 use Rattle.std.proofs.Common.{◌≡◌, ◌+◌, ◌%◌, sym, ◌∙◌, arith}
 use Rattle.twp_grid.specs.Places.{PLACE_DIGITS}
 use Rattle.twp_land.specs.WholeLots.{off_lots}
-use Rattle.twp_spell.specs.Spelling.{AreOfSquare}
+use Rattle.twp_spell.specs.steps.Spelling.{AreOfSquare}
 use Rattle.twp_spell.proofs.DescentLists.{of_empty}
 use Rattle.twp_spell.proofs.SquareFacts.{square_fits}
 use Rattle.twp_spell.proofs.PlaceSquares.{position_places, position_full, position_level, position_free}
