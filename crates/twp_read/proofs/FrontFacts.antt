@@ -8,7 +8,7 @@ use Rattle.twp_grid.specs.declared.township.NorthSouth.{NorthSouth as NorthOrSou
 use Rattle.twp_grid.specs.declared.township.NorthSouth.TheVariants as ns
 use Rattle.twp_grid.specs.declared.township.EastWest.{EastWest as EastOrWest}
 use Rattle.twp_grid.specs.declared.township.EastWest.TheVariants as ew
-use Rattle.twp_read.specs.declared.change.Change.TheVariants.{TownshipSide, RangeSide}
+use Rattle.twp_read.specs.declared.item_change.Change.TheVariants.{TownshipSide, RangeSide}
 use Rattle.twp_grammar.specs.declared.item.Item.{Item}
 use Rattle.twp_grammar.specs.declared.item.Item.TheVariants.{Sections}
 use Rattle.twp_grammar.specs.declared.item.Numeral.{Numeral}

@@ -7,7 +7,7 @@ use Rattle.std.proofs.lemmas.Bool.Decides.{Decides-eqb}
 use Rattle.std.proofs.lemmas.List.{drop-drop}
 use Rattle.std.proofs.lemmas.Slice.Eq.{starts_is}
 use Rattle.twp_grid.specs.declared.block.Side.TheVariants as side
-use Rattle.twp_read.specs.declared.change.Change.TheVariants.{Grown}
+use Rattle.twp_read.specs.declared.item_change.Change.TheVariants.{Grown}
 use Rattle.twp_grammar.specs.declared.item.Item.{Item}
 use Rattle.twp_grammar.specs.declared.item.Item.TheVariants.{Chain}
 use Rattle.twp_grammar.specs.declared.item.Step.{Step}

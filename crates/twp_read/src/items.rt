@@ -2,7 +2,7 @@ ghost use Rattle.std.specs.Prelude.{◌≡◌, ◌≤◌, ◌∷◌, ◌+◌, []
 ghost use Rattle.twp_grammar.specs.Items.{north_or_south, east_or_west};
 ghost use Rattle.twp_grammar.specs.declared.item.Item.{Item};
 
-use crate::change::{Change, change_item};
+use crate::item_change::{Change, change_item};
 use std::alloc::{AllocError, Global};
 use std::marker::Model;
 use twp_grammar::{Item, Kind, Numeral, State, Step, Steps};

@@ -208,12 +208,12 @@ quarters_added g held quarters old ne nw sw se fits short first second third las
     quarters_written {T = ℕ} {E = ℕ} (Ok 0) g held quarters old ne nw sw se fits short first second third last
 
 -- parts that were put together are appended
-pub pieces_appended : {T E : Type 0} (result : Result T E) (these : List Part → Type 0)
-    (old none pieces new : List ℕ)
-    → none ≡ [] → AreWritten these none pieces
-    → OnOk result (new ≡ old ++ pieces) → OnOk result (AreWritten these old new)
-pieces_appended result these old none pieces new empty written ok =
-    on_ok result (new ≡ old ++ pieces) (AreWritten these old new) ok (λ is.
+pub buffer_appended : {T E : Type 0} (result : Result T E) (these : List Part → Type 0)
+    (old none buffer new : List ℕ)
+    → none ≡ [] → AreWritten these none buffer
+    → OnOk result (new ≡ old ++ buffer) → OnOk result (AreWritten these old new)
+buffer_appended result these old none buffer new empty written ok =
+    on_ok result (new ≡ old ++ buffer) (AreWritten these old new) ok (λ is.
     record {
       parts = written.parts;
       are = written.are;

@@ -8,7 +8,7 @@ ghost use Rattle.twp_read.specs.steps.Usual.{state_behind, last_state_behind, li
 ghost use Rattle.twp_read.specs.steps.Usual.{listed_behind_and, listed_behind_to};
 ghost use Rattle.twp_grammar.specs.Sentences.{TEXT_LIMIT};
 
-use crate::change::Change;
+use crate::item_change::Change;
 use crate::items::Items;
 use crate::lexeme::{byte_at, digits, lexeme_at};
 use crate::reached::Reached;

@@ -1,3 +1,4 @@
+//! What a token changes in the newest item.
 ghost use Rattle.std.specs.Prelude.{◌≡◌, OnOk};
 ghost use Rattle.twp_read.specs.steps.TokenSteps.{changed};
 
