@@ -84,11 +84,6 @@ pub cut_of_digit : (bytes : List ℕ) → is_ascii_digit (slice_index bytes 0) �
 cut_of_digit [] h = cc h
 cut_of_digit (byte ∷ bytes) h = cut_a_digit byte bytes h
 
-cut_other : (byte : ℕ) (bytes : List ℕ) → is_ascii_alphabetic byte ≡ false → is_ascii_digit byte ≡ false
-    → cut (byte ∷ bytes) ≡ cut_mark byte (slice_index bytes 0)
-unfolding cut
-cut_other byte bytes h h' = rw (h, h') refl
-
 word_at : (text rest : List ℕ) (size : ℕ) → prefix_len is_ascii_alphabetic (text ++ rest) ≡ size
     → take size (text ++ rest) ≡ text → cut_word (text ++ rest) ≡ lexeme (kind_of_word text) size
 unfolding cut_word

@@ -49,9 +49,6 @@ selected_is rows columns =
     ap (λ tests. sel_l tests (replicate 16 columns) (replicate 16 0))
     (tops_compared w16 (λ a b. a == b) (zip2 bit_and (replicate 16 rows) row_bits) row_bits)
 
-length_chosen : (rows : ℕ) → length (chosen rows) ≡ 16
-length_chosen rows = refl
-
 chosen_at : (rows row : ℕ) → row < 16 → get_or (chosen rows) row false ≡ (bit_at rows row == 1)
 chosen_at rows row below =
     get_or-zip2 (λ a b. a == b) (zip2 bit_and (replicate 16 rows) row_bits) row_bits row 0 0 false below below

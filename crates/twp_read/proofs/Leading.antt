@@ -39,12 +39,6 @@ goes_further text at state its to behind grown f l =
       within = rw (length-drop to text) (omega arith);
     }
 
--- nothing leads nowhere else
-pub leads_nowhere : (text : List ℕ) (at : ℕ) (state : State) (its : List Item) → at ≤ length text
-    → Leads text at state its at state its
-leads_nowhere text at state its within =
-    record { tokens = []; cut = λ left has. has; walked = refl; forward = omega arith; within = within }
-
 -- what leads to where more leads on
 pub leads_then : (text : List ℕ) (at : ℕ) (state : State) (its : List Item) (mid : ℕ) (between : State)
     (some : List Item) (to : ℕ) (behind : State) (grown : List Item)

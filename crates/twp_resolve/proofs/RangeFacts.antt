@@ -125,15 +125,6 @@ added_stuck places all old mid section block so_far meets new =
       in_second = there.1;
     }
 
-pub no_sections : (g first last : ℕ) → last < first → sections_from g first last ≡ no_places
-no_sections g first last none = fun_ext (λ s. fun_ext (λ c. fun_ext (λ r.
-    let out : (nat_le first s && nat_le s last) ≡ false = grind (arith, nat_tests) in
-    rw out (and_false (is_place g c r)))))
-  where
-    and_false : (a : Bool) → (a && false) ≡ false
-    and_false true = refl
-    and_false false = refl
-
 pub next_section : (first n : ℕ) → 1 ≤ n → first ≤ n
     → sections_from PLACE_DIGITS first n
     ≡ union (sections_from PLACE_DIGITS first (n - 1)) (block_places n (whole_block PLACE_DIGITS))
