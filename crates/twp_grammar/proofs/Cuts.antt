@@ -16,7 +16,8 @@ use Rattle.twp_grammar.specs.declared.kind.Kind.{Kind}
 use Rattle.twp_grammar.specs.declared.kind.Kind.TheVariants.{Half, Quarter, Number, Comma, Semicolon, Colon}
 use Rattle.twp_grammar.specs.declared.kind.Kind.TheVariants.{Stop, BadNumber, BadByte}
 use Rattle.twp_grammar.specs.declared.lexeme.Lexeme.{Lexeme}
-use Rattle.twp_grammar.specs.Cutting.{lexeme, cut_word, numeral_of, cut_number, cut_digits, cut_mark, cut}
+use Rattle.twp_grammar.specs.steps.Cutting.{lexeme, cut_word, numeral_of, cut_number, cut_digits, cut_mark}
+use Rattle.twp_grammar.specs.steps.Cutting.{cut}
 use Rattle.std.specs.Str.{str_to_ascii_lowercase}
 use Rattle.twp_grammar.specs.Tokens.{is_white, Word, same_bytes, words, kind_among, kind_of_word, begins_with}
 use Rattle.twp_grammar.specs.Tokens.{IsWholeRun, Begins, IsNumber, IsGoodToken, a_word, a_number}
@@ -82,11 +83,6 @@ pub cut_of_digit : (bytes : List ℕ) → is_ascii_digit (slice_index bytes 0) �
     → cut bytes ≡ cut_digits bytes
 cut_of_digit [] h = cc h
 cut_of_digit (byte ∷ bytes) h = cut_a_digit byte bytes h
-
-cut_other : (byte : ℕ) (bytes : List ℕ) → is_ascii_alphabetic byte ≡ false → is_ascii_digit byte ≡ false
-    → cut (byte ∷ bytes) ≡ cut_mark byte (slice_index bytes 0)
-unfolding cut
-cut_other byte bytes h h' = rw (h, h') refl
 
 word_at : (text rest : List ℕ) (size : ℕ) → prefix_len is_ascii_alphabetic (text ++ rest) ≡ size
     → take size (text ++ rest) ≡ text → cut_word (text ++ rest) ≡ lexeme (kind_of_word text) size

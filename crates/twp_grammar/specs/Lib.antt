@@ -4,7 +4,7 @@ pub mod Items
 pub mod Sentences
 pub mod Expected
 pub mod ItemPlaces
-pub mod Cutting
 pub mod Machine
 pub mod Laws
 pub mod OnPlat
+pub mod steps

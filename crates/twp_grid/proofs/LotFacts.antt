@@ -79,10 +79,6 @@ position_by_code s n =
     else if nat_le s 6 && nat_le n 4 then Some (n - 1, 3)
     else Some (3, count_by_code s - n)
 
--- number 0 is no section's
-abbrev no_section : ℕ → Bool
-no_section s = s == 0
-
 count_test : each 37 (λ s. (s == 0) || (number_of_lots s == count_by_code s)) ≡ true
 unfolding each number_of_lots lots
 count_test = refl

@@ -54,9 +54,6 @@ selected_is rows columns =
     ap (λ tests. sel_l tests (replicate LANE_BITS columns) (replicate LANE_BITS 0))
     (tops_compared w32 (λ a b. a == b) (zip2 bit_and (replicate LANE_BITS rows) row_bits) row_bits)
 
-length_chosen : (rows : ℕ) → length (chosen rows) ≡ LANE_BITS
-length_chosen rows = refl
-
 chosen_at : (rows row : ℕ) → row < LANE_BITS → get_or (chosen rows) row false ≡ (bit_at rows row == 1)
 chosen_at rows row below =
     get_or-zip2 (λ a b. a == b) (zip2 bit_and (replicate LANE_BITS rows) row_bits) row_bits row 0 0 false

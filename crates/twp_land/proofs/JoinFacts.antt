@@ -1,17 +1,15 @@
 -- What two sets of one section's places share, and hold together, as they are kept.
-use Rattle.std.proofs.Common.{◌≡◌, ◌↔◌, IsTrue, ◌≢◌, ◌==◌, ℕ, zero, suc, ◌+◌, ◌^◌, ◌<◌, ◌≤◌, ◌||◌, Bool, true}
+use Rattle.std.proofs.Common.{◌≡◌, ◌↔◌, IsTrue, ◌≢◌, ◌==◌, ℕ, zero, suc, ◌^◌, ◌<◌, ◌≤◌, ◌||◌, Bool, true}
 use Rattle.std.proofs.Common.{false, not, List, [], length, get_or, nat_lt, ap, refl, sym, ◌∙◌, inl, inr}
 use Rattle.std.proofs.Common.{arith, min, max}
 use Rattle.std.proofs.Math.Path.{fun_ext}
-use Rattle.std.proofs.Math.ListN.{set}
 use Rattle.std.specs.Int.{bit_at}
 use Rattle.std.specs.Int.Bits.{bit_and, bit_or}
 use Rattle.std.specs.Simd.Lanes.{zip2, fold_l, put_chunk}
 use Rattle.std.proofs.lemmas.Simd.{get_or-zip2, length-zip2, put_chunk_whole}
-use Rattle.std.proofs.lemmas.List.{get_or-set_same, get_or-set_other}
 use Rattle.std.proofs.lemmas.Nat.{and_le_r}
 use Rattle.std.proofs.lemmas.Nat.Bits.{bit_at_and, bit_at_or, bit_at-lt, bit_at-zero, same_from_bits_below}
-use Rattle.std.proofs.lemmas.Bool.{cases_Bool, cases_eq, and_parts, eqb-true, eq-eqb, ne_eqb, not-false}
+use Rattle.std.proofs.lemmas.Bool.{cases_Bool, and_parts, eqb-true, eq-eqb, ne_eqb, not-false}
 use Rattle.std.proofs.lemmas.Bool.Decides.{nat_tests}
 use Rattle.twp_grid.specs.Places.{PLACE_DIGITS, places_across, is_place}
 use Rattle.twp_land.specs.Storage.{held_by_row, held_by_lane, held_by_either, ShareHeld}
@@ -31,14 +29,6 @@ of_place column row place =
     and_parts (nat_lt column (places_across PLACE_DIGITS)) (nat_lt row (places_across PLACE_DIGITS)) place in
     (grind (arith, nat_tests), grind (arith, nat_tests))
 
--- what rows share
-pub share_of_rows : (rows others : List (List Bool)) (row : ℕ) → row < places_across PLACE_DIGITS
-    → ShareInRow (get_or rows row []) (get_or others row [])
-    → ShareHeld (held_by_row rows) (held_by_row others)
-share_of_rows rows others row below shared =
-    let place = in_place shared.0 row shared.1 below in
-    record { column = shared.0; row = row; in_first = rw place shared.2; in_second = rw place shared.3 }
-
 pub rows_apart : (rows others : List (List Bool))
     → ((k : ℕ) → k < places_across PLACE_DIGITS → ShareInRow (get_or rows k []) (get_or others k []) → ⊥)
     → ShareHeld (held_by_row rows) (held_by_row others) → ⊥
@@ -54,37 +44,6 @@ pub record AreJoined (rows others : List (List Bool)) (count : ℕ) (joined : Li
   pub below : (row : ℕ) → row < count
       → IsJoined (get_or rows row []) (get_or others row []) (get_or joined row [])
   pub from : (row : ℕ) → count ≤ row → get_or joined row [] ≡ get_or rows row []
-
-pub joined_row : (rows others now : List (List Bool)) (row : ℕ) (joined : List Bool)
-    → row < places_across PLACE_DIGITS
-    → AreJoined rows others row now → IsJoined (get_or now row []) (get_or others row []) joined
-    → length (set now row joined) ≡ length now
-    → AreJoined rows others (row + 1) (set now row joined)
-joined_row rows others now row joined inside are is same =
-    record {
-      all = same ∙ are.all;
-      below = λ k lt. elim (cases_eq k row) [
-        | inl here ↦ rw (
-          here,
-          get_or-set_same now row joined [] (omega (arith, are.all)),
-          ← are.from row (omega arith),
-        ) is
-        | inr other ↦ rw (get_or-set_other now row k joined [] other) (are.below k (omega arith))
-      ];
-      from = λ k least.
-          get_or-set_other now row k joined [] (λ e. absurd (omega arith)) ∙ are.from k (omega arith);
-    }
-
-pub held_after_joining : (rows others joined : List (List Bool))
-    → AreJoined rows others (places_across PLACE_DIGITS) joined
-    → held_by_row joined ≡ held_by_either (held_by_row rows) (held_by_row others)
-held_after_joining rows others joined are =
-    fun_ext (λ column. fun_ext (λ row. elim (cases_Bool (is_place PLACE_DIGITS column row)) [
-      | inl place ↦
-          let at = of_place column row place in
-          rw place (are.below row at.1 column at.0)
-      | inr outside ↦ rw outside refl
-    ]))
 
 -- The lanes of two sets, of the same length.
 module _ (lanes others : List ℕ) (count : length lanes ≡ places_across PLACE_DIGITS)

@@ -1,12 +1,12 @@
 -- Sets of places as they are kept by section.
 use Rattle.std.proofs.Common.{get_or, sym, ◌∙◌, if◌then◌else◌, ◌≡◌, ◌≢◌, ◌==◌, ℕ, zero, suc, ◌-◌, ◌<◌, ◌≤◌}
-use Rattle.std.proofs.Common.{◌+◌, ◌&&◌, ◌||◌, nat_le, Bool, true, false, List, [], ◌∷◌, length, Some, ap}
+use Rattle.std.proofs.Common.{◌+◌, ◌&&◌, ◌||◌, Bool, true, false, List, [], ◌∷◌, length, Some, ap}
 use Rattle.std.proofs.Common.{refl, inl, inr, arith, replicate}
 use Rattle.std.proofs.Math.Path.{fun_ext}
 use Rattle.std.proofs.Math.ListN.{set}
 use Rattle.std.specs.List.{slice_get}
 use Rattle.std.specs.Option.{option_map_or}
-use Rattle.std.proofs.lemmas.Bool.{cases_eq, ne_eqb, eq-eqb, and_right, and_parts}
+use Rattle.std.proofs.lemmas.Bool.{cases_eq, ne_eqb, eq-eqb, and_right}
 use Rattle.std.proofs.lemmas.Bool.Decides.{nat_tests}
 use Rattle.twp_grid.specs.Winding.{SECTION_COUNT, IsSection}
 use Rattle.twp_grid.specs.Spans.{Rectangle}
@@ -176,13 +176,6 @@ kept_at {P = P} held plots index plot below all =
     found [] i inside = absurd (omega arith)
     found (p ∷ plots) zero inside = refl
     found (p ∷ plots) (suc i) inside = found plots i (omega arith)
-
-section_held : {P : Type 0} (held : P → ℕ → ℕ → Bool) (plots : List P) (section column row : ℕ)
-    → held_by_section held plots section column row ≡ true → IsSection section
-section_held held plots section column row is =
-    let parts = and_parts (is_section section) _ is in
-    let sides = and_parts (nat_le 1 section) (nat_le section SECTION_COUNT) parts.0 in
-    (grind (arith, nat_tests), grind (arith, nat_tests))
 
 -- two sets share a place where two parts at one index do
 pub share_found : {P : Type 0} (held : P → ℕ → ℕ → Bool) (plots others : List P) (index : ℕ) (plot other : P)

@@ -124,18 +124,6 @@ full_of_rows rows block dyadic-rows dyadic-columns each column row inside =
     ∙ ap (λ c. get_or (get_or rows (block.rows.start + up.0) []) c false) column-is
     ∙ each up.0 up-lt along.0 along-lt
 
-pub row_of_full : (rows : List (List Bool)) (block : Rectangle) (up : ℕ) → IsDyadic PLACE_DIGITS block.rows
-    → IsDyadic PLACE_DIGITS block.columns
-    → up < block.rows.len → HoldsAll (held_by_row rows) block
-    → EachHeld (get_or rows (block.rows.start + up) []) block.columns.start block.columns.len
-row_of_full rows block up dyadic-rows dyadic-columns below full along lt =
-    let in-rows : block.rows.start + block.rows.len ≤ places_across PLACE_DIGITS = dyadic-rows.within in
-    let in-columns : block.columns.start + block.columns.len ≤ places_across PLACE_DIGITS =
-    dyadic-columns.within in
-    sym (held_inside rows (block.columns.start + along) (block.rows.start + up) (omega arith) (omega arith))
-    ∙ full (block.columns.start + along) (block.rows.start + up)
-    (rw (at_offset block.columns along lt, at_offset block.rows up below) refl)
-
 pub count_of_rows : (rows : List (List Bool)) (block : Rectangle) → IsDyadic PLACE_DIGITS block.rows
     → IsDyadic PLACE_DIGITS block.columns
     → count_in_rows rows block.rows.start block.rows.len block.columns.start block.columns.len

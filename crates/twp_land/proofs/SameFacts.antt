@@ -1,5 +1,5 @@
 -- Two sets of one section that hold the same places, as they are kept.
-use Rattle.std.proofs.Common.{◌≡◌, ◌↔◌, IsTrue, ◌==◌, ℕ, zero, suc, ◌+◌, ◌%◌, ◌<◌, Bool, true, List, []}
+use Rattle.std.proofs.Common.{◌≡◌, ◌↔◌, IsTrue, ◌==◌, ℕ, zero, suc, ◌+◌, ◌%◌, ◌<◌, true, List}
 use Rattle.std.proofs.Common.{length, get_or, nat_lt, ap, refl, sym, ◌∙◌, inl, inr, arith}
 use Rattle.std.specs.Int.{bit_at}
 use Rattle.std.specs.Int.Bits.{bit_or, bit_xor, xor_self}
@@ -9,9 +9,8 @@ use Rattle.std.proofs.lemmas.Nat.Bits.{bit_at_xor, bit_at-lt, bit_at-zero, same_
 use Rattle.std.proofs.lemmas.Bool.{cases_Bool, and_parts, eqb-true, eq-eqb}
 use Rattle.std.proofs.lemmas.Bool.Decides.{nat_tests}
 use Rattle.twp_grid.specs.Places.{PLACE_DIGITS, places_across, is_place}
-use Rattle.twp_land.specs.Storage.{held_by_row, held_by_lane, SameHeld}
+use Rattle.twp_land.specs.Storage.{held_by_lane, SameHeld}
 use Rattle.twp_land.specs.steps.BitLanes.{AreLanes}
-use Rattle.twp_land.specs.steps.RowTests.{AreAlike}
 use Rattle.twp_land.proofs.BitFacts.{or_of_zeros, zeros_of_or}
 
 -- a place of the section
@@ -25,22 +24,6 @@ of_place column row place =
     let parts =
     and_parts (nat_lt column (places_across PLACE_DIGITS)) (nat_lt row (places_across PLACE_DIGITS)) place in
     (grind (arith, nat_tests), grind (arith, nat_tests))
-
-pub same_of_rows : (rows others : List (List Bool))
-    → ((row : ℕ) → row < places_across PLACE_DIGITS → AreAlike (get_or rows row []) (get_or others row []))
-    → SameHeld (held_by_row rows) (held_by_row others)
-same_of_rows rows others alike column row = elim (cases_Bool (is_place PLACE_DIGITS column row)) [
-  | inl place ↦
-      let at = of_place column row place in
-      rw place (alike row at.1 column at.0)
-  | inr outside ↦ rw outside refl
-]
-
-pub row_of_same : (rows others : List (List Bool)) (row : ℕ) → row < places_across PLACE_DIGITS
-    → SameHeld (held_by_row rows) (held_by_row others)
-    → AreAlike (get_or rows row []) (get_or others row [])
-row_of_same rows others row in-row same column in-column =
-    rw (in_place column row in-column in-row) at (same column row)
 
 -- The lanes of two sets, of the same length.
 module _ (lanes others : List ℕ) (count : length lanes ≡ places_across PLACE_DIGITS)

@@ -2,8 +2,8 @@
 use Rattle.std.proofs.Common.{◌≡◌, ℕ, ◌+◌, ◌≤◌, List, [], ◌++◌, length, take, Option, Some, None}
 use Rattle.std.proofs.Common.{refl, sym, arith, length-append}
 use Rattle.std.specs.Prelude.{unwrap_or}
-use Rattle.std.specs.Io.KnownBytes.{Consumes, IsAtEnd}
-use Rattle.std.proofs.lemmas.List.{append-nil, take_all, take_at, length-take}
+use Rattle.std.specs.Io.KnownBytes.{Consumes}
+use Rattle.std.proofs.lemmas.List.{take_at, length-take}
 use Rattle.std.proofs.KnownBytes.{Consumes-trans}
 use Rattle.twp_grid.specs.Devices.{Tells, TakesAtMost}
 
@@ -14,17 +14,9 @@ tells_read None new read h = tt
 tells_read (Some xs) None read h = absurd h
 tells_read (Some xs) (Some ys) read h = h
 
-none_left : (new : Option (List ℕ)) → IsAtEnd new → unwrap_or new [] ≡ []
-none_left None h = refl
-none_left (Some ys) h = h
-
 -- the reading ends with as many bytes as were asked for, or at the end of the input
 pub read_most : (read rest : List ℕ) (most : ℕ) → length read ≡ most → read ≡ take most (read ++ rest)
 read_most read rest most long = sym (take_at read rest most long)
-
-pub read_end : (read : List ℕ) (new : Option (List ℕ)) (most : ℕ) → IsAtEnd new → length read ≤ most
-    → read ≡ take most (read ++ unwrap_or new [])
-read_end read new most end within = rw (none_left new end, append-nil read) (sym (take_all most read within))
 
 -- the pieces that were taken, with the last one, are within what is asked for
 pub most_taken : (old mid new : Option (List ℕ)) (read piece : List ℕ) (count room most : ℕ)

@@ -3,17 +3,13 @@ use Rattle.std.proofs.Common.{◌≡◌, ℕ, ◌+◌, ◌≤◌, List, [], ◌�
 use Rattle.std.proofs.Common.{inr, refl, ap, subst, sym, ◌∙◌, arith, append_assoc, length-append}
 use Rattle.std.specs.Prelude.{Result, Ok, Err, OnOk, OnErr}
 use Rattle.std.proofs.lemmas.Bool.{cases_lt}
-use Rattle.std.proofs.lemmas.List.{append-nil, take_at, take-take, take_all, length_push}
+use Rattle.std.proofs.lemmas.List.{append-nil, take_at, take-take, length_push}
 use Rattle.std.proofs.lemmas.List.{get_or_push, get_or_append_left, flat_map_more}
 use Rattle.twp_notes.specs.Records.{Fields}
 use Rattle.twp_notes.specs.FieldNotes.{FieldNotes, heading, returned_of}
 use Rattle.twp_notes.specs.NotesTexts.{record_text, township_fields, AreLineFields}
 use Rattle.twp_notes.specs.steps.WrittenFields.{BeginsWith}
 use Rattle.twp_notes.specs.NotesTexts.{AreLineRecords, text_before}
-
--- bytes begin with themselves
-pub begins_same : (old new : List ℕ) → new ≡ old → BeginsWith old new
-begins_same old new same = rw same (take_all (length old) old (omega arith))
 
 -- and where more was appended, what begins with that begins with them
 pub begins_more : (old more between new : List ℕ) → between ≡ old ++ more → BeginsWith between new

@@ -1,5 +1,5 @@
 -- The lines of a section, and which of them close.
-use Rattle.std.proofs.Common.{◌≡◌, ◌≢◌, ℕ, ◌+◌, ◌*◌, ◌<◌, List, [], ◌∷◌, get_or, Option, Some, refl}
+use Rattle.std.proofs.Common.{◌≡◌, ◌≢◌, ℕ, ◌+◌, ◌*◌, ◌<◌, [], ◌∷◌, get_or, Option, Some, refl}
 use Rattle.std.proofs.Common.{ap, sym, ◌∙◌, inl, inr, arith}
 use Rattle.std.proofs.lemmas.Bool.{cases_lt}
 use Rattle.std.specs.Option.{SomeIff}
@@ -9,7 +9,7 @@ use Rattle.twp_grid.specs.Lines.{IsLine, IsClosing, AreSides, north_run, west_ru
 use Rattle.twp_plat.specs.Closing.{QUARTER_MILE}
 use Rattle.twp_plat.specs.Plats.{TownshipPlat, IsPlat, closing_quarter_of, ClosingQuarters}
 use Rattle.twp_plat.specs.Plats.{AreClosingQuarters}
-use Rattle.twp_plat.specs.steps.SideLimits.{HaveRegularLines, AreInLimits}
+use Rattle.twp_plat.specs.steps.SideLimits.{HaveRegularLines}
 use Rattle.twp_plat.specs.Pieces.{line_length, over_of}
 
 -- where a section stands, and its lines by their indexes
@@ -33,12 +33,6 @@ lines_of section east west north south are = record {
   north_is = ap (λ sides. get_or sides 2 0) are.sides_are;
   south_is = ap (λ sides. get_or sides 3 0) are.sides_are;
 }
-
--- the sides of a section one by one
-pub sides_by_one : (section : ℕ) (sides : List ℕ) (e w n s : ℕ) → AreSides section sides
-    → AreSides section (get_or sides 0 e ∷ get_or sides 1 w ∷ get_or sides 2 n ∷ get_or sides 3 s ∷ [])
-sides_by_one section sides e w n s are =
-    record { row = are.row; column = are.column; stands = are.stands; sides_are = rw are.sides_are refl }
 
 -- a line outside the western column is no closing one if it is run west, and outside the northern row if
 -- it is run north
@@ -91,24 +85,6 @@ regular_outside_six plat section q is are other =
             absurd (other (corner_is_six section row column lines.stands (omega arith) (omega arith)))
       ]
     ]
-
--- a plat's closing quarters are within its limits
-pub in_limits : (plat : TownshipPlat) (section : ℕ) (q : ClosingQuarters) → IsPlat plat
-    → AreClosingQuarters plat section q → AreInLimits q
-in_limits plat section q is are =
-    let lines = lines_of section are.east_line are.west_line are.north_line are.south_line are.sides in
-    let in_row : lines.row < 6 = lines.stands.row_range in
-    let in_column : lines.column < 6 = lines.stands.column_range in
-    let east = is.within are.east_line (rw lines.east_is (omega arith)) in
-    let west = is.within are.west_line (rw lines.west_is (omega arith)) in
-    let north = is.within are.north_line (rw lines.north_is (omega arith)) in
-    let south = is.within are.south_line (rw lines.south_is (omega arith)) in
-    record {
-      east = rw are.east (east.least, east.most);
-      west = rw are.west (west.least, west.most);
-      north = rw are.north (north.least, north.most);
-      south = rw are.south (south.least, south.most);
-    }
 
 -- the lines of a section on a plat are four
 pub one_quarters : (plat : TownshipPlat) (section : ℕ) (q q' : ClosingQuarters)

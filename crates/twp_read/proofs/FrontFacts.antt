@@ -8,7 +8,7 @@ use Rattle.twp_grid.specs.declared.township.NorthSouth.{NorthSouth as NorthOrSou
 use Rattle.twp_grid.specs.declared.township.NorthSouth.TheVariants as ns
 use Rattle.twp_grid.specs.declared.township.EastWest.{EastWest as EastOrWest}
 use Rattle.twp_grid.specs.declared.township.EastWest.TheVariants as ew
-use Rattle.twp_read.specs.declared.change.Change.TheVariants.{TownshipSide, RangeSide}
+use Rattle.twp_read.specs.declared.item_change.Change.TheVariants.{TownshipSide, RangeSide}
 use Rattle.twp_grammar.specs.declared.item.Item.{Item}
 use Rattle.twp_grammar.specs.declared.item.Item.TheVariants.{Sections}
 use Rattle.twp_grammar.specs.declared.item.Numeral.{Numeral}
@@ -17,15 +17,15 @@ use Rattle.twp_grammar.specs.declared.kind.Kind.TheVariants.{T, R, NorthSouth, E
 use Rattle.twp_grammar.specs.declared.kind.Kind.TheVariants.{Comma, Colon, Number}
 use Rattle.twp_grammar.specs.declared.state.State.{State}
 use Rattle.twp_grammar.specs.declared.state.State.TheVariants as past
-use Rattle.twp_grammar.specs.Cutting.{IsFirstIn}
+use Rattle.twp_grammar.specs.steps.Cutting.{IsFirstIn}
 use Rattle.twp_grammar.specs.Tokens.{Token, StartsWith, begins_with, is_white, kind_of_word}
 use Rattle.twp_grammar.specs.Tokens.IsToken.{good}
 use Rattle.twp_grammar.specs.Tokens.IsGoodToken.{a_word, a_stop, a_colon}
 use Rattle.std.specs.Option.{is_some}
 use Rattle.twp_grammar.specs.Grammar.{class_of, sec, lot, stop, comma, number}
 use Rattle.twp_grammar.specs.Machine.{next}
-use Rattle.twp_read.specs.TokenSteps.{take_token, take_township, take_number, before_parts, with_newest}
-use Rattle.twp_read.specs.Usual.{Leads, IsNumberBehind}
+use Rattle.twp_read.specs.steps.TokenSteps.{take_token, take_township, take_number, before_parts, with_newest}
+use Rattle.twp_read.specs.steps.Usual.{Leads, IsNumberBehind}
 use Rattle.twp_read.proofs.Leading.{IsMark, the_comma, mark_leads, made, leads_token, leads_space, leads_then}
 use Rattle.twp_read.proofs.Leading.{left_behind, white_leads}
 

@@ -17,8 +17,8 @@ use Rattle.twp_grammar.specs.Tokens.IsToken.{good}
 use Rattle.twp_grammar.specs.Tokens.IsGoodToken.{a_word, a_half, a_quarter, a_comma}
 use Rattle.twp_grammar.specs.Grammar.{class_of}
 use Rattle.twp_grammar.specs.Machine.{next}
-use Rattle.twp_read.specs.TokenSteps.{take_token, run}
-use Rattle.twp_read.specs.Usual.{Leads, end_of}
+use Rattle.twp_read.specs.steps.TokenSteps.{take_token, run}
+use Rattle.twp_read.specs.steps.Usual.{Leads, end_of}
 use Rattle.twp_grammar.proofs.TokenFacts.{all_white}
 use Rattle.twp_read.proofs.WordFacts.{both}
 use Rattle.twp_read.proofs.Reading.{run-append, go_on}
@@ -38,12 +38,6 @@ goes_further text at state its to behind grown f l =
       walked = run-append (Some Start) [] f.tokens l.tokens ∙ ap (λ o. go_on o l.tokens) f.walked ∙ l.walked;
       within = rw (length-drop to text) (omega arith);
     }
-
--- nothing leads nowhere else
-pub leads_nowhere : (text : List ℕ) (at : ℕ) (state : State) (its : List Item) → at ≤ length text
-    → Leads text at state its at state its
-leads_nowhere text at state its within =
-    record { tokens = []; cut = λ left has. has; walked = refl; forward = omega arith; within = within }
 
 -- what leads to where more leads on
 pub leads_then : (text : List ℕ) (at : ℕ) (state : State) (its : List Item) (mid : ℕ) (between : State)

@@ -3,7 +3,7 @@ use Rattle.std.proofs.Common.{◌≡◌, ◌==◌, ℕ, zero, suc, ◌<◌, Bool
 use Rattle.std.proofs.Common.{bit_or, refl, ap, inl, inr, arith}
 use Rattle.std.specs.Char.{is_ascii_lowercase}
 use Rattle.std.proofs.lemmas.Bool.{eqb-true, cases_lt}
-use Rattle.twp_grammar.specs.Cutting.{small_letter}
+use Rattle.twp_grammar.specs.steps.Cutting.{small_letter}
 
 -- the test holds of every number below n
 unfoldable each : ℕ → (ℕ → Bool) → Bool

@@ -13,7 +13,7 @@ use Rattle.twp_grammar.specs.Grammar.{of, the, number, Ebnf, one, ◌⨾◌, man
 use Rattle.twp_grammar.specs.Grammar.{separator}
 use Rattle.twp_grammar.specs.Items.{Leaf, token_of, ◌&◌, behind, Tree, numeral, step_of, Range, end_of}
 use Rattle.twp_grammar.specs.Items.{range_of, lots_item, whole_sections_item}
-use Rattle.twp_read.specs.TokenSteps.{run}
+use Rattle.twp_read.specs.steps.TokenSteps.{run}
 use Rattle.twp_grammar.proofs.TreeFacts.{onto}
 
 -- newer items before older ones

@@ -6,10 +6,10 @@ use Rattle.std.proofs.Math.ListN.{set}
 use Rattle.std.proofs.Math.Seq.{get_or-append_seam, set-append_seam}
 use Rattle.std.proofs.lemmas.List.{reverse-append}
 use Rattle.twp_grammar.specs.declared.item.Item.{Item}
-use Rattle.twp_read.specs.declared.change.Change.{Change}
-use Rattle.twp_read.specs.TokenSteps.{with_newest, changed}
+use Rattle.twp_read.specs.declared.item_change.Change.{Change}
+use Rattle.twp_read.specs.steps.TokenSteps.{with_newest, changed}
 use Rattle.twp_grammar.specs.declared.state.State.{State}
-use Rattle.twp_read.specs.Usual.{Leads}
+use Rattle.twp_read.specs.steps.Usual.{Leads}
 
 record HasLast (items : List Item) : Type 0 where
   front : List Item

@@ -13,14 +13,14 @@ use Rattle.twp_read.specs.declared.usual.list.Listed.{Listed}
 use Rattle.twp_read.specs.declared.usual.list.Listed.TheVariants as listed
 use Rattle.twp_grammar.specs.declared.state.State.{State}
 use Rattle.twp_grammar.specs.declared.state.State.TheVariants as past
-use Rattle.twp_grammar.specs.Cutting.{IsFirstIn, cut_digits, cut}
+use Rattle.twp_grammar.specs.steps.Cutting.{IsFirstIn, cut_digits, cut}
 use Rattle.twp_grammar.specs.Tokens.{Token, StartsWith, is_white}
 use Rattle.twp_grammar.specs.Grammar.{class_of, comma, number}
 use Rattle.twp_grammar.specs.Machine.{next}
-use Rattle.twp_read.specs.TokenSteps.{take_number, take_token, with_newest}
-use Rattle.twp_read.specs.declared.change.Change.TheVariants.{Last}
-use Rattle.twp_read.specs.Usual.{Leads, IsNumberBehind, IsBehindWhite, entry_of, state_behind}
-use Rattle.twp_read.specs.Usual.{last_state_behind, listed_in, listed_behind_and, listed_behind_to}
+use Rattle.twp_read.specs.steps.TokenSteps.{take_number, take_token, with_newest}
+use Rattle.twp_read.specs.declared.item_change.Change.TheVariants.{Last}
+use Rattle.twp_read.specs.steps.Usual.{Leads, IsNumberBehind, IsBehindWhite, entry_of, state_behind}
+use Rattle.twp_read.specs.steps.Usual.{last_state_behind, listed_in, listed_behind_and, listed_behind_to}
 use Rattle.twp_grammar.proofs.ByteRuns.{digit_no_space}
 use Rattle.twp_grammar.proofs.Cuts.{IsFirstToken, cut_of_digit}
 use Rattle.twp_grammar.proofs.TokenFacts.{first_at, first_in}

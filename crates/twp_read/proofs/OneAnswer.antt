@@ -17,7 +17,7 @@ use Rattle.twp_grammar.specs.Grammar.{class_of}
 use Rattle.twp_grammar.specs.Sentences.{HasItems, IsSentence, IsFault}
 use Rattle.twp_read.specs.Laws.{IsStray, NoStrayInSentence}
 use Rattle.twp_grammar.specs.Machine.{next}
-use Rattle.twp_read.specs.TokenSteps.{take_token, run}
+use Rattle.twp_read.specs.steps.TokenSteps.{take_token, run}
 use Rattle.twp_grammar.specs.Sentences.{TEXT_LIMIT, IsReadAs}
 use Rattle.twp_read.specs.TextFaults.{refusal, refusal_of, number_of_bad, NoneBad, IsFirstBad, place_of}
 use Rattle.twp_read.specs.TextFaults.{IsFirstTextFault, too_large, bad_token, syntax}

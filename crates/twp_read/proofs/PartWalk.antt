@@ -9,7 +9,7 @@ use Rattle.twp_grammar.specs.Tokens.{Token}
 use Rattle.twp_grammar.specs.Grammar.{lot, all, Ebnf, ◌⨾◌, many, step, entry, separator, part, parts}
 use Rattle.twp_grammar.specs.Items.{Leaf, token_of, ◌&◌, behind, Tree, step_of, place_of_step, range_of}
 use Rattle.twp_grammar.specs.Items.{lots_item, part_items, parts_items}
-use Rattle.twp_read.specs.TokenSteps.{before_parts, run}
+use Rattle.twp_read.specs.steps.TokenSteps.{before_parts, run}
 use Rattle.twp_grammar.proofs.TreeFacts.{onto}
 use Rattle.twp_read.proofs.ListWalk.{newest_first, newest_first-append, further_steps, grow_all, EntryEnd}
 use Rattle.twp_read.proofs.ListWalk.{Separated, at_comma, at_last_comma, at_and, behind_separator, of_lots}

@@ -1,7 +1,7 @@
 -- What the reader knows between two tokens, and what follows from it where it ends.
-use Rattle.std.proofs.Common.{◌≡◌, ◌<◌, ℕ, ◌+◌, ◌≤◌, true, false, List, [], ◌∷◌, ◌++◌, Option, Some, None}
+use Rattle.std.proofs.Common.{◌≡◌, ℕ, ◌+◌, ◌≤◌, true, false, List, [], ◌∷◌, ◌++◌, Option, Some, None}
 use Rattle.std.proofs.Common.{IsSomeAnd, length, reverse, refl, sym, ap, subst, ◌∙◌, append_assoc, arith}
-use Rattle.std.proofs.Common.{drop, length-append, length-drop}
+use Rattle.std.proofs.Common.{drop, length-append}
 use Rattle.std.specs.List.{AllPass}
 use Rattle.std.proofs.lemmas.List.{append-nil, reverse-append, take_all}
 use Rattle.std.proofs.Math.Seq.{take-append_seam}
@@ -14,7 +14,7 @@ use Rattle.twp_grammar.specs.Grammar.{Class, class_of, bad_byte, bad_number}
 use Rattle.twp_grammar.specs.Items.{behind, BeginWithSections}
 use Rattle.twp_grammar.specs.Sentences.{IsSentence, HasItems, MayFollow}
 use Rattle.twp_grammar.specs.Machine.{next, is_final}
-use Rattle.twp_read.specs.TokenSteps.{take_token, run}
+use Rattle.twp_read.specs.steps.TokenSteps.{take_token, run}
 use Rattle.twp_grammar.specs.declared.kind.Kind.{Kind}
 use Rattle.twp_grammar.specs.declared.kind.Kind.TheVariants.{BadByte, BadNumber}
 use Rattle.twp_read.specs.declared.fault.TextFault.{TextFault}
@@ -22,9 +22,9 @@ use Rattle.twp_read.specs.declared.fault.TextFault.TheVariants as faults
 use Rattle.twp_grammar.specs.declared.expected.Expected.{Expected}
 use Rattle.twp_grammar.specs.Expected.{expected_of}
 use Rattle.twp_read.specs.TextFaults.{refusal_of, fault_of_bad, refusal, number_of_bad, NoneBad, place_of}
-use Rattle.twp_read.specs.TextFaults.{IsBadToken, IsSyntaxFault, GoesWrong, Helps, HasNoneBad}
+use Rattle.twp_read.specs.TextFaults.{IsBadToken, IsSyntaxFault, GoesWrong, HasNoneBad}
 use Rattle.twp_grammar.specs.Sentences.{TEXT_LIMIT, IsReadAs}
-use Rattle.twp_read.specs.Usual.{HasNoneBadBefore}
+use Rattle.twp_read.specs.steps.Usual.{HasNoneBadBefore}
 use Rattle.twp_grammar.proofs.Table.{takes_no_bad_byte, takes_no_bad_number}
 use Rattle.twp_grammar.proofs.TokenFacts.{one_token_list, has_token_list}
 use Rattle.twp_grammar.proofs.TreeFacts.{tree_begins}
@@ -35,9 +35,6 @@ use Rattle.twp_read.proofs.Reading.{what_follows, what_is_told}
 -- the tokens before some place: those behind it are the rest of the text's
 pub record Before (text : List ℕ) (at : ℕ) (bytes : List ℕ) (before : List Token) : Type 0 where
   pub joins : (left : List Token) → HasTokens at bytes left → HasTokens 0 text (before ++ left)
-
-pub at_front : (text : List ℕ) → Before text 0 text []
-at_front text = record { joins = λ left has. has }
 
 pub one_behind : (text : List ℕ) (at : ℕ) (bytes : List ℕ) (before : List Token) (token : Token)
     (rest : List ℕ)
@@ -52,9 +49,6 @@ pub record Front (text : List ℕ) (at : ℕ) (bytes : List ℕ) (state : State)
   pub before : Before text at bytes tokens
   pub walked : run (Some Start) [] tokens ≡ ended state its
   pub within : at + length bytes ≤ length text
-
-pub front_start : (text : List ℕ) → Front text 0 text Start []
-front_start text = record { tokens = []; before = at_front text; walked = refl; within = omega arith }
 
 -- where a token stands, and how much is left behind it
 pub record IsWithin (at : ℕ) (bytes : List ℕ) (token : Token) (rest : List ℕ) : Type 0 where
@@ -214,16 +208,6 @@ none_bad_before text at state its within f =
       within = within;
     }
 
-pub search_start : (text : List ℕ) (at : ℕ) → HasNoneBadBefore text at → Search text at (drop at text)
-search_start text at g =
-    let within : at ≤ length text = g.within in
-    record {
-      tokens = g.tokens;
-      before = record { joins = g.joins };
-      none_bad = g.none_bad;
-      within = rw (length-drop at text) (omega arith);
-    }
-
 one_more_good : (tokens : List Token) (token : Token) → NoneBad tokens → number_of_bad token.kind ≡ None
     → NoneBad (tokens ++ token ∷ [])
 one_more_good [] token none_bad is = (is, tt)
@@ -283,14 +267,6 @@ syntax_fault text at expected none wrong =
       place = wrong.place;
     }
 
--- a place in the text is below 2 ^ 32
-pub token_within : (text : List ℕ) (at : ℕ) (bytes : List ℕ) (token : Token) (rest : List ℕ)
-    → at + length bytes ≤ length text → StartsWith at bytes token rest → token.at ≤ length text
-token_within text at bytes token rest within s =
-    let inside : IsWithin at bytes token rest = is_within at bytes token rest s in
-    let sum : (token.at + length token.text) + length rest ≡ at + length bytes = inside.sum in
-    omega arith
-
 -- what the fault of a token says of its kind
 pub none_tells : (kind : Kind) (at : ℕ) → fault_of_bad kind at ≡ None → number_of_bad kind ≡ None
 none_tells BadByte at h = cc h
@@ -315,19 +291,3 @@ found_bad text at bytes token rest fault f starts is =
     subst (λ (o : Option TextFault). Tells token.kind token.at o) is (some_tells token.kind token.at) in
     subst (λ (o : Option Refusal). IsSomeAnd o (IsBadToken text)) (sym told.2)
     (search_found text at bytes token rest told.0 f starts told.1)
-
-other_number : (a b : ℕ) → a < b → Some a ≡ Some b → ⊥
-other_number a b below e =
-    let same : a ≡ b = cc e in
-    omega arith
-
-not_44 : (kind : Kind) → number_of_bad kind ≡ Some 44 → ⊥
-not_44 BadByte e = other_number 42 44 (omega arith) e
-not_44 BadNumber e = other_number 43 44 (omega arith) e
-not_44 _ e = cc e
-
--- a bad token is no fault of syntax
-pub bad_helps : (text : List ℕ) (fault : TextFault) → IsSomeAnd (refusal_of fault) (IsBadToken text)
-    → Helps text fault
-bad_helps text (faults.Syntax at expected) bad = absurd (not_44 bad.token.kind bad.number)
-bad_helps text _ bad = tt

@@ -20,7 +20,7 @@ use Rattle.twp_grammar.specs.Items.{tokens, items}
 use Rattle.twp_grammar.specs.Sentences.{HasItems, IsSentence, IsFront, IsFault, MayFollow}
 use Rattle.twp_read.specs.Laws.{classes_of, ClassesDecide}
 use Rattle.twp_grammar.specs.Machine.{next, is_final}
-use Rattle.twp_read.specs.TokenSteps.{take_token, run}
+use Rattle.twp_read.specs.steps.TokenSteps.{take_token, run}
 use Rattle.twp_grammar.specs.Expected.{told, named, expected_of, IsNamed}
 use Rattle.twp_grammar.proofs.Derivatives.{same_class, same_class_tells, Derives, derives_none, takes_token}
 use Rattle.twp_grammar.proofs.Table as table

@@ -7,7 +7,7 @@ use Rattle.std.proofs.lemmas.Bool.Decides.{Decides-eqb}
 use Rattle.std.proofs.lemmas.List.{drop-drop}
 use Rattle.std.proofs.lemmas.Slice.Eq.{starts_is}
 use Rattle.twp_grid.specs.declared.block.Side.TheVariants as side
-use Rattle.twp_read.specs.declared.change.Change.TheVariants.{Grown}
+use Rattle.twp_read.specs.declared.item_change.Change.TheVariants.{Grown}
 use Rattle.twp_grammar.specs.declared.item.Item.{Item}
 use Rattle.twp_grammar.specs.declared.item.Item.TheVariants.{Chain}
 use Rattle.twp_grammar.specs.declared.item.Step.{Step}
@@ -17,8 +17,8 @@ use Rattle.twp_grammar.specs.declared.state.State.{State}
 use Rattle.twp_grammar.specs.declared.state.State.TheVariants as past
 use Rattle.twp_grammar.specs.Grammar.{class_of, lot}
 use Rattle.twp_grammar.specs.Machine.{next, is_in_chain}
-use Rattle.twp_read.specs.TokenSteps.{take_token, with_newest, before_parts}
-use Rattle.twp_read.specs.Usual.{Leads, StandsAt, IsStepAt, letters_of, fraction_of}
+use Rattle.twp_read.specs.steps.TokenSteps.{take_token, with_newest, before_parts}
+use Rattle.twp_read.specs.steps.Usual.{Leads, StandsAt, IsStepAt, letters_of, fraction_of}
 use Rattle.twp_read.proofs.Leading.{leads_then, leads_token}
 
 -- a chain goes on with the letters of a step and with its fraction

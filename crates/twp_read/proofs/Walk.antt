@@ -19,7 +19,7 @@ use Rattle.twp_grammar.specs.Items.{Leaf, token_of, ◌&◌, behind, Tree, token
 use Rattle.twp_grammar.specs.Items.{ranges_of_several, whole_sections_item, parts_items, group_items}
 use Rattle.twp_grammar.specs.Items.{heading_item, items}
 use Rattle.twp_grammar.specs.Machine.{is_final}
-use Rattle.twp_read.specs.TokenSteps.{run}
+use Rattle.twp_read.specs.steps.TokenSteps.{run}
 use Rattle.twp_grammar.proofs.TreeFacts.{onto, onto_is}
 use Rattle.twp_read.proofs.ListWalk.{newest_first, newest_first-append, EntryEnd, at_number, at_last}
 use Rattle.twp_read.proofs.ListWalk.{at_inclusive, at_and, of_sections, ended, listed_item, one_section}

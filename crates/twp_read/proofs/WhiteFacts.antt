@@ -12,7 +12,7 @@ use lib.Bits.{bit_and}
 use lib.Lanes.{chunk, mask_l, top}
 use lib.Count.{count_trailing_zeros}
 use Rattle.twp_grammar.specs.Tokens.{is_white, begins_with}
-use Rattle.twp_grammar.specs.Cutting.{is_dark}
+use Rattle.twp_grammar.specs.steps.Cutting.{is_dark}
 
 -- white space from a place on lies within the text
 pub white_within : (text : List ℕ) (at : ℕ) → at ≤ length text

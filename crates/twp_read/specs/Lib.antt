@@ -1,4 +1,3 @@
 pub mod TextFaults
-pub mod Usual
 pub mod Laws
-pub mod TokenSteps
+pub mod steps

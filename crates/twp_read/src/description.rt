@@ -2,7 +2,7 @@ ghost use Rattle.std.specs.Prelude.{◌≡◌, ◌≤◌, List, length, IfOk, If
 ghost use Rattle.std.specs.Prelude.{MatchOption, MatchResult};
 ghost use Rattle.twp_read.specs.TextFaults.{refusal_of, fault_of_bad, HasNoneBad, GoesWrong, Helps};
 ghost use Rattle.twp_read.specs.TextFaults.{IsBadToken, IsFirstTextFault};
-ghost use Rattle.twp_read.specs.Usual.{HasNoneBadBefore};
+ghost use Rattle.twp_read.specs.steps.Usual.{HasNoneBadBefore};
 
 use crate::fault::{TEXT_LIMIT, TextFault};
 use crate::items::Items;

@@ -2,7 +2,7 @@ ghost use Rattle.std.specs.Prelude.{◌≡◌, ◌≤◌, ◌∷◌, ◌+◌, []
 ghost use Rattle.twp_grammar.specs.Items.{north_or_south, east_or_west};
 ghost use Rattle.twp_grammar.specs.declared.item.Item.{Item};
 
-use crate::change::{Change, change_item};
+use crate::item_change::{Change, change_item};
 use std::alloc::{AllocError, Global};
 use std::marker::Model;
 use twp_grammar::{Item, Kind, Numeral, State, Step, Steps};
@@ -25,9 +25,10 @@ impl Model for Items {
 
 impl Items {
     ghost use Rattle.std.specs.Prelude.{reverse};
-    ghost use Rattle.twp_read.specs.TokenSteps.{with_newest, before_parts, take_step, take_number};
-    ghost use Rattle.twp_read.specs.TokenSteps.{take_all, take_township, take_north_south};
-    ghost use Rattle.twp_read.specs.TokenSteps.{take_east_west, take_token};
+    ghost use Rattle.twp_read.specs.steps.TokenSteps.{with_newest, before_parts, take_step};
+    ghost use Rattle.twp_read.specs.steps.TokenSteps.{take_number};
+    ghost use Rattle.twp_read.specs.steps.TokenSteps.{take_all, take_township, take_north_south};
+    ghost use Rattle.twp_read.specs.steps.TokenSteps.{take_east_west, take_token};
 
     /// No items yet, with room for so many.
     pub fn with_room(alloc: Global, room: usize) -> Result<Items, AllocError>

@@ -1,4 +1,5 @@
-ghost use Rattle.std.specs.Prelude.{◌≡◌, ◌+◌, ◌-◌, ◌<◌, ◌≤◌, true, Some, IfSome, length, take, drop};
+ghost use Rattle.std.specs.Prelude.{◌≡◌, ◌+◌, ◌-◌, ◌<◌, ◌≤◌, true, Some, IfSome, length, take};
+ghost use Rattle.std.specs.Prelude.{drop};
 ghost use Rattle.std.specs.Prelude.{slice_index};
 ghost use Rattle.std.specs.Char.{is_ascii_alphabetic, is_ascii_digit};
 ghost use Rattle.std.specs.List.{prefix_len};
@@ -6,8 +7,9 @@ ghost use Rattle.std.specs.Str.Parse.{AllDigits, digits_value};
 ghost use Rattle.std.specs.Str.{str_to_ascii_lowercase};
 ghost use Rattle.twp_grammar.specs.Tokens.{kind_among, long_words};
 ghost use Rattle.twp_grammar.specs.declared.kind.Kind.TheVariants.{Number};
-ghost use Rattle.twp_grammar.specs.Cutting.{lexeme, small_letter, cut_word, cut_number, cut_digits};
-ghost use Rattle.twp_grammar.specs.Cutting.{cut_mark, cut};
+ghost use Rattle.twp_grammar.specs.steps.Cutting.{lexeme, small_letter, cut_word, cut_number};
+ghost use Rattle.twp_grammar.specs.steps.Cutting.{cut_digits};
+ghost use Rattle.twp_grammar.specs.steps.Cutting.{cut_mark, cut};
 
 use crate::word::{self, one_letter, three_letters, two_letters};
 use twp_grammar::{Kind, Lexeme};
@@ -17,7 +19,7 @@ const KNOWN: usize = 4;
 
 /// The token that begins at a place of a text.
 #[inline(always)]
-#[tactic(auto, unfolding(twp_grammar::specs::Cutting::cut))]
+#[tactic(auto, unfolding(twp_grammar::specs::steps::Cutting::cut))]
 pub fn lexeme_at(text: &[u8], at: usize) -> Lexeme
     requires { at < length text.now }
     ensures { result ≡ cut (drop at text.now) }
@@ -161,7 +163,7 @@ fn count_digits(text: &[u8], at: usize) -> usize
 
 /// A half, a quarter or a number. Mostly there is one digit alone.
 #[inline(always)]
-#[tactic(auto, using(twp_grammar::proofs::Numerals::digits_alone), unfolding(twp_grammar::specs::Cutting::cut_digits))]
+#[tactic(auto, using(twp_grammar::proofs::Numerals::digits_alone), unfolding(twp_grammar::specs::steps::Cutting::cut_digits))]
 pub fn digits(text: &[u8], at: usize) -> Lexeme
     requires place { at < length text.now }
     requires digit { is_ascii_digit (slice_index (drop at text.now) 0) ≡ true }
@@ -179,7 +181,7 @@ pub fn digits(text: &[u8], at: usize) -> Lexeme
 }
 
 /// A half or a quarter, or a digit with a slash behind it that makes it none.
-#[tactic(auto, using(twp_grammar::proofs::Numerals::digits_alone), unfolding(twp_grammar::specs::Cutting::cut_digits))]
+#[tactic(auto, using(twp_grammar::proofs::Numerals::digits_alone), unfolding(twp_grammar::specs::steps::Cutting::cut_digits))]
 fn before_slash(text: &[u8], at: usize, first: u8) -> Lexeme
     requires place { at + 1 < length text.now }
     requires first { first ≡ slice_index (drop at text.now) 0 }
@@ -279,7 +281,7 @@ fn value(digits: &[u8]) -> u16
 
 /// A mark, or a byte that begins no token.
 #[inline(always)]
-#[tactic(auto, unfolding(twp_grammar::specs::Cutting::cut_mark))]
+#[tactic(auto, unfolding(twp_grammar::specs::steps::Cutting::cut_mark))]
 fn mark(text: &[u8], at: usize) -> Lexeme
     requires { at < length text.now }
     ensures { result ≡ cut_mark

@@ -3,9 +3,9 @@
 //! there.
 #![tactic(auto)]
 
-mod change;
 mod description;
 mod fault;
+mod item_change;
 mod items;
 pub mod laws;
 mod lexeme;

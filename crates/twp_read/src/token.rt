@@ -1,5 +1,5 @@
 ghost use Rattle.std.specs.Prelude.{◌≡◌, ◌≤◌, drop, length};
-ghost use Rattle.twp_grammar.specs.Cutting.{GivesFirst};
+ghost use Rattle.twp_grammar.specs.steps.Cutting.{GivesFirst};
 ghost use Rattle.std.specs.Iterator.{at_most};
 
 use crate::lexeme::lexeme_at;

@@ -7,7 +7,7 @@
 //! are read in some 9 instructions a byte and lists in 20 to 30, where the loop takes up to 60.
 ghost use Rattle.std.specs.Prelude.{◌≤◌, length, IfOk};
 ghost use Rattle.twp_grammar.specs.Sentences.{TEXT_LIMIT};
-ghost use Rattle.twp_read.specs.Usual.{Leads};
+ghost use Rattle.twp_read.specs.steps.Usual.{Leads};
 
 mod bytes;
 mod chain;

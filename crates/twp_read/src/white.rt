@@ -3,7 +3,7 @@ ghost use Rattle.std.specs.Prelude.{◌≡◌, ◌<◌, ◌≤◌, ◌+◌, leng
 ghost use Rattle.std.specs.List.{prefix_len};
 ghost use Rattle.std.specs.Simd.Lanes.{mask_l};
 ghost use Rattle.twp_grammar.specs.Tokens.{begins_with, is_white};
-ghost use Rattle.twp_grammar.specs.Cutting.{is_dark};
+ghost use Rattle.twp_grammar.specs.steps.Cutting.{is_dark};
 
 use std::simd::prelude::*;
 

@@ -20,7 +20,7 @@ use Rattle.twp_grammar.specs.declared.item.Step.{Step}
 use Rattle.twp_grammar.specs.declared.item.Item.TheVariants.{Chain}
 use Rattle.twp_grammar.specs.ItemPlaces.{cut_of, cuts_of, item_places}
 use Rattle.twp_grammar.specs.ItemPlaces.{item_of}
-use Rattle.twp_resolve.specs.ResolvingSteps.{CanCut, IsCutTo}
+use Rattle.twp_resolve.specs.steps.ResolvingSteps.{CanCut, IsCutTo}
 use Rattle.twp_grammar.proofs.CutPlaces.{more_left, more_than_one, outside, inside}
 
 axis_more : (g : ℕ) (asked more : List ℕ) (len : ℕ) → length asked ≤ g → len ≡ 2 ^ (g - length asked)

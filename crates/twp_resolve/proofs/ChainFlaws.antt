@@ -18,7 +18,7 @@ use Rattle.twp_resolve.specs.PlaceFaults.Flaw.{other_township, no_first_section,
 use Rattle.twp_resolve.specs.PlaceFaults.Flaw.{no_first_lot, no_last_lot, too_fine, on_lot, overlap}
 use Rattle.twp_grammar.specs.ItemPlaces.{item_of}
 use Rattle.twp_land.specs.WholeLots.{HoldsLotPlace}
-use Rattle.twp_resolve.specs.ResolvingSteps.{IsTaken, IsFirstFlaw}
+use Rattle.twp_resolve.specs.steps.ResolvingSteps.{IsTaken, IsFirstFlaw}
 use Rattle.twp_land.proofs.LotBlocks.{same_section, share_of_meets, meets_of_share}
 use Rattle.twp_resolve.proofs.ChainFacts.{chain_places}
 

@@ -32,7 +32,7 @@ use Rattle.twp_grammar.specs.ItemPlaces.{ItemOfSection, cuts_of, in_item, item_p
 use Rattle.twp_grammar.specs.ItemPlaces.{with_sections, parts_of, land_of}
 use Rattle.twp_grammar.specs.OnPlat.{HasLot, LiesOnPlat, AreOnPlat, IsLandOfItems}
 use Rattle.twp_grammar.specs.ItemPlaces.{item_of}
-use Rattle.twp_resolve.specs.ResolvingSteps.{IsBeforeParts}
+use Rattle.twp_resolve.specs.steps.ResolvingSteps.{IsBeforeParts}
 use Rattle.twp_grammar.specs.OnPlat.{IsTownshipLand}
 use Rattle.twp_grammar.proofs.Membership.{Among, among_contains, among_left}
 use Rattle.twp_grammar.proofs.Membership.{some_passes, passed}

@@ -15,7 +15,7 @@ use Rattle.twp_resolve.specs.PlaceFaults.{Flaw, HasFlaw, turn_of}
 use Rattle.twp_resolve.specs.PlaceFaults.Flaw.{other_township, no_first_section, no_last_section, backward}
 use Rattle.twp_resolve.specs.PlaceFaults.Flaw.{no_first_lot, no_last_lot, too_fine, on_lot, overlap}
 use Rattle.twp_grammar.specs.ItemPlaces.{item_of}
-use Rattle.twp_resolve.specs.ResolvingSteps.{AreAdded, IsTaken, IsFirstFlaw}
+use Rattle.twp_resolve.specs.steps.ResolvingSteps.{AreAdded, IsTaken, IsFirstFlaw}
 use Rattle.twp_land.proofs.LotBlocks.{share_of_meets, meets_of_share}
 use Rattle.twp_resolve.proofs.RangeFacts.{added_none}
 use Rattle.twp_grammar.proofs.CutPlaces.{whole_is_place}

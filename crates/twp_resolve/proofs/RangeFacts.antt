@@ -15,7 +15,7 @@ use Rattle.twp_land.specs.WholeLots.{lot_of_place}
 use Rattle.twp_land.proofs.LotFacts.{block_of}
 use Rattle.twp_grammar.specs.ItemPlaces.{is_lot_from}
 use Rattle.twp_grammar.specs.OnPlat.{HasLot}
-use Rattle.twp_resolve.specs.ResolvingSteps.{sections_from, lots_from, AreAdded}
+use Rattle.twp_resolve.specs.steps.ResolvingSteps.{sections_from, lots_from, AreAdded}
 use Rattle.twp_land.proofs.LotBlocks.{in_lot_block, share_of_meets, meets_of_share}
 use Rattle.twp_grammar.proofs.CutPlaces.{whole_is_place}
 use Rattle.twp_land.proofs.LotBlocks.{lot_is_place}
@@ -124,15 +124,6 @@ added_stuck places all old mid section block so_far meets new =
       ];
       in_second = there.1;
     }
-
-pub no_sections : (g first last : ℕ) → last < first → sections_from g first last ≡ no_places
-no_sections g first last none = fun_ext (λ s. fun_ext (λ c. fun_ext (λ r.
-    let out : (nat_le first s && nat_le s last) ≡ false = grind (arith, nat_tests) in
-    rw out (and_false (is_place g c r)))))
-  where
-    and_false : (a : Bool) → (a && false) ≡ false
-    and_false true = refl
-    and_false false = refl
 
 pub next_section : (first n : ℕ) → 1 ≤ n → first ≤ n
     → sections_from PLACE_DIGITS first n

@@ -13,7 +13,7 @@ use Rattle.twp_grammar.specs.OnPlat.{HasLot}
 use Rattle.twp_resolve.specs.PlaceFaults.{Flaw, HasFlaw, turn_of}
 use Rattle.twp_resolve.specs.PlaceFaults.Flaw.{other_township, no_first_section, no_last_section, backward}
 use Rattle.twp_resolve.specs.PlaceFaults.Flaw.{no_first_lot, no_last_lot, too_fine, on_lot, overlap}
-use Rattle.twp_resolve.specs.ResolvingSteps.{sections_from, lots_from, AreAdded, IsTaken, IsFirstFlaw}
+use Rattle.twp_resolve.specs.steps.ResolvingSteps.{sections_from, lots_from, AreAdded, IsTaken, IsFirstFlaw}
 use Rattle.twp_resolve.proofs.RangeFacts.{has_lot_between}
 
 -- the flaws of lots are four

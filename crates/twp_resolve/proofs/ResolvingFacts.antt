@@ -21,7 +21,7 @@ use Rattle.twp_grammar.specs.ItemPlaces.{land_of}
 use Rattle.twp_grammar.specs.OnPlat.{LiesOnPlat, IsLandOfItems}
 use Rattle.twp_resolve.specs.PlaceFaults.{Flaw, HasFlaw, HasFlawAt, IsFrom, IsFirstPlaceFault}
 use Rattle.twp_grammar.specs.ItemPlaces.{item_of}
-use Rattle.twp_resolve.specs.ResolvingSteps.{IsTaken, IsFirstFlaw, IsBeforeParts, number_of_section}
+use Rattle.twp_resolve.specs.steps.ResolvingSteps.{IsTaken, IsFirstFlaw, IsBeforeParts, number_of_section}
 use Rattle.twp_resolve.proofs.PlaceAnswers.{no_flaw, pairs_of_apart}
 
 -- the items before an index lie on the plat, no place is named by two of them, and this is their land

@@ -1,4 +1,4 @@
 pub mod PlaceFaults
-pub mod ResolvingSteps
 pub mod Laws
 pub mod DescribedLand
+pub mod steps

@@ -5,7 +5,7 @@ ghost use Rattle.twp_grid.specs.Places.{PLACE_DIGITS};
 ghost use Rattle.twp_grid.specs.Cuts.{AreWithin, part_of, reached};
 ghost use Rattle.twp_grid.specs.Townships.{Designation};
 ghost use Rattle.twp_grammar.specs.ItemPlaces.{cut_of, cuts_of};
-ghost use Rattle.twp_resolve.specs.ResolvingSteps.{CanCut, IsCutTo, IsTaken, IsFirstFlaw};
+ghost use Rattle.twp_resolve.specs.steps.ResolvingSteps.{CanCut, IsCutTo, IsTaken, IsFirstFlaw};
 ghost use Rattle.twp_grammar.specs.declared.item.Item.TheVariants.{Chain};
 ghost use Rattle.twp_grammar.specs.declared.item.Step.{Step as TakenStep};
 

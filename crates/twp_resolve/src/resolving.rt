@@ -6,8 +6,8 @@ ghost use Rattle.twp_land.specs.WholeLots.{HasWholeLots};
 ghost use Rattle.twp_grammar.specs.ItemPlaces.{section_behind};
 ghost use Rattle.twp_grammar.specs.OnPlat.{AreOnPlat, IsLandOfItems};
 ghost use Rattle.twp_resolve.specs.PlaceFaults.{IsFirstPlaceFault};
-ghost use Rattle.twp_resolve.specs.ResolvingSteps.{IsTaken, IsFirstFlaw, IsBeforeParts};
-ghost use Rattle.twp_resolve.specs.ResolvingSteps.{number_of_section};
+ghost use Rattle.twp_resolve.specs.steps.ResolvingSteps.{IsTaken, IsFirstFlaw, IsBeforeParts};
+ghost use Rattle.twp_resolve.specs.steps.ResolvingSteps.{number_of_section};
 
 use crate::blocks::add_block;
 use crate::chain::resolve_chain;

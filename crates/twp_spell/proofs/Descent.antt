@@ -8,7 +8,7 @@ use Rattle.twp_grid.specs.declared.block.Corner.TheVariants.{NE, NW, SW, SE}
 use Rattle.twp_spell.specs.WrittenParts.{Part, IsInPart, IsFull, IsOnSide, quarter_named, turn_of_quarter}
 use Rattle.twp_spell.specs.WrittenParts.{address, StandsAhead}
 use Rattle.twp_spell.specs.WrittenParts.Part.{square, half_of_square}
-use Rattle.twp_spell.specs.Spelling.{square_quarters, IsUnder, quarter_on, BeginsIn}
+use Rattle.twp_spell.specs.steps.Spelling.{square_quarters, IsUnder, quarter_on, BeginsIn}
 use Rattle.twp_spell.proofs.SquareFacts.{square_within, square_fits, half_fits}
 use Rattle.twp_spell.proofs.SquarePlaces.{path, up, corner_at, up_next, in_square, square_in, up_all}
 use Rattle.twp_spell.proofs.SquarePlaces.{turn_small, place_of}

@@ -7,8 +7,8 @@ use Rattle.twp_grid.specs.declared.block.Corner.TheVariants.{NE, NW, SW, SE}
 use Rattle.twp_spell.specs.WrittenParts.{Part, IsInPart, IsFull, IsChosenHalf, IsOnSide, IsWritten}
 use Rattle.twp_spell.specs.WrittenParts.{turn_of_quarter, StandsAhead, AreWrittenParts}
 use Rattle.twp_spell.specs.WrittenParts.Part.{square, half_of_square}
-use Rattle.twp_spell.specs.Spelling.{square_quarters, IsUnder, quarter_on, BeginsIn, AreOfSquare}
-use Rattle.twp_spell.specs.Spelling.{AreOfQuarter}
+use Rattle.twp_spell.specs.steps.Spelling.{square_quarters, IsUnder, quarter_on, BeginsIn, AreOfSquare}
+use Rattle.twp_spell.specs.steps.Spelling.{AreOfQuarter}
 use Rattle.twp_spell.proofs.Listings.{listed_both, listed_as, listed_none, listed_one}
 use Rattle.twp_spell.proofs.SquareFacts.{square_fits, half_fits}
 use Rattle.twp_spell.proofs.SquarePlaces.{up, corner_at, square_in}

@@ -10,7 +10,8 @@ use Rattle.twp_grid.specs.Places.{IsPlace}
 use Rattle.twp_spell.specs.declared.full_quarters.FullQuarters.{FullQuarters}
 use Rattle.twp_spell.specs.WrittenParts.{IsFull, IsChosenHalf, IsOnSide}
 use Rattle.twp_spell.specs.WrittenParts.Part.{square, half_of_square}
-use Rattle.twp_spell.specs.Spelling.{all_of, full_at, quarter_on, AreFull, chosen_of, IsChoice, IsOffChosen}
+use Rattle.twp_spell.specs.steps.Spelling.{all_of, full_at, quarter_on, AreFull, chosen_of, IsChoice}
+use Rattle.twp_spell.specs.steps.Spelling.{IsOffChosen}
 use Rattle.twp_spell.proofs.SquareFacts.{square_within, half_within}
 use Rattle.twp_spell.proofs.SquarePlaces.{up, corner_at, up_next, in_square, square_in}
 use Rattle.twp_spell.proofs.HalfPlaces.{in_half, half_in}

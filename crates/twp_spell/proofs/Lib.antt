@@ -3,7 +3,7 @@ pub mod SquarePlaces
 pub mod HalfPlaces
 pub mod HalfQuarters
 pub mod PathFacts
-pub mod PieceFacts
+pub mod BufferFacts
 pub mod FullParts
 pub mod WrittenFacts
 pub mod PartOrder

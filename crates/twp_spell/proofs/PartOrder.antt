@@ -11,7 +11,7 @@ use Rattle.twp_grammar.specs.ItemPlaces.{in_chain}
 use Rattle.twp_spell.specs.WrittenParts.{Part, steps_of_part, IsInPart, IsFull, preference, IsChosenHalf}
 use Rattle.twp_spell.specs.WrittenParts.{IsOnSide, IsWritten, address, StandsAhead, AreWrittenParts}
 use Rattle.twp_spell.specs.WrittenParts.Part.{square, half_of_square}
-use Rattle.twp_spell.specs.Spelling.{quarter_on}
+use Rattle.twp_spell.specs.steps.Spelling.{quarter_on}
 use Rattle.twp_grammar.proofs.Membership.{Among, among_left, among_right}
 use Rattle.twp_spell.proofs.Listings.{AreCompared, one_listing, has_listing}
 use Rattle.twp_spell.proofs.SquareFacts.{square_fits, half_fits}

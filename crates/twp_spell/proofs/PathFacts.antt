@@ -7,7 +7,7 @@ use Rattle.twp_grid.specs.declared.block.Corner.{Corner}
 use Rattle.twp_grid.specs.declared.block.Corner.TheVariants.{NE, NW, SW, SE}
 use Rattle.twp_grammar.specs.declared.item.Step.TheVariants.{Quarter}
 use Rattle.twp_spell.specs.CanonicalText.{step_text}
-use Rattle.twp_spell.specs.Spelling.{PATH_MOST, quarters_text}
+use Rattle.twp_spell.specs.steps.Spelling.{PATH_MOST, quarters_text}
 
 pub take_front : (n k : ℕ) (xs ys : List ℕ) → n ≡ length xs + k → take n (xs ++ ys) ≡ xs ++ take k ys
 take_front n k [] ys is = let same : n ≡ k = omega arith in ap (λ m. take m ys) same

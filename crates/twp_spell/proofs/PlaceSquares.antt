@@ -18,7 +18,7 @@ use Rattle.twp_grammar.specs.ItemPlaces.{cuts_of}
 use Rattle.twp_spell.specs.declared.full_quarters.FullQuarters.{FullQuarters}
 use Rattle.twp_spell.specs.WrittenParts.{Part, IsInPart, IsFull}
 use Rattle.twp_spell.specs.WrittenParts.Part.{square}
-use Rattle.twp_spell.specs.Spelling.{IsBlockOf, AreFull, all_of}
+use Rattle.twp_spell.specs.steps.Spelling.{IsBlockOf, AreFull, all_of}
 use Rattle.twp_spell.proofs.SquareFacts.{quarter_steps, columns_long, rows_long}
 use Rattle.twp_spell.proofs.HalfQuarters.{all_full}
 use Rattle.twp_grammar.proofs.CutPlaces.{more_than_one}

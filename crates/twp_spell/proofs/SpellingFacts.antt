@@ -18,8 +18,8 @@ use Rattle.twp_spell.specs.CanonicalText.{part_text, with_commas, lots_entry, Ho
 use Rattle.twp_spell.specs.CanonicalText.{IsLotHeld, IsSectionText, heading_line, line_end, land_lines}
 use Rattle.twp_spell.specs.CanonicalText.{IsSectionOfLand, IsCanonicalText}
 use Rattle.twp_spell.specs.CanonicalText.IsSectionList.{all, by_parts}
-use Rattle.twp_spell.specs.Spelling.{parts_text, AreWritten}
-use Rattle.twp_spell.specs.SpellingSteps.{entries_text, HasLots, HasSection, lines_begun, AreBegun}
+use Rattle.twp_spell.specs.steps.Spelling.{parts_text, AreWritten}
+use Rattle.twp_spell.specs.steps.SpellingSteps.{entries_text, HasLots, HasSection, lines_begun, AreBegun}
 use Rattle.twp_grammar.proofs.Membership.{contains_among}
 use Rattle.twp_spell.proofs.Listings.{listed_as, listed_both, listed_none, listed_one}
 use Rattle.twp_spell.proofs.PartLaws.{hold_all}

@@ -4,9 +4,8 @@ use Rattle.std.proofs.Common.{Option, Some, None, is_none, IsSome, IsTrue, not, 
 use Rattle.std.proofs.Common.{inl, inr, arith}
 use Rattle.std.specs.Option.{SomeIff}
 use Rattle.std.proofs.lemmas.Bool.{cases_Bool, cases_lt, false≢true}
-use Rattle.twp_grid.specs.declared.block.Side.{Side}
 use Rattle.twp_grid.specs.declared.block.Corner.{Corner}
-use Rattle.twp_grid.specs.Blocks.{half_of, quarter_of, CanHalve, CanQuarter}
+use Rattle.twp_grid.specs.Blocks.{quarter_of, CanQuarter}
 use Rattle.twp_grid.specs.Cuts.{rows_asked, columns_asked}
 use Rattle.twp_grid.specs.Places.{is_place}
 use Rattle.twp_grid.specs.Spans.{Rectangle, in_rectangle}
@@ -16,12 +15,11 @@ use Rattle.twp_land.specs.WholeLots.{lot_of_place}
 use Rattle.twp_grammar.specs.ItemPlaces.{cuts_of}
 use Rattle.twp_land.specs.WholeLots.{HoldsLotPlace}
 use Rattle.twp_spell.specs.WrittenParts.{Part, steps_of_part, IsInPart, IsFull}
-use Rattle.twp_spell.specs.WrittenParts.Part.{square, half_of_square}
+use Rattle.twp_spell.specs.WrittenParts.Part.{square}
 use Rattle.twp_land.specs.WholeLots.{off_lots}
-use Rattle.twp_spell.specs.Spelling.{IsBlockOf}
+use Rattle.twp_spell.specs.steps.Spelling.{IsBlockOf}
 use Rattle.twp_grammar.proofs.CutPlaces.{outside, inside, more_left, more_than_one}
 use Rattle.twp_spell.proofs.SquareFacts.{quarter_steps, columns_long, rows_long, square_within, square_fits}
-use Rattle.twp_spell.proofs.SquareFacts.{half_within}
 use Rattle.twp_spell.proofs.SquarePlaces.{path, up, up_all, in_square, one_place}
 
 -- the places of a part's block
@@ -99,14 +97,7 @@ empty_block g section held part block of_part none column row there is =
       is_held = (held_off (held column row) (lot_of_place g section column row) is).0;
     })
 
--- the blocks of halves and quarters
-pub half_block : (g : ℕ) (side : Side) (quarters : List Corner) (block : Rectangle) → length quarters < g
-    → IsBlockOf g (square quarters) block → IsBlockOf g (half_of_square side quarters) (half_of block side)
-half_block g side quarters block fits of_square = record {
-  within = half_within g side quarters fits;
-  block_is = ap (λ b. half_of b side) of_square.block_is;
-}
-
+-- the block of a quarter
 pub quarter_block : (g : ℕ) (corner : Corner) (quarters : List Corner) (block : Rectangle)
     → length quarters < g → IsBlockOf g (square quarters) block
     → IsBlockOf g (square (corner ∷ quarters)) (quarter_of block corner)
@@ -191,24 +182,12 @@ finest_empty g held quarters level short column row there is =
         (path_of column' row' there' ∙ sym (path_of column row there)) in
         rw (one.0, one.1) is
 
--- a half of a block
-pub half_judged : (side : Side) (block value : Rectangle) (found : Option Rectangle)
-    → SomeIff found (CanHalve block side) (half_of block side) → found ≡ Some value
-    → value ≡ half_of block side
-half_judged side block value None is e = cc e
-half_judged side block value (Some there) is e = let same : there ≡ value = cc e in sym same ∙ is.1
-
+-- a quarter of a block
 pub quarter_judged : (corner : Corner) (block value : Rectangle) (found : Option Rectangle)
     → SomeIff found (CanQuarter block) (quarter_of block corner) → found ≡ Some value
     → value ≡ quarter_of block corner
 quarter_judged corner block value None is e = cc e
 quarter_judged corner block value (Some there) is e = let same : there ≡ value = cc e in sym same ∙ is.1
-
-pub block_of_half : (g : ℕ) (side : Side) (quarters : List Corner) (block value : Rectangle)
-    → value ≡ half_of block side → CanQuarter block → IsBlockOf g (square quarters) block
-    → IsBlockOf g (half_of_square side quarters) value
-block_of_half g side quarters block value is can of_square =
-    rw is (half_block g side quarters block (deeper g quarters block of_square can.0) of_square)
 
 pub block_of_quarter : (g : ℕ) (corner : Corner) (quarters : List Corner) (block value : Rectangle)
     → value ≡ quarter_of block corner → CanQuarter block → IsBlockOf g (square quarters) block

@@ -14,8 +14,8 @@ use Rattle.twp_spell.specs.WrittenParts.{AreWrittenParts}
 use Rattle.twp_spell.specs.WrittenParts.Part.{square, half_of_square}
 use Rattle.twp_land.specs.WholeLots.{off_lots}
 use Rattle.twp_spell.specs.CanonicalText.{step_text, part_text, HoldsEach}
-use Rattle.twp_spell.specs.Spelling.{quarter_on, AreOfSquare, AreOfQuarter, IsChoice, IsOffChosen}
-use Rattle.twp_spell.specs.Spelling.{quarters_text, parts_text, AreWritten, IsBlockOf}
+use Rattle.twp_spell.specs.steps.Spelling.{quarter_on, AreOfSquare, AreOfQuarter, IsChoice, IsOffChosen}
+use Rattle.twp_spell.specs.steps.Spelling.{quarters_text, parts_text, AreWritten, IsBlockOf}
 use Rattle.twp_grid.specs.Spans.{Rectangle, whole_block}
 use Rattle.twp_land.specs.WholeLots.{lot_of_place}
 use Rattle.twp_spell.proofs.SquareFacts.{square_within}
@@ -208,12 +208,12 @@ quarters_added g held quarters old ne nw sw se fits short first second third las
     quarters_written {T = ℕ} {E = ℕ} (Ok 0) g held quarters old ne nw sw se fits short first second third last
 
 -- parts that were put together are appended
-pub pieces_appended : {T E : Type 0} (result : Result T E) (these : List Part → Type 0)
-    (old none pieces new : List ℕ)
-    → none ≡ [] → AreWritten these none pieces
-    → OnOk result (new ≡ old ++ pieces) → OnOk result (AreWritten these old new)
-pieces_appended result these old none pieces new empty written ok =
-    on_ok result (new ≡ old ++ pieces) (AreWritten these old new) ok (λ is.
+pub buffer_appended : {T E : Type 0} (result : Result T E) (these : List Part → Type 0)
+    (old none buffer new : List ℕ)
+    → none ≡ [] → AreWritten these none buffer
+    → OnOk result (new ≡ old ++ buffer) → OnOk result (AreWritten these old new)
+buffer_appended result these old none buffer new empty written ok =
+    on_ok result (new ≡ old ++ buffer) (AreWritten these old new) ok (λ is.
     record {
       parts = written.parts;
       are = written.are;

@@ -7,7 +7,7 @@ use Rattle.twp_grid.specs.declared.block.Corner.{Corner}
 use Rattle.twp_grid.specs.Places.{IsPlace}
 use Rattle.twp_spell.specs.WrittenParts.{Part, IsInPart, IsFull, IsChosenHalf, IsOnSide, IsWritten}
 use Rattle.twp_spell.specs.WrittenParts.Part.{square, half_of_square}
-use Rattle.twp_spell.specs.Spelling.{square_quarters}
+use Rattle.twp_spell.specs.steps.Spelling.{square_quarters}
 use Rattle.twp_spell.proofs.SquareFacts.{square_within, square_fits, half_fits}
 use Rattle.twp_spell.proofs.SquarePlaces.{first_of, up, corner_at, up_none, up_next, in_square, square_in}
 use Rattle.twp_spell.proofs.SquarePlaces.{up_all, one_place}

@@ -1,5 +1,5 @@
 ghost use Rattle.std.specs.Prelude.{◌≡◌, is_some};
-ghost use Rattle.twp_spell.specs.Spelling.{full_at, all_of, chosen_of};
+ghost use Rattle.twp_spell.specs.steps.Spelling.{full_at, all_of, chosen_of};
 
 use twp_grid::{Corner, Side};
 

@@ -4,9 +4,9 @@
 
 mod full_quarters;
 pub mod laws;
+mod part_buffer;
 mod part_text;
 mod path;
-mod pieces;
 mod position_parts;
 mod spelling;
 mod written_parts;

@@ -4,10 +4,10 @@ ghost use Rattle.std.specs.Prelude.{MatchOption, codes};
 ghost use Rattle.twp_grammar.specs.declared.item.Step.TheVariants.{Half, Quarter};
 ghost use Rattle.twp_spell.specs.WrittenParts.{IsOnSide};
 ghost use Rattle.twp_spell.specs.CanonicalText.{step_text};
-ghost use Rattle.twp_spell.specs.Spelling.{PART_MOST, PIECES_MOST, quarter_on};
+ghost use Rattle.twp_spell.specs.steps.Spelling.{PART_MOST, BUFFER_MOST, quarter_on};
 
 use crate::path::Path;
-use crate::pieces::Pieces;
+use crate::part_buffer::PartBuffer;
 use std::alloc::AllocError;
 use twp_grid::{Corner, Side};
 
@@ -29,21 +29,21 @@ pub(crate) fn half_at(chosen: Option<Side>, corner: Corner) -> Option<Side>
 
 /// Adds a half, where this is the first of its quarters.
 #[inline(always)]
-pub(crate) fn push_half(side: Side, corner: Corner, path: &Path, pieces: &mut Pieces)
-    requires { length pieces.old + PART_MOST ≤ PIECES_MOST }
+pub(crate) fn push_half_if_first(side: Side, corner: Corner, path: &Path, buffer: &mut PartBuffer)
+    requires { length buffer.old + PART_MOST ≤ BUFFER_MOST }
     ensures first { (quarter_on side ≡ corner)
-        → (pieces.new ≡ pieces.old ++ (codes ", " ++ (step_text (Half side) ++ path.now))) }
-    ensures second { ¬ (quarter_on side ≡ corner) → (pieces.new ≡ pieces.old) }
-    ensures most { length pieces.new ≤ length pieces.old + PART_MOST }
+        → (buffer.new ≡ buffer.old ++ (codes ", " ++ (step_text (Half side) ++ path.now))) }
+    ensures second { ¬ (quarter_on side ≡ corner) → (buffer.new ≡ buffer.old) }
+    ensures most { length buffer.new ≤ length buffer.old + PART_MOST }
 {
     if first_quarter(side) == corner {
-        pieces.push_half(side, path);
+        buffer.push_half(side, path);
     }
 }
 
 /// Appends a half, where this is the first of its quarters.
 #[inline(never)]
-pub(crate) fn write_half(
+pub(crate) fn write_half_if_first(
     side: Side,
     corner: Corner,
     path: &Path,
@@ -53,9 +53,9 @@ pub(crate) fn write_half(
         (text.new.items ≡ text.old.items ++ (codes ", " ++ (step_text (Half side) ++ path.now))) }
     ensures second { ¬ (quarter_on side ≡ corner) → OnOk result (text.new.items ≡ text.old.items) }
 {
-    let mut pieces = Pieces::new();
-    push_half(side, corner, path, &mut pieces);
-    pieces.append_to(text)
+    let mut buffer = PartBuffer::new();
+    push_half_if_first(side, corner, path, &mut buffer);
+    buffer.append_to(text)
 }
 
 /// Appends a quarter that is full.
@@ -68,9 +68,9 @@ pub(crate) fn write_full_quarter(
     ensures { OnOk result (text.new.items
         ≡ text.old.items ++ ((codes ", " ++ step_text (Quarter corner)) ++ path.now)) }
 {
-    let mut pieces = Pieces::new();
-    pieces.push_quarter(corner, path);
-    pieces.append_to(text)
+    let mut buffer = PartBuffer::new();
+    buffer.push_quarter(corner, path);
+    buffer.append_to(text)
 }
 
 /// Whether a square's quarter lies in its half.
@@ -87,7 +87,7 @@ fn is_on_side(side: Side, corner: Corner) -> bool
 }
 
 /// The first of a half's two quarters.
-#[tactic(auto, unfolding(crate::specs::Spelling::quarter_on))]
+#[tactic(auto, unfolding(crate::specs::steps::Spelling::quarter_on))]
 fn first_quarter(side: Side) -> Corner
     ensures { result ≡ quarter_on side }
 {

@@ -1,7 +1,7 @@
 //! The path of a square, as it is written behind a smaller part.
 ghost use Rattle.std.specs.Prelude.{◌≡◌, ◌≤◌, ◌++◌, [], length, take};
 ghost use Rattle.twp_spell.specs.CanonicalText.{step_text};
-ghost use Rattle.twp_spell.specs.Spelling.{PATH_MOST};
+ghost use Rattle.twp_spell.specs.steps.Spelling.{PATH_MOST};
 ghost use Rattle.twp_grammar.specs.declared.item.Step.TheVariants.{Quarter};
 
 use std::marker::Model;

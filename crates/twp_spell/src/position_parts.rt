@@ -4,13 +4,13 @@ ghost use Rattle.twp_grid.specs.Places.{PLACE_DIGITS};
 ghost use Rattle.twp_grid.specs.declared.block.Corner.{Corner};
 ghost use Rattle.twp_spell.specs.WrittenParts.{IsFull};
 ghost use Rattle.twp_spell.specs.WrittenParts.Part.{square};
-ghost use Rattle.twp_spell.specs.Spelling.{AreOfSquare, AreOfQuarter, AreWritten, AreFull};
-ghost use Rattle.twp_spell.specs.Spelling.{PART_MOST, PIECES_MOST, chosen_of, quarters_text};
+ghost use Rattle.twp_spell.specs.steps.Spelling.{AreOfSquare, AreOfQuarter, AreWritten, AreFull};
+ghost use Rattle.twp_spell.specs.steps.Spelling.{PART_MOST, BUFFER_MOST, chosen_of, quarters_text};
 
 use crate::full_quarters::FullQuarters;
-use crate::part_text::{half_at, push_half};
+use crate::part_text::{half_at, push_half_if_first};
 use crate::path::Path;
-use crate::pieces::Pieces;
+use crate::part_buffer::PartBuffer;
 use twp_grid::Corner;
 
 /// Adds the written parts of a position that isn't full, of which the quarters have four places
@@ -23,9 +23,9 @@ pub(crate) fn push_position(
     sw: FullQuarters,
     se: FullQuarters,
     path: &Path,
-    pieces: &mut Pieces,
+    buffer: &mut PartBuffer,
 )
-    requires { pieces.old ≡ [] }
+    requires { buffer.old ≡ [] }
     ensures { (held : ℕ → ℕ → Bool) (quarters : List Corner) → length quarters + 2 ≡ PLACE_DIGITS
         → path.now ≡ quarters_text quarters
         → ¬ IsFull PLACE_DIGITS held (square quarters)
@@ -34,19 +34,19 @@ pub(crate) fn push_position(
         → AreFull PLACE_DIGITS held (Corner.NW ∷ quarters) nw
         → AreFull PLACE_DIGITS held (Corner.SW ∷ quarters) sw
         → AreFull PLACE_DIGITS held (Corner.SE ∷ quarters) se
-        → AreWritten (AreOfSquare PLACE_DIGITS held quarters) pieces.old pieces.new }
+        → AreWritten (AreOfSquare PLACE_DIGITS held quarters) buffer.old buffer.new }
 {
     if full.has_half() {
-        push_quarter_of(full, ne, Corner::NE, path, pieces);
-        push_quarter_of(full, nw, Corner::NW, path, pieces);
-        push_quarter_of(full, sw, Corner::SW, path, pieces);
-        push_quarter_of(full, se, Corner::SE, path, pieces);
+        push_quarter_of(full, ne, Corner::NE, path, buffer);
+        push_quarter_of(full, nw, Corner::NW, path, buffer);
+        push_quarter_of(full, sw, Corner::SW, path, buffer);
+        push_quarter_of(full, se, Corner::SE, path, buffer);
         return;
     }
-    push_single_quarter(full, ne, Corner::NE, path, pieces);
-    push_single_quarter(full, nw, Corner::NW, path, pieces);
-    push_single_quarter(full, sw, Corner::SW, path, pieces);
-    push_single_quarter(full, se, Corner::SE, path, pieces);
+    push_single_quarter(full, ne, Corner::NE, path, buffer);
+    push_single_quarter(full, nw, Corner::NW, path, buffer);
+    push_single_quarter(full, sw, Corner::SW, path, buffer);
+    push_single_quarter(full, se, Corner::SE, path, buffer);
 }
 
 /// Adds the written parts that begin in a quarter of such a position.
@@ -56,25 +56,25 @@ fn push_quarter_of(
     places: FullQuarters,
     corner: Corner,
     path: &Path,
-    pieces: &mut Pieces,
+    buffer: &mut PartBuffer,
 )
-    requires { length pieces.old + 4 * PART_MOST ≤ PIECES_MOST }
+    requires { length buffer.old + 4 * PART_MOST ≤ BUFFER_MOST }
     ensures parts { (held : ℕ → ℕ → Bool) (quarters : List Corner)
         → length quarters + 2 ≡ PLACE_DIGITS
         → path.now ≡ quarters_text quarters
         → ¬ IsFull PLACE_DIGITS held (square quarters)
         → AreFull PLACE_DIGITS held quarters full
         → AreFull PLACE_DIGITS held (corner ∷ quarters) places
-        → AreWritten (AreOfQuarter PLACE_DIGITS held quarters corner) pieces.old pieces.new }
-    ensures most { length pieces.new ≤ length pieces.old + 4 * PART_MOST }
+        → AreWritten (AreOfQuarter PLACE_DIGITS held quarters corner) buffer.old buffer.new }
+    ensures most { length buffer.new ≤ length buffer.old + 4 * PART_MOST }
 {
     if let Some(side) = half_at(full.chosen_half(), corner) {
-        return push_half(side, corner, path, pieces);
+        return push_half_if_first(side, corner, path, buffer);
     }
     if full.at(corner) {
-        return pieces.push_quarter(corner, path);
+        return buffer.push_quarter(corner, path);
     }
-    push_places(places, &path.quarter(corner), pieces)
+    push_places(places, &path.quarter(corner), buffer)
 }
 
 /// Adds the written parts that begin in a quarter of such a position, where none of its halves is
@@ -85,9 +85,9 @@ fn push_single_quarter(
     places: FullQuarters,
     corner: Corner,
     path: &Path,
-    pieces: &mut Pieces,
+    buffer: &mut PartBuffer,
 )
-    requires { length pieces.old + 4 * PART_MOST ≤ PIECES_MOST }
+    requires { length buffer.old + 4 * PART_MOST ≤ BUFFER_MOST }
     ensures parts { (held : ℕ → ℕ → Bool) (quarters : List Corner)
         → length quarters + 2 ≡ PLACE_DIGITS
         → path.now ≡ quarters_text quarters
@@ -95,74 +95,74 @@ fn push_single_quarter(
         → AreFull PLACE_DIGITS held quarters full
         → (chosen_of full ≡ None)
         → AreFull PLACE_DIGITS held (corner ∷ quarters) places
-        → AreWritten (AreOfQuarter PLACE_DIGITS held quarters corner) pieces.old pieces.new }
-    ensures most { length pieces.new ≤ length pieces.old + 4 * PART_MOST }
+        → AreWritten (AreOfQuarter PLACE_DIGITS held quarters corner) buffer.old buffer.new }
+    ensures most { length buffer.new ≤ length buffer.old + 4 * PART_MOST }
 {
     if full.at(corner) {
-        return pieces.push_quarter(corner, path);
+        return buffer.push_quarter(corner, path);
     }
     if places.has_half() {
-        return push_places(places, &path.quarter(corner), pieces);
+        return push_places(places, &path.quarter(corner), buffer);
     }
-    push_single_places(places, corner, path, pieces)
+    push_single_places(places, corner, path, buffer)
 }
 
 /// Adds the written parts of a square of four places that isn't full.
 #[inline(never)]
-fn push_places(full: FullQuarters, path: &Path, pieces: &mut Pieces)
-    requires { length pieces.old + 4 * PART_MOST ≤ PIECES_MOST }
+fn push_places(full: FullQuarters, path: &Path, buffer: &mut PartBuffer)
+    requires { length buffer.old + 4 * PART_MOST ≤ BUFFER_MOST }
     ensures parts { (held : ℕ → ℕ → Bool) (quarters : List Corner)
         → length quarters + 1 ≡ PLACE_DIGITS
         → path.now ≡ quarters_text quarters
         → ¬ IsFull PLACE_DIGITS held (square quarters)
         → AreFull PLACE_DIGITS held quarters full
-        → AreWritten (AreOfSquare PLACE_DIGITS held quarters) pieces.old pieces.new }
-    ensures most { length pieces.new ≤ length pieces.old + 4 * PART_MOST }
+        → AreWritten (AreOfSquare PLACE_DIGITS held quarters) buffer.old buffer.new }
+    ensures most { length buffer.new ≤ length buffer.old + 4 * PART_MOST }
 {
-    push_place(full, Corner::NE, path, pieces);
-    push_place(full, Corner::NW, path, pieces);
-    push_place(full, Corner::SW, path, pieces);
-    push_place(full, Corner::SE, path, pieces);
+    push_place(full, Corner::NE, path, buffer);
+    push_place(full, Corner::NW, path, buffer);
+    push_place(full, Corner::SW, path, buffer);
+    push_place(full, Corner::SE, path, buffer);
 }
 
 /// Adds the written part that begins in a place of such a square, if one does.
 #[inline(always)]
-fn push_place(full: FullQuarters, corner: Corner, path: &Path, pieces: &mut Pieces)
-    requires { length pieces.old + PART_MOST ≤ PIECES_MOST }
+fn push_place(full: FullQuarters, corner: Corner, path: &Path, buffer: &mut PartBuffer)
+    requires { length buffer.old + PART_MOST ≤ BUFFER_MOST }
     ensures parts { (held : ℕ → ℕ → Bool) (quarters : List Corner)
         → length quarters + 1 ≡ PLACE_DIGITS
         → path.now ≡ quarters_text quarters
         → ¬ IsFull PLACE_DIGITS held (square quarters)
         → AreFull PLACE_DIGITS held quarters full
-        → AreWritten (AreOfQuarter PLACE_DIGITS held quarters corner) pieces.old pieces.new }
-    ensures most { length pieces.new ≤ length pieces.old + PART_MOST }
+        → AreWritten (AreOfQuarter PLACE_DIGITS held quarters corner) buffer.old buffer.new }
+    ensures most { length buffer.new ≤ length buffer.old + PART_MOST }
 {
     if let Some(side) = half_at(full.chosen_half(), corner) {
-        return push_half(side, corner, path, pieces);
+        return push_half_if_first(side, corner, path, buffer);
     }
     if full.at(corner) {
-        return pieces.push_quarter(corner, path);
+        return buffer.push_quarter(corner, path);
     }
 }
 
 /// Adds the written parts of a quarter of such a position, where none of the quarter's halves is
 /// full: the places that are held.
 #[inline(always)]
-fn push_single_places(full: FullQuarters, outer: Corner, path: &Path, pieces: &mut Pieces)
-    requires { length pieces.old + 4 * PART_MOST ≤ PIECES_MOST }
+fn push_single_places(full: FullQuarters, outer: Corner, path: &Path, buffer: &mut PartBuffer)
+    requires { length buffer.old + 4 * PART_MOST ≤ BUFFER_MOST }
     ensures parts { (held : ℕ → ℕ → Bool) (quarters : List Corner)
         → length quarters + 2 ≡ PLACE_DIGITS
         → path.now ≡ quarters_text quarters
         → ¬ IsFull PLACE_DIGITS held (square (outer ∷ quarters))
         → AreFull PLACE_DIGITS held (outer ∷ quarters) full
         → (chosen_of full ≡ None)
-        → AreWritten (AreOfSquare PLACE_DIGITS held (outer ∷ quarters)) pieces.old pieces.new }
-    ensures most { length pieces.new ≤ length pieces.old + 4 * PART_MOST }
+        → AreWritten (AreOfSquare PLACE_DIGITS held (outer ∷ quarters)) buffer.old buffer.new }
+    ensures most { length buffer.new ≤ length buffer.old + 4 * PART_MOST }
 {
-    push_single_place(full, Corner::NE, outer, path, pieces);
-    push_single_place(full, Corner::NW, outer, path, pieces);
-    push_single_place(full, Corner::SW, outer, path, pieces);
-    push_single_place(full, Corner::SE, outer, path, pieces);
+    push_single_place(full, Corner::NE, outer, path, buffer);
+    push_single_place(full, Corner::NW, outer, path, buffer);
+    push_single_place(full, Corner::SW, outer, path, buffer);
+    push_single_place(full, Corner::SE, outer, path, buffer);
 }
 
 /// Adds a place of such a quarter, if it is held.
@@ -172,9 +172,9 @@ fn push_single_place(
     corner: Corner,
     outer: Corner,
     path: &Path,
-    pieces: &mut Pieces,
+    buffer: &mut PartBuffer,
 )
-    requires { length pieces.old + PART_MOST ≤ PIECES_MOST }
+    requires { length buffer.old + PART_MOST ≤ BUFFER_MOST }
     ensures parts { (held : ℕ → ℕ → Bool) (quarters : List Corner)
         → length quarters + 2 ≡ PLACE_DIGITS
         → path.now ≡ quarters_text quarters
@@ -182,10 +182,10 @@ fn push_single_place(
         → AreFull PLACE_DIGITS held (outer ∷ quarters) full
         → (chosen_of full ≡ None)
         → AreWritten (AreOfQuarter PLACE_DIGITS held (outer ∷ quarters) corner)
-        pieces.old pieces.new }
-    ensures most { length pieces.new ≤ length pieces.old + PART_MOST }
+        buffer.old buffer.new }
+    ensures most { length buffer.new ≤ length buffer.old + PART_MOST }
 {
     if full.at(corner) {
-        return pieces.push_inner(corner, outer, path);
+        return buffer.push_inner(corner, outer, path);
     }
 }

@@ -5,7 +5,7 @@ ghost use Rattle.twp_spell.specs.Listing.{AreListed};
 ghost use Rattle.twp_spell.specs.CanonicalText.{lots_entry, heading_line, line_end};
 ghost use Rattle.twp_spell.specs.CanonicalText.{HoldsSome, IsLotHeld, IsCanonicalText};
 ghost use Rattle.twp_spell.specs.CanonicalText.{north_south_letter, east_west_letter};
-ghost use Rattle.twp_spell.specs.SpellingSteps.{entries_text, HasLots, HasSection, AreBegun};
+ghost use Rattle.twp_spell.specs.steps.SpellingSteps.{entries_text, HasLots, HasSection, AreBegun};
 
 use crate::written_parts::write_parts;
 use itoa::Buffer;

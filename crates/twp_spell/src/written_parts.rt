@@ -7,13 +7,13 @@ ghost use Rattle.twp_spell.specs.WrittenParts.{Part, IsFull, AreWrittenParts};
 ghost use Rattle.twp_spell.specs.WrittenParts.Part.{square};
 ghost use Rattle.twp_land.specs.WholeLots.{off_lots};
 ghost use Rattle.twp_spell.specs.CanonicalText.{HoldsEach};
-ghost use Rattle.twp_spell.specs.Spelling.{IsBlockOf, AreOfSquare, AreOfQuarter};
-ghost use Rattle.twp_spell.specs.Spelling.{AreWritten, AreFull, quarters_text};
+ghost use Rattle.twp_spell.specs.steps.Spelling.{IsBlockOf, AreOfSquare, AreOfQuarter};
+ghost use Rattle.twp_spell.specs.steps.Spelling.{AreWritten, AreFull, quarters_text};
 
 use crate::full_quarters::FullQuarters;
-use crate::part_text::{half_at, write_full_quarter, write_half};
+use crate::part_text::{half_at, write_full_quarter, write_half_if_first};
 use crate::path::Path;
-use crate::pieces::Pieces;
+use crate::part_buffer::PartBuffer;
 use crate::position_parts::push_position;
 use std::alloc::AllocError;
 use twp_grid::{Block, Corner, Section, lot_at};
@@ -92,7 +92,7 @@ fn write_quarter<L: Land>(
         text.old.items text.new.items) }
 {
     if let Some(side) = half_at(full.chosen_half(), corner) {
-        return write_half(side, corner, path, text);
+        return write_half_if_first(side, corner, path, text);
     }
     if full.at(corner) {
         return write_full_quarter(corner, path, text);
@@ -148,9 +148,9 @@ fn write_position<L: Land>(
         sw: sw.all(),
         se: se.all(),
     };
-    let mut pieces = Pieces::new();
-    push_position(full, ne, nw, sw, se, path, &mut pieces);
-    pieces.append_to(text)
+    let mut buffer = PartBuffer::new();
+    push_position(full, ne, nw, sw, se, path, &mut buffer);
+    buffer.append_to(text)
 }
 
 /// Which quarters of a square are full.

@@ -3,7 +3,7 @@ ghost use Rattle.std.specs.Prelude.{◌≡◌, ◌≤◌, ◌∷◌, ℕ, List, 
 ghost use Rattle.twp_grammar.specs.declared.item.Item.{Item};
 ghost use Rattle.twp_grammar.specs.declared.item.Item.TheVariants.{Chain};
 ghost use Rattle.twp_grammar.specs.Machine.{is_in_chain};
-ghost use Rattle.twp_read.specs.Usual.{Leads};
+ghost use Rattle.twp_read.specs.steps.Usual.{Leads};
 
 use crate::reached::Reached;
 use crate::usual::part::{behind_comma, behind_of_the};

@@ -1,9 +1,9 @@
 //! A heading in its usual spelling, as `T. 2 N., R. 3 W.,`.
 ghost use Rattle.std.specs.Prelude.{◌≡◌, ◌≤◌, ◌∷◌, ◌+◌, List, length, IfOk, IfSome};
 ghost use Rattle.twp_grammar.specs.declared.item.Item.{Item as TakenItem};
-ghost use Rattle.twp_read.specs.declared.change.Change.TheVariants.{TownshipSide, RangeSide};
-ghost use Rattle.twp_read.specs.TokenSteps.{with_newest};
-ghost use Rattle.twp_read.specs.Usual.{Leads};
+ghost use Rattle.twp_read.specs.declared.item_change.Change.TheVariants.{TownshipSide, RangeSide};
+ghost use Rattle.twp_read.specs.steps.TokenSteps.{with_newest};
+ghost use Rattle.twp_read.specs.steps.Usual.{Leads};
 ghost use Rattle.twp_grammar.specs.Sentences.{TEXT_LIMIT};
 
 use crate::items::Items;

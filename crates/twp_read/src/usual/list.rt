@@ -3,12 +3,12 @@ ghost use Rattle.std.specs.Prelude.{◌≡◌, ◌≤◌, ◌<◌, ◌+◌, ◌+
 ghost use Rattle.std.specs.Prelude.{IfOk, IfSome, IsTrue};
 ghost use Rattle.twp_grammar.specs.Tokens.{is_white};
 ghost use Rattle.twp_grammar.specs.declared.item.Item.{Item as TakenItem};
-ghost use Rattle.twp_read.specs.Usual.{IsNumberBehind, IsBehindWhite, Leads, entry_of};
-ghost use Rattle.twp_read.specs.Usual.{state_behind, last_state_behind, listed_in};
-ghost use Rattle.twp_read.specs.Usual.{listed_behind_and, listed_behind_to};
+ghost use Rattle.twp_read.specs.steps.Usual.{IsNumberBehind, IsBehindWhite, Leads, entry_of};
+ghost use Rattle.twp_read.specs.steps.Usual.{state_behind, last_state_behind, listed_in};
+ghost use Rattle.twp_read.specs.steps.Usual.{listed_behind_and, listed_behind_to};
 ghost use Rattle.twp_grammar.specs.Sentences.{TEXT_LIMIT};
 
-use crate::change::Change;
+use crate::item_change::Change;
 use crate::items::Items;
 use crate::lexeme::{byte_at, digits, lexeme_at};
 use crate::reached::Reached;

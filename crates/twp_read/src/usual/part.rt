@@ -3,7 +3,7 @@ ghost use Rattle.std.specs.Prelude.{◌≡◌, ◌≤◌, ◌<◌, ◌∷◌, �
 ghost use Rattle.twp_grammar.specs.declared.item.Item.{Item as TakenItem};
 ghost use Rattle.twp_grammar.specs.Machine.{is_in_chain};
 ghost use Rattle.twp_grammar.specs.Sentences.{TEXT_LIMIT};
-ghost use Rattle.twp_read.specs.Usual.{Leads, IsStepAt};
+ghost use Rattle.twp_read.specs.steps.Usual.{Leads, IsStepAt};
 
 use crate::items::Items;
 use crate::reached::Reached;

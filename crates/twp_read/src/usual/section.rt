@@ -4,8 +4,8 @@ ghost use Rattle.twp_grammar.specs.declared.item.Item.{Item as TakenItem};
 ghost use Rattle.twp_grammar.specs.Grammar.{number};
 ghost use Rattle.twp_grammar.specs.Machine.{next};
 ghost use Rattle.twp_grammar.specs.Sentences.{TEXT_LIMIT};
-ghost use Rattle.twp_read.specs.TokenSteps.{before_parts};
-ghost use Rattle.twp_read.specs.Usual.{Leads};
+ghost use Rattle.twp_read.specs.steps.TokenSteps.{before_parts};
+ghost use Rattle.twp_read.specs.steps.Usual.{Leads};
 
 use crate::items::Items;
 use crate::reached::Reached;

@@ -2,7 +2,8 @@
 ghost use Rattle.std.specs.Prelude.{◌≡◌, ◌≤◌, ◌∷◌, ◌+◌, [], true, length, IfSome};
 ghost use Rattle.std.specs.Char.{is_ascii_lowercase};
 ghost use Rattle.twp_grammar.specs.Tokens.{kind_among, words};
-ghost use Rattle.twp_read.specs.Usual.{IsStepAt, BeginWithStep, AreHalf, AreQuarter, letters_of};
+ghost use Rattle.twp_read.specs.steps.Usual.{IsStepAt, BeginWithStep, AreHalf, AreQuarter};
+ghost use Rattle.twp_read.specs.steps.Usual.{letters_of};
 
 use twp_grammar::Step;
 use twp_grid::{Corner, Side};

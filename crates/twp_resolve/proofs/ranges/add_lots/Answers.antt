@@ -4,7 +4,7 @@ use Rattle.std.proofs.lemmas.Result.{err_from_is_err_and}
 use Rattle.twp_grid.specs.Lots.{position_of_lot}
 use Rattle.twp_grid.specs.Places.{PLACE_DIGITS}
 use Rattle.twp_land.proofs.LotFacts.{few_lots, block_of}
-use Rattle.twp_resolve.specs.ResolvingSteps.{lots_from, AreAdded}
+use Rattle.twp_resolve.specs.steps.ResolvingSteps.{lots_from, AreAdded}
 use Rattle.twp_resolve.proofs.RangeFacts.{lot_range, added_none, no_lots, added_next, added_stuck, next_lot}
 use Rattle.twp_resolve.proofs.RangeFacts.{in_next_lot}
 use Rattle.twp_resolve.proofs.ranges.add_lots.Goals as goal

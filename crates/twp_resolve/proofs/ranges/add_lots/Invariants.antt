@@ -1,6 +1,6 @@
 use Rattle.std.proofs.Common.{◌-◌, ◌≤◌}
 use Rattle.twp_grid.specs.Places.{PLACE_DIGITS}
-use Rattle.twp_resolve.specs.ResolvingSteps.{lots_from, AreAdded}
+use Rattle.twp_resolve.specs.steps.ResolvingSteps.{lots_from, AreAdded}
 use Rattle.twp_resolve.proofs.ranges.add_lots.Given as goal
 
 -- the lots so far are added

@@ -4,7 +4,7 @@ use Rattle.std.proofs.lemmas.Result.{err_from_is_err_and}
 use Rattle.twp_grid.specs.Places.{PLACE_DIGITS}
 use Rattle.twp_grid.specs.Spans.{whole_block}
 use Rattle.twp_land.proofs.LotFacts.{section_is}
-use Rattle.twp_resolve.specs.ResolvingSteps.{sections_from, AreAdded}
+use Rattle.twp_resolve.specs.steps.ResolvingSteps.{sections_from, AreAdded}
 use Rattle.twp_resolve.proofs.RangeFacts.{added_next, added_stuck, next_section, in_next_section}
 use Rattle.twp_resolve.proofs.ranges.add_sections.Goals as goal
 

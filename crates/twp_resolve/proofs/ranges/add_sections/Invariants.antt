@@ -1,6 +1,6 @@
 use Rattle.std.proofs.Common.{◌-◌, ◌≤◌}
 use Rattle.twp_grid.specs.Places.{PLACE_DIGITS}
-use Rattle.twp_resolve.specs.ResolvingSteps.{sections_from, AreAdded}
+use Rattle.twp_resolve.specs.steps.ResolvingSteps.{sections_from, AreAdded}
 use Rattle.twp_resolve.proofs.ranges.add_sections.Given as goal
 
 -- the sections so far are added

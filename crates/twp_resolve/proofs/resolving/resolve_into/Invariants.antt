@@ -1,6 +1,6 @@
 use Rattle.std.proofs.Common.{drop}
 use Rattle.twp_grid.specs.Places.{PLACE_DIGITS}
-use Rattle.twp_resolve.specs.ResolvingSteps.{number_of_section}
+use Rattle.twp_resolve.specs.steps.ResolvingSteps.{number_of_section}
 use Rattle.twp_resolve.proofs.ResolvingFacts.{AreTaken, SectionKnown}
 use Rattle.twp_resolve.proofs.resolving.resolve_into.Given as goal
 

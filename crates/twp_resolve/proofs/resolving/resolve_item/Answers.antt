@@ -1,6 +1,6 @@
 -- What each kind of item answers is what the item answers.
 use Rattle.std.proofs.lemmas.Result.{err_from_is_err_and}
-use Rattle.twp_resolve.specs.ResolvingSteps.{number_of_section}
+use Rattle.twp_resolve.specs.steps.ResolvingSteps.{number_of_section}
 use Rattle.twp_resolve.proofs.ItemFlaws.{heading_taken, heading_refused, all_taken, all_refused}
 use Rattle.twp_resolve.proofs.resolving.resolve_item.Goals as goal
 use Rattle.twp_resolve.proofs.resolving.resolve_item.Goals.{in-Heading+in_ok-resolve_heading-in-Heading}

@@ -13,17 +13,17 @@ returns-in-Some-clause-parts c = λ held quarters level path_is short are.
     let choice =
     choice_made PLACE_DIGITS held quarters c.args.full c.chosen_half.result (omega (arith, level))
     c.chosen_half.ensures are short in
-    half_added PLACE_DIGITS held quarters c.in-Some.side c.args.corner c.args.path.now c.args.pieces.now
-    c.push_half.new.pieces
+    half_added PLACE_DIGITS held quarters c.in-Some.side c.args.corner c.args.path.now c.args.buffer.now
+    c.push_half_if_first.new.buffer
     (choice_is PLACE_DIGITS held quarters c.chosen_half.result c.in-Some.side choice c.in-Some.ensures.0)
-    c.in-Some.ensures.1 path_is c.push_half.ensures.first c.push_half.ensures.second
+    c.in-Some.ensures.1 path_is c.push_half_if_first.ensures.first c.push_half_if_first.ensures.second
 
 pub returns-then-at-clause-parts : goal.returns-then-at-clause-parts
 returns-then-at-clause-parts c = λ held quarters level path_is short are.
     let choice =
     choice_made PLACE_DIGITS held quarters c.args.full c.chosen_half.result (omega (arith, level))
     c.chosen_half.ensures are short in
-    full_added PLACE_DIGITS held quarters c.args.corner c.args.path.now c.args.pieces.now
+    full_added PLACE_DIGITS held quarters c.args.corner c.args.path.now c.args.buffer.now
     c.push_quarter.new.self
     path_is short
     (off_choice PLACE_DIGITS held quarters c.chosen_half.result c.args.corner choice c.in_default.ensures)
@@ -34,7 +34,7 @@ returns-clause-parts c = λ held quarters level path_is short are.
     let choice =
     choice_made PLACE_DIGITS held quarters c.args.full c.chosen_half.result (omega (arith, level))
     c.chosen_half.ensures are short in
-    none_written PLACE_DIGITS held quarters c.args.corner c.args.pieces.now
+    none_written PLACE_DIGITS held quarters c.args.corner c.args.buffer.now
     (off_choice PLACE_DIGITS held quarters c.chosen_half.result c.args.corner choice c.in_default.ensures)
     (of_empty PLACE_DIGITS held (c.args.corner ∷ quarters) (omega (arith, level))
     (finest_empty PLACE_DIGITS held (c.args.corner ∷ quarters) (omega (arith, level))

@@ -6,8 +6,8 @@ use Rattle.twp_spell.proofs.position_parts.push_places.Goals as goal
 
 pub returns-clause-parts : goal.returns-clause-parts
 returns-clause-parts c = λ held quarters level path_is short are.
-    quarters_added PLACE_DIGITS held quarters c.args.pieces.now c.push_place.new.pieces
-    c.push_place-2.new.pieces c.push_place-3.new.pieces c.push_place-4.new.pieces
+    quarters_added PLACE_DIGITS held quarters c.args.buffer.now c.push_place.new.buffer
+    c.push_place-2.new.buffer c.push_place-3.new.buffer c.push_place-4.new.buffer
     (omega (arith, level)) short
     (c.push_place.ensures.parts held quarters level path_is short are)
     (c.push_place-2.ensures.parts held quarters level path_is short are)

@@ -7,9 +7,9 @@ use Rattle.twp_spell.proofs.position_parts.push_position.Goals as goal
 
 pub returns-then-has_half : goal.returns-then-has_half
 returns-then-has_half c = λ held quarters level path_is short full ne nw sw se.
-    quarters_added PLACE_DIGITS held quarters c.args.pieces.now c.push_quarter_of.new.pieces
-    c.push_quarter_of-then-has_half.new.pieces c.push_quarter_of-then-has_half-2.new.pieces
-    c.push_quarter_of-then-has_half-3.new.pieces
+    quarters_added PLACE_DIGITS held quarters c.args.buffer.now c.push_quarter_of.new.buffer
+    c.push_quarter_of-then-has_half.new.buffer c.push_quarter_of-then-has_half-2.new.buffer
+    c.push_quarter_of-then-has_half-3.new.buffer
     (omega (arith, level)) short
     (c.push_quarter_of.ensures.parts held quarters level path_is short full ne)
     (c.push_quarter_of-then-has_half.ensures.parts held quarters level path_is short full nw)
@@ -19,8 +19,8 @@ returns-then-has_half c = λ held quarters level path_is short full ne nw sw se.
 pub returns : goal.returns
 returns c = λ held quarters level path_is short full ne nw sw se.
     let none = no_choice c.args.full (sym c.has_half.ensures ∙ c.if-has_half.false) in
-    quarters_added PLACE_DIGITS held quarters c.args.pieces.now c.push_single_quarter.new.pieces
-    c.push_single_quarter-2.new.pieces c.push_single_quarter-3.new.pieces c.push_single_quarter-4.new.pieces
+    quarters_added PLACE_DIGITS held quarters c.args.buffer.now c.push_single_quarter.new.buffer
+    c.push_single_quarter-2.new.buffer c.push_single_quarter-3.new.buffer c.push_single_quarter-4.new.buffer
     (omega (arith, level)) short
     (c.push_single_quarter.ensures.parts held quarters level path_is short full none ne)
     (c.push_single_quarter-2.ensures.parts held quarters level path_is short full none nw)

@@ -13,7 +13,7 @@ use Rattle.twp_spell.proofs.position_parts.push_single_place.Goals as goal
 pub returns-then-at-clause-parts : goal.returns-then-at-clause-parts
 returns-then-at-clause-parts c = λ held quarters level path_is short are none.
     full_added PLACE_DIGITS held (c.args.outer ∷ quarters) c.args.corner
-    (step_text (Quarter c.args.outer) ++ c.args.path.now) c.args.pieces.now c.push_inner.new.self
+    (step_text (Quarter c.args.outer) ++ c.args.path.now) c.args.buffer.now c.push_inner.new.self
     (ap (λ path. step_text (Quarter c.args.outer) ++ path) path_is) short
     (off_all PLACE_DIGITS held (c.args.outer ∷ quarters) c.args.full c.args.corner (omega (arith, level))
     none are short)
@@ -21,7 +21,7 @@ returns-then-at-clause-parts c = λ held quarters level path_is short are none.
 
 pub returns-clause-parts : goal.returns-clause-parts
 returns-clause-parts c = λ held quarters level path_is short are none.
-    none_written PLACE_DIGITS held (c.args.outer ∷ quarters) c.args.corner c.args.pieces.now
+    none_written PLACE_DIGITS held (c.args.outer ∷ quarters) c.args.corner c.args.buffer.now
     (off_all PLACE_DIGITS held (c.args.outer ∷ quarters) c.args.full c.args.corner (omega (arith, level))
     none are short)
     (of_empty PLACE_DIGITS held (c.args.corner ∷ (c.args.outer ∷ quarters)) (omega (arith, level))

@@ -9,7 +9,7 @@ use Rattle.twp_spell.proofs.position_parts.push_single_quarter.Goals as goal
 
 pub returns-then-at-clause-parts : goal.returns-then-at-clause-parts
 returns-then-at-clause-parts c = λ held quarters level path_is short are none are_places.
-    full_added PLACE_DIGITS held quarters c.args.corner c.args.path.now c.args.pieces.now
+    full_added PLACE_DIGITS held quarters c.args.corner c.args.path.now c.args.buffer.now
     c.push_quarter.new.self
     path_is short
     (off_all PLACE_DIGITS held quarters c.args.full c.args.corner (omega (arith, level)) none are short)
@@ -17,7 +17,7 @@ returns-then-at-clause-parts c = λ held quarters level path_is short are none a
 
 pub returns-then-has_half-clause-parts : goal.returns-then-has_half-clause-parts
 returns-then-has_half-clause-parts c = λ held quarters level path_is short are none are_places.
-    inner_added PLACE_DIGITS held quarters c.args.corner c.args.pieces.now c.push_places.new.pieces
+    inner_added PLACE_DIGITS held quarters c.args.corner c.args.buffer.now c.push_places.new.buffer
     (off_all PLACE_DIGITS held quarters c.args.full c.args.corner (omega (arith, level)) none are short)
     (c.push_places.ensures.parts held (c.args.corner ∷ quarters) (omega (arith, level))
     (path_of_quarter c.args.corner quarters c.args.path.now c.quarter.result (omega (arith, level)) path_is
@@ -26,7 +26,7 @@ returns-then-has_half-clause-parts c = λ held quarters level path_is short are 
 
 pub returns-clause-parts : goal.returns-clause-parts
 returns-clause-parts c = λ held quarters level path_is short are none are_places.
-    inner_added PLACE_DIGITS held quarters c.args.corner c.args.pieces.now c.push_single_places.new.pieces
+    inner_added PLACE_DIGITS held quarters c.args.corner c.args.buffer.now c.push_single_places.new.buffer
     (off_all PLACE_DIGITS held quarters c.args.full c.args.corner (omega (arith, level)) none are short)
     (c.push_single_places.ensures.parts held quarters level path_is
     (λ whole. false≢true (sym c.if-at.false ∙ c.at.ensures ∙ (are c.args.corner).1 whole)) are_places

@@ -1,6 +1,6 @@
 use Rattle.std.proofs.Common.{◌≤◌}
 use Rattle.twp_grid.specs.Places.{PLACE_DIGITS}
-use Rattle.twp_spell.specs.SpellingSteps.{AreBegun}
+use Rattle.twp_spell.specs.steps.SpellingSteps.{AreBegun}
 use Rattle.twp_spell.proofs.spelling.spell.Given as goal
 
 -- the land's sections so far were written

@@ -2,7 +2,7 @@
 use Rattle.std.proofs.Common.{◌+◌, sym, ◌∙◌}
 use Rattle.std.proofs.lemmas.Bool.{false≢true}
 use Rattle.twp_grid.specs.Places.{PLACE_DIGITS}
-use Rattle.twp_spell.specs.SpellingSteps.{HasSection, AreBegun}
+use Rattle.twp_spell.specs.steps.SpellingSteps.{HasSection, AreBegun}
 use Rattle.twp_spell.proofs.HeldFacts.{some_of_meets, meets_of_some}
 use Rattle.twp_spell.proofs.SpellingFacts.{on_ok, begun_skip, begun_next}
 use Rattle.twp_spell.proofs.spelling.write_if_held.Goals as goal

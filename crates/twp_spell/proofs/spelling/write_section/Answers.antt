@@ -5,8 +5,8 @@ use Rattle.twp_grid.specs.Places.{PLACE_DIGITS}
 use Rattle.twp_spell.specs.WrittenParts.{AreWrittenParts}
 use Rattle.twp_land.specs.WholeLots.{off_lots}
 use Rattle.twp_spell.specs.CanonicalText.{HoldsEach}
-use Rattle.twp_spell.specs.Spelling.{AreWritten}
-use Rattle.twp_spell.specs.SpellingSteps.{HasSection}
+use Rattle.twp_spell.specs.steps.Spelling.{AreWritten}
+use Rattle.twp_spell.specs.steps.SpellingSteps.{HasSection}
 use Rattle.twp_spell.proofs.HeldFacts.{each_of_all, all_of_each}
 use Rattle.twp_spell.proofs.SpellingFacts.{on_ok, all_done, parts_done}
 use Rattle.twp_spell.proofs.spelling.write_section.Goals as goal

@@ -6,7 +6,7 @@ use Rattle.std.proofs.lemmas.Bool.{false≢true}
 use Rattle.twp_grid.specs.Places.{PLACE_DIGITS}
 use Rattle.twp_spell.specs.WrittenParts.Part.{square}
 use Rattle.twp_land.specs.WholeLots.{off_lots}
-use Rattle.twp_spell.specs.Spelling.{AreOfSquare}
+use Rattle.twp_spell.specs.steps.Spelling.{AreOfSquare}
 use Rattle.twp_spell.proofs.DescentLists.{of_empty}
 use Rattle.twp_spell.proofs.HalfQuarters.{choice_made}
 use Rattle.twp_spell.proofs.PathFacts.{path_of_quarter}
@@ -24,13 +24,13 @@ write_quarter-returns-in-Some g t c = λ quarters of_square path_is short are.
     (off_lots PLACE_DIGITS c.args.section (g.L.Land.places c.args.land.now c.args.section)) quarters
     c.args.full c.chosen_half.result (deeper PLACE_DIGITS quarters c.args.block of_square c.requires.0)
     c.chosen_half.ensures are short in
-    half_written c.write_half.result PLACE_DIGITS
+    half_written c.write_half_if_first.result PLACE_DIGITS
     (off_lots PLACE_DIGITS c.args.section (g.L.Land.places c.args.land.now c.args.section)) quarters
-    c.in-Some.side c.args.corner c.args.path.now c.args.text.now.items c.write_half.new.text.items
+    c.in-Some.side c.args.corner c.args.path.now c.args.text.now.items c.write_half_if_first.new.text.items
     (choice_is PLACE_DIGITS
     (off_lots PLACE_DIGITS c.args.section (g.L.Land.places c.args.land.now c.args.section)) quarters
     c.chosen_half.result c.in-Some.side choice c.in-Some.ensures.0)
-    c.in-Some.ensures.1 path_is c.write_half.ensures.first c.write_half.ensures.second
+    c.in-Some.ensures.1 path_is c.write_half_if_first.ensures.first c.write_half_if_first.ensures.second
 
 pub write_quarter-returns-then-at : goal.write_quarter-returns-then-at
 write_quarter-returns-then-at g t c = λ quarters of_square path_is short are.

@@ -2,12 +2,12 @@
 use Rattle.std.proofs.Common.{◌≡◌, ◌+◌, ◌%◌, sym, ◌∙◌, arith}
 use Rattle.twp_grid.specs.Places.{PLACE_DIGITS}
 use Rattle.twp_land.specs.WholeLots.{off_lots}
-use Rattle.twp_spell.specs.Spelling.{AreOfSquare}
+use Rattle.twp_spell.specs.steps.Spelling.{AreOfSquare}
 use Rattle.twp_spell.proofs.DescentLists.{of_empty}
 use Rattle.twp_spell.proofs.SquareFacts.{square_fits}
 use Rattle.twp_spell.proofs.PlaceSquares.{position_places, position_full, position_level, position_free}
 use Rattle.twp_spell.proofs.PlaceSquares.{position_lot, not_some}
-use Rattle.twp_spell.proofs.WritingFacts.{written_none, pieces_appended}
+use Rattle.twp_spell.proofs.WritingFacts.{written_none, buffer_appended}
 use Rattle.twp_spell.proofs.written_parts.write_position.Goals as goal
 
 pub returns-then-is_some : goal.returns-then-is_some
@@ -98,11 +98,11 @@ returns g c = λ quarters of_square path_is short.
     (record { ne = c.all.result; nw = c.all-2.result; sw = c.all-3.result; se = c.all-4.result })
     c.held_places-ne.result c.held_places-nw.result c.held_places-sw.result c.held_places-se.result level
     places c.all.ensures c.all-2.ensures c.all-3.ensures c.all-4.ensures in
-    pieces_appended c.append_to.result
+    buffer_appended c.append_to.result
     (AreOfSquare PLACE_DIGITS
     (off_lots PLACE_DIGITS c.args.section (g.L.Land.places c.args.land.now c.args.section)) quarters)
-    c.args.text.now.items c.new-pieces.result c.push_position.new.pieces c.append_to.new.text.items
-    c.new-pieces.ensures
+    c.args.text.now.items c.new-buffer.result c.push_position.new.buffer c.append_to.new.text.items
+    c.new-buffer.ensures
     (c.push_position.ensures
     (off_lots PLACE_DIGITS c.args.section (g.L.Land.places c.args.land.now c.args.section)) quarters level
     path_is short full places.0 places.1.0 places.1.1.0 places.1.1.1)

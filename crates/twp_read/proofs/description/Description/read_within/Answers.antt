@@ -3,7 +3,7 @@ use Rattle.std.proofs.Common.{◌<◌, ◌≤◌, ℕ, ◌+◌, List, arith, len
 use Rattle.twp_grammar.specs.declared.item.Item.{Item}
 use Rattle.twp_read.specs.declared.reached.Reached.{Reached}
 use Rattle.twp_grammar.specs.declared.state.State.{State}
-use Rattle.twp_read.specs.TokenSteps.{take_token}
+use Rattle.twp_read.specs.steps.TokenSteps.{take_token}
 use Rattle.twp_grammar.specs.Tokens.{seen}
 use Rattle.twp_grammar.specs.Sentences.{IsReadAs}
 use Rattle.twp_read.proofs.Leading.{goes_further}

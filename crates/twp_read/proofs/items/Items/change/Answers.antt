@@ -1,6 +1,6 @@
 -- The vector's last item is the newest of the items.
 use Rattle.std.proofs.Common.{ap, ◌∙◌, rules}
-use Rattle.twp_read.specs.TokenSteps.{with_newest}
+use Rattle.twp_read.specs.steps.TokenSteps.{with_newest}
 use Rattle.twp_read.proofs.NewestItem.{changes_newest, on_ok}
 use Rattle.twp_read.proofs.items.Items.change.Goals as goal
 

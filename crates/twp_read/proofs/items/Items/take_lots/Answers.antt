@@ -4,7 +4,7 @@ use Rattle.twp_grammar.specs.declared.item.Item.TheVariants.{Lots}
 use Rattle.twp_grammar.specs.declared.item.Numeral.{Numeral}
 use Rattle.twp_read.specs.declared.reached.Reached.{Reached}
 use Rattle.twp_grammar.specs.declared.state.State.TheVariants as past
-use Rattle.twp_read.specs.TokenSteps.{before_parts}
+use Rattle.twp_read.specs.steps.TokenSteps.{before_parts}
 use Rattle.twp_read.proofs.Leading.{leads_then}
 use Rattle.twp_read.proofs.items.Items.take_lots.Goals as goal
 

@@ -2,7 +2,7 @@
 use Rattle.std.proofs.Common.{◌∷◌, ◌-◌, List, reverse, subst, rules}
 use Rattle.std.proofs.Math.ListN.{set}
 use Rattle.twp_grammar.specs.declared.item.Item.{Item}
-use Rattle.twp_read.specs.Usual.{Leads}
+use Rattle.twp_read.specs.steps.Usual.{Leads}
 use Rattle.twp_read.proofs.NewestItem.{leads_by_newest, if_ok}
 use Rattle.twp_read.proofs.items.Items.take_more.Goals as goal
 

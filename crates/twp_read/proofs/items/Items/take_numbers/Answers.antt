@@ -4,7 +4,7 @@ use Rattle.std.specs.List.{prefix_len}
 use Rattle.twp_grammar.specs.Tokens.{is_white}
 use Rattle.twp_grammar.specs.declared.item.Item.{Item}
 use Rattle.twp_read.specs.declared.reached.Reached.{Reached}
-use Rattle.twp_read.specs.Usual.{Leads}
+use Rattle.twp_read.specs.steps.Usual.{Leads}
 use Rattle.twp_read.proofs.Leading.{leads_then}
 use Rattle.twp_read.proofs.NumberFacts.{entry_leads, goes_on_behind}
 use Rattle.twp_read.proofs.items.Items.take_numbers.Goals as goal

@@ -1,5 +1,5 @@
 use Rattle.std.proofs.Common.{length, ◌-◌, ◌≡◌, Some}
-use Rattle.twp_read.specs.Usual.{Leads, listed_in}
+use Rattle.twp_read.specs.steps.Usual.{Leads, listed_in}
 use Rattle.twp_read.proofs.items.Items.take_numbers.Given as goal
 
 -- the numbers so far led here, where the list goes on

@@ -4,7 +4,7 @@ use Rattle.twp_grammar.specs.declared.item.Item.TheVariants.{Chain}
 use Rattle.twp_read.specs.declared.reached.Reached.{Reached}
 use Rattle.twp_read.specs.declared.usual.step.UsualStep.{UsualStep}
 use Rattle.twp_grammar.specs.declared.state.State.TheVariants as past
-use Rattle.twp_read.specs.Usual.{Leads}
+use Rattle.twp_read.specs.steps.Usual.{Leads}
 use Rattle.twp_read.proofs.Leading.{leads_then}
 use Rattle.twp_read.proofs.UsualFacts.{first_leads}
 use Rattle.twp_read.proofs.items.Items.take_parts.Goals as goal

@@ -1,7 +1,7 @@
 use Rattle.std.proofs.Common.{ℕ, List}
 use Rattle.twp_grammar.specs.declared.item.Item.{Item}
 use Rattle.twp_read.specs.declared.reached.Reached.{Reached}
-use Rattle.twp_read.specs.Usual.{Leads}
+use Rattle.twp_read.specs.steps.Usual.{Leads}
 use Rattle.twp_read.proofs.NewestItem.{if_ok}
 use Rattle.twp_read.proofs.Leading.{leads_then}
 use Rattle.twp_read.proofs.items.Items.take_usual.Goals as goal

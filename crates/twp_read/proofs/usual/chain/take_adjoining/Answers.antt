@@ -4,7 +4,7 @@ use Rattle.twp_grammar.specs.declared.item.Step.{Step}
 use Rattle.twp_read.specs.declared.reached.Reached.{Reached}
 use Rattle.twp_read.specs.declared.usual.step.UsualStep.{UsualStep}
 use Rattle.twp_grammar.specs.declared.state.State.TheVariants as past
-use Rattle.twp_read.specs.Usual.{Leads}
+use Rattle.twp_read.specs.steps.Usual.{Leads}
 use Rattle.twp_read.proofs.StandingSteps.{step_within}
 use Rattle.twp_read.proofs.UsualFacts.{step_leads}
 use Rattle.twp_read.proofs.usual.chain.take_adjoining.Goals as goal

@@ -1,7 +1,7 @@
 use Rattle.std.proofs.Common.{◌≤◌, ℕ, List, ◌∷◌, length, ◌-◌}
 use Rattle.twp_grammar.specs.declared.item.Item.{Item}
 use Rattle.twp_grammar.specs.declared.item.Item.TheVariants.{Chain}
-use Rattle.twp_read.specs.Usual.{Leads}
+use Rattle.twp_read.specs.steps.Usual.{Leads}
 use Rattle.twp_read.proofs.usual.chain.take_steps.Given as goal
 
 -- the steps so far led here, wherever their chain begins and whatever stands before it

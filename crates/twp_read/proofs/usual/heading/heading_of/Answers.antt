@@ -4,7 +4,7 @@ use Rattle.twp_grid.specs.declared.township.EastWest.TheVariants.{E}
 use Rattle.twp_grammar.specs.declared.item.Item.{Item}
 use Rattle.twp_grammar.specs.declared.item.Item.TheVariants.{Heading}
 use Rattle.twp_grammar.specs.declared.state.State.TheVariants as past
-use Rattle.twp_read.specs.TokenSteps.{take_township}
+use Rattle.twp_read.specs.steps.TokenSteps.{take_township}
 use Rattle.twp_read.proofs.FrontFacts.{township_leads}
 use Rattle.twp_read.proofs.Leading.{leads_then}
 use Rattle.twp_read.proofs.usual.heading.heading_of.Goals as goal

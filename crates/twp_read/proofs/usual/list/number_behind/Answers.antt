@@ -1,5 +1,5 @@
 use Rattle.std.proofs.Common.{List, ℕ}
-use Rattle.twp_read.specs.Usual.{IsNumberBehind}
+use Rattle.twp_read.specs.steps.Usual.{IsNumberBehind}
 use Rattle.twp_read.proofs.NumberFacts.{number_ahead}
 use Rattle.twp_read.proofs.NewestItem.{if_some}
 use Rattle.twp_read.proofs.usual.list.number_behind.Goals as goal

@@ -102,8 +102,8 @@ abbrev pub PART_MOST : ℕ
 PART_MOST = 28
 
 -- the bytes of as many parts as a position has places
-abbrev pub PIECES_MOST : ℕ
-PIECES_MOST = 448
+abbrev pub BUFFER_MOST : ℕ
+BUFFER_MOST = 448
 
 -- quarters as they are written behind a smaller part
 abbrev pub quarters_text : List Corner → List ℕ

@@ -1,7 +1,7 @@
-//! A few written parts that are appended to a text together.
+//! A buffer for a few written parts, which are appended to a text together.
 ghost use Rattle.std.specs.Prelude.{◌≡◌, ◌+◌, ◌++◌, ◌≤◌, [], length, codes, OnOk};
 ghost use Rattle.twp_spell.specs.CanonicalText.{step_text};
-ghost use Rattle.twp_spell.specs.Spelling.{PART_MOST, PIECES_MOST};
+ghost use Rattle.twp_spell.specs.steps.Spelling.{PART_MOST, BUFFER_MOST};
 ghost use Rattle.twp_grammar.specs.declared.item.Step.TheVariants.{Half, Quarter};
 
 use crate::path::{PATH_BYTES, PATH_QUARTER_BYTES, Path, quarter_text};
@@ -20,33 +20,33 @@ const QUARTER_BYTES: usize = 7;
 const PLACE_BYTES: usize = QUARTER_BYTES + PATH_QUARTER_BYTES + PATH_BYTES;
 
 /// The bytes of as many parts as a position has places.
-const PIECES_BYTES: usize = 16 * PLACE_BYTES;
+const BUFFER_BYTES: usize = 16 * PLACE_BYTES;
 
 /// Parts as they are written, each behind a comma. No memory is taken for them.
 #[derive(Drop)]
-pub(crate) struct Pieces {
-    bytes: [u8; PIECES_BYTES],
+pub(crate) struct PartBuffer {
+    bytes: [u8; BUFFER_BYTES],
     len: usize,
 }
 
-impl Model for Pieces {
+impl Model for PartBuffer {
     ghost use Rattle.std.specs.Prelude.{◌≤◌, ℕ, List, take};
 
     ghost Value = { List ℕ };
 
-    ghost view = { λ pieces. take pieces.len pieces.bytes };
+    ghost view = { λ buffer. take buffer.len buffer.bytes };
 
-    ghost invariant = { λ pieces. pieces.len ≤ 448 };
+    ghost invariant = { λ buffer. buffer.len ≤ 448 };
 }
 
-impl Pieces {
+impl PartBuffer {
     /// No parts yet.
     #[inline(always)]
-    pub(crate) fn new() -> Pieces
+    pub(crate) fn new() -> PartBuffer
         ensures { result ≡ [] }
     {
-        Pieces {
-            bytes: [0; PIECES_BYTES],
+        PartBuffer {
+            bytes: [0; BUFFER_BYTES],
             len: 0,
         }
     }
@@ -56,7 +56,7 @@ impl Pieces {
     /// the path's end.
     #[inline(always)]
     pub(crate) fn push_quarter(&mut self, corner: Corner, path: &Path)
-        requires { length self.old + PART_MOST ≤ PIECES_MOST }
+        requires { length self.old + PART_MOST ≤ BUFFER_MOST }
         ensures text { self.new ≡ self.old ++ ((codes ", " ++ step_text (Quarter corner)) ++ path.now) }
         ensures most { length self.new ≤ length self.old + PART_MOST }
     {
@@ -69,7 +69,7 @@ impl Pieces {
     /// Adds a half of the square that a path reaches.
     #[inline(always)]
     pub(crate) fn push_half(&mut self, side: Side, path: &Path)
-        requires { length self.old + PART_MOST ≤ PIECES_MOST }
+        requires { length self.old + PART_MOST ≤ BUFFER_MOST }
         ensures text { self.new ≡ self.old ++ ((codes ", " ++ step_text (Half side)) ++ path.now) }
         ensures most { length self.new ≤ length self.old + PART_MOST }
     {
@@ -82,7 +82,7 @@ impl Pieces {
     /// Adds a quarter of a quarter of the square that a path reaches.
     #[inline(always)]
     pub(crate) fn push_inner(&mut self, corner: Corner, outer: Corner, path: &Path)
-        requires { length self.old + PART_MOST ≤ PIECES_MOST }
+        requires { length self.old + PART_MOST ≤ BUFFER_MOST }
         ensures text { self.new ≡ self.old
             ++ ((codes ", " ++ step_text (Quarter corner)) ++ (step_text (Quarter outer) ++ path.now)) }
         ensures most { length self.new ≤ length self.old + PART_MOST }

@@ -8,7 +8,7 @@ use Rattle.twp_grammar.specs.declared.item.Numeral.{Numeral}
 use Rattle.twp_grammar.specs.declared.item.Step.{Step}
 use Rattle.twp_grammar.specs.declared.item.Step.TheVariants.{Half, Quarter}
 use Rattle.twp_grammar.specs.declared.item.Item.{Item}
-use Rattle.twp_read.specs.declared.change.Change.{Change}
+use Rattle.twp_read.specs.declared.item_change.Change.{Change}
 use Rattle.twp_grammar.specs.Items.{north_or_south, east_or_west}
 use Rattle.twp_grammar.specs.declared.state.State.{State}
 use Rattle.twp_grammar.specs.Tokens.{Token}
@@ -18,7 +18,7 @@ use Rattle.twp_grid.specs.declared.township.NorthSouth.TheVariants as ns
 use Rattle.twp_grid.specs.declared.township.EastWest.TheVariants as ew
 use Rattle.twp_grammar.specs.declared.kind.Kind.TheVariants as kind
 use Rattle.twp_grammar.specs.declared.item.Item.TheVariants as item
-use Rattle.twp_read.specs.declared.change.Change.TheVariants as change
+use Rattle.twp_read.specs.declared.item_change.Change.TheVariants as change
 use Rattle.twp_grammar.specs.declared.state.State.TheVariants as past
 
 -- an item with what a token says of it

@@ -1,5 +1,6 @@
+//! What a token changes in the newest item.
 ghost use Rattle.std.specs.Prelude.{◌≡◌, OnOk};
-ghost use Rattle.twp_read.specs.TokenSteps.{changed};
+ghost use Rattle.twp_read.specs.steps.TokenSteps.{changed};
 
 use std::alloc::AllocError;
 use twp_grammar::{Item, Numeral, Step};

@@ -3,8 +3,8 @@ use Rattle.std.proofs.Common.{◌+◌, ◌++◌, refl, codes, ◌∙◌, arith, 
 use Rattle.twp_spell.specs.CanonicalText.{step_text}
 use Rattle.twp_grammar.specs.declared.item.Step.TheVariants.{Quarter}
 use Rattle.twp_spell.proofs.PathFacts.{long_quarter}
-use Rattle.twp_spell.proofs.PieceFacts.{put_behind, path_behind, known_length, long_quarter_step}
-use Rattle.twp_spell.proofs.pieces.Pieces.push_inner.Goals as goal
+use Rattle.twp_spell.proofs.BufferFacts.{put_behind, path_behind, known_length, long_quarter_step}
+use Rattle.twp_spell.proofs.part_buffer.PartBuffer.push_inner.Goals as goal
 use borrow.Rule.Slice.PartMut.{same_len_mid}
 
 pub returns-clause-text : goal.returns-clause-text
