@@ -3,7 +3,7 @@ ghost use Rattle.std.specs.Prelude.{◌≡◌, ℕ, ◌≤◌, ◌<◌, ◌≤�
 use arrayvec::ArrayVec;
 use std::alloc::{AllocError, Global};
 use std::marker::Model;
-use twp_grid::{Corner, EastWest, NorthSouth, Side};
+use twp_grid::{Corner, EastWest, NorthSouth, PLACE_DIGITS, Side};
 
 /// A number as it was written, and its place in the text.
 #[derive(Clone, Copy, Debug, PartialEq, Eq, Hash)]
@@ -30,26 +30,32 @@ impl Default for Step {
     }
 }
 
+/// The steps of the finest part by halves, each of which halves a side of the section.
+const FINEST_STEPS: usize = 2 * PLACE_DIGITS;
+
 /// The steps of an aliquot part, the smallest first, as they are written: `S1/2NE1/4` is the south
-/// half of the north-east quarter. Up to eight take no memory of their own.
+/// half of the north-east quarter. As many as the finest part has take no memory of their own.
 #[derive(Debug, Drop)]
 pub struct Steps {
-    first: ArrayVec<Step, 8>,
+    first: ArrayVec<Step, FINEST_STEPS>,
     more: Vec<Step>,
 }
 
 impl Model for Steps {
     ghost use Rattle.std.specs.Prelude.{◌≡◌, ◌<◌, List, [], ◌++◌, length};
     ghost use Rattle.twp_grammar.specs.declared.item.Step.{Step};
+    ghost use Rattle.twp_grid.specs.Cuts.{FINEST_CUTS};
 
     ghost Value = { List Step };
 
     ghost view = { λ s. s.first.items ++ s.more.items };
 
-    ghost invariant = { λ s. length s.first.items < 8 → s.more.items ≡ [] };
+    ghost invariant = { λ s. length s.first.items < FINEST_CUTS → s.more.items ≡ [] };
 }
 
 impl Steps {
+    ghost use Rattle.twp_grid.specs.Cuts.{FINEST_CUTS};
+
     /// No step yet.
     #[inline(always)]
     pub fn none(alloc: Global) -> Steps
@@ -68,12 +74,13 @@ impl Steps {
         self.first.len() + self.more.len()
     }
 
-    /// The first steps, which stand beside each other: all of them, or eight.
+    /// The first steps, which stand beside each other: all of them, or as many as the
+    /// finest part has.
     #[inline]
     #[tactic(auto, using(crate::proofs::StepFacts::in_first, crate::proofs::StepFacts::all_first))]
     pub fn first(&self) -> &[Step]
         ensures within { length result.now ≤ length self.now }
-        ensures all { length result.now < 8 → length result.now ≡ length self.now }
+        ensures all { length result.now < FINEST_CUTS → length result.now ≡ length self.now }
         ensures front { (index : ℕ) → index < length result.now
             → slice_get self.now index ≡ slice_get result.now index }
     {
@@ -99,19 +106,19 @@ impl Steps {
     pub fn push(&mut self, step: Step) -> Result<(), AllocError>
         ensures { OnOk result (self.new ≡ self.old ++ step ∷ []) }
     {
-        if self.first.len() < 8 {
+        if self.first.len() < FINEST_STEPS {
             self.first.push(step);
             return Ok(());
         }
         self.push_more(step)
     }
 
-    /// Adds a step behind the eighth.
+    /// Adds a step after as many as the finest part has.
     #[cold]
     #[inline(never)]
     #[tactic(auto, using(crate::proofs::StepFacts::push_more))]
     fn push_more(&mut self, step: Step) -> Result<(), AllocError>
-        requires { 8 ≤ length self.old }
+        requires { FINEST_CUTS ≤ length self.old }
         ensures { OnOk result (self.new ≡ self.old ++ step ∷ []) }
     {
         self.more.push(step)?;
@@ -172,18 +179,18 @@ mod tests {
     use std::test::Fail;
 
     #[test]
-    fn keeps_more_than_eight_steps(rt: HostRuntime) -> Result<(), Fail> {
+    fn keeps_more_steps_than_stand_beside_each_other(rt: HostRuntime) -> Result<(), Fail> {
         let mut steps = Steps::none(rt.alloc());
         steps.push(Step::Half(Side::S))?;
-        for _ in 0..8 {
+        for _ in 0..FINEST_STEPS {
             steps.push(Step::Quarter(Corner::NE))?;
         }
         steps.push(Step::Half(Side::W))?;
-        assert_eq!(rt; steps.len(), 10);
+        assert_eq!(rt; steps.len(), FINEST_STEPS + 2);
         assert_eq!(rt; steps.get(0), Some(Step::Half(Side::S)));
-        assert_eq!(rt; steps.get(8), Some(Step::Quarter(Corner::NE)));
-        assert_eq!(rt; steps.get(9), Some(Step::Half(Side::W)));
-        assert_eq!(rt; steps.get(10), None);
+        assert_eq!(rt; steps.get(FINEST_STEPS), Some(Step::Quarter(Corner::NE)));
+        assert_eq!(rt; steps.get(FINEST_STEPS + 1), Some(Step::Half(Side::W)));
+        assert_eq!(rt; steps.get(FINEST_STEPS + 2), None);
         Ok(())
     }
 }

@@ -1,6 +1,7 @@
 -- What cuts of a section reach. A cut takes a half or a quarter of what was reached before; it asks
 -- for the next binary digit of the rows, of the columns, or of both.
-use Rattle.std.specs.Prelude.{ℕ, ◌≤◌, List, [], ◌∷◌, ◌++◌, length}
+use Rattle.std.specs.Prelude.{ℕ, ◌*◌, ◌≤◌, List, [], ◌∷◌, ◌++◌, length}
+use Rattle.twp_grid.specs.Places.{PLACE_DIGITS}
 use Rattle.twp_grid.specs.Spans.{Rectangle, whole_block}
 use Rattle.twp_grid.specs.Blocks.{half_of, quarter_of}
 use Rattle.twp_grid.specs.declared.block.Side.{Side}
@@ -50,6 +51,10 @@ columns_asked (cut ∷ before) = columns_asked before ++ column_asked cut
 pub record AreWithin (g : ℕ) (cuts : List Cut) : Type 0 where
   pub rows : length (rows_asked cuts) ≤ g
   pub columns : length (columns_asked cuts) ≤ g
+
+-- the cuts of the finest part, where all are halves: each asks for one digit of the row or the column
+abbrev pub FINEST_CUTS : ℕ
+FINEST_CUTS = 2 * PLACE_DIGITS
 
 -- what a cut takes of a rectangle
 abbrev pub part_of : Rectangle → Cut → Rectangle

@@ -21,5 +21,5 @@ pub use line::{LINES, Line, Run, sides};
 pub use lot::{POSITIONS_ACROSS, lot_at, lot_count, lot_place};
 pub use refusal::Refusal;
 pub use section::{SECTIONS, Section};
-pub use span::{PLACES_ACROSS, PLACES_TO_POSITION};
+pub use span::{PLACE_DIGITS, PLACES_ACROSS, PLACES_TO_POSITION};
 pub use township::{EastWest, NorthSouth, Township};

@@ -6,8 +6,11 @@ ghost use Rattle.twp_grid.specs.Places.{PLACE_DIGITS};
 use crate::lot::POSITIONS_ACROSS;
 use std::marker::Model;
 
-/// The places along a side of a section: each side is halved five times (this project's limit).
-pub const PLACES_ACROSS: usize = 1 << 5;
+/// How often a side of a section is halved (this project's limit).
+pub const PLACE_DIGITS: usize = 5;
+
+/// The places along a side of a section.
+pub const PLACES_ACROSS: usize = 1 << PLACE_DIGITS;
 
 /// The places along a side of a position.
 pub const PLACES_TO_POSITION: u8 = PLACES_ACROSS as u8 / POSITIONS_ACROSS;

@@ -12,7 +12,7 @@ ghost use Rattle.twp_grammar.specs.declared.item.Step.{Step as TakenStep};
 use crate::blocks::add_block;
 use crate::place_fault::PlaceFault;
 use twp_grammar::{Step, Steps};
-use twp_grid::{Block, Section};
+use twp_grid::{Block, PLACE_DIGITS, Section};
 use twp_land::{Land, holds_of_lot};
 
 /// Takes an aliquot part of a section.
@@ -73,20 +73,21 @@ fn block_of(steps: &Steps) -> Option<Block>
     Some(block)
 }
 
-/// The place that four quarters leave of a section. None of other steps. Each quarter's size is
-/// known here, so that none is tested for being too fine.
+/// The place that quarters leave of a section, as many as its sides are halved to a place. None of
+/// other steps. Each quarter's size is known here, so that none is tested for being too fine.
 #[inline(always)]
 fn place_of(steps: &Steps) -> Option<Block>
     ensures { IfSome result (IsCutTo PLACE_DIGITS steps.now 0) }
 {
     let first = steps.first();
-    if first.len() != 4 || steps.len() != first.len() {
+    if first.len() != PLACE_DIGITS || steps.len() != first.len() {
         return None;
     }
-    let half_mile = quarter_of(Block::whole(), first[3])?;
-    let position = quarter_of(half_mile, first[2])?;
-    let square = quarter_of(position, first[1])?;
-    quarter_of(square, first[0])
+    let mut block = Block::whole();
+    for index in (0..PLACE_DIGITS).rev() {
+        block = quarter_of(block, first[index])?;
+    }
+    Some(block)
 }
 
 /// The quarter of a block that a step takes. None of a half.
