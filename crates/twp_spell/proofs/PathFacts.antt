@@ -1,5 +1,5 @@
 -- Paths of squares: the bytes of a quarter ahead of those of its square.
-use Rattle.std.proofs.Common.{◌≡◌, ℕ, zero, suc, ◌+◌, ◌*◌, ◌<◌, ◌≤◌, List, [], ◌∷◌, ◌++◌, length}
+use Rattle.std.proofs.Common.{◌-◌, ◌≡◌, ℕ, zero, suc, ◌+◌, ◌*◌, ◌<◌, ◌≤◌, List, [], ◌∷◌, ◌++◌, length}
 use Rattle.std.proofs.Common.{length-append, take, min, refl, sym, ap, ◌∙◌, inl, inr, arith}
 use Rattle.std.proofs.lemmas.Bool.{cases_lt}
 use Rattle.std.proofs.lemmas.List.{take-append-le, length-take}
@@ -7,7 +7,8 @@ use Rattle.twp_grid.specs.declared.block.Corner.{Corner}
 use Rattle.twp_grid.specs.declared.block.Corner.TheVariants.{NE, NW, SW, SE}
 use Rattle.twp_grammar.specs.declared.item.Step.TheVariants.{Quarter}
 use Rattle.twp_spell.specs.CanonicalText.{step_text}
-use Rattle.twp_spell.specs.steps.Spelling.{PATH_MOST, quarters_text}
+use Rattle.twp_spell.specs.steps.Spelling.{QUARTER_LENGTH, PATH_MOST, quarters_text}
+use Rattle.twp_grid.specs.Places.{PLACE_DIGITS}
 
 pub take_front : (n k : ℕ) (xs ys : List ℕ) → n ≡ length xs + k → take n (xs ++ ys) ≡ xs ++ take k ys
 take_front n k [] ys is = let same : n ≡ k = omega arith in ap (λ m. take m ys) same
@@ -33,36 +34,40 @@ long_quarter NW = refl
 long_quarter SW = refl
 long_quarter SE = refl
 
--- the bytes of a step, and behind them the first 11 of a path's 16
-pub longer : (step more rest : List ℕ) (len end : ℕ) → length step ≡ 5 → length more ≡ 16
-    → (len ≤ 11 → end ≡ len + 5) → (11 < len → end ≡ 16)
-    → take end (step ++ (take 11 more ++ rest)) ≡ take 16 (step ++ take len more)
-longer step more rest len end five sixteen short long = elim (cases_lt 11 len) [
+-- what is left of a path that gets a quarter more
+abbrev SHORT : ℕ
+SHORT = PATH_MOST - QUARTER_LENGTH
+
+-- the bytes of a step, and after them as many of a path's as there is room for
+pub longer : (step more rest : List ℕ) (len end : ℕ) → length step ≡ 5 → length more ≡ PATH_MOST
+    → (len ≤ SHORT → end ≡ len + 5) → (SHORT < len → end ≡ PATH_MOST)
+    → take end (step ++ (take SHORT more ++ rest)) ≡ take PATH_MOST (step ++ take len more)
+longer step more rest len end five sixteen short long = elim (cases_lt SHORT len) [
   | inl past ↦
       let ends = long past in
-      take_front end 11 step (take 11 more ++ rest) (omega arith)
+      take_front end SHORT step (take SHORT more ++ rest) (omega arith)
       ∙ ap (λ l. step ++ l)
-      (take-append-le 11 (take 11 more) rest (eleven past)
-      ∙ take_less 11 11 more (omega arith)
-      ∙ sym (take_less 11 len more (omega arith)))
-      ∙ sym (take_front 16 11 step (take len more) (omega arith))
+      (take-append-le SHORT (take SHORT more) rest (eleven past)
+      ∙ take_less SHORT SHORT more (omega arith)
+      ∙ sym (take_less SHORT len more (omega arith)))
+      ∙ sym (take_front PATH_MOST SHORT step (take len more) (omega arith))
   | inr within ↦
       let ends = short (omega arith) in
-      take_front end len step (take 11 more ++ rest) (omega arith)
+      take_front end len step (take SHORT more ++ rest) (omega arith)
       ∙ ap (λ l. step ++ l)
-      (take-append-le len (take 11 more) rest (enough (omega arith))
-      ∙ take_less len 11 more (omega arith)
-      ∙ sym (take_more 11 len more (omega arith)))
-      ∙ sym (take_front 16 11 step (take len more) (omega arith))
+      (take-append-le len (take SHORT more) rest (enough (omega arith))
+      ∙ take_less len SHORT more (omega arith)
+      ∙ sym (take_more SHORT len more (omega arith)))
+      ∙ sym (take_front PATH_MOST SHORT step (take len more) (omega arith))
 ]
   where
-    long_take : length (take 11 more) ≡ 11
-    long_take = rw (length-take 11 more, sixteen) refl
+    long_take : length (take SHORT more) ≡ SHORT
+    long_take = rw (length-take SHORT more, sixteen) refl
 
-    eleven : 11 < len → 11 ≤ length (take 11 more)
+    eleven : SHORT < len → SHORT ≤ length (take SHORT more)
     eleven past = let same = long_take in omega arith
 
-    enough : len ≤ 11 → len ≤ length (take 11 more)
+    enough : len ≤ SHORT → len ≤ length (take SHORT more)
     enough less = let same = long_take in omega arith
 
 -- a path of so few quarters is whole
@@ -84,8 +89,8 @@ take_all (suc n) [] fits = refl
 take_all (suc n) (x ∷ xs) fits = ap (λ l. x ∷ l) (take_all n xs (omega arith))
 
 pub longer_path : (corner : Corner) (front zeros mid rest text path : List ℕ) (len end : ℕ)
-    → front ≡ step_text (Quarter corner) → mid ≡ take 11 text → length text ≡ 16
-    → take len text ≡ path → len ≤ 16 → end ≡ min 16 (len + 5)
+    → front ≡ step_text (Quarter corner) → mid ≡ take SHORT text → length text ≡ PATH_MOST
+    → take len text ≡ path → len ≤ PATH_MOST → end ≡ min PATH_MOST (len + 5)
     → take end (take 5 (front ++ zeros) ++ (mid ++ rest))
     ≡ take PATH_MOST (step_text (Quarter corner) ++ path)
 longer_path corner front zeros mid rest text path len end front_is mid_is sixteen path_is within end_is =
@@ -96,12 +101,13 @@ longer_path corner front zeros mid rest text path len end front_is mid_is sixtee
     ∙ ap (λ m. take end (step_text (Quarter corner) ++ (m ++ rest))) mid_is
     ∙ longer (step_text (Quarter corner)) text rest len end five sixteen (λ less. omega arith)
     (λ more. omega arith)
-    ∙ ap (λ p. take 16 (step_text (Quarter corner) ++ p)) path_is
+    ∙ ap (λ p. take PATH_MOST (step_text (Quarter corner) ++ p)) path_is
 
-pub path_of_quarter : (corner : Corner) (quarters : List Corner) (path inner : List ℕ) → length quarters < 3
+pub path_of_quarter : (corner : Corner) (quarters : List Corner) (path inner : List ℕ)
+    → length quarters < PLACE_DIGITS - 1
     → path ≡ quarters_text quarters
     → inner ≡ take PATH_MOST (step_text (Quarter corner) ++ path) → inner ≡ quarters_text (corner ∷ quarters)
 path_of_quarter corner quarters path inner less path_is inner_is =
-    inner_is ∙ ap (λ p. take 16 (step_text (Quarter corner) ++ p)) path_is
-    ∙ take_all 16 (quarters_text (corner ∷ quarters))
+    inner_is ∙ ap (λ p. take PATH_MOST (step_text (Quarter corner) ++ p)) path_is
+    ∙ take_all PATH_MOST (quarters_text (corner ∷ quarters))
     (let long = long_path (corner ∷ quarters) in omega arith)

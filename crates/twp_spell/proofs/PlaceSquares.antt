@@ -9,7 +9,7 @@ use Rattle.twp_grid.specs.declared.block.Corner.{Corner}
 use Rattle.twp_grid.specs.declared.block.Corner.TheVariants.{NE, NW, SW, SE}
 use Rattle.twp_grid.specs.Blocks.{quarter_of}
 use Rattle.twp_grid.specs.Lots.{lot_at_position}
-use Rattle.twp_grid.specs.Places.{PLACE_DIGITS, position_along}
+use Rattle.twp_grid.specs.Places.{PLACE_DIGITS, places_to_position, position_along}
 use Rattle.twp_land.specs.WholeLots.{lot_of_place}
 use Rattle.twp_land.specs.WholeLots.{off_lots}
 use Rattle.twp_grid.specs.Spans.{Span, in_span, Rectangle}
@@ -18,7 +18,7 @@ use Rattle.twp_grammar.specs.ItemPlaces.{cuts_of}
 use Rattle.twp_spell.specs.declared.full_quarters.FullQuarters.{FullQuarters}
 use Rattle.twp_spell.specs.WrittenParts.{Part, IsInPart, IsFull}
 use Rattle.twp_spell.specs.WrittenParts.Part.{square}
-use Rattle.twp_spell.specs.steps.Spelling.{IsBlockOf, AreFull, all_of}
+use Rattle.twp_spell.specs.steps.Spelling.{FINE_SIDE, IsBlockOf, AreFull, all_of}
 use Rattle.twp_spell.proofs.SquareFacts.{quarter_steps, columns_long, rows_long}
 use Rattle.twp_spell.proofs.HalfQuarters.{all_full}
 use Rattle.twp_grammar.proofs.CutPlaces.{more_than_one}
@@ -119,9 +119,9 @@ power_four (suc (suc (suc n))) is =
     let more = more_than_one (suc n) (omega arith) in
     absurd (omega arith)
 
-pub position_level : (g : ℕ) (quarters : List Corner) (block : Rectangle)
-    → IsBlockOf g (square quarters) block → block.columns.len ≡ 4 → length quarters + 2 ≡ g
-position_level g quarters block of_square four =
+pub fine_level : (g : ℕ) (quarters : List Corner) (block : Rectangle)
+    → IsBlockOf g (square quarters) block → block.columns.len ≡ FINE_SIDE → length quarters + 2 ≡ g
+fine_level g quarters block of_square four =
     let sides = sides_as_asked g (cuts_of (quarter_steps quarters)) of_square.within in
     let across : block.columns.len ≡ 2 ^ (g - length quarters) =
     ap (λ b. b.columns.len) of_square.block_is ∙ sides.0 ∙ ap (λ n. 2 ^ (g - n)) (columns_long quarters) in
@@ -129,10 +129,10 @@ position_level g quarters block of_square four =
     let left = power_four (g - length quarters) (sym across ∙ four) in
     omega arith
 
--- the four quarters of a position, of which the one in the south-east begins at this column and row
-pub position_places : (g : ℕ) (held : ℕ → ℕ → Bool) (quarters : List Corner) (block : Rectangle)
+-- the four quarters of a fine square, of which the one in the south-east begins at this column and row
+pub fine_places : (g : ℕ) (held : ℕ → ℕ → Bool) (quarters : List Corner) (block : Rectangle)
     (column row : ℕ) (ne nw sw se : FullQuarters)
-    → IsBlockOf g (square quarters) block → block.columns.len ≡ 4
+    → IsBlockOf g (square quarters) block → block.columns.len ≡ FINE_SIDE
     → column ≡ block.columns.start → row ≡ block.rows.start
     → ne.ne ≡ held column ((row + 2) + 1) → ne.nw ≡ held (column + 1) ((row + 2) + 1)
     → ne.sw ≡ held (column + 1) (row + 2) → ne.se ≡ held column (row + 2)
@@ -145,7 +145,7 @@ pub position_places : (g : ℕ) (held : ℕ → ℕ → Bool) (quarters : List C
     → AreFull g held (NE ∷ quarters) ne
     × (AreFull g held (NW ∷ quarters) nw
     × (AreFull g held (SW ∷ quarters) sw × AreFull g held (SE ∷ quarters) se))
-position_places g held quarters block column row ne nw sw se of_square four column_is row_is a1 a2 a3 a4 b1
+fine_places g held quarters block column row ne nw sw se of_square four column_is row_is a1 a2 a3 a4 b1
     b2 b3 b4 c1 c2 c3 c4 d1 d2 d3 d4 = (
       of_four NE ne column (row + 2) column_is north a1 a2 a3 a4,
       (
@@ -191,14 +191,14 @@ position_places g held quarters block column row ne nw sw se of_square four colu
         (rw (sym c_is, sym r_is) se)
 
 -- which of them are full
-pub position_full : (g : ℕ) (held : ℕ → ℕ → Bool) (quarters : List Corner) (full ne nw sw se : FullQuarters)
+pub fine_full : (g : ℕ) (held : ℕ → ℕ → Bool) (quarters : List Corner) (full ne nw sw se : FullQuarters)
     → length quarters + 2 ≡ g
     → AreFull g held (NE ∷ quarters) ne
     × (AreFull g held (NW ∷ quarters) nw
     × (AreFull g held (SW ∷ quarters) sw × AreFull g held (SE ∷ quarters) se))
     → full.ne ≡ all_of ne → full.nw ≡ all_of nw → full.sw ≡ all_of sw → full.se ≡ all_of se
     → AreFull g held quarters full
-position_full g held quarters full ne nw sw se level are is_ne is_nw is_sw is_se = each
+fine_full g held quarters full ne nw sw se level are is_ne is_nw is_sw is_se = each
   where
     of_all : (corner : Corner) (test : Bool) (places : FullQuarters) → test ≡ all_of places
         → AreFull g held (corner ∷ quarters) places → IsTrue test ↔ IsFull g held (square (corner ∷ quarters))
@@ -214,36 +214,43 @@ position_full g held quarters full ne nw sw se level are is_ne is_nw is_sw is_se
     each SW = of_all SW full.sw sw is_sw are.1.1.0
     each SE = of_all SE full.se se is_se are.1.1.1
 
--- the places of a position lie in it
-along_position : (start place : ℕ) → start % 4 ≡ 0 → start ≤ place → place < start + 4
-    → position_along PLACE_DIGITS place ≡ start / 4
+-- the places along a side of a position
+abbrev POSITION : ℕ
+POSITION = places_to_position PLACE_DIGITS
+
+-- the places of a fine square lie in one position
+along_position : (start place : ℕ) → start % FINE_SIDE ≡ 0 → start ≤ place → place < start + FINE_SIDE
+    → position_along PLACE_DIGITS place ≡ start / POSITION
 along_position start place aligned least most = omega arith
 
-pub lot_of_position : (section column row place place' : ℕ) → column % 4 ≡ 0 → row % 4 ≡ 0 → column ≤ place
-    → place < column + 4 → row ≤ place' → place' < row + 4
-    → lot_of_place PLACE_DIGITS section place place' ≡ lot_at_position section (column / 4) (row / 4)
-lot_of_position section column row place place' a b least most least' most' =
+pub lot_of_fine : (section column row place place' : ℕ) → column % FINE_SIDE ≡ 0 → row % FINE_SIDE ≡ 0
+    → column ≤ place
+    → place < column + FINE_SIDE → row ≤ place' → place' < row + FINE_SIDE
+    → lot_of_place PLACE_DIGITS section place place'
+    ≡ lot_at_position section (column / POSITION) (row / POSITION)
+lot_of_fine section column row place place' a b least most least' most' =
     ap (λ n. lot_at_position section n (position_along PLACE_DIGITS place'))
     (along_position column place a least most)
-    ∙ ap (λ n. lot_at_position section (column / 4) n) (along_position row place' b least' most')
+    ∙ ap (λ n. lot_at_position section (column / POSITION) n) (along_position row place' b least' most')
 
 off_free : (held : Bool) (lot : Option ℕ) → is_none lot ≡ true → (held && is_none lot) ≡ held
 off_free true lot is = is
 off_free false lot is = refl
 
--- off the lots is what is held of a position that is no lot's
-pub position_free : (section column row : ℕ) (held : ℕ → ℕ → Bool) → column % 4 ≡ 0 → row % 4 ≡ 0
-    → is_none (lot_at_position section (column / 4) (row / 4)) ≡ true
-    → (place place' : ℕ) → column ≤ place → place < column + 4 → row ≤ place' → place' < row + 4
+-- off the lots is what is held of a fine square that is no lot's
+pub fine_free : (section column row : ℕ) (held : ℕ → ℕ → Bool) → column % FINE_SIDE ≡ 0 → row % FINE_SIDE ≡ 0
+    → is_none (lot_at_position section (column / POSITION) (row / POSITION)) ≡ true
+    → (place place' : ℕ) → column ≤ place → place < column + FINE_SIDE → row ≤ place'
+    → place' < row + FINE_SIDE
     → held place place' ≡ off_lots PLACE_DIGITS section held place place'
-position_free section column row held a b none place place' least most least' most' =
+fine_free section column row held a b none place place' least most least' most' =
     sym
     (off_free (held place place') (lot_of_place PLACE_DIGITS section place place')
-    (rw (lot_of_position section column row place place' a b least most least' most') none))
+    (rw (lot_of_fine section column row place place' a b least most least' most') none))
 
--- nothing is written of a lot's position
-bounds : (span : Span) (place : ℕ) → span.len ≡ 4 → in_span span place ≡ true
-    → (span.start ≤ place) × (place < span.start + 4)
+-- nothing is written of a lot's fine squares
+bounds : (span : Span) (place : ℕ) → span.len ≡ FINE_SIDE → in_span span place ≡ true
+    → (span.start ≤ place) × (place < span.start + FINE_SIDE)
 bounds span place four is =
     let both = and_parts (nat_le span.start place) (nat_lt place (span.start + span.len)) is in
     (grind (arith, nat_tests), grind (arith, nat_tests))
@@ -253,13 +260,14 @@ some_not_none None held some is = cc some
 some_not_none (Some n) true some is = cc is
 some_not_none (Some n) false some is = cc is
 
-pub position_lot : (section column row : ℕ) (held : ℕ → ℕ → Bool) (quarters : List Corner) (block : Rectangle)
-    → IsBlockOf PLACE_DIGITS (square quarters) block → block.columns.len ≡ 4 → block.rows.len ≡ 4
-    → column ≡ block.columns.start → row ≡ block.rows.start → column % 4 ≡ 0 → row % 4 ≡ 0
-    → is_some (lot_at_position section (column / 4) (row / 4)) ≡ true
+pub fine_lot : (section column row : ℕ) (held : ℕ → ℕ → Bool) (quarters : List Corner) (block : Rectangle)
+    → IsBlockOf PLACE_DIGITS (square quarters) block → block.columns.len ≡ FINE_SIDE
+    → block.rows.len ≡ FINE_SIDE
+    → column ≡ block.columns.start → row ≡ block.rows.start → column % FINE_SIDE ≡ 0 → row % FINE_SIDE ≡ 0
+    → is_some (lot_at_position section (column / POSITION) (row / POSITION)) ≡ true
     → (place place' : ℕ) → IsInPart PLACE_DIGITS (square quarters) place place'
     → ¬ (off_lots PLACE_DIGITS section held place place' ≡ true)
-position_lot section column row held quarters block of_square wide high column_is row_is a b some place
+fine_lot section column row held quarters block of_square wide high column_is row_is a b some place
     place' inside is =
     let both =
     and_parts (in_span block.columns place) (in_span block.rows place')
@@ -267,7 +275,7 @@ position_lot section column row held quarters block of_square wide high column_i
     let across = bounds block.columns place wide both.0 in
     let upward = bounds block.rows place' high both.1 in
     let lot_is =
-    lot_of_position section column row place place' a b (rw column_is across.0) (rw column_is across.1)
+    lot_of_fine section column row place place' a b (rw column_is across.0) (rw column_is across.1)
     (rw row_is upward.0) (rw row_is upward.1) in
     some_not_none (lot_of_place PLACE_DIGITS section place place') (held place place') (rw lot_is some) is
 

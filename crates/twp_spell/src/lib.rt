@@ -2,12 +2,12 @@
 //! that is written of a land, which is read back as that land.
 #![tactic(auto)]
 
+mod fine_parts;
 mod full_quarters;
 pub mod laws;
 mod part_buffer;
 mod part_text;
 mod path;
-mod position_parts;
 mod spelling;
 mod written_parts;
 

@@ -19,8 +19,11 @@ const QUARTER_BYTES: usize = 7;
 /// path.
 const PLACE_BYTES: usize = QUARTER_BYTES + PATH_QUARTER_BYTES + PATH_BYTES;
 
-/// The bytes of as many parts as a position has places.
-const BUFFER_BYTES: usize = 16 * PLACE_BYTES;
+/// The places along a side of a fine square: two quarterings cut it into its places.
+pub(crate) const FINE_SIDE: u8 = 1 << 2;
+
+/// The bytes of as many parts as a fine square has places.
+const BUFFER_BYTES: usize = FINE_SIDE as usize * FINE_SIDE as usize * PLACE_BYTES;
 
 /// Parts as they are written, each behind a comma. No memory is taken for them.
 #[derive(Drop)]
@@ -36,7 +39,9 @@ impl Model for PartBuffer {
 
     ghost view = { λ buffer. take buffer.len buffer.bytes };
 
-    ghost invariant = { λ buffer. buffer.len ≤ 448 };
+    ghost use Rattle.twp_spell.specs.steps.Spelling.{BUFFER_MOST};
+
+    ghost invariant = { λ buffer. buffer.len ≤ BUFFER_MOST };
 }
 
 impl PartBuffer {

@@ -5,14 +5,14 @@ ghost use Rattle.twp_spell.specs.steps.Spelling.{PATH_MOST};
 ghost use Rattle.twp_grammar.specs.declared.item.Step.TheVariants.{Quarter};
 
 use std::marker::Model;
-use twp_grid::Corner;
-
-/// The bytes that are kept of a path. The longest one that stands behind a part has three quarters,
-/// or 15 bytes; 16 are copied at once.
-pub(crate) const PATH_BYTES: usize = 16;
+use twp_grid::{Corner, PLACE_DIGITS};
 
 /// The bytes of one quarter.
 pub(crate) const PATH_QUARTER_BYTES: usize = 5;
+
+/// The bytes of the longest path that stands after a part: that of a place, without its own
+/// quarter.
+pub(crate) const PATH_BYTES: usize = PATH_QUARTER_BYTES * (PLACE_DIGITS - 1);
 
 /// The quarters that reach a square, smallest first, as `NE1/4SW1/4`. No memory is taken for them.
 #[derive(Drop)]
@@ -28,7 +28,9 @@ impl Model for Path {
 
     ghost view = { λ path. take path.len path.text };
 
-    ghost invariant = { λ path. path.len ≤ 16 };
+    ghost use Rattle.twp_spell.specs.steps.Spelling.{PATH_MOST};
+
+    ghost invariant = { λ path. path.len ≤ PATH_MOST };
 }
 
 impl Path {

@@ -8,19 +8,16 @@ ghost use Rattle.twp_spell.specs.WrittenParts.Part.{square};
 ghost use Rattle.twp_land.specs.WholeLots.{off_lots};
 ghost use Rattle.twp_spell.specs.CanonicalText.{HoldsEach};
 ghost use Rattle.twp_spell.specs.steps.Spelling.{IsBlockOf, AreOfSquare, AreOfQuarter};
-ghost use Rattle.twp_spell.specs.steps.Spelling.{AreWritten, AreFull, quarters_text};
+ghost use Rattle.twp_spell.specs.steps.Spelling.{AreWritten, AreFull, FINE_SIDE, quarters_text};
 
+use crate::fine_parts::push_fine_square;
 use crate::full_quarters::FullQuarters;
+use crate::part_buffer::{FINE_SIDE, PartBuffer};
 use crate::part_text::{half_at, write_full_quarter, write_half_if_first};
 use crate::path::Path;
-use crate::part_buffer::PartBuffer;
-use crate::position_parts::push_position;
 use std::alloc::AllocError;
-use twp_grid::{Block, Corner, Section, lot_at};
+use twp_grid::{Block, Corner, PLACES_TO_POSITION, Section, lot_at};
 use twp_land::{Land, holds_of_lot};
-
-/// How many places a side of a position has.
-const PLACES_TO_POSITION: u8 = 4;
 
 /// Appends the written parts of what a land holds of a section off its lots, each behind a comma.
 /// The section isn't held whole.
@@ -55,8 +52,8 @@ fn write_square<L: Land>(
         (off_lots PLACE_DIGITS section (L.places land.now section)) quarters)
         text.old.items text.new.items) }
 {
-    if block.width() == PLACES_TO_POSITION && block.height() == PLACES_TO_POSITION {
-        return write_position(land, section, block, path, text);
+    if block.width() == FINE_SIDE && block.height() == FINE_SIDE {
+        return write_fine_square(land, section, block, path, text);
     }
     if !land.meets(section, block) {
         return Ok(());
@@ -98,8 +95,8 @@ fn write_quarter<L: Land>(
         return write_full_quarter(corner, path, text);
     }
     let quarter = block.quarter(corner).unwrap();
-    // A place can't be cut further. None comes here, since a position is written by itself; the
-    // tests show that the descent ends without a word on positions.
+    // A place can't be cut further. None comes here, since a fine square is written by itself; the
+    // tests show that the descent ends without a word on fine squares.
     if quarter.width() == 1 {
         return Ok(());
     }
@@ -109,17 +106,18 @@ fn write_quarter<L: Land>(
     write_square(land, section, quarter, &path.quarter(corner), text)
 }
 
-/// Appends the written parts of a position that isn't full, of which each place is asked for.
+/// Appends the written parts of a fine square that isn't full, of which each place is asked for. It
+/// lies in one position.
 #[inline(never)]
-fn write_position<L: Land>(
+fn write_fine_square<L: Land>(
     land: &L,
     section: Section,
     block: Block,
     path: &Path,
     text: &mut Vec<u8>,
 ) -> Result<(), AllocError>
-    requires width { block.columns.len ≡ 4 }
-    requires height { block.rows.len ≡ 4 }
+    requires width { block.columns.len ≡ FINE_SIDE }
+    requires height { block.rows.len ≡ FINE_SIDE }
     ensures { (quarters : List Corner) → IsBlockOf PLACE_DIGITS (square quarters) block
         → path.now ≡ quarters_text quarters
         → ¬ IsFull PLACE_DIGITS (off_lots PLACE_DIGITS section (L.places land.now section))
@@ -149,7 +147,7 @@ fn write_position<L: Land>(
         se: se.all(),
     };
     let mut buffer = PartBuffer::new();
-    push_position(full, ne, nw, sw, se, path, &mut buffer);
+    push_fine_square(full, ne, nw, sw, se, path, &mut buffer);
     buffer.append_to(text)
 }
 

@@ -1,9 +1,11 @@
 -- How the parts of a section are written by descent from it: quarter by quarter. No public promise
 -- speaks of it; proofs/DescentLists shows that they are the section's written parts.
-use Rattle.std.specs.Prelude.{◌≡◌, ◌⊎◌, ◌↔◌, ◌&&◌, if◌then◌else◌, ℕ, Bool, IsTrue, List, [], ◌∷◌}
+use Rattle.std.specs.Prelude.{◌≡◌, ◌^◌, ◌-◌, ◌*◌, ◌+◌, ◌⊎◌, ◌↔◌, ◌&&◌, if◌then◌else◌, ℕ, Bool, IsTrue, List}
+use Rattle.std.specs.Prelude.{[], ◌∷◌}
 use Rattle.std.specs.Prelude.{◌++◌, Option, Some, None, map, codes}
 use Rattle.std.specs.List.{flat_map}
 use Rattle.twp_grid.specs.Cuts.{AreWithin, reached}
+use Rattle.twp_grid.specs.Places.{PLACE_DIGITS}
 use Rattle.twp_grid.specs.Spans.{Rectangle}
 use Rattle.twp_grid.specs.declared.block.Side.{Side}
 use Rattle.twp_grid.specs.declared.block.Side.TheVariants.{N, S, E, W}
@@ -92,18 +94,26 @@ abbrev pub IsOffChosen : ℕ → (ℕ → ℕ → Bool) → List Corner → Corn
 IsOffChosen g held quarters corner =
     (side : Side) → IsChosenHalf g held quarters side → ¬ IsOnSide side corner
 
--- the bytes that are kept of a path: three quarters, which is the longest behind a part, have 15
+-- the places along a side of a fine square, which two quarterings cut into its places
+abbrev pub FINE_SIDE : ℕ
+FINE_SIDE = 2 ^ 2
+
+-- the bytes of a quarter, as NE1/4
+abbrev pub QUARTER_LENGTH : ℕ
+QUARTER_LENGTH = 5
+
+-- the bytes of the longest path that stands after a part: that of a place, without its own quarter
 abbrev pub PATH_MOST : ℕ
-PATH_MOST = 16
+PATH_MOST = QUARTER_LENGTH * (PLACE_DIGITS - 1)
 
--- the bytes that are kept of a part: a quarter behind a comma, the quarter that it is of, and a
--- path
+-- the bytes that are kept of a part: a quarter after a comma and a space, the quarter that it is of,
+-- and a path
 abbrev pub PART_MOST : ℕ
-PART_MOST = 28
+PART_MOST = 2 + QUARTER_LENGTH + QUARTER_LENGTH + PATH_MOST
 
--- the bytes of as many parts as a position has places
+-- the bytes of as many parts as a fine square has places
 abbrev pub BUFFER_MOST : ℕ
-BUFFER_MOST = 448
+BUFFER_MOST = FINE_SIDE * FINE_SIDE * PART_MOST
 
 -- quarters as they are written behind a smaller part
 abbrev pub quarters_text : List Corner → List ℕ

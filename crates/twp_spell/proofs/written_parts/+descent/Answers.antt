@@ -116,7 +116,7 @@ write_quarter-returns g t c = λ quarters of_square path_is short are.
     c.requires of_square in
     let wide : 1 < c.unwrap-quarter.result.columns.len =
     omega (arith, c.width.ensures.value, c.width.ensures.dyadic.some, c.if-width-eq1.false) in
-    let inner : length (c.args.corner ∷ quarters) < 4 =
+    let inner : length (c.args.corner ∷ quarters) < PLACE_DIGITS =
     deeper PLACE_DIGITS (c.args.corner ∷ quarters) c.unwrap-quarter.result of_quarter wide in
     inner_written c.write_square.result PLACE_DIGITS
     (off_lots PLACE_DIGITS c.args.section (g.L.Land.places c.args.land.now c.args.section)) quarters

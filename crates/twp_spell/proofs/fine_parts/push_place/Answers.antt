@@ -6,7 +6,7 @@ use Rattle.twp_spell.proofs.DescentLists.{of_empty}
 use Rattle.twp_spell.proofs.HalfQuarters.{choice_made}
 use Rattle.twp_spell.proofs.SquareBlocks.{finest_empty}
 use Rattle.twp_spell.proofs.WritingFacts.{half_added, off_choice, choice_is, full_added, none_written}
-use Rattle.twp_spell.proofs.position_parts.push_place.Goals as goal
+use Rattle.twp_spell.proofs.fine_parts.push_place.Goals as goal
 
 pub returns-in-Some-clause-parts : goal.returns-in-Some-clause-parts
 returns-in-Some-clause-parts c = λ held quarters level path_is short are.

@@ -8,7 +8,7 @@ use Rattle.twp_spell.proofs.DescentLists.{of_empty}
 use Rattle.twp_spell.proofs.HalfQuarters.{off_all}
 use Rattle.twp_spell.proofs.SquareBlocks.{finest_empty}
 use Rattle.twp_spell.proofs.WritingFacts.{full_added, none_written}
-use Rattle.twp_spell.proofs.position_parts.push_single_place.Goals as goal
+use Rattle.twp_spell.proofs.fine_parts.push_single_place.Goals as goal
 
 pub returns-then-at-clause-parts : goal.returns-then-at-clause-parts
 returns-then-at-clause-parts c = λ held quarters level path_is short are none.

@@ -1,4 +1,5 @@
-//! The written parts of a position, of which it is known which places are held.
+//! The written parts of a fine square, which two quarterings cut into places, and of which it is
+//! known which places are held.
 ghost use Rattle.std.specs.Prelude.{◌≡◌, ◌+◌, ◌*◌, ◌≤◌, [], ◌∷◌, ℕ, Bool, List, length, None};
 ghost use Rattle.twp_grid.specs.Places.{PLACE_DIGITS};
 ghost use Rattle.twp_grid.specs.declared.block.Corner.{Corner};
@@ -8,15 +9,14 @@ ghost use Rattle.twp_spell.specs.steps.Spelling.{AreOfSquare, AreOfQuarter, AreW
 ghost use Rattle.twp_spell.specs.steps.Spelling.{PART_MOST, BUFFER_MOST, chosen_of, quarters_text};
 
 use crate::full_quarters::FullQuarters;
+use crate::part_buffer::PartBuffer;
 use crate::part_text::{half_at, push_half_if_first};
 use crate::path::Path;
-use crate::part_buffer::PartBuffer;
 use twp_grid::Corner;
 
-/// Adds the written parts of a position that isn't full, of which the quarters have four places
-/// each.
+/// Adds the written parts of a fine square that isn't full. Its quarters have four places each.
 #[inline(always)]
-pub(crate) fn push_position(
+pub(crate) fn push_fine_square(
     full: FullQuarters,
     ne: FullQuarters,
     nw: FullQuarters,
@@ -49,7 +49,7 @@ pub(crate) fn push_position(
     push_single_quarter(full, se, Corner::SE, path, buffer);
 }
 
-/// Adds the written parts that begin in a quarter of such a position.
+/// Adds the written parts that begin in a quarter of such a square.
 #[inline(never)]
 fn push_quarter_of(
     full: FullQuarters,
@@ -77,7 +77,7 @@ fn push_quarter_of(
     push_places(places, &path.quarter(corner), buffer)
 }
 
-/// Adds the written parts that begin in a quarter of such a position, where none of its halves is
+/// Adds the written parts that begin in a quarter of such a square, where none of its halves is
 /// full.
 #[inline(always)]
 fn push_single_quarter(
@@ -145,7 +145,7 @@ fn push_place(full: FullQuarters, corner: Corner, path: &Path, buffer: &mut Part
     }
 }
 
-/// Adds the written parts of a quarter of such a position, where none of the quarter's halves is
+/// Adds the written parts of a quarter of such a square, where none of the quarter's halves is
 /// full: the places that are held.
 #[inline(always)]
 fn push_single_places(full: FullQuarters, outer: Corner, path: &Path, buffer: &mut PartBuffer)

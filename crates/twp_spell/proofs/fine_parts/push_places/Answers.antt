@@ -2,7 +2,7 @@
 use Rattle.std.proofs.Common.{arith}
 use Rattle.twp_grid.specs.Places.{PLACE_DIGITS}
 use Rattle.twp_spell.proofs.WritingFacts.{quarters_added}
-use Rattle.twp_spell.proofs.position_parts.push_places.Goals as goal
+use Rattle.twp_spell.proofs.fine_parts.push_places.Goals as goal
 
 pub returns-clause-parts : goal.returns-clause-parts
 returns-clause-parts c = λ held quarters level path_is short are.

@@ -5,7 +5,7 @@ use Rattle.twp_grid.specs.Places.{PLACE_DIGITS}
 use Rattle.twp_spell.proofs.HalfQuarters.{no_choice, off_all}
 use Rattle.twp_spell.proofs.PathFacts.{path_of_quarter}
 use Rattle.twp_spell.proofs.WritingFacts.{full_added, inner_added}
-use Rattle.twp_spell.proofs.position_parts.push_single_quarter.Goals as goal
+use Rattle.twp_spell.proofs.fine_parts.push_single_quarter.Goals as goal
 
 pub returns-then-at-clause-parts : goal.returns-then-at-clause-parts
 returns-then-at-clause-parts c = λ held quarters level path_is short are none are_places.

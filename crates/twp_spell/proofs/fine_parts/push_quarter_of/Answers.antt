@@ -5,7 +5,7 @@ use Rattle.twp_grid.specs.Places.{PLACE_DIGITS}
 use Rattle.twp_spell.proofs.HalfQuarters.{choice_made}
 use Rattle.twp_spell.proofs.PathFacts.{path_of_quarter}
 use Rattle.twp_spell.proofs.WritingFacts.{half_added, off_choice, choice_is, full_added, inner_added}
-use Rattle.twp_spell.proofs.position_parts.push_quarter_of.Goals as goal
+use Rattle.twp_spell.proofs.fine_parts.push_quarter_of.Goals as goal
 
 pub returns-in-Some-clause-parts : goal.returns-in-Some-clause-parts
 returns-in-Some-clause-parts c = λ held quarters level path_is short are are_places.

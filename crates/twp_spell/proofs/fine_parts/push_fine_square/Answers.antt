@@ -3,7 +3,7 @@ use Rattle.std.proofs.Common.{sym, ◌∙◌, arith}
 use Rattle.twp_grid.specs.Places.{PLACE_DIGITS}
 use Rattle.twp_spell.proofs.HalfQuarters.{no_choice}
 use Rattle.twp_spell.proofs.WritingFacts.{quarters_added}
-use Rattle.twp_spell.proofs.position_parts.push_position.Goals as goal
+use Rattle.twp_spell.proofs.fine_parts.push_fine_square.Goals as goal
 
 pub returns-then-has_half : goal.returns-then-has_half
 returns-then-has_half c = λ held quarters level path_is short full ne nw sw se.

@@ -1,20 +1,20 @@
--- The places of a position, four by four.
+-- The places of a fine square, four by four.
 use Rattle.std.proofs.Common.{◌≡◌, ◌+◌, ◌%◌, sym, ◌∙◌, arith}
 use Rattle.twp_grid.specs.Places.{PLACE_DIGITS}
 use Rattle.twp_land.specs.WholeLots.{off_lots}
-use Rattle.twp_spell.specs.steps.Spelling.{AreOfSquare}
+use Rattle.twp_spell.specs.steps.Spelling.{FINE_SIDE, AreOfSquare}
 use Rattle.twp_spell.proofs.DescentLists.{of_empty}
 use Rattle.twp_spell.proofs.SquareFacts.{square_fits}
-use Rattle.twp_spell.proofs.PlaceSquares.{position_places, position_full, position_level, position_free}
-use Rattle.twp_spell.proofs.PlaceSquares.{position_lot, not_some}
+use Rattle.twp_spell.proofs.PlaceSquares.{fine_places, fine_full, fine_level, fine_free}
+use Rattle.twp_spell.proofs.PlaceSquares.{fine_lot, not_some}
 use Rattle.twp_spell.proofs.WritingFacts.{written_none, buffer_appended}
-use Rattle.twp_spell.proofs.written_parts.write_position.Goals as goal
+use Rattle.twp_spell.proofs.written_parts.write_fine_square.Goals as goal
 
 pub returns-then-is_some : goal.returns-then-is_some
 returns-then-is_some g c = λ quarters of_square path_is short.
-    let wide : c.column-column.result % 4 ≡ 0 =
+    let wide : c.column-column.result % FINE_SIDE ≡ 0 =
     rw c.column-column.ensures.value (rw c.requires.width at c.column-column.ensures.dyadic.aligned) in
-    let high : c.row-row.result % 4 ≡ 0 =
+    let high : c.row-row.result % FINE_SIDE ≡ 0 =
     rw c.row-row.ensures.value (rw c.requires.height at c.row-row.ensures.dyadic.aligned) in
     written_none
     (AreOfSquare PLACE_DIGITS
@@ -23,24 +23,24 @@ returns-then-is_some g c = λ quarters of_square path_is short.
     (of_empty PLACE_DIGITS
     (off_lots PLACE_DIGITS c.args.section (g.L.Land.places c.args.land.now c.args.section)) quarters
     (square_fits PLACE_DIGITS quarters of_square.within)
-    (position_lot c.args.section c.column-column.result c.row-row.result
+    (fine_lot c.args.section c.column-column.result c.row-row.result
     (g.L.Land.places c.args.land.now c.args.section) quarters c.args.block of_square c.requires.width
     c.requires.height c.column-column.ensures.value c.row-row.ensures.value wide high
     (rw (sym c.lot_at-lot.ensures.lot) (sym c.is_some.ensures ∙ c.if-is_some.true))))
 
 pub returns : goal.returns
 returns g c = λ quarters of_square path_is short.
-    let level = position_level PLACE_DIGITS quarters c.args.block of_square c.requires.width in
-    let wide : c.column-column.result % 4 ≡ 0 =
+    let level = fine_level PLACE_DIGITS quarters c.args.block of_square c.requires.width in
+    let wide : c.column-column.result % FINE_SIDE ≡ 0 =
     rw c.column-column.ensures.value (rw c.requires.width at c.column-column.ensures.dyadic.aligned) in
-    let high : c.row-row.result % 4 ≡ 0 =
+    let high : c.row-row.result % FINE_SIDE ≡ 0 =
     rw c.row-row.ensures.value (rw c.requires.height at c.row-row.ensures.dyadic.aligned) in
     let free =
-    position_free c.args.section c.column-column.result c.row-row.result
+    fine_free c.args.section c.column-column.result c.row-row.result
     (g.L.Land.places c.args.land.now c.args.section) wide high
     (not_some _ (rw (sym c.lot_at-lot.ensures.lot) (sym c.is_some.ensures ∙ c.if-is_some.false))) in
     let places =
-    position_places PLACE_DIGITS
+    fine_places PLACE_DIGITS
     (off_lots PLACE_DIGITS c.args.section (g.L.Land.places c.args.land.now c.args.section)) quarters
     c.args.block c.column-column.result c.row-row.result
     c.held_places-ne.result c.held_places-nw.result c.held_places-sw.result c.held_places-se.result of_square
@@ -93,7 +93,7 @@ returns g c = λ quarters of_square path_is short.
     (c.held_places-se.ensures.se
     ∙ free c.column-column.result c.row-row.result (omega arith) (omega arith) (omega arith) (omega arith)) in
     let full =
-    position_full PLACE_DIGITS
+    fine_full PLACE_DIGITS
     (off_lots PLACE_DIGITS c.args.section (g.L.Land.places c.args.land.now c.args.section)) quarters
     (record { ne = c.all.result; nw = c.all-2.result; sw = c.all-3.result; se = c.all-4.result })
     c.held_places-ne.result c.held_places-nw.result c.held_places-sw.result c.held_places-se.result level
@@ -101,9 +101,9 @@ returns g c = λ quarters of_square path_is short.
     buffer_appended c.append_to.result
     (AreOfSquare PLACE_DIGITS
     (off_lots PLACE_DIGITS c.args.section (g.L.Land.places c.args.land.now c.args.section)) quarters)
-    c.args.text.now.items c.new-buffer.result c.push_position.new.buffer c.append_to.new.text.items
+    c.args.text.now.items c.new-buffer.result c.push_fine_square.new.buffer c.append_to.new.text.items
     c.new-buffer.ensures
-    (c.push_position.ensures
+    (c.push_fine_square.ensures
     (off_lots PLACE_DIGITS c.args.section (g.L.Land.places c.args.land.now c.args.section)) quarters level
     path_is short full places.0 places.1.0 places.1.1.0 places.1.1.1)
     c.append_to.ensures
