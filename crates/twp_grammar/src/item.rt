@@ -23,7 +23,7 @@ pub enum Step {
     Quarter(Corner),
 }
 
-/// The north half stands in places of `Steps` that aren't used yet.
+/// The north half fills the places of `Steps` that aren't used yet.
 impl Default for Step {
     fn default() -> Step {
         Step::Half(Side::N)
@@ -68,7 +68,7 @@ impl Steps {
         self.first.len() + self.more.len()
     }
 
-    /// The first steps, which stand beside each other: all of them, or eight.
+    /// The first steps, which stand side by side: all of them, or eight.
     #[inline]
     #[tactic(auto, using(crate::proofs::StepFacts::in_first, crate::proofs::StepFacts::all_first))]
     pub fn first(&self) -> &[Step]
@@ -106,7 +106,7 @@ impl Steps {
         self.push_more(step)
     }
 
-    /// Adds a step behind the eighth.
+    /// Adds a step after the eighth.
     #[cold]
     #[inline(never)]
     #[tactic(auto, using(crate::proofs::StepFacts::push_more))]

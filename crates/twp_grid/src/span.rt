@@ -11,7 +11,7 @@ pub const PLACES_ACROSS: usize = 1 << 4;
 /// The places along a side of a position.
 const PLACES_TO_POSITION: usize = PLACES_ACROSS / 4;
 
-/// Columns or rows of places in succession, of those that halving a section's side gives.
+/// Columns or rows of places in succession, as halving a section's side gives them.
 #[derive(Clone, Copy, Debug, PartialEq, Eq, Hash)]
 pub(crate) struct Span {
     start: usize,
@@ -47,7 +47,7 @@ impl Span {
         }
     }
 
-    /// The columns or rows of a position, 0 to 3. None outside.
+    /// The columns or rows of a position, 0 to 3. None outside this range.
     pub(crate) fn position(position: u8) -> Option<Span>
         ensures { SomeIff result (position < POSITIONS_ACROSS)
             (position_span PLACE_DIGITS position) }
@@ -61,7 +61,7 @@ impl Span {
         })
     }
 
-    /// The half of the lesser numbers, in the east or the south. None of a single place.
+    /// The half of the lesser numbers, in the east or the south. None for a single place.
     pub(crate) fn lower(self) -> Option<Span>
         ensures { SomeIff result (1 < self.len) (lower_half self) }
     {
@@ -74,7 +74,7 @@ impl Span {
         })
     }
 
-    /// The half of the greater numbers, in the west or the north. None of a single place.
+    /// The half of the greater numbers, in the west or the north. None for a single place.
     pub(crate) fn upper(self) -> Option<Span>
         ensures { SomeIff result (1 < self.len) (upper_half self) }
     {

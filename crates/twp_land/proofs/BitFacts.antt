@@ -71,7 +71,7 @@ sum_is_total (lane ∷ lanes) =
     later : (i : ℕ) → get_or (lane ∷ lanes) (i + 1) 0 ≡ get_or lanes i 0
     later i = let e : i + 1 ≡ suc i = omega arith in rw e refl
 
--- the ones of a number of so many digits
+-- the ones of a number of this many digits
 pub ones_are_total : (digits n : ℕ) → n < 2 ^ digits → count_ones n ≡ total digits (λ i. bit_at n i)
 ones_are_total zero n below =
     let none : n ≡ 0 = omega (arith, below) in
@@ -102,7 +102,7 @@ some_or_none (suc n) test = elim (cases_Bool (test n)) [
   ]
 ]
 
--- so many ones, at their number
+-- for each count, the number that has this many ones in binary
 abbrev ones_table : List ℕ
 ones_table =
     0 ∷ 1 ∷ 3 ∷ 7 ∷ 15 ∷ 31 ∷ 63 ∷ 127 ∷ 255 ∷ 511 ∷ 1023 ∷ 2047 ∷ 4095 ∷ 8191 ∷ 16383 ∷ 32767 ∷ 65535 ∷ []

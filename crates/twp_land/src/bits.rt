@@ -11,7 +11,7 @@ const ROW_BITS: [u16; PLACES_ACROSS] = [
     1, 2, 4, 8, 16, 32, 64, 128, 256, 512, 1024, 2048, 4096, 8192, 16384, 32768,
 ];
 
-/// So many ones, from none to one for each column.
+/// This many ones, from none to one for each column.
 const ONES: [u16; PLACES_ACROSS + 1] = [
     0, 1, 3, 7, 15, 31, 63, 127, 255, 511, 1023, 2047, 4095, 8191, 16383, 32767, 65535,
 ];
@@ -26,7 +26,7 @@ pub(crate) fn vector(lanes: &[u16]) -> u16x16
     u16x16::from_slice(lanes)
 }
 
-/// So many ones from the bit of a start.
+/// This many ones from the bit of a start.
 #[inline(always)]
 pub(crate) fn ones(start: u8, len: u8) -> u16
     requires { start + len ≤ places_across PLACE_DIGITS }

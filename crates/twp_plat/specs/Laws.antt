@@ -42,7 +42,7 @@ PieceIsWhole = (plat : TownshipPlat) (section column row : ℕ) (q : ClosingQuar
     → IsPlat plat → AreClosingQuarters plat section q → section ≢ 6 → column < 4 → row < 4
     → (units : ℕ) × IsSame (piece q column row) (whole units)
 
--- each piece is a whole number of parts of the plat's denominator: the division leaves no rest
+-- each piece is a whole number of parts of the plat's denominator: the division leaves no remainder
 abbrev pub PieceIsOver : Type 0
 PieceIsOver = (plat : TownshipPlat) (section column row : ℕ) (q : ClosingQuarters)
     → IsPlat plat → AreClosingQuarters plat section q → column < 4 → row < 4

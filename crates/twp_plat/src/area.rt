@@ -8,7 +8,7 @@ use crate::plat::Plat;
 use twp_grid::{SECTIONS, Section};
 use twp_measure::Area;
 
-/// How many positions stand beside each other in a section, and how many one above the other.
+/// How many positions stand side by side in a section, and how many one above another.
 const POSITIONS_ACROSS: u8 = 4;
 
 impl Plat {

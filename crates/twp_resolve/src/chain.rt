@@ -73,8 +73,8 @@ fn block_of(steps: &Steps) -> Option<Block>
     Some(block)
 }
 
-/// The place that four quarters leave of a section. None of other steps. Each quarter's size is
-/// known here, so that none is tested for being too fine.
+/// The place that four quarters leave of a section. None for other steps. Each quarter's size is
+/// known here, so none has to be tested for being too fine.
 #[inline(always)]
 fn place_of(steps: &Steps) -> Option<Block>
     ensures { IfSome result (IsCutTo PLACE_DIGITS steps.now 0) }
@@ -89,7 +89,7 @@ fn place_of(steps: &Steps) -> Option<Block>
     quarter_of(square, first[0])
 }
 
-/// The quarter of a block that a step takes. None of a half.
+/// The quarter of a block that a step takes. None for a half.
 #[inline(always)]
 fn quarter_of(block: Block, step: Step) -> Option<Block>
     ensures { IfSome result (λ part. CanCut block (cut_of step) × (part ≡ part_of block (cut_of step))) }

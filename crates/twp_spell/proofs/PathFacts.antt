@@ -1,4 +1,4 @@
--- Paths of squares: the bytes of a quarter ahead of those of its square.
+-- Paths of squares: the bytes of a quarter before those of its square.
 use Rattle.std.proofs.Common.{◌≡◌, ℕ, zero, suc, ◌+◌, ◌*◌, ◌<◌, ◌≤◌, List, [], ◌∷◌, ◌++◌, length}
 use Rattle.std.proofs.Common.{length-append, take, min, refl, sym, ap, ◌∙◌, inl, inr, arith}
 use Rattle.std.proofs.lemmas.Bool.{cases_lt}
@@ -33,7 +33,7 @@ long_quarter NW = refl
 long_quarter SW = refl
 long_quarter SE = refl
 
--- the bytes of a step, and behind them the first 11 of a path's 16
+-- the bytes of a step, and after them the first 11 of a path's 16
 pub longer : (step more rest : List ℕ) (len end : ℕ) → length step ≡ 5 → length more ≡ 16
     → (len ≤ 11 → end ≡ len + 5) → (11 < len → end ≡ 16)
     → take end (step ++ (take 11 more ++ rest)) ≡ take 16 (step ++ take len more)
@@ -65,7 +65,7 @@ longer step more rest len end five sixteen short long = elim (cases_lt 11 len) [
     enough : len ≤ 11 → len ≤ length (take 11 more)
     enough less = let same = long_take in omega arith
 
--- a path of so few quarters is whole
+-- a path of this few quarters is whole
 pub long_path : (quarters : List Corner) → length (quarters_text quarters) ≡ 5 * length quarters
 long_path [] = refl
 long_path (corner ∷ parent) =

@@ -6,8 +6,8 @@ ghost use Rattle.twp_spell.specs.WrittenParts.{IsOnSide};
 ghost use Rattle.twp_spell.specs.CanonicalText.{step_text};
 ghost use Rattle.twp_spell.specs.steps.Spelling.{PART_MOST, BUFFER_MOST, quarter_on};
 
-use crate::path::Path;
 use crate::part_buffer::PartBuffer;
+use crate::path::Path;
 use std::alloc::AllocError;
 use twp_grid::{Corner, Side};
 

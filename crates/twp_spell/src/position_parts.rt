@@ -8,9 +8,9 @@ ghost use Rattle.twp_spell.specs.steps.Spelling.{AreOfSquare, AreOfQuarter, AreW
 ghost use Rattle.twp_spell.specs.steps.Spelling.{PART_MOST, BUFFER_MOST, chosen_of, quarters_text};
 
 use crate::full_quarters::FullQuarters;
+use crate::part_buffer::PartBuffer;
 use crate::part_text::{half_at, push_half_if_first};
 use crate::path::Path;
-use crate::part_buffer::PartBuffer;
 use twp_grid::Corner;
 
 /// Adds the written parts of a position that isn't full, of which the quarters have four places

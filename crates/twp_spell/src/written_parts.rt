@@ -11,9 +11,9 @@ ghost use Rattle.twp_spell.specs.steps.Spelling.{IsBlockOf, AreOfSquare, AreOfQu
 ghost use Rattle.twp_spell.specs.steps.Spelling.{AreWritten, AreFull, quarters_text};
 
 use crate::full_quarters::FullQuarters;
+use crate::part_buffer::PartBuffer;
 use crate::part_text::{half_at, write_full_quarter, write_half_if_first};
 use crate::path::Path;
-use crate::part_buffer::PartBuffer;
 use crate::position_parts::push_position;
 use std::alloc::AllocError;
 use twp_grid::{Block, Corner, Section, lot_at};
@@ -22,7 +22,7 @@ use twp_land::{Land, holds_of_lot};
 /// How many places a side of a position has.
 const PLACES_TO_POSITION: u8 = 4;
 
-/// Appends the written parts of what a land holds of a section off its lots, each behind a comma.
+/// Appends the written parts of what a land holds of a section off its lots, each after a comma.
 /// The section isn't held whole.
 pub(crate) fn write_parts<L: Land>(
     land: &L,
@@ -37,7 +37,7 @@ pub(crate) fn write_parts<L: Land>(
     write_square(land, section, Block::whole(), &Path::whole(), text)
 }
 
-/// Appends the written parts of a square that isn't full, each behind a comma.
+/// Appends the written parts of a square that isn't full, each after a comma.
 #[cycle(descent)]
 fn write_square<L: Land>(
     land: &L,
@@ -98,8 +98,8 @@ fn write_quarter<L: Land>(
         return write_full_quarter(corner, path, text);
     }
     let quarter = block.quarter(corner).unwrap();
-    // A place can't be cut further. None comes here, since a position is written by itself; the
-    // tests show that the descent ends without a word on positions.
+    // A place can't be cut further. No place comes here, since a position is written by itself; the
+    // tests show that the descent ends without mentioning positions.
     if quarter.width() == 1 {
         return Ok(());
     }
@@ -109,7 +109,7 @@ fn write_quarter<L: Land>(
     write_square(land, section, quarter, &path.quarter(corner), text)
 }
 
-/// Appends the written parts of a position that isn't full, of which each place is asked for.
+/// Appends the written parts of a position that isn't full, each place of which is looked up.
 #[inline(never)]
 fn write_position<L: Land>(
     land: &L,
@@ -169,7 +169,7 @@ fn full_quarters<L: Land>(land: &L, section: Section, block: Block) -> FullQuart
     }
 }
 
-/// Which of four places are held. The south-eastern one is of this column and row.
+/// Which of four places are held. The south-eastern one has this column and row.
 #[inline(always)]
 fn held_places<L: Land>(land: &L, section: Section, column: u8, row: u8) -> FullQuarters
     requires column { column + 1 < places_across PLACE_DIGITS }

@@ -6,7 +6,8 @@ use Rattle.twp_grid.specs.Places.{PLACE_DIGITS, places_across}
 use Rattle.twp_grid.specs.Spans.{Rectangle, in_rectangle}
 use Rattle.twp_grid.specs.Totals.{one_where}
 
--- a lane of so many bits for each row, and in it the bits of the columns that the block has there
+-- for each row a lane with no more bits than there are columns, and in it the bits of the columns
+-- that the block has there
 pub record AreBlockLanes (block : Rectangle) (lanes : List ℕ) : Type 0 where
   pub count : length lanes ≡ places_across PLACE_DIGITS
   pub below : (row : ℕ) → row < places_across PLACE_DIGITS

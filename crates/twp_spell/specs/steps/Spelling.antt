@@ -62,7 +62,7 @@ abbrev pub IsChoice : ℕ → (ℕ → ℕ → Bool) → List Corner → Option 
 IsChoice g held quarters (Some side) = IsChosenHalf g held quarters side
 IsChoice g held quarters None = (side : Side) → ¬ IsFull g held (half_of_square side quarters)
 
--- the quarter at this corner is told to be full
+-- the quarter at this corner is given as full
 abbrev pub full_at : FullQuarters → Corner → Bool
 full_at full NE = full.ne
 full_at full NW = full.nw
@@ -74,7 +74,7 @@ abbrev pub AreFull : ℕ → (ℕ → ℕ → Bool) → List Corner → FullQuar
 AreFull g held quarters full =
     (corner : Corner) → IsTrue (full_at full corner) ↔ IsFull g held (square (corner ∷ quarters))
 
--- all four are told to be full
+-- all four are given as full
 abbrev pub all_of : FullQuarters → Bool
 all_of full = full.ne && (full.nw && (full.sw && full.se))
 
@@ -92,12 +92,11 @@ abbrev pub IsOffChosen : ℕ → (ℕ → ℕ → Bool) → List Corner → Corn
 IsOffChosen g held quarters corner =
     (side : Side) → IsChosenHalf g held quarters side → ¬ IsOnSide side corner
 
--- the bytes that are kept of a path: three quarters, which is the longest behind a part, have 15
+-- the bytes that are kept of a path: the longest one after a part has three quarters, or 15 bytes
 abbrev pub PATH_MOST : ℕ
 PATH_MOST = 16
 
--- the bytes that are kept of a part: a quarter behind a comma, the quarter that it is of, and a
--- path
+-- the bytes that are kept of a part: a quarter after a comma, the quarter that it is of, and a path
 abbrev pub PART_MOST : ℕ
 PART_MOST = 28
 
@@ -105,11 +104,11 @@ PART_MOST = 28
 abbrev pub BUFFER_MOST : ℕ
 BUFFER_MOST = 448
 
--- quarters as they are written behind a smaller part
+-- quarters as they are written after a smaller part
 abbrev pub quarters_text : List Corner → List ℕ
 quarters_text quarters = flat_map step_text (map (λ corner. Quarter corner) quarters)
 
--- parts as they are written behind others
+-- parts as they are written after others
 abbrev pub parts_text : List Part → List ℕ
 parts_text parts = flat_map (λ part. codes ", " ++ part_text part) parts
 
