@@ -11,7 +11,7 @@ use Rattle.twp_grid.specs.Spans.{Span, in_span, in_rectangle, whole_block}
 use Rattle.twp_grid.proofs.CutFacts.{within_span_of, rows_reached, columns_reached, rows_are_digits}
 use Rattle.twp_grid.proofs.CutFacts.{columns_are_digits}
 
--- a side of so many digits is more than one place where a digit is left
+-- a side of this many digits is more than one place where a digit is left
 pub more_left : (k : ℕ) → 1 < 2 ^ k → 0 < k
 more_left zero more = absurd (omega arith)
 more_left (suc k) more = omega arith

@@ -313,11 +313,11 @@ pub size_of_cut : (l : Lexeme) (kind : Kind) (size : ℕ) → l ≡ lexeme kind 
 size_of_cut l kind size e = ap (λ (m : Lexeme). m.size) e
 
 nothing_good : (bytes : List ℕ) → cut bytes ≡ lexeme BadByte 1 → NoGoodToken bytes
-nothing_good bytes e text rest kind spelt is_good =
+nothing_good bytes e text rest kind spelled is_good =
     let found : cut (text ++ rest) ≡ lexeme kind (length text) = (the_good text rest kind is_good).is in
     let same : kind ≡ BadByte =
     sym (kind_of_cut (cut (text ++ rest)) kind (length text) found)
-    ∙ ap (λ b. (cut b).kind) (sym spelt)
+    ∙ ap (λ b. (cut b).kind) (sym spelled)
     ∙ kind_of_cut (cut bytes) BadByte 1 e in
     false≢true (sym (good_kind text rest kind is_good) ∙ ap is_bad_byte same)
 

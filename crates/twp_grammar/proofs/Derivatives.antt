@@ -144,7 +144,7 @@ token_of_leaf token =
 -- the grammar derives the tokens
 pub record Derives (g : Ebnf) (ts : List Token) : Type 0 where
   pub tree : Tree g
-  pub spelt : tokens g tree ≡ ts
+  pub spelled : tokens g tree ≡ ts
 
 -- no tokens at all are derived
 abbrev pub is_nullable : Ebnf → Bool
@@ -164,7 +164,7 @@ has_one_empty (g ⨾ h) = has_one_empty g && has_one_empty h
 has_one_empty (g ∣ h) = has_one_empty g && (has_one_empty h && not (is_nullable g && is_nullable h))
 has_one_empty (many g) = has_one_empty g && not (is_nullable g)
 
--- one after the other, and the one or the other, with what is empty left out
+-- one after the other, and one or the other, with what is empty left out
 abbrev pub seq : Ebnf → Ebnf → Ebnf
 seq never k = never
 seq nothing k = k
@@ -194,21 +194,21 @@ both false y h = cc h
 none_of_either : (g k : Ebnf) (x : Bool) → is_nullable g ≡ x → cond x true (is_nullable k) ≡ true
     → (is_nullable g ≡ true → Derives g []) → (is_nullable k ≡ true → Derives k []) → Derives (g ∣ k) []
 none_of_either g k true e h on_left on_right =
-    let v = on_left e in record { tree = inl v.tree; spelt = v.spelt }
+    let v = on_left e in record { tree = inl v.tree; spelled = v.spelled }
 none_of_either g k false e h on_left on_right =
-    let v = on_right h in record { tree = inr v.tree; spelt = v.spelt }
+    let v = on_right h in record { tree = inr v.tree; spelled = v.spelled }
 
 pub derives_none : (g : Ebnf) → is_nullable g ≡ true → Derives g []
 derives_none never h = cc h
-derives_none nothing h = record { tree = tt; spelt = refl }
+derives_none nothing h = record { tree = tt; spelled = refl }
 derives_none (one c) h = cc h
 derives_none (g ⨾ k) h =
     let parts = both (is_nullable g) (is_nullable k) h in
     let v : Derives g [] = derives_none g parts.0 in
     let w : Derives k [] = derives_none k parts.1 in
-    record { tree = v.tree & w.tree; spelt = rw (v.spelt, w.spelt) refl }
+    record { tree = v.tree & w.tree; spelled = rw (v.spelled, w.spelled) refl }
 derives_none (g ∣ k) h = none_of_either g k (is_nullable g) refl h (derives_none g) (derives_none k)
-derives_none (many g) h = record { tree = []; spelt = refl }
+derives_none (many g) h = record { tree = []; spelled = refl }
 
 -- trees of a sequence, taken apart
 with_parts : (g k : Ebnf) (P : List Token → Type 0) (v : Tree (g ⨾ k))
@@ -218,29 +218,29 @@ with_parts g k P (x & y) use_parts = use_parts x y
 regrouped : (g h k : Ebnf) (x : Tree g) (us : List Token) → Derives (h ⨾ k) us
     → Derives ((g ⨾ h) ⨾ k) (tokens g x ++ us)
 regrouped g h k x us d =
-    subst (λ (ts : List Token). Derives ((g ⨾ h) ⨾ k) (tokens g x ++ ts)) d.spelt
+    subst (λ (ts : List Token). Derives ((g ⨾ h) ⨾ k) (tokens g x ++ ts)) d.spelled
     (with_parts h k (λ ts. Derives ((g ⨾ h) ⨾ k) (tokens g x ++ ts)) d.tree
-    (λ y z. record { tree = (x & y) & z; spelt = rw append_assoc refl }))
+    (λ y z. record { tree = (x & y) & z; spelled = rw append_assoc refl }))
 
 pub from_seq : (g k : Ebnf) (ts : List Token) → Derives (seq g k) ts → Derives (g ⨾ k) ts
 from_seq never k ts d = absurd d.tree
-from_seq nothing k ts d = record { tree = tt & d.tree; spelt = d.spelt }
+from_seq nothing k ts d = record { tree = tt & d.tree; spelled = d.spelled }
 from_seq (one c) k ts d = d
 from_seq (g ⨾ h) k ts d =
-    subst (λ (us : List Token). Derives ((g ⨾ h) ⨾ k) us) d.spelt
+    subst (λ (us : List Token). Derives ((g ⨾ h) ⨾ k) us) d.spelled
     (with_parts g (seq h k) (λ us. Derives ((g ⨾ h) ⨾ k) us) d.tree
     (λ x y. regrouped g h k x (tokens (seq h k) y) (from_seq h k (tokens (seq h k) y) (record {
       tree = y;
-      spelt = refl;
+      spelled = refl;
     }))))
 from_seq (g ∣ h) k ts d = d
 from_seq (many g) k ts d = d
 
 from_left : (g h : Ebnf) (ts : List Token) → Derives g ts → Derives (g ∣ h) ts
-from_left g h ts d = record { tree = inl d.tree; spelt = d.spelt }
+from_left g h ts d = record { tree = inl d.tree; spelled = d.spelled }
 
 from_right : (g h : Ebnf) (ts : List Token) → Derives h ts → Derives (g ∣ h) ts
-from_right g h ts d = record { tree = inr d.tree; spelt = d.spelt }
+from_right g h ts d = record { tree = inr d.tree; spelled = d.spelled }
 
 pub from_alt : (g h : Ebnf) (ts : List Token) → Derives (alt g h) ts → Derives (g ∣ h) ts
 from_alt never h ts d = from_right never h ts d
@@ -275,7 +275,7 @@ from_alt (many x) (g ⨾ h) ts d = d
 from_alt (many x) (g ∣ h) ts d = d
 from_alt (many x) (many g) ts d = d
 
--- what the derivative derives, the grammar derives behind the token
+-- what the derivative derives, the grammar derives after the token
 abbrev TakesOn : Ebnf → Type 0
 TakesOn g =
     (c : Class) (leaf : Leaf c) (ts : List Token) → Derives (after c g) ts → Derives g (token_of c leaf ∷ ts)
@@ -284,23 +284,23 @@ one_leaf : (c d : Class) (x : Bool) (leaf : Leaf c) (ts : List Token) → same_c
     → Derives (cond x nothing never) ts → Derives (one d) (token_of c leaf ∷ ts)
 one_leaf c d true leaf ts same v =
     subst (λ (e : Class). Derives (one e) (token_of c leaf ∷ ts)) (same_class_tells c d same)
-    (record { tree = leaf; spelt = ap (λ us. token_of c leaf ∷ us) v.spelt })
+    (record { tree = leaf; spelled = ap (λ us. token_of c leaf ∷ us) v.spelled })
 one_leaf c d false leaf ts same v = absurd v.tree
 
 in_front : (g h : Ebnf) → TakesOn g → (c : Class) (leaf : Leaf c) (ts : List Token)
     → Derives (seq (after c g) h) ts → Derives (g ⨾ h) (token_of c leaf ∷ ts)
 in_front g h takes c leaf ts d =
     let d' : Derives (after c g ⨾ h) ts = from_seq (after c g) h ts d in
-    subst (λ (us : List Token). Derives (g ⨾ h) (token_of c leaf ∷ us)) d'.spelt
+    subst (λ (us : List Token). Derives (g ⨾ h) (token_of c leaf ∷ us)) d'.spelled
     (with_parts (after c g) h (λ us. Derives (g ⨾ h) (token_of c leaf ∷ us)) d'.tree (λ x y.
     let v : Derives g (token_of c leaf ∷ tokens (after c g) x) =
-    takes c leaf (tokens (after c g) x) (record { tree = x; spelt = refl }) in
-    record { tree = v.tree & y; spelt = ap (λ us. us ++ tokens h y) v.spelt }))
+    takes c leaf (tokens (after c g) x) (record { tree = x; spelled = refl }) in
+    record { tree = v.tree & y; spelled = ap (λ us. us ++ tokens h y) v.spelled }))
 
 past_nothing : (g h : Ebnf) → is_nullable g ≡ true → (ts : List Token) → Derives h ts → Derives (g ⨾ h) ts
 past_nothing g h empty ts d =
     let v : Derives g [] = derives_none g empty in
-    record { tree = v.tree & d.tree; spelt = rw (v.spelt, d.spelt) refl }
+    record { tree = v.tree & d.tree; spelled = rw (v.spelled, d.spelled) refl }
 
 in_sequence : (g h : Ebnf) (x : Bool) → is_nullable g ≡ x → TakesOn g → TakesOn h
     → (c : Class) (leaf : Leaf c) (ts : List Token)
@@ -311,26 +311,28 @@ in_sequence g h true empty takes_g takes_h c leaf ts d =
     let d' : Derives (seq (after c g) h ∣ after c h) ts = from_alt (seq (after c g) h) (after c h) ts d in
     elim d'.tree as
     (λ v. tokens (seq (after c g) h ∣ after c h) v ≡ ts → Derives (g ⨾ h) (token_of c leaf ∷ ts)) [
-      | inl v ↦ λ e. in_front g h takes_g c leaf ts (record { tree = v; spelt = e })
+      | inl v ↦ λ e. in_front g h takes_g c leaf ts (record { tree = v; spelled = e })
       | inr w ↦ λ e. past_nothing g h empty (token_of c leaf ∷ ts) (takes_h c leaf ts (record {
         tree = w;
-        spelt = e;
+        spelled = e;
       }))
-    ] d'.spelt
+    ] d'.spelled
 
 in_choice : (g h : Ebnf) → TakesOn g → TakesOn h → TakesOn (g ∣ h)
 in_choice g h takes_g takes_h c leaf ts d =
     let d' : Derives (after c g ∣ after c h) ts = from_alt (after c g) (after c h) ts d in
     elim d'.tree as (λ v. tokens (after c g ∣ after c h) v ≡ ts → Derives (g ∣ h) (token_of c leaf ∷ ts)) [
-      | inl v ↦ λ e. from_left g h (token_of c leaf ∷ ts) (takes_g c leaf ts (record { tree = v; spelt = e }))
+      | inl v ↦
+          λ e. from_left g h (token_of c leaf ∷ ts) (takes_g c leaf ts (record { tree = v; spelled = e }))
       | inr w ↦
-          λ e. from_right g h (token_of c leaf ∷ ts) (takes_h c leaf ts (record { tree = w; spelt = e }))
-    ] d'.spelt
+          λ e. from_right g h (token_of c leaf ∷ ts) (takes_h c leaf ts (record { tree = w; spelled = e }))
+    ] d'.spelled
 
 many_more : (g : Ebnf) (ts : List Token) → Derives (g ⨾ many g) ts → Derives (many g) ts
 many_more g ts d =
-    subst (λ (us : List Token). Derives (many g) us) d.spelt
-    (with_parts g (many g) (λ us. Derives (many g) us) d.tree (λ x y. record { tree = x ∷ y; spelt = refl }))
+    subst (λ (us : List Token). Derives (many g) us) d.spelled
+    (with_parts g (many g) (λ us. Derives (many g) us) d.tree
+    (λ x y. record { tree = x ∷ y; spelled = refl }))
 
 pub takes_on : (g : Ebnf) → TakesOn g
 takes_on never c leaf ts d = absurd d.tree

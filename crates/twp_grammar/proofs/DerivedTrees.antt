@@ -52,12 +52,12 @@ pub record StandFor (g h : Ebnf) : Type 0 where
   pub into : Tree g → Tree h
   pub out : Tree h → Tree g
   pub back : (v : Tree h) → into (out v) ≡ v
-  pub spelt : (v : Tree h) → tokens g (out v) ≡ tokens h v
+  pub spelled : (v : Tree h) → tokens g (out v) ≡ tokens h v
 
 themselves : (g : Ebnf) → StandFor g g
-themselves g = record { into = λ v. v; out = λ v. v; back = λ v. refl; spelt = λ v. refl }
+themselves g = record { into = λ v. v; out = λ v. v; back = λ v. refl; spelled = λ v. refl }
 
--- the one or the other, where one of them has no trees
+-- one or the other, where one of them has no trees
 abbrev only_left : (g : Ebnf) → Tree (g ∣ never) → Tree g
 only_left g (inl v) = v
 only_left g (inr none) = absurd none
@@ -66,9 +66,9 @@ only_left_back : (g : Ebnf) (v : Tree (g ∣ never)) → inl (only_left g v) ≡
 only_left_back g (inl v) = refl
 only_left_back g (inr none) = absurd none
 
-only_left_spelt : (g : Ebnf) (v : Tree (g ∣ never)) → tokens g (only_left g v) ≡ tokens (g ∣ never) v
-only_left_spelt g (inl v) = refl
-only_left_spelt g (inr none) = absurd none
+only_left_spelled : (g : Ebnf) (v : Tree (g ∣ never)) → tokens g (only_left g v) ≡ tokens (g ∣ never) v
+only_left_spelled g (inl v) = refl
+only_left_spelled g (inr none) = absurd none
 
 abbrev only_right : (h : Ebnf) → Tree (never ∣ h) → Tree h
 only_right h (inl none) = absurd none
@@ -78,17 +78,17 @@ only_right_back : (h : Ebnf) (v : Tree (never ∣ h)) → inr (only_right h v) �
 only_right_back h (inl none) = absurd none
 only_right_back h (inr w) = refl
 
-only_right_spelt : (h : Ebnf) (v : Tree (never ∣ h)) → tokens h (only_right h v) ≡ tokens (never ∣ h) v
-only_right_spelt h (inl none) = absurd none
-only_right_spelt h (inr w) = refl
+only_right_spelled : (h : Ebnf) (v : Tree (never ∣ h)) → tokens h (only_right h v) ≡ tokens (never ∣ h) v
+only_right_spelled h (inl none) = absurd none
+only_right_spelled h (inr w) = refl
 
 alone_left : (g : Ebnf) → StandFor g (g ∣ never)
 alone_left g =
-    record { into = λ v. inl v; out = only_left g; back = only_left_back g; spelt = only_left_spelt g }
+    record { into = λ v. inl v; out = only_left g; back = only_left_back g; spelled = only_left_spelled g }
 
 alone_right : (h : Ebnf) → StandFor h (never ∣ h)
 alone_right h =
-    record { into = λ w. inr w; out = only_right h; back = only_right_back h; spelt = only_right_spelt h }
+    record { into = λ w. inr w; out = only_right h; back = only_right_back h; spelled = only_right_spelled h }
 
 pub alternatives : (g h : Ebnf) → StandFor (alt g h) (g ∣ h)
 alternatives never h = alone_right h
@@ -105,9 +105,9 @@ behind_nothing k (_ & w) = w
 behind_nothing_back : (k : Ebnf) (v : Tree (nothing ⨾ k)) → tt & behind_nothing k v ≡ v
 behind_nothing_back k (_ & w) = refl
 
-behind_nothing_spelt : (k : Ebnf) (v : Tree (nothing ⨾ k))
+behind_nothing_spelled : (k : Ebnf) (v : Tree (nothing ⨾ k))
     → tokens k (behind_nothing k v) ≡ tokens (nothing ⨾ k) v
-behind_nothing_spelt k (_ & w) = refl
+behind_nothing_spelled k (_ & w) = refl
 
 -- two and one more, or one and two more
 abbrev with_two : (g h k : Ebnf) → Tree g → Tree (h ⨾ k) → Tree ((g ⨾ h) ⨾ k)
@@ -124,10 +124,10 @@ grouped_apart : (g h k : Ebnf) (stand : StandFor (seq h k) (h ⨾ k)) (v : Tree 
     → grouped g h k stand (apart g h k stand v) ≡ v
 grouped_apart g h k stand ((x & y) & z) = ap (with_two g h k x) (stand.back (y & z))
 
-apart_spelt : (g h k : Ebnf) (stand : StandFor (seq h k) (h ⨾ k)) (v : Tree ((g ⨾ h) ⨾ k))
+apart_spelled : (g h k : Ebnf) (stand : StandFor (seq h k) (h ⨾ k)) (v : Tree ((g ⨾ h) ⨾ k))
     → tokens (g ⨾ seq h k) (apart g h k stand v) ≡ tokens ((g ⨾ h) ⨾ k) v
-apart_spelt g h k stand ((x & y) & z) =
-    ap (λ us. tokens g x ++ us) (stand.spelt (y & z))
+apart_spelled g h k stand ((x & y) & z) =
+    ap (λ us. tokens g x ++ us) (stand.spelled (y & z))
     ∙ sym (append_assoc (tokens g x) (tokens h y) (tokens k z))
 
 pub sequences : (g k : Ebnf) → StandFor (seq g k) (g ⨾ k)
@@ -135,13 +135,13 @@ sequences never k = record {
   into = λ none. absurd none;
   out = behind_never k;
   back = λ v. absurd (behind_never k v);
-  spelt = λ v. absurd (behind_never k v);
+  spelled = λ v. absurd (behind_never k v);
 }
 sequences nothing k = record {
   into = λ w. tt & w;
   out = behind_nothing k;
   back = behind_nothing_back k;
-  spelt = behind_nothing_spelt k;
+  spelled = behind_nothing_spelled k;
 }
 sequences (g ⨾ h) k =
     let stand : StandFor (seq h k) (h ⨾ k) = sequences h k in
@@ -149,7 +149,7 @@ sequences (g ⨾ h) k =
       into = grouped g h k stand;
       out = apart g h k stand;
       back = grouped_apart g h k stand;
-      spelt = apart_spelt g h k stand;
+      spelled = apart_spelled g h k stand;
     }
 sequences g k = themselves (g ⨾ k)
 

@@ -22,7 +22,7 @@ contains_among thing (first ∷ list) (zero, within, is) = inl (sym is)
 contains_among thing (first ∷ list) (suc k, within, is) =
     inr (contains_among thing list (k, (omega arith), is))
 
--- a list behind another
+-- a list after another
 pub among_either : {T : Type 0} (thing : T) (list more : List T) → Among thing (list ++ more)
     → Among thing list ⊎ Among thing more
 among_either thing [] more there = inr there

@@ -50,7 +50,7 @@ one_more_digit digits i v all in_range is small =
     let power : 10 ^ (i + 1) ≡ 10 ^ i * 10 = rw add-one (pow-suc 10 i) in
     record { byte = omega arith; value = omega arith; bound = omega arith }
 
--- the digits in front of bytes are digits
+-- the digits at the start of bytes are digits
 one_in_front : (p : ℕ → Bool) (byte : ℕ) (bytes : List ℕ) (x : Bool) → p byte ≡ x
     → list_all p (take (prefix_len p bytes) bytes) ≡ true
     → list_all p (take (cond x (1 + prefix_len p bytes) 0) (byte ∷ bytes)) ≡ true
@@ -90,7 +90,7 @@ many_digits bytes size is many =
     not_le : (n : ℕ) → 4 < n → leb n 4 ≡ false
     not_le n many = elim (leb_tells n 4) [ inl (e, few) ↦ absurd (omega arith) | inr (e, more) ↦ e ]
 
--- one digit in front of something else
+-- one digit before something else
 one_in_bytes : (bytes : List ℕ) → is_ascii_digit (slice_index bytes 0) ≡ true
     → is_ascii_digit (slice_index bytes 1) ≡ false → 1 ≡ prefix_len is_ascii_digit bytes
 one_in_bytes [] h k = cc h
@@ -113,7 +113,7 @@ one_digit bytes h k =
     ap (λ v. lexeme (Number v) 1) (sym (its_value bytes h))
     ∙ few_digits bytes 1 (one_in_bytes bytes h k) (omega arith)
 
--- two digits in front of something else
+-- two digits before something else
 two_in_bytes : (bytes : List ℕ) → is_ascii_digit (slice_index bytes 0) ≡ true
     → is_ascii_digit (slice_index bytes 1) ≡ true → is_ascii_digit (slice_index bytes 2) ≡ false
     → 2 ≡ prefix_len is_ascii_digit bytes
@@ -147,7 +147,7 @@ two_digits bytes first second e f h k l =
     (ap (λ v. lexeme (Number v) 2) (sym (two_in_value bytes h' k'))
     ∙ few_digits bytes 2 (two_in_bytes bytes h' k' l) (omega arith))
 
--- digits of which the second is one too are no half and no quarter
+-- digits of which the second is one too are neither a half nor a quarter
 no_slash : (byte : ℕ) → is_ascii_digit byte ≡ true → (byte == 47) ≡ false
 no_slash byte h = ne_eqb byte 47 (λ (e : byte ≡ 47).
     let g : is_ascii_digit 47 ≡ true = subst (λ n. is_ascii_digit n ≡ true) e h in cc g)
@@ -166,5 +166,5 @@ two_or_more bytes h =
 
 pub ruleset digits_alone = (one_digit, two_or_more)
 
--- what digits in front of a text are
+-- what digits at the start of a text are
 pub ruleset numbers = (digits_in_front, few_digits, many_digits)

@@ -22,7 +22,7 @@ use Rattle.twp_grammar.proofs.DerivedTrees.{in_sequence, put}
 -- the tree is made of one by another grammar, of these tokens
 record IsMade (g h : Ebnf) (make : Tree g → Tree h) (v : Tree h) (ts : List Token) : Type 0 where
   tree : Tree g
-  spelt : tokens g tree ≡ ts
+  spelled : tokens g tree ≡ ts
   back : make tree ≡ v
 
 -- a derivation of a token and more is made of one of the rest
@@ -32,7 +32,7 @@ IsStripped token g v ts = IsMade (past token g) g (put token g) v ts
 abbrev Strips : Ebnf → Type 0
 Strips g = (token : Token) (ts : List Token) (v : Tree g) → tokens g v ≡ token ∷ ts → IsStripped token g v ts
 
--- the same of a sequence
+-- the same for a sequence
 abbrev IsSequenceStripped : (token : Token) (g h : Ebnf) (b : Bool) → is_nullable g ≡ b → Tree (g ⨾ h)
     → List Token → Type 0
 IsSequenceStripped token g h b empty v ts =
@@ -45,7 +45,7 @@ made_left g h k f f' v ts made =
     let stand : StandFor (alt g h) (g ∣ h) = alternatives g h in
     record {
       tree = stand.out (inl made.tree);
-      spelt = stand.spelt (inl made.tree) ∙ made.spelt;
+      spelled = stand.spelled (inl made.tree) ∙ made.spelled;
       back = ap (either f f') (stand.back (inl made.tree)) ∙ made.back;
     }
 
@@ -55,7 +55,7 @@ made_right g h k f f' v ts made =
     let stand : StandFor (alt g h) (g ∣ h) = alternatives g h in
     record {
       tree = stand.out (inr made.tree);
-      spelt = stand.spelt (inr made.tree) ∙ made.spelt;
+      spelled = stand.spelled (inr made.tree) ∙ made.spelled;
       back = ap (either f f') (stand.back (inr made.tree)) ∙ made.back;
     }
 
@@ -63,34 +63,38 @@ made_of_both : (g h k : Ebnf) (f : Tree g → Tree h → Tree k) (x : Tree g) (y
     → IsMade (seq g h) k (by_both g h k f) (f x y) (tokens g x ++ tokens h y)
 made_of_both g h k f x y =
     let stand : StandFor (seq g h) (g ⨾ h) = sequences g h in
-    record { tree = stand.out (x & y); spelt = stand.spelt (x & y); back = ap (join f) (stand.back (x & y)) }
+    record {
+      tree = stand.out (x & y);
+      spelled = stand.spelled (x & y);
+      back = ap (join f) (stand.back (x & y));
+    }
 
 -- a token of the class has the leaf that it was made of
 its_leaf : (c : Class) (leaf : Leaf c)
     → IsMade (past (token_of c leaf) (one c)) (one c) (put (token_of c leaf) (one c)) leaf []
-its_leaf sec leaf = record { tree = tt; spelt = refl; back = refl }
-its_leaf lot leaf = record { tree = tt; spelt = refl; back = refl }
-its_leaf all leaf = record { tree = tt; spelt = refl; back = refl }
-its_leaf and leaf = record { tree = tt; spelt = refl; back = refl }
-its_leaf to leaf = record { tree = tt; spelt = refl; back = refl }
-its_leaf inclusive leaf = record { tree = tt; spelt = refl; back = refl }
-its_leaf of leaf = record { tree = tt; spelt = refl; back = refl }
-its_leaf the leaf = record { tree = tt; spelt = refl; back = refl }
-its_leaf t leaf = record { tree = tt; spelt = refl; back = refl }
-its_leaf r leaf = record { tree = tt; spelt = refl; back = refl }
-its_leaf north_south leaf = record { tree = tt; spelt = refl; back = refl }
-its_leaf east_west leaf = record { tree = tt; spelt = refl; back = refl }
-its_leaf corner leaf = record { tree = tt; spelt = refl; back = refl }
-its_leaf half leaf = record { tree = tt; spelt = refl; back = refl }
-its_leaf quarter leaf = record { tree = tt; spelt = refl; back = refl }
-its_leaf number leaf = record { tree = tt; spelt = refl; back = refl }
-its_leaf comma leaf = record { tree = tt; spelt = refl; back = refl }
-its_leaf semicolon leaf = record { tree = tt; spelt = refl; back = refl }
-its_leaf colon leaf = record { tree = tt; spelt = refl; back = refl }
-its_leaf stop leaf = record { tree = tt; spelt = refl; back = refl }
-its_leaf other leaf = record { tree = tt; spelt = refl; back = refl }
-its_leaf bad_number leaf = record { tree = tt; spelt = refl; back = refl }
-its_leaf bad_byte leaf = record { tree = tt; spelt = refl; back = refl }
+its_leaf sec leaf = record { tree = tt; spelled = refl; back = refl }
+its_leaf lot leaf = record { tree = tt; spelled = refl; back = refl }
+its_leaf all leaf = record { tree = tt; spelled = refl; back = refl }
+its_leaf and leaf = record { tree = tt; spelled = refl; back = refl }
+its_leaf to leaf = record { tree = tt; spelled = refl; back = refl }
+its_leaf inclusive leaf = record { tree = tt; spelled = refl; back = refl }
+its_leaf of leaf = record { tree = tt; spelled = refl; back = refl }
+its_leaf the leaf = record { tree = tt; spelled = refl; back = refl }
+its_leaf t leaf = record { tree = tt; spelled = refl; back = refl }
+its_leaf r leaf = record { tree = tt; spelled = refl; back = refl }
+its_leaf north_south leaf = record { tree = tt; spelled = refl; back = refl }
+its_leaf east_west leaf = record { tree = tt; spelled = refl; back = refl }
+its_leaf corner leaf = record { tree = tt; spelled = refl; back = refl }
+its_leaf half leaf = record { tree = tt; spelled = refl; back = refl }
+its_leaf quarter leaf = record { tree = tt; spelled = refl; back = refl }
+its_leaf number leaf = record { tree = tt; spelled = refl; back = refl }
+its_leaf comma leaf = record { tree = tt; spelled = refl; back = refl }
+its_leaf semicolon leaf = record { tree = tt; spelled = refl; back = refl }
+its_leaf colon leaf = record { tree = tt; spelled = refl; back = refl }
+its_leaf stop leaf = record { tree = tt; spelled = refl; back = refl }
+its_leaf other leaf = record { tree = tt; spelled = refl; back = refl }
+its_leaf bad_number leaf = record { tree = tt; spelled = refl; back = refl }
+its_leaf bad_byte leaf = record { tree = tt; spelled = refl; back = refl }
 
 abbrev first_or : Token → List Token → Token
 first_or token [] = token
@@ -190,7 +194,7 @@ front_stripped g h strips token us ts x y first rest =
     let made = made_of_both (past token g) h (g ⨾ h) (λ a b. put token g a & b) behind.tree y in
     record {
       tree = made.tree;
-      spelt = made.spelt ∙ ap (λ vs. vs ++ tokens h y) behind.spelt ∙ rest;
+      spelled = made.spelled ∙ ap (λ vs. vs ++ tokens h y) behind.spelled ∙ rest;
       back = made.back ∙ ap (λ a. a & y) behind.back;
     }
 
@@ -201,7 +205,7 @@ more_stripped g strips token us ts x xs first rest =
     let made = made_of_both (past token g) (many g) (many g) (λ a b. put token g a ∷ b) behind.tree xs in
     record {
       tree = made.tree;
-      spelt = made.spelt ∙ ap (λ vs. vs ++ tokens (many g) xs) behind.spelt ∙ rest;
+      spelled = made.spelled ∙ ap (λ vs. vs ++ tokens (many g) xs) behind.spelled ∙ rest;
       back = made.back ∙ ap (λ a. a ∷ xs) behind.back;
     }
 
@@ -213,10 +217,10 @@ second_stripped : (g h : Ebnf) → has_one_empty g ≡ true → Strips h
 second_stripped g h single strips empty token ts x y none first =
     let behind : IsStripped token h y ts = strips token ts y first in
     let derived = derives_none g empty in
-    let left : derived.tree ≡ x = one_empty g single derived.tree x derived.spelt none in
+    let left : derived.tree ≡ x = one_empty g single derived.tree x derived.spelled none in
     record {
       tree = behind.tree;
-      spelt = behind.spelt;
+      spelled = behind.spelled;
       back = ap (λ b. derived.tree & b) behind.back ∙ ap (λ a. a & y) left;
     }
 
@@ -250,7 +254,7 @@ left_stripped g h strips token ts x first =
     let behind : IsStripped token g x ts = strips token ts x first in
     made_left (past token g) (past token h) (g ∣ h) (λ a. inl (put token g a)) (λ b. inr (put token h b))
     (inl x) ts
-    (record { tree = behind.tree; spelt = behind.spelt; back = ap (λ a. inl a) behind.back })
+    (record { tree = behind.tree; spelled = behind.spelled; back = ap (λ a. inl a) behind.back })
 
 right_stripped : (g h : Ebnf) → Strips h → (token : Token) (ts : List Token) (y : Tree h)
     → tokens h y ≡ token ∷ ts → IsStripped token (g ∣ h) (inr y) ts
@@ -258,7 +262,7 @@ right_stripped g h strips token ts y first =
     let behind : IsStripped token h y ts = strips token ts y first in
     made_right (past token g) (past token h) (g ∣ h) (λ a. inl (put token g a)) (λ b. inr (put token h b))
     (inr y) ts
-    (record { tree = behind.tree; spelt = behind.spelt; back = ap (λ b. inr b) behind.back })
+    (record { tree = behind.tree; spelled = behind.spelled; back = ap (λ b. inr b) behind.back })
 
 many_stripped : (g : Ebnf) → has_one_empty (many g) ≡ true → Strips g
     → (token : Token) (ts : List Token) (x : Tree g) (xs : Tree (many g)) (us : List Token) → tokens g x ≡ us
@@ -304,7 +308,7 @@ one_of_rest (token ∷ ts) s v w e e' =
     let made' = stripped (table.rest s) (table.one_empty s) token ts w e' in
     let behind : HasOneTree (past token (table.rest s)) ts =
     one_behind s (class_of token.kind) ts (one_of_rest ts) (next s (class_of token.kind)) refl in
-    let same : made.tree ≡ made'.tree = behind made.tree made'.tree made.spelt made'.spelt in
+    let same : made.tree ≡ made'.tree = behind made.tree made'.tree made.spelled made'.spelled in
     sym made.back ∙ ap (put token (table.rest s)) same ∙ made'.back
 
 pub one_derivation : OneDerivation
@@ -315,5 +319,5 @@ one_derivation v w same =
 -- a list of tokens is read as one list of items
 pub one_item_list : OneItemList
 one_item_list ts is is' has has' =
-    let same : has.tree ≡ has'.tree = one_derivation has.tree has'.tree (has.spelt ∙ sym has'.spelt) in
+    let same : has.tree ≡ has'.tree = one_derivation has.tree has'.tree (has.spelled ∙ sym has'.spelled) in
     sym has.read_off ∙ ap (λ v. items v) same ∙ has'.read_off

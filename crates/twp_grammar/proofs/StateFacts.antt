@@ -18,7 +18,7 @@ leads_nowhere (Some s) behind h = cc h
 
 pub ruleset leads = (leads_on, leads_nowhere)
 
--- a step goes on with a chain, or begins a part
+-- a step continues a chain, or begins a part
 pub chain_goes_on : (s : State) → is_in_chain s ≡ true → true ≡ is_some (next s corner)
 chain_goes_on past.Step h = refl
 chain_goes_on past.Of h = refl

@@ -14,7 +14,7 @@ use Rattle.twp_grammar.specs.Expected.{told, named, expected_of, IsNamed}
 use Rattle.twp_grammar.proofs.Derivatives.{classes, place_of_class, class_at_place, same_class}
 use Rattle.twp_grammar.proofs.Derivatives.{same_class_tells, is_nullable, has_one_empty, both, after}
 
--- the state behind some classes, read from Start
+-- the state after some classes, read from Start
 after_all : Ebnf → List Class → Ebnf
 after_all g [] = g
 after_all g (c ∷ cs) = after_all (after c g) cs
@@ -326,7 +326,7 @@ follows_named s s' c e =
     of_class (λ d. is_among d (next s d) (named (expected_of s))) c (row s).names_all in
     subst (λ (o : Option State). is_among c o (named (expected_of s)) ≡ true) e found
 
--- what is told of in a state may follow there
+-- what is reported in a state may follow there
 told_among : (s : State) (c : Class) (cs : List Class) → list_all (λ d. is_some (next s d)) cs ≡ true
     → IsNamed c cs → is_some (next s c) ≡ true
 told_among s c [] each is = absurd is

@@ -21,7 +21,7 @@ spaces bytes = prefix_len is_white bytes
 pub all_white : (bytes : List ℕ) → AllPass is_white (take (spaces bytes) bytes)
 all_white bytes = AllPass-from_list_all is_white _ (front_passes is_white bytes)
 
--- the token behind white space
+-- the token after white space
 abbrev token_with : Lexeme → ℕ → List ℕ → Token
 token_with l at left = record { kind = l.kind; text = take l.size left; at = at }
 
@@ -45,7 +45,7 @@ starts_with at bytes some =
     record {
       space = take (spaces bytes) bytes;
       white = all_white bytes;
-      spelt =
+      spelled =
           sym
           (ap (λ t. take (spaces bytes) bytes ++ t) (take-append-drop l.size left)
           ∙ take-append-drop (spaces bytes) bytes);
@@ -65,7 +65,7 @@ no_more bytes e =
     ∙ take-append-drop (spaces bytes) bytes in
     subst (λ (t : List ℕ). AllPass is_white t) whole (all_white bytes)
 
--- the bytes from the place behind the white space
+-- the bytes from the place after the white space
 behind_spaces : (text : List ℕ) (from at : ℕ) → at ≡ from + spaces (drop from text)
     → drop (spaces (drop from text)) (drop from text) ≡ drop at text
 behind_spaces text from at is = drop-drop (spaces (drop from text)) from text ∙ ap (λ n. drop n text) (sym is)
@@ -130,12 +130,12 @@ is_start : (at : ℕ) (bytes : List ℕ) (token : Token) (rest : List ℕ) → S
 is_start at bytes token rest s =
     let here : IsTheCut token.text rest token.kind = the_cut token.text rest token.kind s.is in
     let gap : spaces bytes ≡ length s.space =
-    ap spaces s.spelt
+    ap spaces s.spelled
     ∙ run_len is_white s.space (token.text ++ rest) (list_all-from_AllPass is_white s.space s.white)
     here.no_space in
     let left : drop (spaces bytes) bytes ≡ token.text ++ rest =
     ap (λ n. drop n bytes) gap
-    ∙ ap (λ b. drop (length s.space) b) s.spelt
+    ∙ ap (λ b. drop (length s.space) b) s.spelled
     ∙ drop-append_seam s.space (token.text ++ rest) in
     record {
       left_is = left;

@@ -1,4 +1,4 @@
--- The tokens of a tree, put in front of others; and the items that a sentence begins with.
+-- The tokens of a tree, put before others; and the items that a sentence begins with.
 use Rattle.std.proofs.Common.{◌≡◌, List, [], ◌∷◌, ◌++◌, refl, sym, ap, ◌∙◌, inl, inr, append_assoc, Bool}
 use Rattle.std.proofs.Common.{true, false, map}
 use Rattle.std.specs.List.{flat_map}
@@ -25,14 +25,14 @@ onto (g ∣ h) (inl v) ts = onto g v ts
 onto (g ∣ h) (inr w) ts = onto h w ts
 onto (many g) vs ts = each_onto (λ v us. onto g v us) vs ts
 
-each_onto_is : {A : Type 0} (f : A → List Token → List Token) (spelt : A → List Token)
-    → ((v : A) (us : List Token) → f v us ≡ spelt v ++ us) → (vs : List A) (ts : List Token)
-    → each_onto f vs ts ≡ flat_map spelt vs ++ ts
-each_onto_is f spelt each [] ts = refl
-each_onto_is f spelt each (v ∷ vs) ts =
+each_onto_is : {A : Type 0} (f : A → List Token → List Token) (spelled : A → List Token)
+    → ((v : A) (us : List Token) → f v us ≡ spelled v ++ us) → (vs : List A) (ts : List Token)
+    → each_onto f vs ts ≡ flat_map spelled vs ++ ts
+each_onto_is f spelled each [] ts = refl
+each_onto_is f spelled each (v ∷ vs) ts =
     each v (each_onto f vs ts)
-    ∙ ap (λ us. spelt v ++ us) (each_onto_is f spelt each vs ts)
-    ∙ sym (append_assoc (spelt v) (flat_map spelt vs) ts)
+    ∙ ap (λ us. spelled v ++ us) (each_onto_is f spelled each vs ts)
+    ∙ sym (append_assoc (spelled v) (flat_map spelled vs) ts)
 
 pub onto_is : (g : Ebnf) (v : Tree g) (ts : List Token) → onto g v ts ≡ tokens g v ++ ts
 onto_is never v ts = refl

@@ -12,11 +12,11 @@ use Rattle.twp_grammar.specs.Grammar.{semicolon, colon, stop}
 abbrev pub part_begins : List Class
 part_begins = lot ∷ north_south ∷ east_west ∷ corner ∷ all ∷ []
 
--- marks behind which more of a list follows, another part, or nothing
+-- marks after which more of a list follows, another part, or nothing
 abbrev pub marks : List Class
 marks = comma ∷ stop ∷ []
 
--- the classes of tokens that are told of: each of them can stand there
+-- the classes of tokens that are reported: each of them can stand there
 abbrev pub told : Expected → List Class
 told expected.Beginning = t ∷ sec ∷ []
 told expected.TownshipNumber = number ∷ []
@@ -49,7 +49,8 @@ told expected.MoreParts = and ∷ semicolon ∷ marks
 told expected.Step = north_south ∷ east_west ∷ corner ∷ []
 told expected.Nothing = []
 
--- the marks and words that can lead to them behind some of the beginnings of which they are told
+-- the marks and words that can lead to them after some of the beginnings for which they are
+-- reported
 abbrev pub leading : Expected → List Class
 leading expected.TownshipNumber = stop ∷ []
 leading expected.Range = marks

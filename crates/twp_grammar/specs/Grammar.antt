@@ -99,8 +99,8 @@ kind_of bad_byte _ = BadByte
 
 infixr 6 ◌⨾◌
 infixr 5 ◌∣◌
--- grammars: nothing at all, no tokens, a token of a class, one after the other, the one or the
--- other, any number
+-- grammars: nothing at all, no tokens, a token of a class, one after the other, one or the other,
+-- any number
 pub data Ebnf : Type 0 where
   never : Ebnf
   nothing : Ebnf

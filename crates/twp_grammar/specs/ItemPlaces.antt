@@ -59,7 +59,7 @@ abbrev pub section_behind : ℕ → Item → ℕ
 section_behind section (Sections first last whole) = first.value
 section_behind section other = section
 
--- each item of a list with its section, where the list stands behind this section
+-- each item of a list with its section, where the list follows this section
 abbrev pub with_sections : ℕ → List Item → List ItemOfSection
 with_sections section [] = []
 with_sections section (item ∷ items) =

@@ -130,7 +130,7 @@ part_items (inr (inr word)) = All word.at ∷ []
 abbrev pub parts_items : Tree parts → List Item
 parts_items (first & more) = part_items first ++ flat_map (behind part_items) more
 
--- sections, and then their parts; an `all` behind several sections makes no item
+-- sections, and then their parts; an `all` after several sections makes no item
 abbrev pub group_items : Tree group → List Item
 group_items (inl (_ & _ & only & inl (_ & v))) =
     Sections (numeral only) (numeral only) false ∷ parts_items v
@@ -148,7 +148,7 @@ items (inl v & first & more & _) =
     heading_item v ∷ group_items first ++ flat_map (behind (behind group_items)) more
 items (inr _ & first & more & _) = group_items first ++ flat_map (behind (behind group_items)) more
 
--- the items begin with sections, behind a heading or at once
+-- the items begin with sections, after a heading or at once
 abbrev pub BeginWithSections : List Item → Type 0
 BeginWithSections (Heading _ _ _ _ _ ∷ Sections _ _ _ ∷ more) = Unit {0}
 BeginWithSections (Sections _ _ _ ∷ more) = Unit {0}

@@ -1,4 +1,4 @@
--- The least machine that takes the sentences: what may stand behind a beginning of one. proofs/Table
+-- The least machine that takes the sentences: what may follow a beginning of one. proofs/Table
 -- shows that it is the grammar's.
 use Rattle.std.specs.Prelude.{Bool, true, false, Option}
 use Rattle.std.specs.Prelude.{Some, None}
@@ -23,7 +23,7 @@ before_part corner = Some past.Corner
 before_part all = Some past.All
 before_part _ = None
 
--- the state behind one more token
+-- the state after one more token
 abbrev pub next : State → Class → Option State
 next past.Start t = Some past.Township
 next past.Start sec = Some past.SectionWord
@@ -151,7 +151,7 @@ is_final past.All = true
 is_final past.End = true
 is_final _ = false
 
--- a chain of steps goes on with one more
+-- one more step may follow in a chain of steps
 abbrev pub is_in_chain : State → Bool
 is_in_chain past.Step = true
 is_in_chain past.Of = true

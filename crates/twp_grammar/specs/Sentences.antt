@@ -9,13 +9,13 @@ use Rattle.twp_grammar.specs.Items as derived
 -- the grammar derives the tokens, and these are the items
 pub record HasItems (tokens : List Token) (items : List Item) : Type 0 where
   pub tree : derived.Tree description
-  pub spelt : derived.tokens description tree ≡ tokens
+  pub spelled : derived.tokens description tree ≡ tokens
   pub read_off : derived.items tree ≡ items
 
 -- the grammar derives the tokens
 pub record IsSentence (tokens : List Token) : Type 0 where
   pub tree : derived.Tree description
-  pub spelt : derived.tokens description tree ≡ tokens
+  pub spelled : derived.tokens description tree ≡ tokens
 
 -- the most tokens that a beginning of a sentence lacks
 abbrev pub LONGEST_COMPLETION : ℕ
@@ -26,7 +26,7 @@ abbrev pub IsFront : List Token → Type 0
 IsFront tokens =
     (more : List Token) × (length more ≤ LONGEST_COMPLETION) × IsSentence (tokens ++ more)
 
--- some sentence has a token of the class behind the tokens
+-- some sentence has a token of the class after the tokens
 pub record MayFollow (tokens : List Token) (class : Class) : Type 0 where
   pub token : Token
   pub more : List Token

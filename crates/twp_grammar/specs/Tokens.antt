@@ -21,11 +21,11 @@ pub record Token : Type 0 where
   pub text : List ℕ
   pub at : ℕ
 
--- a space, a tabulator, a line feed or a carriage return
+-- a space, a tab, a line feed or a carriage return
 abbrev pub is_white : ℕ → Bool
 is_white byte = (byte == 32) || (byte == 9) || (byte == 10) || (byte == 13)
 
--- a word in small letters, and what it is
+-- a word in lowercase letters, and what it is
 pub record Word : Type 0 where
   pub letters : List ℕ
   pub kind : Kind
@@ -34,7 +34,7 @@ pub record Word : Type 0 where
 abbrev pub word : List ℕ → Kind → Word
 word letters kind = record { letters = letters; kind = kind }
 
--- the words of four letters and more that a description is made of
+-- the words of four letters or more that a description is made of
 abbrev pub long_words : List Word
 long_words =
     word (codes "thru") To ∷ word (codes "lots") Lot ∷ word (codes "secs") Sec
@@ -72,7 +72,7 @@ kind_among letters (w ∷ ws) = if same_bytes letters w.letters then w.kind else
 abbrev pub kind_of_word : List ℕ → Kind
 kind_of_word text = kind_among (str_to_ascii_lowercase text) words
 
--- the first byte, if there is one, is such a byte
+-- the first byte, if there is one, passes the test
 abbrev pub begins_with : (ℕ → Bool) → List ℕ → Bool
 begins_with is_such [] = false
 begins_with is_such (byte ∷ bytes) = is_such byte
@@ -87,7 +87,7 @@ pub record IsWholeRun (is_such : ℕ → Bool) (text rest : List ℕ) : Type 0 w
 abbrev pub Begins : List ℕ → List ℕ → Type 0
 Begins front bytes = (more : List ℕ) × (bytes ≡ front ++ more)
 
--- digits that are no half and no quarter
+-- digits that are neither a half nor a quarter
 pub record IsNumber (text rest : List ℕ) : Type 0 where
   pub run : IsWholeRun is_ascii_digit text rest
   pub no_half : ¬ Begins (codes "1/2") (text ++ rest)
@@ -132,7 +132,7 @@ pub data IsToken (text rest : List ℕ) (kind : Kind) : Type 0 where
 pub record StartsWith (at : ℕ) (bytes : List ℕ) (token : Token) (rest : List ℕ) : Type 0 where
   pub space : List ℕ
   pub white : AllPass is_white space
-  pub spelt : bytes ≡ space ++ (token.text ++ rest)
+  pub spelled : bytes ≡ space ++ (token.text ++ rest)
   pub place : token.at ≡ at + length space
   pub is : IsToken token.text rest token.kind
 

@@ -5,63 +5,63 @@ use std::fmt;
 pub enum Expected {
     /// Before the first token.
     Beginning,
-    /// Behind the `T` of a heading.
+    /// After the `T` of a heading.
     TownshipNumber,
-    /// Behind the township's number.
+    /// After the township's number.
     TownshipSide,
-    /// Behind the township's side.
+    /// After the township's side.
     Range,
-    /// Behind the `R` of a heading.
+    /// After the `R` of a heading.
     RangeNumber,
-    /// Behind the range's number.
+    /// After the range's number.
     RangeSide,
-    /// Behind a heading, or behind the semicolon after a group.
+    /// After a heading, or after the semicolon that ends a group.
     Sections,
-    /// Behind `sec`, or behind `and` in a list of sections.
+    /// After `sec`, or after `and` in a list of sections.
     SectionNumber,
-    /// Behind the number of one section.
+    /// After the number of one section.
     PartsOrSections,
-    /// Behind the comma after it.
+    /// After the comma that follows it.
     PartOrSection,
-    /// Behind an entry of a list of sections.
+    /// After an entry of a list of sections.
     MoreSections,
-    /// Behind the last number of a range of sections.
+    /// After the last number of a range of sections.
     InclusiveOrMoreSections,
-    /// Behind `to` in a list of sections.
+    /// After `to` in a list of sections.
     LastSection,
-    /// Behind a comma in a list of sections.
+    /// After a comma in a list of sections.
     SectionOrAll,
-    /// Behind the comma after the last number of a range of sections.
+    /// After the comma that follows the last number of a range of sections.
     InclusiveSectionOrAll,
-    /// Behind the colon after several sections.
+    /// After the colon that follows several sections.
     All,
-    /// Behind the `all` of several sections.
+    /// After the `all` of several sections.
     GroupEnd,
-    /// Behind `lot`.
+    /// After `lot`.
     LotNumber,
-    /// Behind an entry of a list of lots.
+    /// After an entry of a list of lots.
     MoreLots,
-    /// Behind the last number of a range of lots.
+    /// After the last number of a range of lots.
     InclusiveOrMoreLots,
-    /// Behind `to` in a list of lots.
+    /// After `to` in a list of lots.
     LastLot,
-    /// Behind a comma or `and` in a list of lots.
+    /// After a comma or `and` in a list of lots.
     LotOrPart,
-    /// Behind the comma after the last number of a range of lots.
+    /// After the comma that follows the last number of a range of lots.
     InclusiveLotOrPart,
-    /// Behind the colon after one section, or what separates its parts.
+    /// After the colon that follows one section, or what separates its parts.
     Part,
-    /// Behind the letter of a half.
+    /// After the letter of a half.
     Half,
-    /// Behind the letters of a quarter.
+    /// After the letters of a quarter.
     Quarter,
-    /// Behind a step of an aliquot part.
+    /// After a step of an aliquot part.
     MoreStepsOrParts,
-    /// Behind the `all` of one section.
+    /// After the `all` of one section.
     MoreParts,
-    /// Behind `of`.
+    /// After `of`.
     Step,
-    /// Behind the last full stop.
+    /// After the last full stop.
     Nothing,
 }
 

@@ -23,7 +23,7 @@ pub enum Step {
     Quarter(Corner),
 }
 
-/// The north half stands in places of `Steps` that aren't used yet.
+/// The north half fills the places of `Steps` that aren't used yet.
 impl Default for Step {
     fn default() -> Step {
         Step::Half(Side::N)

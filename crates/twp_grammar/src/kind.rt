@@ -1,7 +1,7 @@
 use twp_grid::{Corner, EastWest, NorthSouth};
 
 /// What a token of a description is. The words are those of the Specifications for Descriptions of
-/// Land, in capitals or small letters.
+/// Land, in uppercase or lowercase.
 #[derive(Clone, Copy, Debug, PartialEq, Eq, Hash)]
 pub enum Kind {
     /// `sec`, `secs`, `section` or `sections`.

@@ -24,17 +24,16 @@ pub enum State {
     RangeNumber,
     RangeSide,
     RangeSideStop,
-    /// Behind a heading's comma, or behind `and` between two groups: sections must follow.
+    /// After a heading's comma, or after `and` between two groups: sections must follow.
     BeforeGroup,
-    /// Behind the semicolon between two groups.
+    /// After the semicolon between two groups.
     Semicolon,
     /// In a group that has one section so far.
     SectionWord,
     SectionStop,
     SectionNumber,
     SectionComma,
-    /// In a list of sections, behind its first `to` or `and` or the number of its second entry, and
-    /// on.
+    /// In a list of sections, from its first `to` or `and`, or the number of its second entry, on.
     ListNumber,
     ListTo,
     ListLast,
@@ -42,11 +41,11 @@ pub enum State {
     ListComma,
     ListLastComma,
     ListAnd,
-    /// Behind the colon after several sections.
+    /// After the colon that follows several sections.
     ListColon,
-    /// Behind the `all` after several sections.
+    /// After the `all` that follows several sections.
     ListAll,
-    /// In a list of lots, behind the word `lot`, and on.
+    /// In a list of lots, from the word `lot` on.
     Lot,
     LotNumber,
     LotTo,
@@ -55,24 +54,24 @@ pub enum State {
     LotComma,
     LotLastComma,
     LotAnd,
-    /// Among the parts of one section, behind a colon or behind `and`: a part must follow.
+    /// Among the parts of one section, after a colon or after `and`: a part must follow.
     BeforePart,
     PartComma,
-    /// Behind the letter of a half.
+    /// After the letter of a half.
     Side,
-    /// Behind the letters of a quarter.
+    /// After the letters of a quarter.
     Corner,
-    /// Behind a whole step of an aliquot part.
+    /// After a whole step of an aliquot part.
     Step,
     Of,
     OfThe,
     All,
-    /// Behind the last full stop.
+    /// After the last full stop.
     End,
 }
 
 impl State {
-    /// What could stand behind the tokens so far.
+    /// What could stand after the tokens so far.
     pub fn expected(self) -> Expected
         ensures { result ≡ expected_of self }
     {
@@ -132,7 +131,7 @@ impl State {
         )
     }
 
-    /// Whether a chain of steps goes on with one more.
+    /// Whether one more step may follow in a chain of steps.
     #[inline(always)]
     pub fn is_in_chain(self) -> bool
         ensures { result ≡ is_in_chain self }

@@ -82,7 +82,7 @@ impl State {
         }
     }
 
-    /// The first token of a part of one section, which leads to the state that is given.
+    /// The first token of a part of one section, which leads to the given state.
     #[inline(always)]
     #[tactic(auto, using(crate::proofs::StateFacts::leads))]
     fn with_part(self, behind: State) -> Option<State>
@@ -95,7 +95,7 @@ impl State {
         }
     }
 
-    /// The first token of a step, which leads to the state that is given.
+    /// The first token of a step, which leads to the given state.
     #[inline(always)]
     #[tactic(auto, using(crate::proofs::StateFacts::leads))]
     fn with_step(self, behind: State) -> Option<State>
@@ -175,7 +175,7 @@ impl State {
         }
     }
 
-    /// `to`, behind the first number of a range.
+    /// `to`, after the first number of a range.
     #[inline(always)]
     fn with_to(self) -> Option<State>
         ensures { result ≡ next self to }
@@ -187,7 +187,7 @@ impl State {
         }
     }
 
-    /// `inclusive`, behind a range.
+    /// `inclusive`, after a range.
     #[inline(always)]
     fn with_inclusive(self) -> Option<State>
         ensures { result ≡ next self inclusive }
@@ -217,7 +217,7 @@ impl State {
         }
     }
 
-    /// `and`, which may stand behind a comma.
+    /// `and`, which may stand after a comma.
     #[inline(always)]
     fn with_and(self) -> Option<State>
         ensures { result ≡ next self and }
@@ -268,7 +268,7 @@ impl State {
         }
     }
 
-    /// What ends a group, which leads to the state that is given.
+    /// What ends a group, which leads to the given state.
     #[inline(always)]
     fn with_end(self, behind: State) -> Option<State>
         ensures { result ≡ option_map (λ _. behind) (next self semicolon) }

@@ -16,7 +16,7 @@ use Rattle.twp_grid.specs.Cuts.Cut.{half, quarter}
 use Rattle.twp_grid.specs.declared.block.Side.TheVariants as side
 use Rattle.twp_grid.specs.declared.block.Corner.TheVariants as corner
 
--- a span of half the side, moved by as much as its first digit says
+-- a span of half the side, moved as its first digit says
 abbrev moved : ℕ → Span → Span
 moved by span = record { start = by + span.start; len = span.len }
 

@@ -46,7 +46,7 @@ share_west a b row column row' column' index at-a at-b different is-a is-b west 
 
 pub ruleset shared_ends = (share_north, share_west)
 
--- a section whose side is no other section's has no neighbour with that side
+-- a section whose side is no other section's has no neighbor with that side
 only_standing : (k row column row' column' index : ℕ) → StandsAt k row column
     → ((other : ℕ) → IsSide other index → other ≡ k)
     → row' < 6 → column' < 6 → HasSide row' column' index → (row' ≡ row) × (column' ≡ column)
@@ -112,7 +112,7 @@ pub closing_test : (index : ℕ) → IsClosing index → (index < 7) ⊎ ((42 �
 closing_test index (inl (meridian, range, is)) = inl (omega arith)
 closing_test index (inr (tier, range, is)) = inr (omega arith, omega arith)
 
--- a test of the index that tells the closing lines
+-- a test of the index that recognizes the closing lines
 pub ruleset closing_lines = (closing_north, closing_west, closing_test)
 
 -- there is one line between two sections, and one of each run beside a section of the boundary

@@ -109,7 +109,7 @@ position_test : each 37
 unfolding each lots lot_at_position
 position_test = refl
 
--- each position is one lot or regular, never and_parts
+-- each position is one lot or regular, never both
 pub lot_or_regular : (section column row : ℕ) → IsSection section → IsPosition column row
     → ((lots_filling section column row ≡ 1) × (is_regular section column row ≡ false))
     ⊎ ((lots_filling section column row ≡ 0) × (is_regular section column row ≡ true))

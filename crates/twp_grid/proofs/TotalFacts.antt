@@ -6,7 +6,7 @@ pub total-zero : (f : ℕ → ℕ) → total 0 f ≡ 0
 unfolding total
 total-zero f = refl
 
--- one number more
+-- one more number
 pub total-next : (n : ℕ) (f : ℕ → ℕ) → total (n + 1) f ≡ total n f + f n
 unfolding total
 total-next n f = let e : n + 1 ≡ suc n = omega arith in rw e refl
@@ -33,7 +33,7 @@ total-same (suc n) c = omega (arith, total-same n c)
 pub total-all_zero : (n : ℕ) (f : ℕ → ℕ) → ((k : ℕ) → k < n → f k ≡ 0) → total n f ≡ 0
 total-all_zero n f none = total-ext n f (λ k. 0) none ∙ (let e = total-same n 0 in omega arith)
 
--- the first term apart
+-- the first term by itself
 pub total-front : (n : ℕ) (f : ℕ → ℕ) → total (suc n) f ≡ f 0 + total n (λ k. f (k + 1))
 unfolding total
 total-front zero f = omega arith

@@ -6,7 +6,7 @@ use Rattle.twp_grid.specs.declared.block.Side.TheVariants as side
 use Rattle.twp_grid.specs.declared.block.Corner.{Corner}
 use Rattle.twp_grid.specs.declared.block.Corner.TheVariants as corner
 
--- the half towards a side
+-- the half toward a side
 abbrev pub half_of : Rectangle → Side → Rectangle
 half_of block side.N = rectangle block.columns (upper_half block.rows)
 half_of block side.S = rectangle block.columns (lower_half block.rows)

@@ -9,7 +9,7 @@ use Rattle.twp_grid.specs.declared.block.Side.TheVariants as side
 use Rattle.twp_grid.specs.declared.block.Corner.{Corner}
 use Rattle.twp_grid.specs.declared.block.Corner.TheVariants as corner
 
--- a half towards a side, or the quarter at a corner
+-- a half toward a side, or the quarter at a corner
 pub data Cut : Type 0 where
   half : Side → Cut
   quarter : Corner → Cut
@@ -37,7 +37,7 @@ column_asked (quarter corner.SW) = 1 ∷ []
 column_asked (quarter corner.SE) = 0 ∷ []
 
 -- the digits that cuts ask for of a row, the highest first; cuts are listed as a description writes
--- them, the last one taken standing first
+-- them, the last cut first
 abbrev pub rows_asked : List Cut → List ℕ
 rows_asked [] = []
 rows_asked (cut ∷ before) = rows_asked before ++ row_asked cut

@@ -1,15 +1,15 @@
--- What a contract sees of a device: its bytes, where it tells them, and whether it has failed.
+-- What a contract sees of a device: its bytes, where they are known, and whether it has failed.
 use Rattle.std.specs.Prelude.{◌≡◌, ℕ, ◌≤◌, List, length, Option, Some, None, ⊤, Bool}
 use Rattle.std.specs.Io.KnownBytes.{Consumes}
 use Rattle.twp_grid.specs.declared.device.Device.{Device}
 use Rattle.twp_grid.specs.declared.bytes.Bytes.{Bytes}
 
--- these are the bytes, where they are told
+-- these are the bytes, where they are known
 abbrev pub Tells : Option (List ℕ) → List ℕ → Type 0
 Tells None bytes = ⊤
 Tells (Some known) bytes = known ≡ bytes
 
--- of the bytes that are told, at most so many were taken
+-- of the bytes that are known, at most this many were taken
 abbrev pub TakesAtMost : Option (List ℕ) → Option (List ℕ) → ℕ → Type 0
 TakesAtMost old new most = (taken : List ℕ) × Consumes old new taken × (length taken ≤ most)
 

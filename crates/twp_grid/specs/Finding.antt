@@ -1,4 +1,4 @@
--- What a search answers.
+-- The answer of a search.
 use Rattle.std.specs.Prelude.{◌≡◌, Option, Some, None}
 
 -- the only value of which the fact holds, or None exactly where there is no such value

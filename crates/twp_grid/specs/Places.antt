@@ -20,11 +20,11 @@ places_to_position g = places_across g / POSITIONS_ACROSS
 abbrev pub IsPlace : ℕ → ℕ → ℕ → Type 0
 IsPlace g column row = (column < places_across g) × (row < places_across g)
 
--- the same as a test
+-- the same, as a test
 abbrev pub is_place : ℕ → ℕ → ℕ → Bool
 is_place g column row = nat_lt column (places_across g) && nat_lt row (places_across g)
 
--- the column of the position that places of this column belong to; the same of rows
+-- the column of the position that places of this column belong to; the same for rows
 abbrev pub position_along : ℕ → ℕ → ℕ
 position_along g place = place / places_to_position g
 
@@ -33,7 +33,7 @@ abbrev pub binary : ℕ → ℕ → List ℕ
 binary zero place = []
 binary (suc g) place = (place / 2 ^ g % 2) ∷ binary g place
 
--- the digits begin with those that are asked
+-- the digits begin with those that are asked for
 abbrev pub begins : List ℕ → List ℕ → Bool
 begins [] digits = true
 begins (d ∷ asked) [] = false

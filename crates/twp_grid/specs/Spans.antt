@@ -7,7 +7,7 @@ pub record Span : Type 0 where
   pub start : ℕ
   pub len : ℕ
 
--- so many from a first one
+-- this many from a first one
 abbrev pub span_from : ℕ → ℕ → Span
 span_from start len = record { start = start; len = len }
 

@@ -19,6 +19,6 @@ abbrev pub over_positions : (ℕ → ℕ → ℕ) → ℕ
 over_positions f =
     total POSITIONS_ACROSS (λ row. total POSITIONS_ACROSS (λ column. f column row))
 
--- 1 where a test holds, and else 0
+-- 1 where a test holds, and 0 otherwise
 abbrev pub one_where : Bool → ℕ
 one_where test = if test then 1 else 0

@@ -68,7 +68,8 @@ impl Block {
         }
     }
 
-    /// The position at a column from the east and a row from the south, 0 to 3. None outside.
+    /// The position at a column from the east and a row from the south, 0 to 3. None outside this
+    /// range.
     pub fn position(column: u8, row: u8) -> Option<Block>
         ensures { SomeIff result (IsPosition column row) (position_block PLACE_DIGITS column row) }
     {
@@ -90,7 +91,7 @@ impl Block {
         Block::position(column, row)
     }
 
-    /// The half towards a side. None where the side to be halved is one place.
+    /// The half toward a side. None where the side to be halved is one place.
     pub fn half(self, side: Side) -> Option<Block>
         ensures { SomeIff result (CanHalve self side) (half_of self side) }
     {

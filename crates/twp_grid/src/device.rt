@@ -4,7 +4,7 @@ ghost use Rattle.std.specs.Io.KnownBytes.{ReadConsumes, WriteAppends, Keeps};
 
 use std::io::{Read, Write};
 
-/// A device has failed, for whatever cause: it takes and gives no more bytes.
+/// A device has failed, for whatever reason: it takes and gives no more bytes.
 #[derive(Clone, Copy, Debug, PartialEq, Eq, Hash)]
 pub struct DeviceFault;
 
@@ -13,18 +13,18 @@ pub trait Source {
     /// The bytes that are left to read, where they are known.
     ghost remaining: { Self → Option (List ℕ) } = { λ _. None };
 
-    /// Whether a call has answered a fault.
+    /// Whether a call has failed.
     ghost has_failed: { Self → Bool };
 
-    /// Fills the front of a buffer, and answers how many bytes it filled. 0 for a buffer that has
-    /// room is the end of the input.
+    /// Fills the start of a buffer, and returns how many bytes it filled. 0 for a buffer that has
+    /// room means the end of the input.
     fn fill(&mut self, buffer: &mut [u8]) -> Result<usize, DeviceFault>
         requires { has_failed self.old ≡ false }
         ensures within { IfOk result (λ n. n ≤ length buffer.new) }
         ensures bytes { ReadConsumes (remaining self.old) (remaining self.new) result buffer.new }
         ensures fails { has_failed self.new ≡ is_err result };
 
-    /// Whether a call has answered a fault.
+    /// Whether a call has failed.
     fn failed(&self) -> bool
         ensures { result ≡ has_failed self.now };
 }
@@ -34,10 +34,10 @@ pub trait Sink {
     /// The bytes that were taken, where they are known.
     ghost contents: { Self → Option (List ℕ) } = { λ _. None };
 
-    /// Whether a call has answered a fault.
+    /// Whether a call has failed.
     ghost has_failed: { Self → Bool };
 
-    /// Takes bytes at the front of a slice, at least one of a slice that isn't empty, and answers
+    /// Takes bytes at the start of a slice, at least one of a slice that isn't empty, and returns
     /// how many. After a fault it took none.
     fn put(&mut self, bytes: &[u8]) -> Result<usize, DeviceFault>
         requires { has_failed self.old ≡ false }
@@ -52,7 +52,7 @@ pub trait Sink {
         ensures bytes { Keeps (contents self.old) (contents self.new) }
         ensures fails { has_failed self.new ≡ is_err result };
 
-    /// Whether a call has answered a fault.
+    /// Whether a call has failed.
     fn failed(&self) -> bool
         ensures { result ≡ has_failed self.now };
 }
@@ -93,7 +93,7 @@ impl<T> Device<T> {
         self.failed
     }
 
-    /// Marks that a call failed.
+    /// Records that a call failed.
     fn fail(&mut self) -> DeviceFault
         ensures failed { device_failed self.new ≡ true }
         ensures inner { inner_of self.new ≡ inner_of self.old }

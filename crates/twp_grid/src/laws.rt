@@ -25,7 +25,8 @@ pub fn one_line()
 
 /// A block that was reached from a whole section by halves and quarters holds exactly the places
 /// whose first binary digits are as these ask: a half or a quarter in the north asks for a row's
-/// next digit to be 1, in the south 0, in the west for a column's to be 1, in the east 0.
+/// next digit to be 1, in the south for 0; in the west for a column's next digit to be 1, in the
+/// east for 0.
 #[tactic(auto, using(crate::proofs::CutFacts::held_as_asked))]
 pub fn holds_what_is_asked()
     ensures { HoldsWhatIsAsked }

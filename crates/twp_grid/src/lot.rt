@@ -9,8 +9,9 @@ use crate::section::Section;
 pub const POSITIONS_ACROSS: u8 = 4;
 
 /// The lot that fills a position of a section, if one does. The column is counted from the east and
-/// the row from the south, 0 to 3; outside there is none. Lots stand along the half miles that
-/// errors of measurement are thrown into (Manual of Surveying Instructions 2009, chapter 3).
+/// the row from the south, 0 to 3; outside this range there is none. Lots stand along the half
+/// miles that errors of measurement are thrown into (Manual of Surveying Instructions 2009, chapter
+/// 3).
 #[tactic(auto, using(crate::proofs::LotFacts::lot_at_position_is))]
 pub fn lot_at(section: Section, column: u8, row: u8) -> Option<u8>
     ensures lot { result ≡ lot_at_position section column row }

@@ -7,9 +7,9 @@ use std::marker::Model;
 /// How many sections a township has.
 pub const SECTIONS: u8 = 36;
 
-/// One of a township's 36 sections, by its number. The numbers wind: row 0 has 1 to 6 from the
-/// east, row 1 has 7 to 12 from the west, and so on to 36 in the south-east corner (Manual of
-/// Surveying Instructions 2009, chapter 3).
+/// One of a township's 36 sections, by its number. The numbers wind back and forth: row 0 has 1 to
+/// 6 from the east, row 1 has 7 to 12 from the west, and so on to 36 in the south-east corner
+/// (Manual of Surveying Instructions 2009, chapter 3).
 #[derive(Clone, Copy, Debug, PartialEq, Eq, PartialOrd, Ord, Hash)]
 pub struct Section {
     number: u8,

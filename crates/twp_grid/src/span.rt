@@ -15,7 +15,7 @@ pub const PLACES_ACROSS: usize = 1 << PLACE_DIGITS;
 /// The places along a side of a position.
 pub const PLACES_TO_POSITION: u8 = PLACES_ACROSS as u8 / POSITIONS_ACROSS;
 
-/// Columns or rows of places in succession, of those that halving a section's side gives.
+/// Columns or rows of places in succession, as halving a section's side gives them.
 #[derive(Clone, Copy, Debug, PartialEq, Eq, Hash)]
 pub(crate) struct Span {
     start: usize,
@@ -51,7 +51,7 @@ impl Span {
         }
     }
 
-    /// The columns or rows of a position, 0 to 3. None outside.
+    /// The columns or rows of a position, 0 to 3. None outside this range.
     pub(crate) fn position(position: u8) -> Option<Span>
         ensures { SomeIff result (position < POSITIONS_ACROSS)
             (position_span PLACE_DIGITS position) }
@@ -65,7 +65,7 @@ impl Span {
         })
     }
 
-    /// The half of the lesser numbers, in the east or the south. None of a single place.
+    /// The half of the lesser numbers, in the east or the south. None for a single place.
     pub(crate) fn lower(self) -> Option<Span>
         ensures { SomeIff result (1 < self.len) (lower_half self) }
     {
@@ -78,7 +78,7 @@ impl Span {
         })
     }
 
-    /// The half of the greater numbers, in the west or the north. None of a single place.
+    /// The half of the greater numbers, in the west or the north. None for a single place.
     pub(crate) fn upper(self) -> Option<Span>
         ensures { SomeIff result (1 < self.len) (upper_half self) }
     {

@@ -71,7 +71,7 @@ sum_is_total (lane ∷ lanes) =
     later : (i : ℕ) → get_or (lane ∷ lanes) (i + 1) 0 ≡ get_or lanes i 0
     later i = let e : i + 1 ≡ suc i = omega arith in rw e refl
 
--- the ones of a number of so many digits
+-- the ones of a number of this many digits
 pub ones_are_total : (digits n : ℕ) → n < 2 ^ digits → count_ones n ≡ total digits (λ i. bit_at n i)
 ones_are_total zero n below =
     let none : n ≡ 0 = omega (arith, below) in

@@ -38,7 +38,7 @@ rows_apart rows others apart shared =
     let place = of_place shared.column shared.row first.0 in
     apart shared.row place.1 (shared.column, place.0, first.1, second.1)
 
--- the first so many rows are joined, and the others as they were
+-- the rows below a number are joined, and the others are as they were
 pub record AreJoined (rows others : List (List Bool)) (count : ℕ) (joined : List (List Bool)) : Type 0 where
   pub all : length joined ≡ places_across PLACE_DIGITS
   pub below : (row : ℕ) → row < count

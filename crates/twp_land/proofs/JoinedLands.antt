@@ -10,7 +10,7 @@ use Rattle.twp_land.specs.Lands.{union, LieWithin}
 use Rattle.twp_land.specs.Storage.{held_by_section, held_by_either}
 use Rattle.twp_land.proofs.LandFacts.{exchanged, held_after, kept_at}
 
--- the places of both sets up to a section, and behind it those of the first
+-- the places of both sets up to a section, and after it those of the first
 abbrev pub joined_to : ℕ → (ℕ → ℕ → ℕ → Bool) → (ℕ → ℕ → ℕ → Bool) → ℕ → ℕ → ℕ → Bool
 joined_to most places more section column row =
     places section column row || (nat_le section most && more section column row)

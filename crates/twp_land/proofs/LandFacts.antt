@@ -15,7 +15,7 @@ use Rattle.twp_land.specs.Lands.{LieWithin}
 use Rattle.twp_land.specs.Storage.{is_section, held_by_section, with_block, without_block, nothing_held}
 use Rattle.twp_land.specs.Storage.{ShareHeld, SameHeld}
 
--- the set with one section's part exchanged
+-- the set with one section's part replaced
 abbrev pub exchanged : (ℕ → ℕ → ℕ → Bool) → ℕ → (ℕ → ℕ → Bool) → ℕ → ℕ → ℕ → Bool
 exchanged places section held other column row =
     if section == other then held column row else places other column row
@@ -38,7 +38,7 @@ slice_get-set_other (p ∷ plots) (suc i) zero plot other = refl
 slice_get-set_other (p ∷ plots) (suc i) (suc j) plot other =
     slice_get-set_other plots i j plot (λ e. other (ap (λ k. suc k) e))
 
--- an exchange in the list is an exchange in the set
+-- replacing a part in the list replaces it in the set
 pub held_after : {P : Type 0} (held : P → ℕ → ℕ → Bool) (plots : List P) (section : ℕ) (plot : P)
     → IsSection section
     → length plots ≡ SECTION_COUNT
@@ -74,7 +74,7 @@ held_after held plots section plot range all =
     at_other other column row apart =
         keeps other column row (is_section other) (λ number e. apart (grind (arith, nat_tests)))
 
--- to exchange a section's part for itself and a block is to add the block
+-- replacing a section's part by itself and a block adds the block
 exchanged_is_union : (places : ℕ → ℕ → ℕ → Bool) (section : ℕ) (block : Rectangle)
     → exchanged places section (with_block (places section) block) ≡ union places (block_places section block)
 exchanged_is_union places section block =
@@ -91,7 +91,7 @@ exchanged_is_union places section block =
     or_false true = refl
     or_false false = refl
 
--- to exchange it for itself without a block is to take the block away
+-- replacing it by itself without a block takes the block away
 exchanged_is_difference : (places : ℕ → ℕ → ℕ → Bool) (section : ℕ) (block : Rectangle)
     → exchanged places section (without_block (places section) block)
     ≡ difference places (block_places section block)
@@ -163,7 +163,7 @@ removed_where_kept held plots section block plot plot' range all removed =
     changed_where_kept held (λ part. without_block part block) plots section plot plot' range all removed
     ∙ exchanged_is_difference (held_by_section held plots) section block
 
--- what is kept at an index is the part of the section behind it
+-- what is kept at an index is the part of the section whose number is one more
 pub kept_at : {P : Type 0} (held : P → ℕ → ℕ → Bool) (plots : List P) (index : ℕ) (plot : P)
     → index < SECTION_COUNT → length plots ≡ SECTION_COUNT
     → held_by_section held plots (index + 1) ≡ held (get_or plots index plot)

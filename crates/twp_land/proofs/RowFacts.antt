@@ -180,7 +180,7 @@ held_after_filling rows block filled dyadic-rows dyadic-columns are =
           | inr elsewhere ↦ rw (place, are.outside row in-row elsewhere, elsewhere) (or_and_false _ _)
         ]
 
--- one place more is filled
+-- one more place is filled
 pub filled_next : (row filled : List Bool) (start along : ℕ) → length filled ≡ places_across PLACE_DIGITS
     → start + along < places_across PLACE_DIGITS
     → IsFilled row (record { start = start; len = along }) filled

@@ -29,7 +29,7 @@ pub(crate) fn vector(lanes: &[Lane]) -> LaneVector
     LaneVector::from_slice(lanes)
 }
 
-/// So many ones from the bit of a start.
+/// This many ones from the bit of a start.
 #[inline(always)]
 pub(crate) fn ones(start: u8, len: u8) -> Lane
     requires { start + len ≤ places_across PLACE_DIGITS }

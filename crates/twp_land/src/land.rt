@@ -49,8 +49,8 @@ pub trait Land: Drop {
         *self = Self::empty();
     }
 
-    /// A first and a last section, outside of which no place is held. None only where none is held
-    /// at all.
+    /// A first and a last section, outside of which no place is held. None only where no place is
+    /// held at all.
     fn sections(&self) -> Option<(Section, Section)>
         ensures { MatchOption result (places self.now ≡ no_places) (λ (first, last).
             (first ≤ last) × LieWithin (places self.now) first last) }

@@ -10,7 +10,7 @@ pub type Lanes = Sections<LaneRows>;
 /// A section's places as lanes of bits: a lane for each row, from the south, and in it a bit for
 /// each column, from the east.
 ///
-/// The finest parts, which long lists are made of, are single places or lie in one row. To tell
+/// The finest parts, which long lists are made of, are single places or lie in one row. To find
 /// whether such a block is met, and to add it, its row's lane is enough, and no vector of all lanes
 /// is made for it. A block of more rows takes all lanes at once.
 #[derive(Clone, Copy, Debug)]

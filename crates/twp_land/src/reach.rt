@@ -8,7 +8,7 @@ pub(crate) struct Reach {
 }
 
 impl Reach {
-    /// Makes it reach from an index up to another as well.
+    /// Makes it also reach from one index up to another.
     #[inline(always)]
     pub(crate) fn widen(&mut self, first: usize, end: usize)
         ensures first { self.new.first ≡ min self.old.first first }

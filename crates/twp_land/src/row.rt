@@ -9,7 +9,7 @@ use twp_grid::PLACES_ACROSS;
 /// A row of a section's places: whether each is held, from the east.
 pub(crate) type Row = [bool; PLACES_ACROSS];
 
-/// Whether some of so many places from a start is held.
+/// Whether one of this many places from a start is held.
 pub(crate) fn some_held(row: &Row, start: usize, len: usize) -> bool
     requires { start + len ≤ places_across PLACE_DIGITS }
     ensures { IsTrue result ↔ SomeHeld row.now start len }
@@ -22,7 +22,7 @@ pub(crate) fn some_held(row: &Row, start: usize, len: usize) -> bool
     false
 }
 
-/// Whether each of so many places from a start is held.
+/// Whether each of this many places from a start is held.
 pub(crate) fn each_held(row: &Row, start: usize, len: usize) -> bool
     requires { start + len ≤ places_across PLACE_DIGITS }
     ensures { IsTrue result ↔ EachHeld row.now start len }
@@ -35,7 +35,7 @@ pub(crate) fn each_held(row: &Row, start: usize, len: usize) -> bool
     true
 }
 
-/// How many of so many places from a start are held.
+/// How many of this many places from a start are held.
 pub(crate) fn count_held(row: &Row, start: usize, len: usize) -> u32
     requires { start + len ≤ places_across PLACE_DIGITS }
     ensures count { result ≡ count_in_row row.now start len }
@@ -50,7 +50,7 @@ pub(crate) fn count_held(row: &Row, start: usize, len: usize) -> u32
     count
 }
 
-/// The row with so many places from a start held.
+/// The row with this many places from a start held.
 pub(crate) fn filled(row: &Row, start: usize, len: usize) -> Row
     requires { start + len ≤ places_across PLACE_DIGITS }
     ensures { IsFilled row.now (record { start = start; len = len }) result }
@@ -62,7 +62,7 @@ pub(crate) fn filled(row: &Row, start: usize, len: usize) -> Row
     filled
 }
 
-/// The row with so many places from a start not held.
+/// The row with this many places from a start not held.
 pub(crate) fn cleared(row: &Row, start: usize, len: usize) -> Row
     requires { start + len ≤ places_across PLACE_DIGITS }
     ensures { IsCleared row.now (record { start = start; len = len }) result }

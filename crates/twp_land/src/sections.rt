@@ -17,8 +17,8 @@ const NOWHERE: Reach = Reach {
     end: 0,
 };
 
-/// A land that keeps a set of places for each section, by number. No set that it doesn't reach
-/// holds any place: what is asked of a whole land looks at the others alone.
+/// A land that keeps a set of places for each section, by number. Sets outside its reach hold no
+/// place: what is asked of a whole land looks only at the others.
 #[derive(Debug, Drop)]
 pub struct Sections<P: Plot> {
     plots: [P; SETS],

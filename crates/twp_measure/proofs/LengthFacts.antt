@@ -1,4 +1,4 @@
--- A length's text, by what stands before its first point and behind it.
+-- A length's text, by what stands before and after its first point.
 use Rattle.std.proofs.Common.{◌≡◌, ◌==◌, ℕ, ◌+◌, ◌*◌, ◌<◌, ◌≤◌, ◌⊎◌, false, List, ◌∷◌, ◌++◌, length}
 use Rattle.std.proofs.Common.{drop, get_or, refl, ap, sym, ◌∙◌, inl, inr, arith, length-append}
 use Rattle.std.specs.Int.{IsInRange}
@@ -31,7 +31,7 @@ place_after_digits whole decimals all =
     (λ k below. rw (get_or_append_left whole (point ∷ decimals) 0 k below) (not_point whole k all below))
     (λ _. rw (get_or-append_seam whole point decimals 0) refl)
 
--- what stands behind the byte that follows a front
+-- what stands after the byte that follows a prefix
 one_past : (front back : List ℕ) (byte : ℕ) → drop (length front + 1) (front ++ byte ∷ back) ≡ back
 one_past front back byte = rw (drop-append-add front (byte ∷ back) 1) refl
 

@@ -5,7 +5,7 @@ use Rattle.std.proofs.lemmas.Bool.{eq-eqb, ne_eqb}
 use Rattle.std.proofs.Math.Seq.{take-append-add}
 use Rattle.twp_measure.specs.LengthTexts.{point, digit_byte, length_text}
 
--- the part of a buffer that begins with a front which ends at `middle`
+-- the part of a buffer that begins with these bytes, which end at `middle`
 pub front_and_more : (text front back : List ℕ) (start middle end : ℕ) → drop start text ≡ front ++ back
     → start + length front ≡ middle → middle ≤ end
     → take (end - start) (drop start text) ≡ front ++ take (end - middle) back
@@ -13,7 +13,7 @@ front_and_more text front back start middle end is ends over =
     let long : end - start ≡ length front + (end - middle) = omega arith in
     rw (is, long) (take-append-add front back (end - middle))
 
--- what stands behind the whole chains, with three decimals
+-- what stands after the whole chains, with three decimals
 abbrev all_decimals : ℕ → List ℕ
 all_decimals v = point ∷ digit_byte (v / 100 % 10) ∷ digit_byte (v / 10 % 10) ∷ digit_byte (v % 10) ∷ []
 

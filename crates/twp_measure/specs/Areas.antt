@@ -1,7 +1,7 @@
 -- Areas as exact fractions, and the hundredths of an acre that are printed of one.
 use Rattle.std.specs.Prelude.{ℕ, ◌+◌, ◌*◌, ◌/◌, ◌^◌, ◌≤◌, ◌<◌}
 
--- so many square thousandths of a chain over a denominator
+-- this many square thousandths of a chain over a denominator
 pub record Fraction : Type 0 where
   pub units : ℕ
   pub over : ℕ
@@ -24,7 +24,7 @@ abbrev pub hundredth_of : Fraction → ℕ
 hundredth_of area = HUNDREDTH_OF_AN_ACRE * area.over
 
 -- The area is h hundredths of an acre, rounded half up: it is at least half a hundredth below them,
--- and less than half a hundredth above. All is doubled, so that halves are whole.
+-- and less than half a hundredth above. Everything is doubled, so that halves are whole.
 pub record IsRounded (area : Fraction) (h : ℕ) : Type 0 where
   pub least : 2 * h * hundredth_of area ≤ 2 * area.units + hundredth_of area
   pub most : 2 * area.units < 2 * h * hundredth_of area + hundredth_of area

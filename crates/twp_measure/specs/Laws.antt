@@ -15,7 +15,7 @@ OneLength = (text : List ℕ) (v v' : ℕ) → IsLengthText text v → IsLengthT
 abbrev pub OneRounding : Type 0
 OneRounding = (area : Fraction) (h h' : ℕ) → IsRounded area h → IsRounded area h' → h ≡ h'
 
--- h hundredths less half a hundredth are not more than the area; none less a half count as none
+-- h hundredths minus half a hundredth aren't more than the area; 0 minus a half counts as 0
 abbrev pub Reaches : Fraction → ℕ → Type 0
 Reaches area h = (2 * h - 1) * area.over * 100000 ≤ 2 * area.units
 

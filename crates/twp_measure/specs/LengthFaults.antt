@@ -1,4 +1,4 @@
--- Why a text is no length, and which fault is answered.
+-- Why a text is no length, and which fault is reported.
 use Rattle.std.specs.Prelude.{◌≡◌, ℕ, ◌≤◌, ◌<◌, List, [], length}
 use Rattle.std.specs.Str.Parse.{IsNumeral}
 use Rattle.twp_measure.specs.LengthTexts.{place_of_point, before_point, behind_point}
@@ -6,7 +6,7 @@ use Rattle.twp_measure.specs.declared.length.LengthFault.{LengthFault}
 use Rattle.twp_measure.specs.declared.length.LengthFault.TheVariants.{Empty, BadDigit}
 use Rattle.twp_measure.specs.declared.length.LengthFault.TheVariants.{TooManyPlaces, TooLong}
 
--- digits before the first point, digits behind it where there is one, and no other byte
+-- digits before the first point, digits after it where there is one, and no other byte
 pub record IsDecimalNumber (text : List ℕ) : Type 0 where
   pub before : IsNumeral 10 (before_point text)
   pub behind : place_of_point text < length text → IsNumeral 10 (behind_point text)
@@ -18,7 +18,7 @@ HasLengthFault text BadDigit = ¬ IsDecimalNumber text
 HasLengthFault text TooManyPlaces = 3 < length (behind_point text)
 HasLengthFault text TooLong = 2 < length (before_point text)
 
--- the order in which faults are answered
+-- the order in which faults are reported
 abbrev pub order_of : LengthFault → ℕ
 order_of Empty = 0
 order_of BadDigit = 1

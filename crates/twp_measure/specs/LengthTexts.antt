@@ -21,7 +21,7 @@ place_of_point text = position_or_len (λ byte. byte == point) text
 abbrev pub before_point : List ℕ → List ℕ
 before_point text = take (place_of_point text) text
 
--- what stands behind the first point, which is nothing where there is none
+-- what stands after the first point, which is nothing where there is none
 abbrev pub behind_point : List ℕ → List ℕ
 behind_point text = drop (place_of_point text + 1) text
 
@@ -31,11 +31,11 @@ pub record IsShortNumber (text : List ℕ) (n : ℕ) : Type 0 where
   pub places : length text ≤ 2
   pub value : n ≡ digits_value 10 text
 
--- the thousandths of a chain that the digits behind a point stand for
+-- the thousandths of a chain that the digits after a point stand for
 abbrev pub fraction_of : List ℕ → ℕ
 fraction_of decimals = digits_value 10 decimals * 10 ^ (3 - length decimals)
 
--- one to three digits behind a point are so many thousandths of a chain
+-- one to three digits after a point are this many thousandths of a chain
 pub record IsDecimals (text : List ℕ) (thousandths : ℕ) : Type 0 where
   pub numeral : IsNumeral 10 text
   pub places : length text ≤ 3

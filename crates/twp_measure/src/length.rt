@@ -30,7 +30,7 @@ impl Model for Length {
     ghost inverse = { λ n. record { thousandths = n } };
 }
 
-/// Why a text is no length. Of several faults the first in this order is answered.
+/// Why a text is no length. Of several faults the first in this order is reported.
 #[derive(Clone, Copy, Debug, PartialEq, Eq, Hash, Error)]
 pub enum LengthFault {
     /// The text has no byte.
@@ -39,7 +39,7 @@ pub enum LengthFault {
     /// A byte is neither a digit nor the first point, or a side of the point has no digit.
     #[error("a length is no decimal number")]
     BadDigit,
-    /// More than three digits stand behind the point.
+    /// More than three digits stand after the point.
     #[error("a length has more than three decimals")]
     TooManyPlaces,
     /// More than two digits stand before the point.
@@ -141,7 +141,7 @@ fn is_numeral(text: &[u8]) -> bool
     !text.is_empty() && has_only_digits(text)
 }
 
-/// Whether no byte is anything but a digit.
+/// Whether every byte is a digit.
 fn has_only_digits(text: &[u8]) -> bool
     ensures { result ≡ list_all is_ascii_digit text.now }
 {
@@ -199,7 +199,7 @@ mod tests {
         assert_eq!(rt; read(b"19.575"), Ok(19_575));
         assert_eq!(rt; read(b"19.5"), Ok(19_500));
         assert_eq!(rt; read(b"00.05"), Ok(50));
-        // The longest: 100 chains less a thousandth.
+        // The longest: 100 chains minus a thousandth.
         assert_eq!(rt; read(b"99.999"), Ok(99_999));
     }
 

@@ -29,7 +29,7 @@ most_taken old mid new read piece count room most before more within fits =
       rw (length-append read (take count piece)) (omega arith),
     )
 
--- a source has bytes, told or not
+-- a source has bytes, known or not
 pub tells_some : (known : Option (List ℕ)) → Tells known (unwrap_or known [])
 tells_some None = tt
 tells_some (Some xs) = refl

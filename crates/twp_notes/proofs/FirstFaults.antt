@@ -21,7 +21,7 @@ use Rattle.twp_notes.proofs.NameFacts.{names_one, has_run, has_section}
 use Rattle.twp_notes.proofs.FieldFacts.{has_lengths}
 use Rattle.twp_notes.proofs.RecordPlaces.{AreBehind, IsPlaced, placed, on_line}
 
--- a place behind this one, or this one with a number that isn't less
+-- a place after this one, or this one with a number that isn't less
 abbrev IsBehind : ℕ → ℕ → ℕ → ℕ → Type 0
 IsBehind place number at own =
     let once : ℕ = 1 in

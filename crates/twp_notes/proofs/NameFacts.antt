@@ -5,7 +5,7 @@ use Rattle.twp_grid.specs.declared.line.Run.{Run}
 use Rattle.twp_grid.specs.declared.line.Run.TheVariants as run
 use Rattle.twp_grid.proofs.LineFacts.{one_line}
 use Rattle.twp_notes.specs.Records.{Fields, field}
-use Rattle.twp_notes.specs.FieldNotes.{run_text, IsSectionText, IsNeighbourText, NamesLine}
+use Rattle.twp_notes.specs.FieldNotes.{run_text, IsSectionText, IsNeighborText, NamesLine}
 use Rattle.twp_notes.specs.NotesFaults.{HasNoRun, HasNoSection}
 
 -- N is not W
@@ -21,15 +21,15 @@ one_run run.West run.West e = refl
 one_section : (text : List ℕ) (a b : ℕ) → IsSectionText text a → IsSectionText text b → a ≡ b
 one_section text a b is is' = is.0.value ∙ sym is'.0.value
 
--- nothing is no section's number
+-- an empty field is no section's number
 not_section : (section : ℕ) → IsSectionText [] section → ⊥
 not_section section is = omega (arith, is.0.numeral.0)
 
-one_neighbour : (text : List ℕ) (a b : Option ℕ) → IsNeighbourText text a → IsNeighbourText text b → a ≡ b
-one_neighbour text None None is is' = refl
-one_neighbour text (Some a) (Some b) is is' = ap (λ n. Some n) (one_section text a b is is')
-one_neighbour text None (Some b) is is' = absurd (not_section b (rw is at is'))
-one_neighbour text (Some a) None is is' = absurd (not_section a (rw is' at is))
+one_neighbor : (text : List ℕ) (a b : Option ℕ) → IsNeighborText text a → IsNeighborText text b → a ≡ b
+one_neighbor text None None is is' = refl
+one_neighbor text (Some a) (Some b) is is' = ap (λ n. Some n) (one_section text a b is is')
+one_neighbor text None (Some b) is is' = absurd (not_section b (rw is at is'))
+one_neighbor text (Some a) None is is' = absurd (not_section a (rw is' at is))
 
 -- a record names one line
 pub names_one : (fields : Fields) (line line' : ℕ) → NamesLine fields line → NamesLine fields line'
@@ -39,7 +39,7 @@ names_one fields line line' is is' =
     let same_section : is'.section ≡ is.section =
     one_section (field fields 1) is'.section is.section is'.section_is is.section_is in
     let same_other : is'.other ≡ is.other =
-    one_neighbour (field fields 2) is'.other is.other is'.other_is is.other_is in
+    one_neighbor (field fields 2) is'.other is.other is'.other_is is.other_is in
     one_line is.run is.section is.other line line' is.line_is
     (rw (same_run, same_section, same_other) at is'.line_is)
 

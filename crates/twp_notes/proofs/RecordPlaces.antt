@@ -1,4 +1,4 @@
--- The records of lines, by their places behind the heading and the township's record.
+-- The records of lines, by their places after the heading and the township's record.
 use Rattle.std.proofs.Common.{◌≡◌, ℕ, ◌+◌, ◌-◌, ◌≤◌, ◌<◌, List, ◌∷◌, length, suc, refl, ap, subst, sym, ◌∙◌}
 use Rattle.std.proofs.Common.{arith}
 use Rattle.twp_grid.specs.Townships.{Designation}
@@ -6,7 +6,7 @@ use Rattle.twp_notes.specs.Records.{Fields, records_of, record_at, record_number
 use Rattle.twp_notes.specs.FieldNotes.{NOTES_MOST, heading, IsTownshipRecord, IsLineNumber}
 use Rattle.twp_notes.specs.NotesFaults.{HasOnLine}
 
--- the bytes are few enough, and behind the heading and the township's record stand these
+-- the bytes are few enough, and after the heading and the township's record stand these
 pub record AreBehind (bytes : List ℕ) (rows : List Fields) : Type 0 where
   pub size : length bytes ≤ NOTES_MOST
   pub first : Fields
@@ -32,7 +32,7 @@ behind_of bytes first second start after rest township size all one two heading_
   township_is = township_is;
 }
 
--- a line's record by its place behind the first two
+-- a line's record by its place after the first two
 pub record IsPlaced (bytes : List ℕ) (rows : List Fields) (number : ℕ) : Type 0 where
   pub place : ℕ
   pub number_is : number ≡ place + 3

@@ -21,7 +21,7 @@ begins_more old more between new is begins =
     ∙ ap (take (length old)) is
     ∙ take_at old more (length old) refl
 
--- five fields that are appended, each with the byte behind it, are a record's text
+-- five fields that are appended, each with the byte after it, are a record's text
 pub five_appended : (old first second third fourth fifth a b c d e : List ℕ) → first ≡ old ++ (a ++ 44 ∷ [])
     → second ≡ first ++ (b ++ 44 ∷ []) → third ≡ second ++ (c ++ 44 ∷ [])
     → fourth ≡ third ++ (d ++ 44 ∷ []) → fifth ≡ fourth ++ (e ++ 10 ∷ [])
@@ -54,7 +54,7 @@ pub err_anyway : {A E : Type 0} (r : Result A E) {P : Type 0} → P → OnErr r 
 err_anyway (Ok a) holds = tt
 err_anyway (Err e) holds = holds
 
--- the heading, the township and the first so many lines were appended
+-- the heading, the township and the lines below a number were appended
 pub record IsWrittenTo (notes : FieldNotes) (count : ℕ) (old new : List ℕ) : Type 0 where
   pub rows : List Fields
   pub rows_are : AreLineRecords notes count rows

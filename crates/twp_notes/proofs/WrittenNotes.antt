@@ -20,9 +20,9 @@ use Rattle.twp_notes.specs.Records.{Fields, records_of, record_at, record_number
 use Rattle.twp_grid.specs.Texts.{north_south_letter, east_west_letter}
 use Rattle.twp_notes.specs.FieldNotes.{FieldNotes, NOTES_MOST, heading}
 use Rattle.twp_notes.specs.FieldNotes.{run_text, returned_of, IsTownshipRecord}
-use Rattle.twp_notes.specs.FieldNotes.{IsSectionText, IsNeighbourText, NamesLine, IsLineRecord}
+use Rattle.twp_notes.specs.FieldNotes.{IsSectionText, IsNeighborText, NamesLine, IsLineRecord}
 use Rattle.twp_notes.specs.FieldNotes.{IsLineNumber, AreNoteRecords, AreNotes}
-use Rattle.twp_notes.specs.NotesTexts.{record_text, township_fields, neighbour_text, AreLineFields}
+use Rattle.twp_notes.specs.NotesTexts.{record_text, township_fields, neighbor_text, AreLineFields}
 use Rattle.twp_notes.specs.NotesTexts.{AreLineRecords, text_before, AreWithinLimits}
 use Rattle.twp_notes.specs.Laws.{WrittenIsRead}
 use Rattle.twp_notes.specs.declared.returned.Returned.{Returned}
@@ -66,12 +66,12 @@ first_side : (section : ℕ) (other : Option ℕ) (line : ℕ) → LiesBeside se
 first_side section (Some other) line beside = beside.1
 first_side section None line beside = beside.0
 
-neighbour_is : (section : ℕ) (other : Option ℕ) (line : ℕ) → LiesBeside section other line
-    → IsNeighbourText (neighbour_text other) other
-neighbour_is section (Some other) line beside = section_text other line beside.2
-neighbour_is section None line beside = refl
+neighbor_is : (section : ℕ) (other : Option ℕ) (line : ℕ) → LiesBeside section other line
+    → IsNeighborText (neighbor_text other) other
+neighbor_is section (Some other) line beside = section_text other line beside.2
+neighbor_is section None line beside = refl
 
--- what is known of a neighbour's text
+-- what is known of a neighbor's text
 record IsShortPlain (text : List ℕ) (most : ℕ) : Type 0 where
   plain : IsPlain text
   short : length text ≤ most
@@ -84,10 +84,10 @@ section_plain section line side =
     let range : IsSection section = section_range section line side in
     short_plain section (omega arith)
 
-neighbour_plain : (section : ℕ) (other : Option ℕ) (line : ℕ) → LiesBeside section other line
-    → IsShortPlain (neighbour_text other) 2
-neighbour_plain section (Some other) line beside = section_plain other line beside.2
-neighbour_plain section None line beside = record { plain = tt; short = omega arith }
+neighbor_plain : (section : ℕ) (other : Option ℕ) (line : ℕ) → LiesBeside section other line
+    → IsShortPlain (neighbor_text other) 2
+neighbor_plain section (Some other) line beside = section_plain other line beside.2
+neighbor_plain section None line beside = record { plain = tt; short = omega arith }
 
 run_plain : (run : Run) → IsShortPlain (run_text run) 1
 run_plain run.North = record { plain = (omega arith, tt); short = omega arith }
@@ -123,7 +123,7 @@ written_line : (line : ℕ) (returned : Returned) (fields : Fields) → IsLength
 written_line line returned fields quarter corner are =
     let beside = are.names.is_line.1 in
     let section = section_plain are.section line (first_side are.section are.other line beside) in
-    let other = neighbour_plain are.section are.other line beside in
+    let other = neighbor_plain are.section are.other line beside in
     let run = run_plain are.run in
     let short-quarter : length (length_text returned.quarter) ≤ 6 = length_short returned.quarter quarter in
     let short-corner : length (length_text returned.corner) ≤ 6 = length_short returned.corner corner in
@@ -136,7 +136,7 @@ written_line line returned fields quarter corner are =
           columns = refl;
           run_is = refl;
           section_is = section_text are.section line (first_side are.section are.other line beside);
-          other_is = neighbour_is are.section are.other line beside;
+          other_is = neighbor_is are.section are.other line beside;
           line_is = are.names.is_line;
         };
         returns = record {
@@ -149,7 +149,7 @@ written_line line returned fields quarter corner are =
           (plain_length returned.corner corner);
       short =
           rw
-          (five_long (run_text are.run) (decimal are.section) (neighbour_text are.other)
+          (five_long (run_text are.run) (decimal are.section) (neighbor_text are.other)
           (length_text returned.quarter) (length_text returned.corner))
           (omega (arith, run.short, section.short, other.short));
     })

@@ -59,7 +59,7 @@ unquoted_record first second rest plain =
     rw (unquoted first plain.0, unquoted_rest (second ∷ rest) plain.1)
     (sym (append_assoc first (fields_text default_writer (second ∷ rest)) (10 ∷ [])))
 
--- a record is read back, and leaves what is behind it
+-- a record is read back, and leaves what comes after it
 reads_back : (fields : Fields) (tail : List ℕ) → IsPlainRecord fields
     → next_record default_config st.StartRecord [] [] (record_text fields ++ tail)
     ≡ Some (fields, st.StartRecord, tail)

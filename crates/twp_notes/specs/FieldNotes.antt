@@ -56,9 +56,9 @@ abbrev pub IsSectionText : List ℕ → ℕ → Type 0
 IsSectionText text section = IsShortNumber text section × IsSection section
 
 -- a second section's number, or nothing where the line is on the township's boundary
-abbrev pub IsNeighbourText : List ℕ → Option ℕ → Type 0
-IsNeighbourText text None = text ≡ []
-IsNeighbourText text (Some section) = IsSectionText text section
+abbrev pub IsNeighborText : List ℕ → Option ℕ → Type 0
+IsNeighborText text None = text ≡ []
+IsNeighborText text (Some section) = IsSectionText text section
 
 -- the record's first three fields name a line: its run and the sections beside it
 pub record NamesLine (fields : Fields) (line : ℕ) : Type 0 where
@@ -68,7 +68,7 @@ pub record NamesLine (fields : Fields) (line : ℕ) : Type 0 where
   pub columns : length fields ≡ FIELDS
   pub run_is : field fields 0 ≡ run_text run
   pub section_is : IsSectionText (field fields 1) section
-  pub other_is : IsNeighbourText (field fields 2) other
+  pub other_is : IsNeighborText (field fields 2) other
   pub line_is : IsLineOf run section other line
 
 -- the record's last two fields are distances
@@ -81,7 +81,7 @@ pub record IsLineRecord (fields : Fields) (line : ℕ) (returned : Returned) : T
   pub names : NamesLine fields line
   pub returns : Returns fields returned
 
--- the records of lines: all behind the heading and the township's
+-- the records of lines: all after the heading and the township's
 abbrev pub IsLineNumber : List Fields → ℕ → Type 0
 IsLineNumber records number = (3 ≤ number) × (number ≤ length records)
 

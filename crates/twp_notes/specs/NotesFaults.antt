@@ -1,5 +1,5 @@
 -- What may be wrong with field notes, each fault as a statement about all their records, and which
--- fault is answered.
+-- fault is reported.
 use Rattle.std.specs.Prelude.{◌≡◌, ◌≢◌, ◌⊎◌, ℕ, ◌≤◌, ◌<◌, List, [], length, Option, Some, None}
 use Rattle.std.specs.Prelude.{IfSome, Result, Ok, Err}
 use Rattle.std.specs.Option.{option_map_or}
@@ -9,7 +9,7 @@ use Rattle.twp_grid.specs.declared.line.Run.{Run}
 use Rattle.twp_grid.specs.declared.refusal.Refusal.{Refusal}
 use Rattle.twp_notes.specs.Records.{Fields, field, records_of, record_numbered}
 use Rattle.twp_notes.specs.FieldNotes.{FieldNotes, NOTES_MOST, FIELDS, heading, run_text}
-use Rattle.twp_notes.specs.FieldNotes.{IsTownshipRecord, IsSectionText, IsNeighbourText, NamesLine}
+use Rattle.twp_notes.specs.FieldNotes.{IsTownshipRecord, IsSectionText, IsNeighborText, NamesLine}
 use Rattle.twp_notes.specs.FieldNotes.{IsLineNumber, IsNamed, AreNotes}
 use Rattle.twp_notes.specs.declared.fault.NotesFault.{NotesFault}
 use Rattle.twp_notes.specs.declared.fault.NotesFault.TheVariants as fault
@@ -38,10 +38,10 @@ HasNone {A} Is = (value : A) → Is value → ⊥
 abbrev pub HasNoRun : Fields → Type 0
 HasNoRun fields = HasNone (λ (run : Run). field fields 0 ≡ run_text run)
 
--- a record without a section, or whose neighbour is neither a section nor left empty
+-- a record without a section, or whose neighbor is neither a section nor left empty
 abbrev pub HasNoSection : Fields → Type 0
 HasNoSection fields = HasNone (IsSectionText (field fields 1))
-    ⊎ HasNone (IsNeighbourText (field fields 2))
+    ⊎ HasNone (IsNeighborText (field fields 2))
 
 -- a record that names no line of the township
 abbrev pub NamesNoLine : Fields → Type 0
@@ -100,7 +100,7 @@ number_of fault = option_map_or (λ (refusal : Refusal). refusal.number) (refusa
 abbrev pub place_of : NotesFault → ℕ
 place_of fault = option_map_or (λ (refusal : Refusal). refusal.at) (refusal_of fault) 0
 
--- the fault is at this stage, place and number, or behind it
+-- the fault is at this stage, place and number, or after it
 abbrev pub IsFrom : ℕ → ℕ → ℕ → NotesFault → Type 0
 IsFrom stage place number fault =
     (stage < stage_of fault)

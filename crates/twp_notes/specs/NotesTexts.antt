@@ -18,7 +18,7 @@ use Rattle.twp_notes.specs.declared.returned.Returned.{Returned}
 abbrev pub comma : ℕ
 comma = 44
 
--- the fields behind the first, each behind a comma, and a line feed
+-- the fields after the first, each after a comma, and a line feed
 abbrev pub rest_text : Fields → List ℕ
 rest_text [] = line_feed ∷ []
 rest_text (field ∷ rest) = comma ∷ (field ++ rest_text rest)
@@ -57,10 +57,10 @@ pub record AreNames (line : ℕ) (run : Run) (section : ℕ) (other : Option ℕ
   pub is_line : IsLineOf run section other line
   pub first : IsNamedFirst run section other line
 
--- a neighbour's number, or nothing on the township's boundary
-abbrev pub neighbour_text : Option ℕ → List ℕ
-neighbour_text (Some section) = decimal section
-neighbour_text None = []
+-- a neighbor's number, or nothing on the township's boundary
+abbrev pub neighbor_text : Option ℕ → List ℕ
+neighbor_text (Some section) = decimal section
+neighbor_text None = []
 
 -- the fields are those of a line's record: its names and its distances
 pub record AreLineFields (line : ℕ) (returned : Returned) (fields : Fields) : Type 0 where
@@ -68,10 +68,10 @@ pub record AreLineFields (line : ℕ) (returned : Returned) (fields : Fields) : 
   pub section : ℕ
   pub other : Option ℕ
   pub names : AreNames line run section other
-  pub fields_are : fields ≡ run_text run ∷ decimal section ∷ neighbour_text other
+  pub fields_are : fields ≡ run_text run ∷ decimal section ∷ neighbor_text other
       ∷ length_text returned.quarter ∷ length_text returned.corner ∷ []
 
--- the first so many lines have these records
+-- the lines below a number have these records
 pub record AreLineRecords (notes : FieldNotes) (count : ℕ) (rows : List Fields) : Type 0 where
   pub count_is : length rows ≡ count
   pub each : (line : ℕ) → line < count

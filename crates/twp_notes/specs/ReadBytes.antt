@@ -1,8 +1,8 @@
--- What a reading took of the bytes that a source tells.
+-- What a reading took of the bytes that are known of a source.
 use Rattle.std.specs.Prelude.{◌≡◌, ℕ, List, length, take, Option, IfSome}
 use Rattle.std.specs.Io.KnownBytes.{Consumes, IsAtEnd}
 
--- just so many bytes were taken
+-- exactly this many bytes were taken
 abbrev pub TakesJust : Option (List ℕ) → Option (List ℕ) → ℕ → Type 0
 TakesJust old new count = (taken : List ℕ) × Consumes old new taken × (length taken ≡ count)
 
@@ -10,6 +10,7 @@ TakesJust old new count = (taken : List ℕ) × Consumes old new taken × (lengt
 abbrev pub TakesAll : Option (List ℕ) → Option (List ℕ) → List ℕ → Type 0
 TakesAll old new taken = Consumes old new taken × IsAtEnd new
 
--- of the bytes that are told, just the first so many were taken: all, where there are no more
+-- of the bytes that are known, exactly the first ones up to this number were taken: all, where
+-- there are no more
 abbrev pub TakesFirst : Option (List ℕ) → Option (List ℕ) → ℕ → Type 0
 TakesFirst old new count = IfSome old (λ bytes. Consumes old new (take count bytes))

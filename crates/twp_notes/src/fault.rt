@@ -16,7 +16,7 @@ pub enum NotesFault {
     /// 2, at record 1: there is no record.
     #[error("the notes are empty: record 1 is `line,between,and,quarter,corner`")]
     Empty,
-    /// 3, at record 1: this is another one than the heading.
+    /// 3, at record 1: it isn't the heading.
     #[error("record 1 isn't the heading `line,between,and,quarter,corner`")]
     Heading,
     /// 4, at the record: it doesn't have five fields.
@@ -33,7 +33,7 @@ pub enum NotesFault {
     #[error("record {0} has no sections: 1 to 36 in one or two digits; only field 3 may be empty")]
     Section(u32),
     /// 8, at the record: no line of that run lies between these sections, or on the township's
-    /// boundary beside the one.
+    /// boundary beside the one section.
     #[error("record {0} names no line: its run has none between these sections")]
     NoLine(u32),
     /// 9, at the record: its fourth or fifth field is no length.
@@ -42,8 +42,8 @@ pub enum NotesFault {
     /// 10, at the record: an earlier one was of the same line.
     #[error("record {0} returns a line that an earlier record returned")]
     Repeated(u32),
-    /// 11, at the line's index: no record is of this line. Of several lines it is the one of the
-    /// least index.
+    /// 11, at the line's index: no record is of this line. Of several such lines it is the one with
+    /// the least index.
     #[error("no record returns the line of index {0}")]
     Missing(u8),
     /// The reader failed.

@@ -10,7 +10,7 @@ ghost use Rattle.twp_grid.specs.Finding.{Finds};
 ghost use Rattle.twp_grid.specs.Texts.{north_south_letter, east_west_letter};
 ghost use Rattle.twp_notes.specs.FieldNotes.{FIELDS, heading, IsTownshipRecord};
 ghost use Rattle.twp_notes.specs.FieldNotes.{run_text, IsSectionText};
-ghost use Rattle.twp_notes.specs.FieldNotes.{IsNeighbourText, NamesLine, Returns};
+ghost use Rattle.twp_notes.specs.FieldNotes.{IsNeighborText, NamesLine, Returns};
 ghost use Rattle.twp_notes.specs.NotesFaults.{HasNoLength};
 ghost use Rattle.twp_notes.specs.steps.LineFaults.{IsUnnamed};
 
@@ -68,7 +68,7 @@ pub fn line_of(row: &ByteRecord, number: u32) -> Result<Line, NotesFault>
     let Some(section) = section_of(field(row, 1)) else {
         return Err(NotesFault::Section(number));
     };
-    let Some(other) = neighbour_of(field(row, 2)) else {
+    let Some(other) = neighbor_of(field(row, 2)) else {
         return Err(NotesFault::Section(number));
     };
     match Line::find(run, section, other) {
@@ -132,8 +132,8 @@ fn section_of(text: &[u8]) -> Option<Section>
 }
 
 /// The section of a number, or the township's outside where there is nothing.
-fn neighbour_of(text: &[u8]) -> Option<Option<Section>>
-    ensures { Finds result (IsNeighbourText text.now) }
+fn neighbor_of(text: &[u8]) -> Option<Option<Section>>
+    ensures { Finds result (IsNeighborText text.now) }
 {
     if text.is_empty() {
         return Some(None);

@@ -38,9 +38,10 @@ impl Model for Notes {
 
 impl Notes {
     /// Reads the notes that a source gives, to its end or to one byte past what notes may have,
-    /// before any refusal is answered. The first fault is answered: too many bytes before all; then
-    /// that of the first record that has one, the least number of that record; and last the least
-    /// line that is missing. `Read` is answered exactly where the source failed in this call.
+    /// before any refusal is answered. The answer is the first fault: too many bytes come first;
+    /// then the fault of the first record that has one, the least number of that record; and last
+    /// the least line that is missing. `Read` is the answer exactly where the source failed in this
+    /// call.
     pub fn read<R: Source>(alloc: Global, source: &mut R) -> Result<Notes, NotesFault>
         requires { R.has_failed source.old ≡ false }
         ensures failed { IsErrOf result NotesFault.Read ↔ (R.has_failed source.new ≡ true) }

@@ -14,10 +14,10 @@ use crate::table::LineTable;
 use csv::ByteRecord;
 use std::alloc::Global;
 
-/// The number of the record behind the heading and the township's, the first one of a line.
+/// The number of the record after the heading and the township's, the first one of a line.
 const FIRST_LINE: u32 = 3;
 
-/// The notes that the bytes are, of which there are no more than there may be.
+/// The notes that the bytes are, where there are no more bytes than there may be.
 pub fn parse(alloc: Global, bytes: &[u8]) -> Result<Notes, NotesFault>
     requires { length bytes.now ≤ NOTES_MOST }
     ensures answer { AnswersNotes bytes.now result }

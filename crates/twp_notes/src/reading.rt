@@ -46,7 +46,7 @@ const PIECE: usize = 1_024;
 const ROOM: usize = 131_072;
 
 /// Reads all the bytes that a source gives, to the end of the input. None where there are more than
-/// `limit`: then one byte more was read, and no further one was asked for.
+/// `limit`: then one more byte was read, and no further one was asked for.
 pub fn read_whole<S: Source>(
     alloc: Global,
     source: &mut S,

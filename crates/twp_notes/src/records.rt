@@ -25,7 +25,7 @@ impl<'a> Records<'a> {
         }
     }
 
-    /// Reads the next record into `row`, and answers whether there was one.
+    /// Reads the next record into `row`, and says whether there was one.
     pub fn read(&mut self, row: &mut ByteRecord) -> Result<bool, AllocError>
         requires { IsReading self.old }
         ensures { IfOk result (λ found. MatchBool found
@@ -36,7 +36,8 @@ impl<'a> Records<'a> {
         match self.reader.read_byte_record(row) {
             Ok(found) => Ok(found),
             Err(error) => match error.into_kind() {
-                // Bytes in memory give no fault of a device, but `csv` promises that of no reader.
+                // Bytes in memory give no fault of a device, but `csv` doesn't promise that for any
+                // reader.
                 ErrorKind::OutOfMemory | ErrorKind::Io(_) => Err(AllocError),
                 _ => unreachable!(),
             },

@@ -1,4 +1,4 @@
-//! Notes for tests, and notes that are damaged.
+//! Notes for tests, and damaged notes.
 use crate::notes::Notes;
 use crate::returned::Returned;
 use std::alloc::Global;
@@ -92,7 +92,7 @@ pub fn with_ends(alloc: Global, notes: &[u8], end: &str) -> Result<Vec<u8>, Fail
     Ok(text)
 }
 
-/// The notes with quotes round each field.
+/// The notes with quotes around each field.
 pub fn quoted(alloc: Global, notes: &[u8]) -> Result<Vec<u8>, Fail> {
     let mut text = Vec::from_slice(alloc, b"\"")?;
     for byte in notes {
@@ -128,8 +128,8 @@ pub fn swapped(alloc: Global, notes: &[u8]) -> Result<Vec<u8>, Fail> {
     Ok(text)
 }
 
-/// The notes with the records of lines in a fixed other order: behind the heading and the township
-/// first that of line 3, then 8, and so on by fives round the 84.
+/// The notes with the records of lines in a fixed other order: after the heading and the township
+/// first that of line 3, then 8, and so on by fives around the 84.
 pub fn shuffled(alloc: Global, notes: &[u8]) -> Result<Vec<u8>, Fail> {
     let records = records_of(alloc, notes)?;
     let mut text = Vec::new(alloc);

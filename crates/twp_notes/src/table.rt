@@ -37,7 +37,7 @@ impl LineTable {
         }
     }
 
-    /// Takes down what was returned of a line, and answers whether it is the first time. What was
+    /// Takes down what was returned of a line, and says whether this is the first time. What was
     /// returned before stays.
     pub fn take_down(&mut self, line: Line, returned: Returned) -> bool
         ensures first { OnTrue result (entry_of self.old line ≡ None) }

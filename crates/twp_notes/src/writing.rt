@@ -8,7 +8,7 @@ ghost use Rattle.twp_notes.specs.NotesTexts.{record_text, township_fields, AreNa
 ghost use Rattle.twp_notes.specs.steps.WrittenFields.{field_text};
 ghost use Rattle.twp_notes.specs.NotesTexts.{AreLineFields, AppendsNotes};
 ghost use Rattle.twp_notes.specs.steps.WrittenFields.{BeginsWith};
-ghost use Rattle.twp_notes.specs.NotesTexts.{neighbour_text};
+ghost use Rattle.twp_notes.specs.NotesTexts.{neighbor_text};
 
 use crate::fields::FIELDS;
 use crate::notes::Notes;
@@ -51,7 +51,7 @@ pub struct Names {
     pub other: Option<Section>,
 }
 
-/// Appends the text of notes. Where memory runs out a front of it is left.
+/// Appends the text of notes. Where memory runs out, the beginning of the text is left.
 pub fn write_notes(notes: &Notes, out: &mut Vec<u8>) -> Result<(), AllocError>
     ensures ok { OnOk result (AppendsNotes notes.now out.old.items out.new.items) }
     ensures err { OnErr result (BeginsWith out.old.items out.new.items) }
@@ -93,7 +93,7 @@ fn write_line(line: Line, returned: Returned, out: &mut Vec<u8>) -> Result<(), A
     let fields = [
         Field::Letter(run_letter(names.run)),
         Field::Number(names.section.number()),
-        neighbour_field(names.other),
+        neighbor_field(names.other),
         Field::Distance(returned.quarter),
         Field::Distance(returned.corner),
     ];
@@ -113,7 +113,7 @@ fn write_record(fields: [Field; FIELDS], out: &mut Vec<u8>) -> Result<(), AllocE
     write_field(fields[4], b'\n', out)
 }
 
-/// Appends a field and the byte behind it.
+/// Appends a field and the byte after it.
 fn write_field(field: Field, end: u8, out: &mut Vec<u8>) -> Result<(), AllocError>
     ensures ok { OnOk result (out.new.items ≡ out.old.items ++ (field_text field ++ end ∷ [])) }
     ensures err { OnErr result (BeginsWith out.old.items out.new.items) }
@@ -122,9 +122,9 @@ fn write_field(field: Field, end: u8, out: &mut Vec<u8>) -> Result<(), AllocErro
     out.extend_from_slice(&[end])
 }
 
-/// The number of a neighbour, or nothing.
-fn neighbour_field(other: Option<Section>) -> Field
-    ensures { field_text result ≡ neighbour_text other }
+/// The number of a neighbor, or nothing.
+fn neighbor_field(other: Option<Section>) -> Field
+    ensures { field_text result ≡ neighbor_text other }
 {
     match other {
         Some(section) => Field::Number(section.number()),

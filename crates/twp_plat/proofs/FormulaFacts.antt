@@ -33,7 +33,7 @@ ends_are closing number below =
     refl refl refl refl
 
 -- What runs from one closing quarter to another in the last column or row, and is a quarter mile in the
--- others: its lengths at two distances from the start, behind which k and k' are left.
+-- others: its lengths at two distances from the start, after which k and k' are left.
 pub both_are : (a b k x k' x' along ends number : ℕ) → number < 4 → k + x ≡ along → k' + x' ≡ along
     → x + x' ≡ ends
     → (if number == 3 then pos (2 * a * along) +ℤ (pos b -ℤ pos a) *ℤ pos ends else pos (40000 * along))
@@ -115,7 +115,7 @@ piece_is_formula q column row in_column in_row =
     (product_is (mean_width q column row) (mean_height q column row) (line_length q.west)
     (line_length q.north) widths.parts heights.parts widths.is_mean heights.is_mean)
 
--- a piece's terms: so many parts of as many as its section has to a unit; none of its numbers is negative
+-- a piece's terms: this many of the parts that its section has to a unit; none of its numbers is negative
 pub record PieceTerms (q : ClosingQuarters) (column row : ℕ) : Type 0 where
   pub top : ℕ
   pub numerator : (piece q column row).numerator ≡ pos top

@@ -18,7 +18,7 @@ once z = omega (arith, ints)
 whole_numerator : (r : Ratio) (units : ℕ) → IsSame r (whole units) → r.numerator ≡ pos (units * r.denominator)
 whole_numerator r units is = sym (once r.numerator) ∙ is
 
--- so many parts make that whole number
+-- this many parts make that whole number
 pub parts_of_whole : (r : Ratio) (units parts d : ℕ) → 0 < r.denominator → IsSame r (whole units)
     → IsSame r (ratio (pos parts) d) → parts ≡ units * d
 parts_of_whole r units parts d some is in_parts =

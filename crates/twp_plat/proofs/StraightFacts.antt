@@ -29,12 +29,12 @@ mean_is : (r s : Ratio) (m n d : ℕ) → r.numerator ≡ pos m → s.numerator 
 mean_is r s m n d r_is s_is r_over s_over =
     (rw (r_is, s_is, r_over, s_over) (ap pos (omega arith)), rw (r_over, s_over) refl)
 
--- a mean of two, whose sum is so many parts of a line's length
+-- a mean of two, whose sum is this many parts of a line's length
 pub record IsMeanOf (r : Ratio) (along parts : ℕ) : Type 0 where
   pub numerator : r.numerator ≡ pos (along * parts)
   pub denominator : r.denominator ≡ 2 * (along * along)
 
--- the mean of a length that runs straight, at two distances x and x', behind which k and k' are left
+-- the mean of a length that runs straight, at two distances x and x', after which k and k' are left
 pub mean_straight : (a b k x k' x' along : ℕ) → k + x ≡ along → k' + x' ≡ along
     → IsMeanOf (mean (straight a b along x) (straight a b along x')) along (a * (k + k') + b * (x + x'))
 mean_straight a b k x k' x' along parts parts' =

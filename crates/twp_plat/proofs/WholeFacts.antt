@@ -9,7 +9,7 @@ use Rattle.twp_plat.specs.Formula.{both_ends}
 use Rattle.twp_plat.proofs.FormulaFacts.{under_four, both_are, piece_is_formula, piece_terms}
 use Rattle.twp_plat.proofs.RatioFacts.{whole_of_parts}
 
--- Along a regular line the two distances of a quarter mile's ends add up to eight times so much.
+-- Along a regular line the two distances of a quarter mile's ends add up to eight times as much.
 record Eighths (number : ℕ) : Type 0 where
   count : ℕ
   ends : both_ends 80000 number ≡ 8 * count
@@ -26,7 +26,7 @@ eighths number below =
 eight_times : (f l rest count : ℕ) → f * (8 * rest) + l * (4 * count + 4 * count) ≡ 8 * (f * rest + l * count)
 eight_times f l rest count = omega arith
 
--- what runs along a regular line, at both ends of a quarter mile, adds up to eight times so much
+-- what runs along a regular line, at both ends of a quarter mile, adds up to eight times as much
 along_regular : (a b other number : ℕ) → number < 4 → other < 4
     → (sum : ℕ)
     × ((if number

@@ -13,13 +13,13 @@ unfolding piece
 regular = refl
 
 -- 20.20 chains in the east and 20.40 in the west, 80 chains apart: the first of four positions is 20.20
--- and 20.25 chains high, 20.225 in the mean, and 20 wide.
+-- and 20.25 chains high, 20.225 on average, and 20 wide.
 northern : IsSame (piece (quarters 20200 20400 20000 20000) 0 3) (whole 404500000)
 unfolding piece
 northern = refl
 
 -- 19.50 chains in the south and 19.60 in the north: the first of four is 19.50 and 19.525 chains wide,
--- 19.5125 in the mean, and 20 high.
+-- 19.5125 on average, and 20 high.
 western : IsSame (piece (quarters 20000 20000 19600 19500) 3 0) (whole 390250000)
 unfolding piece
 western = refl

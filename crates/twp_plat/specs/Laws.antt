@@ -43,7 +43,7 @@ PieceIsWhole = (plat : TownshipPlat) (section column row : ℕ) (q : ClosingQuar
     → IsPlat plat → AreClosingQuarters plat section q → section ≢ 6 → column < POSITIONS_ACROSS → row < POSITIONS_ACROSS
     → (units : ℕ) × IsSame (piece q column row) (whole units)
 
--- each piece is a whole number of parts of the plat's denominator: the division leaves no rest
+-- each piece is a whole number of parts of the plat's denominator: the division leaves no remainder
 abbrev pub PieceIsOver : Type 0
 PieceIsOver = (plat : TownshipPlat) (section column row : ℕ) (q : ClosingQuarters)
     → IsPlat plat → AreClosingQuarters plat section q → column < POSITIONS_ACROSS → row < POSITIONS_ACROSS

@@ -19,7 +19,7 @@ quarter_miles closing = QUARTER_MILE ∷ QUARTER_MILE ∷ QUARTER_MILE ∷ closi
 abbrev pub quarter_mile : ℕ → ℕ → ℕ
 quarter_mile closing number = slice_index_or (quarter_miles closing) number 0
 
--- how far from the line's start so many of them reach
+-- how far from the line's start this many of them reach
 abbrev pub reach : ℕ → ℕ → ℕ
 reach closing count = sum (take count (quarter_miles closing))
 

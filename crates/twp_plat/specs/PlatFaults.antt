@@ -1,4 +1,4 @@
--- Why notes make no plat, each fault as a statement about a line, and which fault is answered.
+-- Why notes make no plat, each fault as a statement about a line, and which fault is reported.
 use Rattle.std.specs.Prelude.{◌≡◌, ◌⊎◌, ℕ, ◌≤◌, ◌<◌, Option, Some, Result, Ok, Err}
 use Rattle.twp_grid.specs.Lines.{IsLine, IsClosing}
 use Rattle.twp_grid.specs.declared.refusal.Refusal.{Refusal}
@@ -44,7 +44,7 @@ abbrev pub half_of : PlatFault → ℕ
 half_of (fault.Irregular line half.First) = 1
 half_of other = 2
 
--- the fault is at this line and half, or behind it
+-- the fault is at this line and half, or after it
 abbrev pub IsFrom : ℕ → ℕ → PlatFault → Type 0
 IsFrom place half fault =
     (place < place_of fault) ⊎ ((place ≡ place_of fault) × (half ≤ half_of fault))

@@ -41,7 +41,7 @@ pub fn piece_is_whole()
 {}
 
 /// Each piece is a whole number of parts of the plat's denominator: brought to it, the division
-/// leaves no rest.
+/// leaves no remainder.
 pub fn piece_is_over()
     ensures { PieceIsOver }
 {}

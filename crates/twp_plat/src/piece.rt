@@ -40,7 +40,7 @@ const QUARTER: u64 = QUARTER_MILE as u64;
 const THREE_QUARTERS: u64 = 3 * QUARTER;
 
 impl SideQuarters {
-    /// The area of a position, in whole units: of a section with regular lines, all pieces are.
+    /// The area of a position in whole units, as all pieces of a section with regular lines are.
     pub fn whole_units(self, column: u8, row: u8) -> u64
         requires regular { HaveRegularLines self }
         requires column { column < POSITIONS_ACROSS }

@@ -74,7 +74,7 @@ impl Plat {
     }
 
     /// The denominator of each area on the plat: four times the lengths of section 6's north line
-    /// and west line, one times the other.
+    /// and west line, multiplied by each other.
     pub fn over(&self) -> u64
         ensures value { result ≡ over_of self.now }
         ensures range { (0 < result) × (result ≤ OVER_MOST) }

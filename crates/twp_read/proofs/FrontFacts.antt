@@ -1,4 +1,4 @@
--- What the reader takes at the front of a description leads it on as if it were cut token by token.
+-- What the reader takes at the start of a description leads it on as if it were cut token by token.
 use Rattle.std.proofs.Common.{◌≡◌, ℕ, ◌+◌, ◌<◌, ◌≤◌, true, false, List, [], ◌∷◌, ◌++◌, Some, length, drop}
 use Rattle.std.proofs.Common.{refl, ap, subst, ◌∙◌, arith, codes}
 use Rattle.std.specs.Char.{is_ascii_alphabetic}
@@ -32,16 +32,16 @@ use Rattle.twp_read.proofs.Leading.{left_behind, white_leads}
 pub a_full_stop : IsMark 46 Stop
 a_full_stop = record { is = λ rest. a_stop refl refl; kept = λ state at its. refl }
 
--- a full stop, and the space behind it
+-- a full stop, and the space after it
 pub stop_leads : (text : List ℕ) (at : ℕ) (state behind : State) (its : List Item)
     → next state stop ≡ Some behind → drop at text ≡ codes ". " ++ drop (at + 2) text → at + 2 ≤ length text
     → Leads text at state its (at + 2) behind its
-stop_leads text at state behind its is spelt within =
+stop_leads text at state behind its is spelled within =
     let space : drop (at + 1) text ≡ codes " " ++ drop (at + 2) text =
-    left_behind text at 1 (codes ". " ++ drop (at + 2) text) spelt in
+    left_behind text at 1 (codes ". " ++ drop (at + 2) text) spelled in
     let end : (at + 1) + 1 ≡ at + 2 = omega arith in
     leads_then text at state its (at + 1) behind its (at + 2) behind its
-    (mark_leads text at 46 Stop state behind its a_full_stop is (rw space spelt) (omega arith))
+    (mark_leads text at 46 Stop state behind its a_full_stop is (rw space spelled) (omega arith))
     (subst (λ (n : ℕ). Leads text (at + 1) behind its n behind its) end
     (leads_space text (at + 1) behind its (rw end space) (omega arith)))
 
@@ -50,26 +50,26 @@ pub stop_comma_leads : (text : List ℕ) (at : ℕ) (state between behind : Stat
     → next state stop ≡ Some between → next between comma ≡ Some behind
     → drop at text ≡ codes ".," ++ drop (at + 2) text → at + 2 ≤ length text
     → Leads text at state its (at + 2) behind its
-stop_comma_leads text at state between behind its is is_behind spelt within =
+stop_comma_leads text at state between behind its is is_behind spelled within =
     let left : drop (at + 1) text ≡ codes "," ++ drop (at + 2) text =
-    left_behind text at 1 (codes ".," ++ drop (at + 2) text) spelt in
+    left_behind text at 1 (codes ".," ++ drop (at + 2) text) spelled in
     let end : (at + 1) + 1 ≡ at + 2 = omega arith in
     leads_then text at state its (at + 1) between its (at + 2) behind its
-    (mark_leads text at 46 Stop state between its a_full_stop is (rw left spelt) (omega arith))
+    (mark_leads text at 46 Stop state between its a_full_stop is (rw left spelled) (omega arith))
     (subst (λ (n : ℕ). Leads text (at + 1) between its n behind its) end
     (mark_leads text (at + 1) 44 Comma between behind its the_comma is_behind (rw end left) (omega arith)))
 
--- a full stop and a comma, and the space behind them
+-- a full stop and a comma, and the space after them
 pub stop_comma_space_leads : (text : List ℕ) (at : ℕ) (state between behind : State) (its : List Item)
     → next state stop ≡ Some between → next between comma ≡ Some behind
     → drop at text ≡ codes "., " ++ drop (at + 3) text → at + 3 ≤ length text
     → Leads text at state its (at + 3) behind its
-stop_comma_space_leads text at state between behind its is is_behind spelt within =
+stop_comma_space_leads text at state between behind its is is_behind spelled within =
     let space : drop (at + 2) text ≡ codes " " ++ drop (at + 3) text =
-    left_behind text at 2 (codes "., " ++ drop (at + 3) text) spelt in
+    left_behind text at 2 (codes "., " ++ drop (at + 3) text) spelled in
     let end : (at + 2) + 1 ≡ at + 3 = omega arith in
     leads_then text at state its (at + 2) behind its (at + 3) behind its
-    (stop_comma_leads text at state between behind its is is_behind (rw space spelt) (omega arith))
+    (stop_comma_leads text at state between behind its is is_behind (rw space spelled) (omega arith))
     (subst (λ (n : ℕ). Leads text (at + 2) behind its n behind its) end
     (leads_space text (at + 2) behind its (rw end space) (omega arith)))
 
@@ -79,7 +79,7 @@ record IsWord (letters : List ℕ) (kind : Kind) : Type 0 where
   all : AllPass is_ascii_alphabetic letters
   is : kind ≡ kind_of_word letters
 
--- a word behind white space, before what isn't a letter
+-- a word after white space, before what isn't a letter
 word_leads : (text : List ℕ) (at place end : ℕ) (space letters rest : List ℕ) (kind : Kind)
     (state behind : State) (its : List Item)
     → AllPass is_white space → IsWord letters kind → begins_with is_ascii_alphabetic rest ≡ false
@@ -87,13 +87,13 @@ word_leads : (text : List ℕ) (at place end : ℕ) (space letters rest : List �
     → place ≡ at + length space → place + length letters ≡ end → end ≤ length text
     → next state (class_of kind) ≡ Some behind
     → Leads text at state its end behind (take_token state kind place its)
-word_leads text at place end space letters rest kind state behind its white word ends spelt left here size
+word_leads text at place end space letters rest kind state behind its white word ends spelled left here size
     within is =
     let starts : StartsWith at (drop at text) (made kind letters place) (drop end text) =
     rw left (record {
       space = space;
       white = white;
-      spelt = spelt;
+      spelled = spelled;
       place = here;
       is = good (a_word (record { some = word.some; all = word.all; ends = ends }) word.is);
     }) in
@@ -147,15 +147,15 @@ one_w =
 pub township_leads : (text : List ℕ) (at : ℕ) (its : List Item)
     → drop at text ≡ codes "T. " ++ drop (at + 3) text → at + 3 ≤ length text
     → Leads text at past.Start its (at + 3) past.TownshipStop (take_township at its)
-township_leads text at its spelt within =
+township_leads text at its spelled within =
     let more : List ℕ = drop (at + 3) text in
     let behind : drop (at + 1) text ≡ codes ". " ++ more =
-    left_behind text at 1 (codes "T. " ++ more) spelt in
+    left_behind text at 1 (codes "T. " ++ more) spelled in
     let end : (at + 1) + 2 ≡ at + 3 = omega arith in
     let begun : List Item = take_township at its in
     leads_then text at past.Start its (at + 1) past.Township begun (at + 3) past.TownshipStop begun
     (word_leads text at at (at + 1) [] (codes "T") (codes ". " ++ more) T past.Start past.Township its
-    no_space one_t refl spelt behind (omega arith) refl (omega arith) refl)
+    no_space one_t refl spelled behind (omega arith) refl (omega arith) refl)
     (subst (λ (n : ℕ). Leads text (at + 1) past.Township begun n past.TownshipStop begun) end
     (stop_leads text (at + 1) past.Township past.TownshipStop begun refl (rw end behind) (omega arith)))
 
@@ -164,12 +164,12 @@ side_leads : (text : List ℕ) (at letter : ℕ) (side : NorthOrSouth) (its : Li
     → IsWord (letter ∷ []) (NorthSouth side)
     → drop at text ≡ 32 ∷ letter ∷ (codes "., R. " ++ drop (at + 8) text) → at + 8 ≤ length text
     → Leads text at past.TownshipNumber its (at + 8) past.RangeStop (with_newest (TownshipSide side) its)
-side_leads text at letter side its word spelt within =
+side_leads text at letter side its word spelled within =
     let more : List ℕ = drop (at + 8) text in
     let whole : List ℕ = 32 ∷ letter ∷ (codes "., R. " ++ more) in
-    let marks : drop (at + 2) text ≡ codes "., R. " ++ more = left_behind text at 2 whole spelt in
-    let range : drop (at + 5) text ≡ codes "R. " ++ more = left_behind text at 5 whole spelt in
-    let mark : drop (at + 6) text ≡ codes ". " ++ more = left_behind text at 6 whole spelt in
+    let marks : drop (at + 2) text ≡ codes "., R. " ++ more = left_behind text at 2 whole spelled in
+    let range : drop (at + 5) text ≡ codes "R. " ++ more = left_behind text at 5 whole spelled in
+    let mark : drop (at + 6) text ≡ codes ". " ++ more = left_behind text at 6 whole spelled in
     let marks_end : (at + 2) + 3 ≡ at + 5 = omega arith in
     let mark_end : (at + 6) + 2 ≡ at + 8 = omega arith in
     let sided : List Item = with_newest (TownshipSide side) its in
@@ -178,7 +178,7 @@ side_leads text at letter side its word spelt within =
     (leads_then text at past.TownshipNumber its (at + 2) past.TownshipSide sided (at + 5) past.TownshipComma
     sided
     (word_leads text at (at + 1) (at + 2) (codes " ") (letter ∷ []) (codes "., R. " ++ more)
-    (NorthSouth side) past.TownshipNumber past.TownshipSide its one_space word refl spelt marks refl
+    (NorthSouth side) past.TownshipNumber past.TownshipSide its one_space word refl spelled marks refl
     (omega arith) (omega arith) refl)
     (subst (λ (n : ℕ). Leads text (at + 2) past.TownshipSide sided n past.TownshipComma sided) marks_end
     (stop_comma_space_leads text (at + 2) past.TownshipSide past.TownshipSideStop past.TownshipComma sided
@@ -191,27 +191,28 @@ side_leads text at letter side its word spelt within =
 pub north_leads : (text : List ℕ) (at : ℕ) (its : List Item)
     → drop at text ≡ codes " N., R. " ++ drop (at + 8) text → at + 8 ≤ length text
     → Leads text at past.TownshipNumber its (at + 8) past.RangeStop (with_newest (TownshipSide ns.N) its)
-north_leads text at its spelt within = side_leads text at 78 ns.N its one_n spelt within
+north_leads text at its spelled within = side_leads text at 78 ns.N its one_n spelled within
 
 pub south_leads : (text : List ℕ) (at : ℕ) (its : List Item)
     → drop at text ≡ codes " S., R. " ++ drop (at + 8) text → at + 8 ≤ length text
     → Leads text at past.TownshipNumber its (at + 8) past.RangeStop (with_newest (TownshipSide ns.S) its)
-south_leads text at its spelt within = side_leads text at 83 ns.S its one_s spelt within
+south_leads text at its spelled within = side_leads text at 83 ns.S its one_s spelled within
 
 -- ` E.,` and ` W.,`
 way_leads : (text : List ℕ) (at letter : ℕ) (way : EastOrWest) (its : List Item)
     → IsWord (letter ∷ []) (EastWest way) → drop at text ≡ 32 ∷ letter ∷ (codes ".," ++ drop (at + 4) text)
     → at + 4 ≤ length text
     → Leads text at past.RangeNumber its (at + 4) past.BeforeGroup (with_newest (RangeSide way) its)
-way_leads text at letter way its word spelt within =
+way_leads text at letter way its word spelled within =
     let more : List ℕ = drop (at + 4) text in
     let marks : drop (at + 2) text ≡ codes ".," ++ more =
-    left_behind text at 2 (32 ∷ letter ∷ (codes ".," ++ more)) spelt in
+    left_behind text at 2 (32 ∷ letter ∷ (codes ".," ++ more)) spelled in
     let end : (at + 2) + 2 ≡ at + 4 = omega arith in
     let sided : List Item = with_newest (RangeSide way) its in
     leads_then text at past.RangeNumber its (at + 2) past.RangeSide sided (at + 4) past.BeforeGroup sided
     (word_leads text at (at + 1) (at + 2) (codes " ") (letter ∷ []) (codes ".," ++ more) (EastWest way)
-    past.RangeNumber past.RangeSide its one_space word refl spelt marks refl (omega arith) (omega arith) refl)
+    past.RangeNumber past.RangeSide its one_space word refl spelled marks refl (omega arith) (omega arith)
+    refl)
     (subst (λ (n : ℕ). Leads text (at + 2) past.RangeSide sided n past.BeforeGroup sided) end
     (stop_comma_leads text (at + 2) past.RangeSide past.RangeSideStop past.BeforeGroup sided refl refl
     (rw end marks) (omega arith)))
@@ -219,28 +220,28 @@ way_leads text at letter way its word spelt within =
 pub east_leads : (text : List ℕ) (at : ℕ) (its : List Item)
     → drop at text ≡ codes " E.," ++ drop (at + 4) text → at + 4 ≤ length text
     → Leads text at past.RangeNumber its (at + 4) past.BeforeGroup (with_newest (RangeSide ew.E) its)
-east_leads text at its spelt within = way_leads text at 69 ew.E its one_e spelt within
+east_leads text at its spelled within = way_leads text at 69 ew.E its one_e spelled within
 
 pub west_leads : (text : List ℕ) (at : ℕ) (its : List Item)
     → drop at text ≡ codes " W.," ++ drop (at + 4) text → at + 4 ≤ length text
     → Leads text at past.RangeNumber its (at + 4) past.BeforeGroup (with_newest (RangeSide ew.W) its)
-west_leads text at its spelt within = way_leads text at 87 ew.W its one_w spelt within
+west_leads text at its spelled within = way_leads text at 87 ew.W its one_w spelled within
 
--- `sec. ` and `Section `, behind white space
+-- `sec. ` and `Section `, after white space
 pub sec_leads : (text : List ℕ) (from at : ℕ) (state : State) (its : List Item)
     → next state sec ≡ Some past.SectionWord → at ≡ from + prefix_len is_white (drop from text)
     → drop at text ≡ codes "sec. " ++ drop (at + 5) text → at + 5 ≤ length text
     → Leads text from state its (at + 5) past.SectionStop its
-sec_leads text from at state its is here spelt within =
+sec_leads text from at state its is here spelled within =
     let more : List ℕ = drop (at + 5) text in
     let mark : drop (at + 3) text ≡ codes ". " ++ more =
-    left_behind text at 3 (codes "sec. " ++ more) spelt in
+    left_behind text at 3 (codes "sec. " ++ more) spelled in
     let end : (at + 3) + 2 ≡ at + 5 = omega arith in
     leads_then text from state its at state its (at + 5) past.SectionStop its
     (white_leads text from at state its here (omega arith))
     (leads_then text at state its (at + 3) past.SectionWord its (at + 5) past.SectionStop its
     (word_leads text at at (at + 3) [] (codes "sec") (codes ". " ++ more) Sec state past.SectionWord its
-    no_space one_sec refl spelt mark (omega arith) refl (omega arith) is)
+    no_space one_sec refl spelled mark (omega arith) refl (omega arith) is)
     (subst (λ (n : ℕ). Leads text (at + 3) past.SectionWord its n past.SectionStop its) end
     (stop_leads text (at + 3) past.SectionWord past.SectionStop its refl (rw end mark) (omega arith))))
 
@@ -248,29 +249,29 @@ pub section_leads : (text : List ℕ) (from at : ℕ) (state : State) (its : Lis
     → next state sec ≡ Some past.SectionWord → at ≡ from + prefix_len is_white (drop from text)
     → drop at text ≡ codes "Section " ++ drop (at + 8) text → at + 8 ≤ length text
     → Leads text from state its (at + 8) past.SectionWord its
-section_leads text from at state its is here spelt within =
+section_leads text from at state its is here spelled within =
     let more : List ℕ = drop (at + 8) text in
     let space : drop (at + 7) text ≡ codes " " ++ more =
-    left_behind text at 7 (codes "Section " ++ more) spelt in
+    left_behind text at 7 (codes "Section " ++ more) spelled in
     let end : (at + 7) + 1 ≡ at + 8 = omega arith in
     leads_then text from state its at state its (at + 8) past.SectionWord its
     (white_leads text from at state its here (omega arith))
     (leads_then text at state its (at + 7) past.SectionWord its (at + 8) past.SectionWord its
     (word_leads text at at (at + 7) [] (codes "Section") (codes " " ++ more) Sec state past.SectionWord its
-    no_space one_section refl spelt space (omega arith) refl (omega arith) is)
+    no_space one_section refl spelled space (omega arith) refl (omega arith) is)
     (subst (λ (n : ℕ). Leads text (at + 7) past.SectionWord its n past.SectionWord its) end
     (leads_space text (at + 7) past.SectionWord its (rw end space) (omega arith))))
 
--- the colon behind a section's number
+-- the colon after a section's number
 pub colon_leads : (text : List ℕ) (at : ℕ) (its : List Item) → drop at text ≡ codes ":" ++ drop (at + 1) text
     → at + 1 ≤ length text
     → Leads text at past.SectionNumber its (at + 1) past.BeforePart (before_parts past.SectionNumber its)
-colon_leads text at its spelt within =
+colon_leads text at its spelled within =
     let starts : StartsWith at (drop at text) (made Colon (codes ":") at) (drop (at + 1) text) =
     record {
       space = [];
       white = no_space;
-      spelt = spelt;
+      spelled = spelled;
       place = omega arith;
       is = good (a_colon refl refl);
     } in
@@ -315,32 +316,32 @@ one_lots = record {
 pub lots_leads : (text : List ℕ) (at : ℕ) (state : State) (its : List Item) → true ≡ is_some (next state lot)
     → drop at text ≡ codes "lots " ++ drop (at + 5) text → at + 5 ≤ length text
     → Leads text at state its (at + 5) past.Lot (before_parts state its)
-lots_leads text at state its begins spelt within =
+lots_leads text at state its begins spelled within =
     let more : List ℕ = drop (at + 5) text in
     let begun : List Item = before_parts state its in
     let space : drop (at + 4) text ≡ codes " " ++ more =
-    left_behind text at 4 (codes "lots " ++ more) spelt in
+    left_behind text at 4 (codes "lots " ++ more) spelled in
     let end : (at + 4) + 1 ≡ at + 5 = omega arith in
     leads_then text at state its (at + 4) past.Lot begun (at + 5) past.Lot begun
     (word_leads text at at (at + 4) [] (codes "lots") (codes " " ++ more) Lot state past.Lot its no_space
-    one_lots refl spelt space (omega arith) refl (omega arith) (lots_begin state begins))
+    one_lots refl spelled space (omega arith) refl (omega arith) (lots_begin state begins))
     (subst (λ (n : ℕ). Leads text (at + 4) past.Lot begun n past.Lot begun) end
     (leads_space text (at + 4) past.Lot begun (rw end space) (omega arith)))
 
--- `, lots ` behind the number of a section
+-- `, lots ` after the number of a section
 pub comma_lots_leads : (text : List ℕ) (at : ℕ) (its : List Item)
     → drop at text ≡ codes ", lots " ++ drop (at + 7) text → at + 7 ≤ length text
     → Leads text at past.SectionNumber its (at + 7) past.Lot (before_parts past.SectionNumber its)
-comma_lots_leads text at its spelt within =
+comma_lots_leads text at its spelled within =
     let more : List ℕ = drop (at + 7) text in
     let begun : List Item = before_parts past.SectionNumber its in
     let word : drop (at + 1) text ≡ codes " lots " ++ more =
-    left_behind text at 1 (codes ", lots " ++ more) spelt in
+    left_behind text at 1 (codes ", lots " ++ more) spelled in
     let space : drop (at + 6) text ≡ codes " " ++ more =
-    left_behind text at 6 (codes ", lots " ++ more) spelt in
+    left_behind text at 6 (codes ", lots " ++ more) spelled in
     let end : (at + 6) + 1 ≡ at + 7 = omega arith in
     leads_then text at past.SectionNumber its (at + 1) past.SectionComma its (at + 7) past.Lot begun
-    (mark_leads text at 44 Comma past.SectionNumber past.SectionComma its the_comma refl (rw word spelt)
+    (mark_leads text at 44 Comma past.SectionNumber past.SectionComma its the_comma refl (rw word spelled)
     (omega arith))
     (leads_then text (at + 1) past.SectionComma its (at + 6) past.Lot begun (at + 7) past.Lot begun
     (word_leads text (at + 1) (at + 2) (at + 6) (codes " ") (codes "lots") (codes " " ++ more) Lot
@@ -349,7 +350,7 @@ comma_lots_leads text at its spelt within =
     (subst (λ (n : ℕ). Leads text (at + 6) past.Lot begun n past.Lot begun) end
     (leads_space text (at + 6) past.Lot begun (rw end space) (omega arith))))
 
--- the number behind a section's word is its own
+-- the number after a section's word is its own
 pub section_taken : (state : State) (it : Numeral) (its : List Item)
     → next state number ≡ Some past.SectionNumber → take_number state it its ≡ Sections it it true ∷ its
 section_taken past.Township it its h = cc h

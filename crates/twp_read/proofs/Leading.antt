@@ -24,7 +24,7 @@ use Rattle.twp_read.proofs.WordFacts.{both}
 use Rattle.twp_read.proofs.Reading.{run-append, go_on}
 use Rattle.twp_read.proofs.ReaderFacts.{Front}
 
--- the reader goes on by what leads on
+-- the reader continues with what leads on
 pub goes_further : (text : List ℕ) (at : ℕ) (state : State) (its : List Item) (to : ℕ) (behind : State)
     (grown : List Item)
     → Front text at (drop at text) state its → Leads text at state its to behind grown
@@ -78,11 +78,11 @@ leads_token text at state its token to behind starts ends within is =
 -- a space before tokens
 spaced : (text : List ℕ) (at : ℕ) → drop at text ≡ codes " " ++ drop (at + 1) text → (left : List Token)
     → HasTokens (at + 1) (drop (at + 1) text) left → HasTokens at (drop at text) left
-spaced text at spelt [] has =
-    subst (λ (b : List ℕ). AllPass is_white b) (sym spelt)
+spaced text at spelled [] has =
+    subst (λ (b : List ℕ). AllPass is_white b) (sym spelled)
     (AllPass-from_list_all is_white (32 ∷ drop (at + 1) text)
     (list_all-from_AllPass is_white (drop (at + 1) text) has))
-spaced text at spelt (token ∷ tokens) (rest, starts, more) =
+spaced text at spelled (token ∷ tokens) (rest, starts, more) =
     let place : token.at ≡ (at + 1) + length starts.space = starts.place in (
       rest,
       record {
@@ -90,7 +90,7 @@ spaced text at spelt (token ∷ tokens) (rest, starts, more) =
         white =
             AllPass-from_list_all is_white (32 ∷ starts.space)
             (list_all-from_AllPass is_white starts.space starts.white);
-        spelt = spelt ∙ ap (λ b. 32 ∷ b) starts.spelt;
+        spelled = spelled ∙ ap (λ b. 32 ∷ b) starts.spelled;
         place = omega arith;
         is = starts.is;
       },
@@ -100,8 +100,14 @@ spaced text at spelt (token ∷ tokens) (rest, starts, more) =
 pub leads_space : (text : List ℕ) (at : ℕ) (state : State) (its : List Item)
     → drop at text ≡ codes " " ++ drop (at + 1) text → at + 1 ≤ length text
     → Leads text at state its (at + 1) state its
-leads_space text at state its spelt within =
-    record { tokens = []; cut = spaced text at spelt; walked = refl; forward = omega arith; within = within }
+leads_space text at state its spelled within =
+    record {
+      tokens = [];
+      cut = spaced text at spelled;
+      walked = refl;
+      forward = omega arith;
+      within = within;
+    }
 
 abbrev pub made : Kind → List ℕ → ℕ → Token
 made kind text at = record { kind = kind; text = text; at = at }
@@ -109,60 +115,60 @@ made kind text at = record { kind = kind; text = text; at = at }
 -- a half and a quarter, right at a place
 half_starts : (text : List ℕ) (at : ℕ) → drop at text ≡ codes "1/2" ++ drop (at + 3) text
     → StartsWith at (drop at text) (made Half (codes "1/2") at) (drop (at + 3) text)
-half_starts text at spelt =
+half_starts text at spelled =
     record {
       space = [];
       white = AllPass-from_list_all is_white [] refl;
-      spelt = spelt;
+      spelled = spelled;
       place = omega arith;
       is = good (a_half refl refl);
     }
 
 quarter_starts : (text : List ℕ) (at : ℕ) → drop at text ≡ codes "1/4" ++ drop (at + 3) text
     → StartsWith at (drop at text) (made Quarter (codes "1/4") at) (drop (at + 3) text)
-quarter_starts text at spelt =
+quarter_starts text at spelled =
     record {
       space = [];
       white = AllPass-from_list_all is_white [] refl;
-      spelt = spelt;
+      spelled = spelled;
       place = omega arith;
       is = good (a_quarter refl refl);
     }
 
--- a fraction behind the letters of its step
+-- a fraction after the letters of its step
 pub half_leads : (text : List ℕ) (at : ℕ) (its : List Item) → drop at text ≡ codes "1/2" ++ drop (at + 3) text
     → at + 3 ≤ length text → Leads text at past.Side its (at + 3) past.Step its
-half_leads text at its spelt within =
+half_leads text at its spelled within =
     leads_token text at past.Side its (made Half (codes "1/2") at) (at + 3) past.Step
-    (half_starts text at spelt) refl within refl
+    (half_starts text at spelled) refl within refl
 
 pub quarter_leads : (text : List ℕ) (at : ℕ) (its : List Item)
     → drop at text ≡ codes "1/4" ++ drop (at + 3) text → at + 3 ≤ length text
     → Leads text at past.Corner its (at + 3) past.Step its
-quarter_leads text at its spelt within =
+quarter_leads text at its spelled within =
     leads_token text at past.Corner its (made Quarter (codes "1/4") at) (at + 3) past.Step
-    (quarter_starts text at spelt) refl within refl
+    (quarter_starts text at spelled) refl within refl
 
--- what is left of a text behind some bytes that it goes on with
+-- what is left of a text after some bytes that it continues with
 pub left_behind : (text : List ℕ) (at n : ℕ) (bytes : List ℕ) → drop at text ≡ bytes
     → drop (at + n) text ≡ drop n bytes
-left_behind text at n bytes spelt = sym (drop-drop n at text) ∙ ap (λ b. drop n b) spelt
+left_behind text at n bytes spelled = sym (drop-drop n at text) ∙ ap (λ b. drop n b) spelled
 
--- `of` and `the` behind a step, and the space behind them
+-- `of` and `the` after a step, and the space after them
 pub of_the_leads : (text : List ℕ) (at : ℕ) (its : List Item)
     → drop at text ≡ codes " of the " ++ drop (at + 8) text → at + 8 ≤ length text
     → Leads text at past.Step its (at + 8) past.OfThe its
-of_the_leads text at its spelt within =
+of_the_leads text at its spelled within =
     let more : List ℕ = drop (at + 8) text in
     let behind_of : drop (at + 3) text ≡ codes " the " ++ more =
-    left_behind text at 3 (codes " of the " ++ more) spelt in
+    left_behind text at 3 (codes " of the " ++ more) spelled in
     let behind_the : drop (at + 7) text ≡ codes " " ++ more =
-    left_behind text at 7 (codes " of the " ++ more) spelt in
+    left_behind text at 7 (codes " of the " ++ more) spelled in
     let of_starts : StartsWith at (drop at text) (made Of (codes "of") (at + 1)) (drop (at + 3) text) =
     record {
       space = codes " ";
       white = AllPass-from_list_all is_white (codes " ") refl;
-      spelt = rw behind_of spelt;
+      spelled = rw behind_of spelled;
       place = refl;
       is = rw behind_of (good (a_word (record {
         some = omega arith;
@@ -174,7 +180,7 @@ of_the_leads text at its spelt within =
     (drop (at + 7) text) = record {
       space = codes " ";
       white = AllPass-from_list_all is_white (codes " ") refl;
-      spelt = rw behind_the behind_of;
+      spelled = rw behind_the behind_of;
       place = omega arith;
       is = rw behind_the (good (a_word (record {
         some = omega arith;
@@ -204,29 +210,29 @@ the_comma = record { is = λ rest. a_comma refl refl; kept = λ state at its. re
 pub mark_leads : (text : List ℕ) (at byte : ℕ) (kind : Kind) (state behind : State) (its : List Item)
     → IsMark byte kind → next state (class_of kind) ≡ Some behind → drop at text ≡ byte ∷ drop (at + 1) text
     → at + 1 ≤ length text → Leads text at state its (at + 1) behind its
-mark_leads text at byte kind state behind its mark is spelt within =
+mark_leads text at byte kind state behind its mark is spelled within =
     let starts : StartsWith at (drop at text) (made kind (byte ∷ []) at) (drop (at + 1) text) =
     record {
       space = [];
       white = AllPass-from_list_all is_white [] refl;
-      spelt = spelt;
+      spelled = spelled;
       place = omega arith;
       is = good (mark.is (drop (at + 1) text));
     } in
     subst (λ (js : List Item). Leads text at state its (at + 1) behind js) (mark.kept state at its)
     (leads_token text at state its (made kind (byte ∷ []) at) (at + 1) behind starts refl within is)
 
--- `and` behind the comma of a part, and the space behind it
+-- `and` after the comma of a part, and the space after it
 pub and_leads : (text : List ℕ) (at : ℕ) (its : List Item) → drop at text ≡ codes "and " ++ drop (at + 4) text
     → at + 4 ≤ length text → Leads text at past.PartComma its (at + 4) past.BeforePart its
-and_leads text at its spelt within =
+and_leads text at its spelled within =
     let space : drop (at + 3) text ≡ codes " " ++ drop (at + 4) text =
-    left_behind text at 3 (codes "and " ++ drop (at + 4) text) spelt in
+    left_behind text at 3 (codes "and " ++ drop (at + 4) text) spelled in
     let end : (at + 3) + 1 ≡ at + 4 = omega arith in
     let starts : StartsWith at (drop at text) (made And (codes "and") at) (drop (at + 3) text) = record {
       space = [];
       white = AllPass-from_list_all is_white [] refl;
-      spelt = rw space spelt;
+      spelled = rw space spelled;
       place = omega arith;
       is = rw space (good (a_word (record {
         some = omega arith;
@@ -247,7 +253,7 @@ white_append (x ∷ xs) ys h k =
     let parts = both (is_white x) (list_all is_white xs) h in
     rw parts.0 (white_append xs ys parts.1 k)
 
--- a token behind white space starts where the white space does
+-- a token after white space starts where the white space does
 behind_space : (text : List ℕ) (from at : ℕ) (token : Token) (rest : List ℕ)
     → at ≡ from + prefix_len is_white (drop from text) → StartsWith at (drop at text) token rest
     → StartsWith from (drop from text) token rest
@@ -264,9 +270,9 @@ behind_space text from at token rest is s =
           (white_append (take n bytes) s.space
           (list_all-from_AllPass is_white (take n bytes) (all_white bytes))
           (list_all-from_AllPass is_white s.space s.white));
-      spelt =
+      spelled =
           sym (take-append-drop n bytes)
-          ∙ ap (λ b. take n bytes ++ b) (left ∙ s.spelt)
+          ∙ ap (λ b. take n bytes ++ b) (left ∙ s.spelled)
           ∙ sym (append_assoc (take n bytes) s.space (token.text ++ rest));
       place = rw (length-append (take n bytes) s.space, size) (omega arith);
       is = s.is;
@@ -297,25 +303,25 @@ white_leads text from at state its is within =
     before (token ∷ tokens) (rest, starts, more) =
         (rest, behind_space text from at token rest is starts, more)
 
--- a comma behind a part, and the space behind it
+-- a comma after a part, and the space after it
 pub comma_space_leads : (text : List ℕ) (at : ℕ) (its : List Item)
     → drop at text ≡ codes ", " ++ drop (at + 2) text → at + 2 ≤ length text
     → Leads text at past.Step its (at + 2) past.PartComma its
-comma_space_leads text at its spelt within =
+comma_space_leads text at its spelled within =
     let space : drop (at + 1) text ≡ codes " " ++ drop (at + 2) text =
-    left_behind text at 1 (codes ", " ++ drop (at + 2) text) spelt in
+    left_behind text at 1 (codes ", " ++ drop (at + 2) text) spelled in
     let end : (at + 1) + 1 ≡ at + 2 = omega arith in
     leads_then text at past.Step its (at + 1) past.PartComma its (at + 2) past.PartComma its
-    (mark_leads text at 44 Comma past.Step past.PartComma its the_comma refl (rw space spelt) (omega arith))
+    (mark_leads text at 44 Comma past.Step past.PartComma its the_comma refl (rw space spelled) (omega arith))
     (subst (λ (n : ℕ). Leads text (at + 1) past.PartComma its n past.PartComma its) end
     (leads_space text (at + 1) past.PartComma its (rw end space) (omega arith)))
 
--- a comma behind a part, and the white space behind it
+-- a comma after a part, and the white space after it
 pub comma_leads : (text : List ℕ) (at behind : ℕ) (its : List Item)
     → drop at text ≡ codes "," ++ drop (at + 1) text → at + 1 ≤ length text
     → behind ≡ (at + 1) + prefix_len is_white (drop (at + 1) text) → behind ≤ length text
     → Leads text at past.Step its behind past.PartComma its
-comma_leads text at behind its spelt begins is within =
+comma_leads text at behind its spelled begins is within =
     leads_then text at past.Step its (at + 1) past.PartComma its behind past.PartComma its
-    (mark_leads text at 44 Comma past.Step past.PartComma its the_comma refl spelt begins)
+    (mark_leads text at 44 Comma past.Step past.PartComma its the_comma refl spelled begins)
     (white_leads text (at + 1) behind past.PartComma its is within)

@@ -1,4 +1,4 @@
--- A letter as a small one, by its bit: the 256 bytes are computed.
+-- A letter in lowercase, by its bit: the 256 bytes are computed.
 use Rattle.std.proofs.Common.{◌≡◌, ◌==◌, ℕ, zero, suc, ◌<◌, Bool, true, false, cond, ◌&&◌, Option, Some, None}
 use Rattle.std.proofs.Common.{bit_or, refl, ap, inl, inr, arith}
 use Rattle.std.specs.Char.{is_ascii_lowercase}

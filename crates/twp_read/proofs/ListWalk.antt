@@ -26,7 +26,7 @@ pub newest_first-append : (xs ys is : List Item)
 newest_first-append [] ys is = refl
 newest_first-append (it ∷ xs) ys is = newest_first-append xs ys (it ∷ is)
 
--- a chain grows from behind a step, behind `of`, or behind `of the`
+-- a chain grows after a step, after `of`, or after `of the`
 data Growing : Type 0 where
   at_step : Growing
   at_of : Growing
@@ -72,7 +72,7 @@ grow_all (v ∷ vs) steps at is ts =
     ∙ ap (λ all_steps. run (Some past.Step) (item.Chain all_steps at ∷ is) ts)
     (append_assoc steps (behind step_of v ∷ []) (map (behind step_of) vs))
 
--- the end of an entry: behind a number alone, behind a range, or behind `inclusive`
+-- the end of an entry: after a number alone, after a range, or after `inclusive`
 pub data EntryEnd : Type 0 where
   at_number : EntryEnd
   at_last : EntryEnd
@@ -142,7 +142,7 @@ read_separator of_lots at_inclusive (inl (_ & inl _)) is ts = refl
 read_separator of_lots at_inclusive (inl (_ & inr _)) is ts = refl
 read_separator of_lots at_inclusive (inr _) is ts = refl
 
--- a range begins behind a number
+-- a range begins after a number
 pub data Numbered : Type 0 where
   one_section : Numbered
   listed_number : Listed → Numbered
@@ -174,7 +174,8 @@ read_through (listed_number of_lots) (_ & _ & inl (inl _ & _)) first last is ts 
 read_through (listed_number of_lots) (_ & _ & inl (inr _ & _)) first last is ts = refl
 read_through (listed_number of_lots) (_ & _ & inr _) first last is ts = refl
 
--- an entry begins behind the word `lot`, behind the comma after one section, or behind a separator
+-- an entry begins after the word `lot`, after the comma that follows one section, or after a
+-- separator
 pub data EntryStart : Type 0 where
   first_lot : EntryStart
   second_section : EntryStart

@@ -27,7 +27,7 @@ use Rattle.twp_grammar.proofs.TokenFacts.{first_at, first_in}
 use Rattle.twp_read.proofs.FrontFacts.{number_leads}
 use Rattle.twp_read.proofs.Leading.{the_comma, mark_leads, leads_token, leads_then, white_leads}
 
--- what is said of a number that begins at a place, behind white space
+-- what is said of a number that begins at a place, after white space
 pub record BeginsHere (text : List ℕ) (from : ℕ) (it : Numeral) (end : ℕ) : Type 0 where
   pub leads : IsNumberBehind text from it end
   pub further : from < end
@@ -37,7 +37,7 @@ some_here : (bytes : List ℕ) → is_ascii_digit (slice_index bytes 0) ≡ true
 some_here [] h = cc h
 some_here (x ∷ xs) h = omega arith
 
--- the token that is cut at a place behind white space
+-- the token that is cut at a place after white space
 record IsCutHere (text : List ℕ) (from : ℕ) (token : Token) (end : ℕ) : Type 0 where
   first : IsFirstIn text from token
   ends : token.at + length token.text ≡ end
@@ -123,23 +123,23 @@ pub digit_here : (text : List ℕ) (at : ℕ) → is_ascii_digit (slice_index (d
     → at ≡ at + prefix_len is_white (drop at text)
 digit_here text at h = rw (no_white_digit (drop at text) h) (omega arith)
 
--- a number behind white space
+-- a number after white space
 pub number_ahead : (text : List ℕ) (from at : ℕ) (it : Numeral) (end : ℕ) → IsBehindWhite text from at
     → IsNumberBehind text at it end → IsNumberBehind text from it end
 number_ahead text from at it end white leads state behind items is =
     leads_then text from state items at state items end behind (take_number state it items)
     (white_leads text from at state items white.0 white.1) (leads state behind items is)
 
--- a comma, and the white space behind it
+-- a comma, and the white space after it
 pub comma_leads : (text : List ℕ) (at to : ℕ) (state behind : State) (items : List Item)
     → drop at text ≡ codes "," ++ drop (at + 1) text → at + 1 ≤ length text → IsBehindWhite text (at + 1) to
     → next state comma ≡ Some behind → Leads text at state items to behind items
-comma_leads text at to state behind items spelt within white is =
+comma_leads text at to state behind items spelled within white is =
     leads_then text at state items (at + 1) behind items to behind items
-    (mark_leads text at 44 Comma state behind items the_comma is spelt within)
+    (mark_leads text at 44 Comma state behind items the_comma is spelled within)
     (white_leads text (at + 1) to behind items white.0 white.1)
 
--- how a list goes on behind a state
+-- how a list continues from a state
 record GoesOn (state : State) (list : Listed) : Type 0 where
   between : State
   comma_is : next state comma ≡ Some between
@@ -163,22 +163,22 @@ goes_on past.ListInclusive listed.Sections h =
     record { between = past.ListComma; comma_is = refl; number_is = refl; taken = λ it items. refl }
 goes_on _ _ h = cc h
 
--- one more number of a list leads on, behind a comma
+-- one more number of a list leads on, after a comma
 pub entry_leads : (text : List ℕ) (at to : ℕ) (state : State) (items : List Item) (list : Listed)
     (it : Numeral) (end : ℕ)
     → listed_in state ≡ Some list
     → drop at text ≡ codes "," ++ drop (at + 1) text → at + 1 ≤ length text → IsBehindWhite text (at + 1) to
     → IsNumberBehind text to it end
     → Leads text at state items end (state_behind list) (entry_of list it ∷ items)
-entry_leads text at to state items list it end is spelt within white leads =
+entry_leads text at to state items list it end is spelled within white leads =
     let by : GoesOn state list = goes_on state list is in
     subst (λ (its : List Item). Leads text at state items end (state_behind list) its) (by.taken it items)
     (leads_then text at state items to by.between items end (state_behind list)
     (take_number by.between it items)
-    (comma_leads text at to state by.between items spelt within white by.comma_is)
+    (comma_leads text at to state by.between items spelled within white by.comma_is)
     (leads by.between (state_behind list) items by.number_is))
 
--- and behind an `and`
+-- and after an `and`
 record IsEntry (state : State) (list : Listed) : Type 0 where
   number_is : next state number ≡ Some (state_behind list)
   taken : (it : Numeral) (items : List Item) → take_number state it items ≡ entry_of list it ∷ items
@@ -197,7 +197,7 @@ joined_leads text from state items list it end is leads =
     subst (λ (its : List Item). Leads text from state items end (state_behind list) its) (by.taken it items)
     (leads state (state_behind list) items by.number_is)
 
--- and behind `to`, as the last of a range
+-- and after `to`, as the last of a range
 record IsLast (state : State) (list : Listed) : Type 0 where
   number_is : next state number ≡ Some (last_state_behind list)
   taken : (it : Numeral) (items : List Item) → take_number state it items ≡ with_newest (Last it) items
@@ -217,7 +217,7 @@ last_leads text from state items list it end is leads =
     (by.taken it items)
     (leads state (last_state_behind list) items by.number_is)
 
--- and the list goes on there
+-- and the list continues there
 pub goes_on_behind : (list : Listed) → listed_in (state_behind list) ≡ Some list
 goes_on_behind listed.Lots = refl
 goes_on_behind listed.Sections = refl

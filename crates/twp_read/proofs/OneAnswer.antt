@@ -26,7 +26,7 @@ use Rattle.twp_grammar.proofs.Table as table
 use Rattle.twp_grammar.proofs.OneDerivation.{one_item_list}
 use Rattle.twp_read.proofs.Reading as reading
 
--- the front of a front
+-- a prefix of a prefix
 take_less : (n m : ℕ) (ts : List Token) → n ≤ m → take n (take m ts) ≡ take n ts
 take_less zero m ts h = refl
 take_less (suc n) zero ts h = absurd (omega arith)
@@ -108,7 +108,7 @@ one_reading text is is' a b =
     one_item_list b.tokens is is' (subst (λ (ts : List Token). HasItems ts is) same a.named) b.named
 
 sentence_of : (text : List ℕ) (is : List Item) (read : IsReadAs text is) → IsSentence read.tokens
-sentence_of text is read = record { tree = read.named.tree; spelt = read.named.spelt }
+sentence_of text is read = record { tree = read.named.tree; spelled = read.named.spelled }
 
 -- and then has no fault
 pub no_fault : (text : List ℕ) (is : List Item) (r : Refusal) → IsReadAs text is → ¬ IsFirstTextFault text r
@@ -183,7 +183,7 @@ one_refusal text r s (syntax small a) (syntax small2 b) =
     ∙ ap (λ k. place_of b.tokens k (length text)) i
     ∙ sym b.place)
 
--- what is read can't be refused but for want of memory
+-- what is read is refused only where memory runs out
 pub only_memory : (text : List ℕ) (is : List Item) (f : TextFault) → IsReadAs text is
     → IfSome (refusal_of f) (IsFirstTextFault text) → f ≡ fault.Memory
 only_memory text is fault.TooLarge read h = absurd (no_fault text is _ read h)

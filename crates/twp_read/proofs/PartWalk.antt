@@ -16,7 +16,7 @@ use Rattle.twp_read.proofs.ListWalk.{Separated, at_comma, at_last_comma, at_and,
 use Rattle.twp_read.proofs.ListWalk.{ended, separated, read_separator, first_lot, end_of_entry, read_entry}
 use Rattle.twp_read.proofs.ListWalk.{further_entries, end_of_entries, read_entries}
 
--- a part begins behind one section's number, its comma, its colon, or behind a part and a separator
+-- a part begins after one section's number, its comma or its colon, or after a part and a separator
 pub data PartStart : Type 0 where
   section_number : PartStart
   section_comma : PartStart
@@ -128,7 +128,7 @@ read_part_separator all_end (inl (_ & inr _)) is ts = refl
 read_part_separator all_end (inr _) is ts = refl
 read_part_separator (lots_end end) v is ts = read_separator of_lots end v is ts
 
--- the section is already one that isn't whole
+-- the section already isn't whole
 lots_parted : (at : Separated) (is : List Item) → before_parts (separated of_lots at) is ≡ is
 lots_parted at_comma is = refl
 lots_parted at_last_comma is = refl

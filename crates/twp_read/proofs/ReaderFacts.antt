@@ -32,7 +32,7 @@ use Rattle.twp_read.proofs.ListWalk.{newest_first}
 use Rattle.twp_read.proofs.Reading.{ended, go_on, run-append, accepted, fault_here, fault_at_end}
 use Rattle.twp_read.proofs.Reading.{what_follows, what_is_told}
 
--- the tokens before some place: those behind it are the rest of the text's
+-- the tokens before some place: those after it are the rest of the text's
 pub record Before (text : List ℕ) (at : ℕ) (bytes : List ℕ) (before : List Token) : Type 0 where
   pub joins : (left : List Token) → HasTokens at bytes left → HasTokens 0 text (before ++ left)
 
@@ -50,7 +50,7 @@ pub record Front (text : List ℕ) (at : ℕ) (bytes : List ℕ) (state : State)
   pub walked : run (Some Start) [] tokens ≡ ended state its
   pub within : at + length bytes ≤ length text
 
--- where a token stands, and how much is left behind it
+-- where a token stands, and how much is left after it
 pub record IsWithin (at : ℕ) (bytes : List ℕ) (token : Token) (rest : List ℕ) : Type 0 where
   pub sum : (token.at + length token.text) + length rest ≡ at + length bytes
 
@@ -58,7 +58,7 @@ pub is_within : (at : ℕ) (bytes : List ℕ) (token : Token) (rest : List ℕ) 
     → IsWithin at bytes token rest
 is_within at bytes token rest s =
     let whole : length bytes ≡ length s.space + (length token.text + length rest) =
-    ap length s.spelt
+    ap length s.spelled
     ∙ length-append s.space (token.text ++ rest)
     ∙ ap (λ n. length s.space + n) (length-append token.text rest) in
     let place : token.at ≡ at + length s.space = s.place in
@@ -137,7 +137,7 @@ wrong_at_end text at bytes state its f white final = record {
       (what_is_told f.tokens state its f.walked class is);
 }
 
--- newest first, turned round
+-- newest first, reversed
 turned_round : (xs ys : List Item) → newest_first xs ys ≡ reverse xs ++ ys
 turned_round [] ys = refl
 turned_round (it ∷ xs) ys =

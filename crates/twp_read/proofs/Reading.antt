@@ -27,7 +27,7 @@ use Rattle.twp_grammar.proofs.Table as table
 use Rattle.twp_read.proofs.ListWalk.{newest_first}
 use Rattle.twp_read.proofs.Walk.{IsRead, read_description}
 
--- turned round twice
+-- reversed twice
 turned : (xs ys zs : List Item) → newest_first (newest_first xs ys) zs ≡ newest_first ys (xs ++ zs)
 turned [] ys zs = refl
 turned (it ∷ xs) ys zs = turned xs (it ∷ ys) zs
@@ -51,7 +51,7 @@ abbrev pub ended : State → List Item → Outcome
 ended end its = Some (end, its)
 
 read_sentence : (ts : List Token) (is_sentence : IsSentence ts) → IsRead ts (items is_sentence.tree)
-read_sentence ts s = subst (λ (us : List Token). IsRead us (items s.tree)) s.spelt (read_description s.tree)
+read_sentence ts s = subst (λ (us : List Token). IsRead us (items s.tree)) s.spelled (read_description s.tree)
 
 -- what the machine takes from a state to its end, the grammar derives there
 record Leaves (o : Option State) (ts : List Token) : Type 0 where
@@ -89,11 +89,11 @@ accepted ts e its h final =
     let d : Derives description ts =
     subst (λ g. Derives g ts) (ap table.rest (sym at_start) ∙ table.rest_at_start) all_left.rest in
     let read : IsRead ts (items d.tree) =
-    subst (λ us. IsRead us (items d.tree)) d.spelt (read_description d.tree) in
+    subst (λ us. IsRead us (items d.tree)) d.spelled (read_description d.tree) in
     let same : its ≡ newest_first (items d.tree) [] = ap items_of (sym h ∙ read.read) in
     record {
       tree = d.tree;
-      spelt = d.spelt;
+      spelled = d.spelled;
       read_off = sym (ap (λ js. newest_first js []) same ∙ oldest_first (items d.tree));
     }
   where
@@ -101,7 +101,7 @@ accepted ts e its h final =
     state_or_start None = Start
     state_or_start (Some s) = s
 
--- a run goes on where it ended
+-- a run continues where it ended
 abbrev pub go_on : Outcome → List Token → Outcome
 go_on None ts = None
 go_on (Some (s, its)) ts = run (Some s) its ts
@@ -199,7 +199,7 @@ front ts s its h =
     run-append (Some Start) [] ts more ∙ ap (λ o. go_on o more) h ∙ out.read in
     let has : HasItems (ts ++ more) (newest_first out.newest []) =
     accepted (ts ++ more) out.end out.newest read out.final in
-    (more, rw length-map (table.few s), record { tree = has.tree; spelt = has.spelt })
+    (more, rw length-map (table.few s), record { tree = has.tree; spelled = has.spelled })
 
 -- the machine takes each sentence
 pub not_stuck : (ts : List Token) → run (Some Start) [] ts ≡ None → ¬ IsSentence ts
@@ -270,7 +270,7 @@ named_of c (d ∷ ds) h = elim (cases_Bool (same_class c d)) [
   | inr apart ↦ inr (named_of c ds (rw apart at h))
 ]
 
--- whatever a sentence has behind some tokens is named in the state that they lead to
+-- whatever a sentence has after some tokens is named in the state that they lead to
 pub what_follows : (before : List Token) (token : Token) (more : List Token) (s : State) (its : List Item)
     → run (Some Start) [] before ≡ ended s its → IsSentence (before ++ token ∷ more)
     → IsNamed (class_of token.kind) (named (expected_of s))
@@ -289,7 +289,7 @@ what_follows before token more s its h is = follows (next s (class_of token.kind
         named_of (class_of token.kind) (named (expected_of s))
         (table.follows_named s s' (class_of token.kind) step)
 
--- a sentence has a token of each class that is told of in the state that some tokens lead to
+-- a sentence has a token of each class that is reported in the state that some tokens lead to
 pub what_is_told : (before : List Token) (s : State) (its : List Item)
     → run (Some Start) [] before ≡ ended s its → (c : Class) → IsNamed c (told (expected_of s))
     → MayFollow before c
@@ -353,7 +353,7 @@ sentence_alike ts us same is =
     }) in
     let has : HasItems us (newest_first led.newest []) =
     accepted us read.end led.newest led.read read.final in
-    record { tree = has.tree; spelt = has.spelt }
+    record { tree = has.tree; spelled = has.spelled }
 
 front_alike : (ts us : List Token) → classes_of ts ≡ classes_of us → IsFront ts → IsFront us
 front_alike ts us same (more, few, is) = (

@@ -21,10 +21,10 @@ use Rattle.twp_read.proofs.Leading.{made}
 -- the letters that bytes begin with are those of a step, where its fraction follows
 record AreLetters (bytes : List ℕ) (size : ℕ) (kind : Kind) : Type 0 where
   fits : length (take size bytes) ≡ size
-  spelt : bytes ≡ take size bytes ++ drop size bytes
+  spelled : bytes ≡ take size bytes ++ drop size bytes
   is : IsToken (take size bytes) (drop size bytes) kind
 
--- how a half or a quarter is written, which no word goes on with
+-- how a half or a quarter is written, which no word continues with
 record IsFraction (bytes : List ℕ) (kind : Kind) : Type 0 where
   is : (rest : List ℕ) → IsGoodToken bytes rest kind
   ends : (rest : List ℕ) → begins_with is_ascii_alphabetic (bytes ++ rest) ≡ false
@@ -50,7 +50,7 @@ one_letter (x ∷ bytes) fraction rest first kind h0 behind ends is =
     let letter : IsLetter x first = is_letter x first (sym h0) in
     record {
       fits = refl;
-      spelt = refl;
+      spelled = refl;
       is = good (a_word (record {
         some = omega arith;
         all = AllPass-from_list_all is_ascii_alphabetic (x ∷ []) (rw letter.letter refl);
@@ -69,7 +69,7 @@ two_letters (x ∷ y ∷ bytes) fraction rest first second kind h0 h1 behind end
     let more : IsLetter y second = is_letter y second (sym h1) in
     record {
       fits = refl;
-      spelt = refl;
+      spelled = refl;
       is = good (a_word (record {
         some = omega arith;
         all = AllPass-from_list_all is_ascii_alphabetic (x ∷ y ∷ []) (rw (letter.letter, more.letter) refl);
@@ -89,7 +89,7 @@ letters_stand text at size kind are within =
       starts = record {
         space = [];
         white = AllPass-from_list_all is_white [] refl;
-        spelt = are.spelt ∙ ap (λ b. take size (drop at text) ++ b) left;
+        spelled = are.spelled ∙ ap (λ b. take size (drop at text) ++ b) left;
         place = omega arith;
         is = subst (λ (b : List ℕ). IsToken (take size (drop at text)) b kind) left are.is;
       };
@@ -103,12 +103,12 @@ letters_stand text at size kind are within =
 fraction_stands : (text : List ℕ) (at : ℕ) (bytes : List ℕ) (kind : Kind) → IsFraction bytes kind
     → drop at text ≡ bytes ++ drop (at + length bytes) text → at + length bytes ≤ length text
     → StandsAt text at kind (length bytes)
-fraction_stands text at bytes kind fraction spelt within = record {
+fraction_stands text at bytes kind fraction spelled within = record {
   token = made kind bytes at;
   starts = record {
     space = [];
     white = AllPass-from_list_all is_white [] refl;
-    spelt = spelt;
+    spelled = spelled;
     place = omega arith;
     is = good (fraction.is (drop (at + length bytes) text));
   };
@@ -118,23 +118,23 @@ fraction_stands text at bytes kind fraction spelt within = record {
   within = within;
 }
 
--- a half and a quarter that stand behind their letters are steps
+-- a half and a quarter that stand after their letters are steps
 half_stands : (text : List ℕ) (at first : ℕ) (it : Step) (bytes : List ℕ) (size : ℕ) → IsFraction bytes Half
     → Some first ≡ small_letter (slice_index (drop at text) 0)
     → drop (at + 1) text ≡ bytes ++ drop ((at + 1) + length bytes) text
     → (at + 1) + length bytes ≤ length text → kind_among (first ∷ []) words ≡ letters_of it
     → fraction_of it ≡ Half → size ≡ 1 + length bytes → IsStepAt text at it size
-half_stands text at first it bytes size written letter spelt within is fraction size_is = record {
+half_stands text at first it bytes size written letter spelled within is fraction size_is = record {
   letters_size = 1;
   letters =
       letters_stand text at 1 (letters_of it)
       (one_letter (drop at text) bytes (drop ((at + 1) + length bytes) text) first (letters_of it) letter
-      (drop-drop 1 at text ∙ spelt) (written.ends _) is)
+      (drop-drop 1 at text ∙ spelled) (written.ends _) is)
       (omega arith);
   fraction_size = length bytes;
   fraction =
       subst (λ (kind : Kind). StandsAt text (at + 1) kind (length bytes)) (sym fraction)
-      (fraction_stands text (at + 1) bytes Half written spelt within);
+      (fraction_stands text (at + 1) bytes Half written spelled within);
   size_is = size_is;
   some = omega arith;
 }
@@ -145,18 +145,18 @@ quarter_stands : (text : List ℕ) (at first second : ℕ) (it : Step) (bytes : 
     → drop (at + 2) text ≡ bytes ++ drop ((at + 2) + length bytes) text
     → (at + 2) + length bytes ≤ length text → kind_among (first ∷ second ∷ []) words ≡ letters_of it
     → fraction_of it ≡ Quarter → size ≡ 2 + length bytes → IsStepAt text at it size
-quarter_stands text at first second it bytes size written letter more spelt within is fraction size_is =
+quarter_stands text at first second it bytes size written letter more spelled within is fraction size_is =
     record {
       letters_size = 2;
       letters =
           letters_stand text at 2 (letters_of it)
           (two_letters (drop at text) bytes (drop ((at + 2) + length bytes) text) first second
-          (letters_of it) letter more (drop-drop 2 at text ∙ spelt) (written.ends _) is)
+          (letters_of it) letter more (drop-drop 2 at text ∙ spelled) (written.ends _) is)
           (omega arith);
       fraction_size = length bytes;
       fraction =
           subst (λ (kind : Kind). StandsAt text (at + 2) kind (length bytes)) (sym fraction)
-          (fraction_stands text (at + 2) bytes Quarter written spelt within);
+          (fraction_stands text (at + 2) bytes Quarter written spelled within);
       size_is = size_is;
       some = omega arith;
     }

@@ -21,7 +21,7 @@ use Rattle.twp_read.specs.steps.TokenSteps.{take_token, with_newest, before_part
 use Rattle.twp_read.specs.steps.Usual.{Leads, StandsAt, IsStepAt, letters_of, fraction_of}
 use Rattle.twp_read.proofs.Leading.{leads_then, leads_token}
 
--- a chain goes on with the letters of a step and with its fraction
+-- a chain continues with the letters of a step and with its fraction
 record GrowsBy (state : State) (it : Step) : Type 0 where
   between : State
   letters : next state (class_of (letters_of it)) ≡ Some between
@@ -69,7 +69,7 @@ stands_leads text at state its kind size behind grown s is grows =
     subst (λ (js : List Item). Leads text at state its (at + size) behind js) grown_is
     (leads_token text at state its s.token (at + size) behind s.starts s.ends s.within step_is)
 
--- a chain goes on with a step
+-- a chain continues with a step
 pub step_leads : (text : List ℕ) (from : ℕ) (begun : State) (its : List Item) (at : ℕ) (state : State)
     (some : List Item) (it : Step) (size : ℕ)
     → is_in_chain state ≡ true → Leads text from begun its at state some → IsStepAt text at it size
@@ -225,9 +225,9 @@ pub begins_there : (text : List ℕ) (at : ℕ) (bytes left : List ℕ) (found :
     → found ≡ starts_with ◌==◌ left bytes → found ≡ true
     → drop at text ≡ bytes ++ drop (at + length bytes) text
 begins_there text at bytes left found left_is value is_true =
-    let spelt : left ≡ bytes ++ drop (length bytes) left =
+    let spelled : left ≡ bytes ++ drop (length bytes) left =
     (starts_is Decides-eqb left bytes found value).0 is_true in
     sym left_is
-    ∙ spelt
+    ∙ spelled
     ∙ ap (λ b. bytes ++ drop (length bytes) b) left_is
     ∙ ap (λ b. bytes ++ b) (drop-drop (length bytes) at text)

@@ -1,4 +1,4 @@
--- The machine reads a sentence along its derivation: behind the tokens of a tree it stands where the tree
+-- The machine reads a sentence along its derivation: after the tokens of a tree it stands where the tree
 -- says, and has the tree's items. Each lemma reads one nonterminal of the grammar.
 use Rattle.std.proofs.Common.{◌≡◌, ℕ, true, false, List, [], ◌∷◌, ◌++◌, map, Some, refl, sym, ap, ◌∙◌, inl}
 use Rattle.std.proofs.Common.{inr}
@@ -29,7 +29,7 @@ use Rattle.twp_read.proofs.ListWalk.{end_of_entries, read_entries}
 use Rattle.twp_read.proofs.PartWalk.{section_number, section_comma, before, PartEnd, chain_end, all_end}
 use Rattle.twp_read.proofs.PartWalk.{lots_end, part_end, end_of_all_parts, read_parts}
 
--- a group begins the text, or stands behind a heading, a semicolon, or `and`
+-- a group begins the text, or follows a heading, a semicolon, or `and`
 data GroupStart : Type 0 where
   first_group : GroupStart
   behind_range : GroupStart
@@ -110,7 +110,7 @@ abbrev end_of_several : Tree several → EntryEnd
 end_of_several (_ & inl thru & more) = end_of_entries (through_end thru) more
 end_of_several (_ & inr (_ & second) & more) = end_of_entries (end_of_entry second) more
 
--- several entries behind the word
+-- several entries after the word
 read_several : (word : Leaf sec) (from : GroupStart) (st : Tree (maybe (one stop))) (v : Tree several)
     (is : List Item) (ts : List Token)
     → run (Some (group_start from)) is (token_of sec word ∷ onto (maybe (one stop)) st (onto several v ts))

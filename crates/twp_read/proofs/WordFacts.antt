@@ -42,13 +42,13 @@ no_letter byte h = by_test (is_ascii_alphabetic byte) refl h
     by_test true e h = cc h
     by_test false e h = e
 
--- no letter in front, no word
+-- no letter at the start, no word
 none_left : (bytes : List ℕ) → small_letter (slice_index bytes 0) ≡ None
     → prefix_len is_ascii_alphabetic bytes ≡ 0
 none_left [] h = refl
 none_left (byte ∷ bytes) h = rw (no_letter byte h) refl
 
--- a letter, and so many behind it
+-- a letter, and this many after it
 one_more : (byte : ℕ) (bytes : List ℕ) (n : ℕ) → is_ascii_alphabetic byte ≡ true
     → prefix_len is_ascii_alphabetic bytes ≡ n → prefix_len is_ascii_alphabetic (byte ∷ bytes) ≡ 1 + n
 one_more byte bytes n letter more =
@@ -145,7 +145,7 @@ is_same false xs ys h = by_test (same_bytes xs ys) refl
     by_test true e = absurd (false≢true (h.1 (same_tells xs ys e)))
     by_test false e = sym e
 
--- words of another length are others
+-- words of different lengths are different
 never : (e : Bool) → (e && false) ≡ false
 never true = refl
 never false = refl
@@ -209,7 +209,7 @@ behind_letters (x ∷ xs) (suc known) h =
         omega arith
     by_test false e h more = absurd (omega arith)
 
--- of a long word, behind its first four
+-- of a long word, after its first four
 pub letters_in_text : (text : List ℕ) (at : ℕ) → 3 < prefix_len is_ascii_alphabetic (drop at text)
     → prefix_len is_ascii_alphabetic (drop at text) ≡ 4 + prefix_len is_ascii_alphabetic (drop (at + 4) text)
 letters_in_text text at h =

@@ -28,13 +28,13 @@ abbrev pub classes_of : List Token → List Class
 classes_of tokens = map (λ token. class_of token.kind) tokens
 
 -- Tokens of the same classes are sentences together, and begin sentences together: which number or
--- which side one is, how it is written and where it stands doesn't matter.
+-- which side one is, how it is written and where it stands don't matter.
 abbrev pub ClassesDecide : Type 0
 ClassesDecide =
     (tokens tokens' : List Token) → classes_of tokens ≡ classes_of tokens'
     → (IsSentence tokens ↔ IsSentence tokens') × (IsFront tokens ↔ IsFront tokens')
 
--- whatever a sentence goes on with, a few tokens would do
+-- however a sentence continues, a few tokens would do
 abbrev pub ShortCompletion : Type 0
 ShortCompletion = (tokens more : List Token) → IsSentence (tokens ++ more) → IsFront tokens
 

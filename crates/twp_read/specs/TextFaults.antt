@@ -1,4 +1,4 @@
--- Which refusal is answered for a text that is read as no items, and what it tells of.
+-- Which refusal a text that isn't read as items has, and what it reports.
 use Rattle.std.specs.Prelude.{◌≡◌, ℕ, ◌≤◌, ◌<◌, zero, suc, List, [], ◌∷◌, ◌++◌, Option, Some, None}
 use Rattle.std.specs.Prelude.{length, take, ⊤}
 use Rattle.twp_grid.specs.declared.refusal.Refusal.{Refusal}
@@ -60,7 +60,7 @@ pub record IsSyntaxFault (text : List ℕ) (r : Refusal) : Type 0 where
   pub number : r.number ≡ 44
   pub place : r.at ≡ place_of tokens i (length text)
 
--- the refusal of a text: 41 before all, then the leftmost bad token, and then the fault of syntax
+-- the refusal of a text: 41 first, then the leftmost bad token, and then the fault of syntax
 pub data IsFirstTextFault (text : List ℕ) (r : Refusal) : Type 0 where
   too_large : TEXT_LIMIT < length text → r ≡ refusal 41 TEXT_LIMIT → IsFirstTextFault text r
   bad_token : length text ≤ TEXT_LIMIT → IsBadToken text r → IsFirstTextFault text r
@@ -72,7 +72,7 @@ fault_of_bad BadByte at = Some (fault.BadByte at)
 fault_of_bad BadNumber at = Some (fault.BadNumber at)
 fault_of_bad _ at = None
 
--- the number and the place of a fault; want of memory has none
+-- the number and the place of a fault; running out of memory has none
 abbrev pub refusal_of : TextFault → Option Refusal
 refusal_of fault.TooLarge = Some (refusal 41 TEXT_LIMIT)
 refusal_of (fault.BadByte at) = Some (refusal 42 at)
@@ -81,7 +81,7 @@ refusal_of (fault.Syntax at expected) = Some (refusal 44 at)
 refusal_of fault.Memory = None
 
 -- The text goes wrong at this place, whether or not it has bad tokens; whatever token a sentence
--- could have there is named; and of each class that is told of, a sentence could have one there.
+-- could have there is named; and of each class that is reported, a sentence could have one there.
 pub record GoesWrong (text : List ℕ) (at : ℕ) (expected : Expected) : Type 0 where
   pub tokens : List Token
   pub cut : HasTokens 0 text tokens
@@ -93,7 +93,7 @@ pub record GoesWrong (text : List ℕ) (at : ℕ) (expected : Expected) : Type 0
   pub told_is : (class : Class) → IsNamed class (told expected)
       → MayFollow (take i tokens) class
 
--- the refusal of syntax names whatever could stand at its place, and what it tells of could
+-- the refusal of syntax names whatever could stand at its place, and what it reports could
 abbrev pub Helps : List ℕ → TextFault → Type 0
 Helps text (fault.Syntax at expected) = GoesWrong text at expected
 Helps text other = ⊤

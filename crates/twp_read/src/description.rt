@@ -12,8 +12,8 @@ use std::alloc::Global;
 use std::marker::Model;
 use twp_grammar::{Expected, Item, Kind, State};
 
-/// There is room from the start for an item for each so many bytes: fine aliquot parts take some
-/// twenty.
+/// There is room from the start for one item for each of this many bytes: fine aliquot parts take
+/// some twenty.
 const BYTES_TO_ITEM: usize = 16;
 
 /// A description of land, as the items that it names, from left to right.
@@ -39,7 +39,7 @@ impl Description {
     ghost use Rattle.twp_grammar.specs.Sentences.{IsReadAs};
 
     /// Reads a description by the grammar (the form of the Specifications for Descriptions of Land;
-    /// the grammar is this project's). Nothing is judged of a plat.
+    /// the grammar is this project's). Whether it lies on a plat isn't judged here.
     pub fn read(alloc: Global, text: &[u8]) -> Result<Description, TextFault>
         ensures read { IfOk result (IsReadAs text.now) }
         ensures taken { (items : List Item) → IsReadAs text.now items
@@ -90,7 +90,7 @@ impl Description {
         })
     }
 
-    /// The items, from left to right. Sections come first, or stand behind the heading.
+    /// The items, from left to right. Sections come first, or follow the heading.
     pub fn items(&self) -> &[Item]
         ensures items { result.now ≡ self.now }
         ensures sections_first { BeginWithSections self.now }
@@ -100,7 +100,7 @@ impl Description {
 }
 
 /// The fault of a text that goes wrong at a place, where something else could stand: its leftmost
-/// bad token, if it has one. What was taken, up to another place, has none.
+/// bad token, if it has one. What was taken, up to another place, has no bad token.
 #[cold]
 #[inline(never)]
 fn fault_of(text: &[u8], taken: usize, at: usize, expected: Expected) -> TextFault
@@ -120,7 +120,7 @@ fn fault_of(text: &[u8], taken: usize, at: usize, expected: Expected) -> TextFau
     }
 }
 
-/// The leftmost bad token, of which none stands before a place.
+/// The leftmost bad token, where none stands before a place.
 fn first_bad(text: &[u8], taken: usize) -> Option<TextFault>
     requires good { HasNoneBadBefore text.now taken }
     requires limit { length text.now ≤ TEXT_LIMIT }

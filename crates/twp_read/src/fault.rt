@@ -9,9 +9,9 @@ use twp_grid::Refusal;
 /// The most bytes of a description (this project's limit).
 pub const TEXT_LIMIT: usize = 65536;
 
-/// Why a text is read as no description. Places are offsets in the text. A text that is too large
-/// is refused before all; then the leftmost bad token is answered, and only where there is none, a
-/// fault of syntax.
+/// Why a text isn't read as a description. Places are offsets in the text. A text that is too large
+/// is refused first; then the leftmost bad token is reported, and only where there is none, a fault
+/// of syntax.
 #[derive(Clone, Copy, Debug, PartialEq, Eq, Error)]
 pub enum TextFault {
     /// The text has more than `TEXT_LIMIT` bytes.
@@ -23,7 +23,7 @@ pub enum TextFault {
     /// A number has more than four digits.
     #[error("the number at {at} has more than four digits")]
     BadNumber { at: u32 },
-    /// The token here can't stand behind those before it, or the text ends too early.
+    /// The token here can't follow those before it, or the text ends too early.
     #[error("the description goes wrong at {at}: here could stand {expected}")]
     Syntax { at: u32, expected: Expected },
     /// Memory ran out.
@@ -32,7 +32,7 @@ pub enum TextFault {
 }
 
 impl TextFault {
-    /// The number of the refusal, 41 to 44, and its place. None for want of memory alone.
+    /// The number of the refusal, 41 to 44, and its place. None only where memory ran out.
     pub fn refusal(&self) -> Option<Refusal>
         ensures { result ≡ refusal_of self.now }
     {

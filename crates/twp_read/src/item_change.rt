@@ -17,11 +17,11 @@ pub enum Change {
     Last(Numeral),
     /// Parts of the section follow.
     Parted,
-    /// One step more, of which the last one is a part.
+    /// One more step, of which the last one is a part.
     Grown(Step),
 }
 
-/// Makes an item the one with what a token says of it.
+/// Changes an item by what a token says of it.
 #[inline(always)]
 pub fn change_item(item: &mut Item, change: Change) -> Result<(), AllocError>
     ensures { OnOk result (item.new ≡ changed change item.old) }

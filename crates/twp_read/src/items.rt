@@ -30,7 +30,7 @@ impl Items {
     ghost use Rattle.twp_read.specs.steps.TokenSteps.{take_all, take_township, take_north_south};
     ghost use Rattle.twp_read.specs.steps.TokenSteps.{take_east_west, take_token};
 
-    /// No items yet, with room for so many.
+    /// No items yet, with room for this many.
     pub fn with_room(alloc: Global, room: usize) -> Result<Items, AllocError>
         ensures { IfOk result (λ items. items ≡ []) }
     {
@@ -139,7 +139,7 @@ impl Items {
         }
     }
 
-    /// What a token says of the newest item that only one token says of it.
+    /// Changes the newest item by what only one kind of token says of it.
     #[inline(never)]
     fn change_once(&mut self, change: Change) -> Result<(), AllocError>
         ensures { OnOk result (self.new ≡ with_newest change self.old) }
@@ -147,7 +147,7 @@ impl Items {
         self.change(change)
     }
 
-    /// A step: of the chain, where one stands before it, and else the first of a chain.
+    /// A step: the next one of the chain before it, or the first of a new chain.
     #[inline(always)]
     fn take_step(
         &mut self,
@@ -206,7 +206,7 @@ impl Items {
         }
     }
 
-    /// All of a section is a part. Behind several sections, which are whole, it says nothing new.
+    /// All of a section is a part. After several sections, which are whole, it says nothing new.
     #[inline(never)]
     fn take_all(&mut self, state: State, at: u32) -> Result<(), AllocError>
         ensures { OnOk result (self.new ≡ take_all state at self.old) }
@@ -225,7 +225,7 @@ impl Items {
         }
     }
 
-    /// The first part of a section makes it one that isn't whole.
+    /// With its first part a section becomes one that isn't whole.
     #[inline(always)]
     pub(crate) fn before_parts(&mut self, state: State) -> Result<(), AllocError>
         ensures { OnOk result (self.new ≡ before_parts state self.old) }

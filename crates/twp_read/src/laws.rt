@@ -9,13 +9,13 @@ pub fn no_stray_in_sentence()
     ensures { NoStrayInSentence }
 {}
 
-/// Whether tokens are a sentence, or begin one, depends on what kinds they are alone, and not on
-/// their numbers, their sides, their letters or their places.
+/// Whether tokens are a sentence, or begin one, depends only on their kinds, and not on their
+/// numbers, their sides, their letters or their places.
 pub fn classes_decide()
     ensures { ClassesDecide }
 {}
 
-/// What a beginning of a sentence lacks is at most seven tokens, whatever they are.
+/// A beginning of a sentence lacks at most seven tokens, whatever they are.
 pub fn short_completion()
     ensures { ShortCompletion }
 {}

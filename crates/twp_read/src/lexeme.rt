@@ -34,7 +34,7 @@ pub fn lexeme_at(text: &[u8], at: usize) -> Lexeme
     mark(text, at)
 }
 
-/// The byte that stands so many bytes ahead of a place, or 0 past the end.
+/// The byte that stands this many bytes ahead of a place, or 0 past the end.
 #[inline(always)]
 #[tactic(auto, using(crate::proofs::PlaceFacts::byte_ahead, crate::proofs::PlaceFacts::past_end))]
 pub fn byte_at(text: &[u8], at: usize, ahead: usize) -> u8
@@ -46,7 +46,7 @@ pub fn byte_at(text: &[u8], at: usize, ahead: usize) -> u8
     if index < text.len() { text[index] } else { 0 }
 }
 
-/// The letter that stands so many bytes ahead of a place, as a small one.
+/// The letter that stands this many bytes ahead of a place, in lowercase.
 #[inline(always)]
 #[tactic(auto, using(crate::proofs::LetterFacts::letter_counts))]
 fn letter_at(text: &[u8], at: usize, ahead: usize) -> Option<u8>
@@ -67,7 +67,7 @@ fn bytes_from(text: &[u8], at: usize) -> &[u8]
     bytes
 }
 
-/// A letter as a small one. In ASCII the two differ in one bit.
+/// A letter in lowercase. In ASCII the two cases differ in one bit.
 #[inline(always)]
 #[tactic(auto, using(crate::proofs::LetterFacts::by_its_bit))]
 fn small_letter(byte: u8) -> Option<u8>
@@ -110,7 +110,7 @@ fn word(text: &[u8], at: usize, first: u8) -> Lexeme
     long_word(text, at)
 }
 
-/// A word of four letters or more. Those behind the first four are counted.
+/// A word of four letters or more. Those after the first four are counted.
 #[inline(never)]
 fn long_word(text: &[u8], at: usize) -> Lexeme
     requires place { at < length text.now }
@@ -137,7 +137,7 @@ fn count_letters(text: &[u8], at: usize) -> usize
         .count()
 }
 
-/// What the word of so many letters at a place is, which are four or more.
+/// What the word of this many letters at a place is, which are four or more.
 #[inline(always)]
 fn kind_of_long(text: &[u8], at: usize, size: usize) -> Kind
     requires place { at ≤ length text.now }
@@ -161,7 +161,7 @@ fn count_digits(text: &[u8], at: usize) -> usize
         .count()
 }
 
-/// A half, a quarter or a number. Mostly there is one digit alone.
+/// A half, a quarter or a number. Usually there is only one digit.
 #[inline(always)]
 #[tactic(auto, using(twp_grammar::proofs::Numerals::digits_alone), unfolding(twp_grammar::specs::steps::Cutting::cut_digits))]
 pub fn digits(text: &[u8], at: usize) -> Lexeme
@@ -180,7 +180,7 @@ pub fn digits(text: &[u8], at: usize) -> Lexeme
     one_digit(first)
 }
 
-/// A half or a quarter, or a digit with a slash behind it that makes it none.
+/// A half or a quarter, or a digit with a slash after it that makes neither.
 #[tactic(auto, using(twp_grammar::proofs::Numerals::digits_alone), unfolding(twp_grammar::specs::steps::Cutting::cut_digits))]
 fn before_slash(text: &[u8], at: usize, first: u8) -> Lexeme
     requires place { at + 1 < length text.now }
@@ -214,7 +214,7 @@ fn one_digit(digit: u8) -> Lexeme
     }
 }
 
-/// Two digits or more, of which the first two are known: a number, or too many. Mostly there are
+/// Two digits or more, of which the first two are known: a number, or too many. Usually there are
 /// two.
 #[inline(always)]
 #[tactic(auto, using(twp_grammar::proofs::Numerals::two_digits))]
@@ -254,7 +254,7 @@ fn long_number(text: &[u8], at: usize) -> Lexeme
     }
 }
 
-/// The number that so many digits at a place spell, up to four.
+/// The number that this many digits at a place spell, up to four.
 #[inline(never)]
 fn value_at(text: &[u8], at: usize, size: usize) -> u16
     requires place { at ≤ length text.now }

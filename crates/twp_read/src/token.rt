@@ -7,7 +7,7 @@ use crate::white::behind_white;
 use std::marker::Model;
 use twp_grammar::{Lexeme, Token};
 
-/// The first token of a text at a place or behind it.
+/// The first token of a text at a place or after it.
 #[inline(always)]
 pub fn first_token(text: &[u8], from: usize) -> Option<Token<'_>>
     requires { from ≤ length text.now }
@@ -29,7 +29,7 @@ pub fn first_token(text: &[u8], from: usize) -> Option<Token<'_>>
 #[derive(Debug, Drop)]
 pub struct Tokens<'a> {
     text: &'a [u8],
-    /// Where the bytes begin that are left.
+    /// Where the remaining bytes begin.
     at: usize,
 }
 
@@ -54,7 +54,7 @@ impl<'a> Tokens<'a> {
         Tokens { text, at: 0 }
     }
 
-    /// The tokens of a text that stand at a place or behind it.
+    /// The tokens of a text that stand at a place or after it.
     pub(crate) fn behind(text: &'a [u8], at: usize) -> Tokens<'a>
         requires { at ≤ length text.now }
         ensures { result ≡ record { at = at; bytes = drop at text.now } }

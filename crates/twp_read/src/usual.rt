@@ -1,9 +1,9 @@
-//! The quick way beside the reader: what is spelled in the usual way is taken as it stands, several
-//! tokens together.
+//! The quick way beside the reader's loop: what is spelled in the usual way is taken as it stands,
+//! several tokens together.
 //!
-//! The reader's loop asks for it before each token, and goes on where it ends. Its one contract is
+//! The reader's loop tries it before each token, and continues where it ends. Its one contract is
 //! `Leads`: it leads the reader as the tokens that it passes over would, one by one. So no promise
-//! speaks of it, and what is spelled in another way is left to the loop. It gains much: fine parts
+//! speaks of it, and what is spelled in another way is left to the loop. It pays off: fine parts
 //! are read in some 9 instructions a byte and lists in 20 to 30, where the loop takes up to 60.
 ghost use Rattle.std.specs.Prelude.{◌≤◌, length, IfOk};
 ghost use Rattle.twp_grammar.specs.Sentences.{TEXT_LIMIT};
@@ -24,8 +24,8 @@ use std::alloc::{AllocError, Global};
 use twp_grammar::State;
 
 impl Items {
-    /// Takes what stands next, as long as it is spelled in the usual way: as it stands, and not token
-    /// by token. Gives the place that is reached so, and the state there.
+    /// Takes what stands next, as long as it is spelled in the usual way: as it stands, and not
+    /// token by token. Gives the place that is reached, and the state there.
     #[inline(always)]
     pub(crate) fn take_usual(
         &mut self,

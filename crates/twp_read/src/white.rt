@@ -1,4 +1,4 @@
-//! White space: how far it goes from a place on.
+//! White space: how far it reaches from a place on.
 ghost use Rattle.std.specs.Prelude.{◌≡◌, ◌<◌, ◌≤◌, ◌+◌, length, drop, map, IsTrue};
 ghost use Rattle.std.specs.List.{prefix_len};
 ghost use Rattle.std.specs.Simd.Lanes.{mask_l};
@@ -10,7 +10,7 @@ use std::simd::prelude::*;
 /// How many bytes are looked at together where there is much white space.
 const LANES: usize = 16;
 
-/// The first place from a place on that has no white space, or the text's length. Mostly there is
+/// The first place from a place on that has no white space, or the text's length. Usually there is
 /// one space or none.
 #[inline(always)]
 pub(crate) fn behind_white(text: &[u8], from: usize) -> usize
@@ -27,7 +27,7 @@ pub(crate) fn behind_white(text: &[u8], from: usize) -> usize
     behind_much_white(text, from + 1)
 }
 
-/// The same, of white space of any length and kind.
+/// The same for white space of any length and kind.
 #[inline(never)]
 fn behind_much_white(text: &[u8], from: usize) -> usize
     requires { from ≤ length text.now }
@@ -45,7 +45,7 @@ fn behind_much_white(text: &[u8], from: usize) -> usize
     behind_last_white(text, at)
 }
 
-/// The same, of the last bytes of a text.
+/// The same for the last bytes of a text.
 fn behind_last_white(text: &[u8], from: usize) -> usize
     requires { from ≤ length text.now }
     ensures value { result ≡ from + prefix_len is_white (drop from text.now) }
@@ -77,8 +77,8 @@ fn is_white_at(text: &[u8], at: usize) -> bool
     at < text.len() && is_white(text[at])
 }
 
-/// Whether a byte is a space, a tabulator, a line feed or a carriage return. All that are none of
-/// the four but control characters come behind the space, so most bytes take one comparison.
+/// Whether a byte is a space, a tab, a line feed or a carriage return. All others except control
+/// characters come after the space, so most bytes take one comparison.
 #[inline(always)]
 fn is_white(byte: u8) -> bool
     ensures { result ≡ is_white byte }

@@ -5,7 +5,7 @@ ghost use Rattle.twp_grammar.specs.Tokens.{kind_among, same_bytes, words, long_w
 use twp_grammar::Kind;
 use twp_grid::{Corner, EastWest, NorthSouth};
 
-/// What a word of one small letter is.
+/// What a word of one lowercase letter is.
 #[inline(always)]
 pub fn one_letter(first: u8) -> Kind
     ensures { result ≡ kind_among (first ∷ []) words }
@@ -21,8 +21,8 @@ pub fn one_letter(first: u8) -> Kind
     }
 }
 
-/// What a word of two small letters is. Quarters are the commonest, and `e` and `w` are tested
-/// first.
+/// What a word of two lowercase letters is. Quarters are the most common, and `e` and `w` are
+/// tested first.
 #[inline(always)]
 pub fn two_letters(first: u8, second: u8) -> Kind
     ensures { result ≡ kind_among (first ∷ second ∷ []) words }
@@ -38,7 +38,7 @@ pub fn two_letters(first: u8, second: u8) -> Kind
     }
 }
 
-/// What a word of three small letters is. `the` is the commonest, and tested first.
+/// What a word of three lowercase letters is. `the` is the most common, and is tested first.
 #[inline(always)]
 pub fn three_letters(first: u8, second: u8, third: u8) -> Kind
     ensures { result ≡ kind_among (first ∷ second ∷ third ∷ []) words }
@@ -55,7 +55,7 @@ pub fn three_letters(first: u8, second: u8, third: u8) -> Kind
     }
 }
 
-/// What a word of four letters or more is, in any letters. Lists have them most often.
+/// What a word of four letters or more is, in either case. Lists have them most often.
 #[inline(always)]
 pub fn long_word(text: &[u8]) -> Kind
     ensures { result ≡ kind_among (str_to_ascii_lowercase text.now) long_words }
@@ -84,7 +84,7 @@ pub fn long_word(text: &[u8]) -> Kind
     Kind::Other
 }
 
-/// Whether a word, in any letters, is the one that is given in small letters.
+/// Whether a word, in either case, is the given one, which is in lowercase.
 #[tactic(auto, using(crate::proofs::WordFacts::is_same))]
 fn is_word(text: &[u8], word: &[u8]) -> bool
     requires { str_to_ascii_lowercase word.now ≡ word.now }

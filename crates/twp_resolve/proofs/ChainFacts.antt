@@ -144,7 +144,7 @@ step_before steps n step some at =
     ∙ ap (λ s. s ∷ drop (n - 1 + 1) steps) (get_or_from_slice_get steps (n - 1) step step at)
     ∙ ap (λ k. step ∷ drop k steps) next
 
--- one step more
+-- one more step
 pub cut_next : (g : ℕ) (steps : List Step) (n : ℕ) (step : Step) (block next : Rectangle) → 0 < n
     → slice_get steps (n - 1) ≡ Some step → IsCutTo g steps n block
     → CanCut block (cut_of step) → next ≡ part_of block (cut_of step) → IsCutTo g steps (n - 1) next
@@ -156,7 +156,7 @@ cut_next g steps n step block next some at so_far can is =
       block_is = rw left (is ∙ ap (λ b. part_of b (cut_of step)) so_far.block_is);
     }
 
--- one step more, if it is taken
+-- one more step, if it is taken
 pub cut_next_of : (g : ℕ) (steps : List Step) (n : ℕ) (step : Step) (block : Rectangle)
     (next : Option Rectangle)
     → 0 < n → slice_get steps (n - 1) ≡ Some step → IsCutTo g steps n block

@@ -1,4 +1,4 @@
--- What is answered of an aliquot part: the first of its flaws, or its places are taken.
+-- The answer for an aliquot part: the first of its flaws, or its places are taken.
 use Rattle.std.proofs.Common.{◌≡◌, ◌==◌, ℕ, ◌≤◌, Bool, List, refl, sym, ap, subst, ◌∙◌, arith, Result, Ok}
 use Rattle.std.proofs.Common.{Err, IfOk, IfErr, MatchResult}
 use Rattle.std.proofs.lemmas.Bool.{and_parts}
@@ -95,7 +95,7 @@ is_on_lot section steps at earlier block within is held township = record {
   fault_is = refl;
 }
 
--- what adding a block answers
+-- the answer when a block is added
 abbrev pub AddsBlock : {A : Type 0} → (old new : ℕ → ℕ → ℕ → Bool) (section : ℕ) (block : Rectangle) (at : ℕ)
     → Result A PlaceFault → Type 0
 AddsBlock old new section block at result = MatchResult result

@@ -114,7 +114,7 @@ each_lies township its on p there =
     subst (λ (q : ItemOfSection). LiesOnPlat PLACE_DIGITS township q.section q.item) at.2
     (on.each at.0 p at.1)
 
--- a part stands behind sections
+-- a part follows sections
 abbrev StandsBehindSections : ItemOfSection → Type 0
 StandsBehindSections p = IsSection p.section ⊎ IsBeforeParts p.item
 
@@ -128,7 +128,7 @@ begins_behind number north_south range east_west at (Lots first last ∷ its) be
 begins_behind number north_south range east_west at (Chain steps a ∷ its) begin = absurd begin
 begins_behind number north_south range east_west at (All a ∷ its) begin = absurd begin
 
--- where items lie on the plat, each part of the township's land stands behind sections
+-- where items lie on the plat, each part of the township's land follows sections
 behind_sections : (township : Designation) (its : List Item) (section : ℕ)
     → IsSection section ⊎ BeginWithSections its → EachLies township (with_sections section its)
     → (p : ItemOfSection) → Among p (with_sections section its) → StandsBehindSections p
@@ -234,7 +234,7 @@ some_place township section (Chain steps at) behind lies names = chain_place sec
 some_place township section (All at) behind lies names =
     record { of = section; column = 0; row = 0; named = rw (same_section section) refl }
 
--- each part of a sentence stands behind sections
+-- each part of a sentence follows sections
 each_behind : (township : Designation) (tokens : List Token) (its : List Item) → HasItems tokens its
     → AreOnPlat PLACE_DIGITS township its
     → (p : ItemOfSection) → Among p (parts_of its) → StandsBehindSections p

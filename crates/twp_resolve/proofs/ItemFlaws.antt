@@ -1,4 +1,4 @@
--- What is answered of a heading and of `all`: the first of their flaws, or their places are taken.
+-- The answer for a heading and for `all`: the first of their flaws, or their places are taken.
 use Rattle.std.proofs.Common.{◌≡◌, ◌≢◌, ◌==◌, ℕ, ◌≤◌, ◌&&◌, Bool, true, false, refl, sym, ap, subst, ◌∙◌}
 use Rattle.std.proofs.Common.{arith}
 use Rattle.std.proofs.Math.Path.{fun_ext}

@@ -139,7 +139,7 @@ next_section first n least some = fun_ext (λ s. fun_ext (λ c. fun_ext (λ r.
     by_place false a b true h = refl
     by_place false a b false h = refl
 
--- a whole section of the range is another than those before it
+-- a whole section of the range differs from those before it
 pub in_next_section : (first n last : ℕ) → 1 ≤ n → first ≤ n → n ≤ last → (s c r : ℕ)
     → block_places n (whole_block PLACE_DIGITS) s c r ≡ true
     → (sections_from PLACE_DIGITS first (n - 1) s c r ≡ false)
@@ -217,7 +217,7 @@ next_lot s first n block range least some most is =
         (nat_le first k && nat_le k (n - 1)) (nat_le n k && nat_le k n)
         (lot_is_place s k c r range at) (grind (arith, nat_tests)))
 
--- a lot of the range is another than those before it
+-- a lot of the range differs from those before it
 pub in_next_lot : (s first n last : ℕ) (block : Rectangle) → IsSection s → 1 ≤ n → first ≤ n → n ≤ last
     → n ≤ number_of_lots s → block_of (position_of_lot s n) ≡ Some block
     → (o c r : ℕ) → block_places s block o c r ≡ true

@@ -1,4 +1,4 @@
--- What is answered of a range of sections or of lots: the first of its flaws, or its places are taken.
+-- The answer for a range of sections or of lots: the first of its flaws, or its places are taken.
 use Rattle.std.proofs.Common.{◌≡◌, ℕ, ◌≤◌, ◌<◌, Bool, true, refl, arith, Result, Ok, Err, IfOk, IfErr}
 use Rattle.std.proofs.Common.{MatchResult}
 use Rattle.twp_grid.specs.Places.{PLACE_DIGITS}
@@ -74,7 +74,7 @@ lots_no_last section first last earlier order low none township = record {
   fault_is = refl;
 }
 
--- what adding lots answers
+-- the answer when lots are added
 abbrev pub AddsLots : {A : Type 0} → (old new : ℕ → ℕ → ℕ → Bool) (section first last at : ℕ)
     → Result A PlaceFault → Type 0
 AddsLots old new section first last at result = MatchResult result

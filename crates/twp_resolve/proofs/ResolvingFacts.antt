@@ -81,7 +81,7 @@ next_is items index section it inside at left = record {
         (with_sections (section_behind section it) (drop (index + 1) items))
         (sym (drop_more (parts_of items) index d within) ∙ left ∙ ap (λ xs. with_sections section xs) there)
 
--- one item more
+-- one more item
 pub taken_next : (g : ℕ) (township : Designation) (items : List Item) (index section : ℕ) (it : Item)
     (places new : ℕ → ℕ → ℕ → Bool)
     → index < length items → get_or items index it ≡ it
@@ -214,7 +214,7 @@ begins : (items : List Item) (index : ℕ) (it : Item) → index < length items 
 begins items index it inside at begin =
     subst BeginWithSections (drop_more items index it inside ∙ ap (λ x. x ∷ drop (index + 1) items) at) begin
 
--- a part stands behind sections
+-- a part follows sections
 pub may_be_taken : (section : Option ℕ) (items : List Item) (index : ℕ) (it : Item) → index < length items
     → get_or items index it ≡ it
     → SectionKnown section (drop index items) → IsSome section ⊎ IsBeforeParts it

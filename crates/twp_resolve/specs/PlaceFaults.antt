@@ -27,7 +27,7 @@ pub data Flaw : Type 0 where
   on_lot : Flaw
   overlap : Flaw
 
--- the item, behind items of this land, has the flaw
+-- the item, after items of this land, has the flaw
 abbrev pub HasFlaw : ℕ → Designation → (ℕ → ℕ → ℕ → Bool) → ℕ → Item → Flaw → Type 0
 HasFlaw g township earlier section (item.Heading number north_south range east_west at) other_township =
     designation number north_south range east_west ≢ township
@@ -73,14 +73,15 @@ fault_of_flaw too_fine at = fault.TooFine at
 fault_of_flaw on_lot at = fault.OnLot at
 fault_of_flaw overlap at = fault.Overlap at
 
--- Of a range, the flaws of its last number are answered there, and so is that it runs backward.
+-- The flaws of a range's last number are reported at that number, and so is a range that runs
+-- backward.
 abbrev pub offset_in_range : Numeral → Numeral → Flaw → ℕ
 offset_in_range first last no_last_section = last.at
 offset_in_range first last backward = last.at
 offset_in_range first last no_last_lot = last.at
 offset_in_range first last other = first.at
 
--- where in the text a flaw of an item is answered
+-- where in the text a flaw of an item is reported
 abbrev pub offset_of_flaw : Item → Flaw → ℕ
 offset_of_flaw (item.Heading number north_south range east_west at) flaw = at
 offset_of_flaw (item.Sections first last whole) flaw = offset_in_range first last flaw
@@ -101,7 +102,7 @@ pub record HasPlaceFault (g : ℕ) (township : Designation) (items : List Item) 
   pub at_index : HasFlawAt g township items index flaw
   pub fault_is : place_fault ≡ fault_of_flaw flaw (offset_of_flaw at_index.part.item flaw)
 
--- an index and a flaw that aren't before these
+-- an index and a flaw that don't come before these
 abbrev pub IsFrom : ℕ → Flaw → ℕ → Flaw → Type 0
 IsFrom index flaw index' flaw' =
     (index < index') ⊎ ((index ≡ index') × (turn_of flaw ≤ turn_of flaw'))

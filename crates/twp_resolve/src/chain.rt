@@ -90,7 +90,7 @@ fn place_of(steps: &Steps) -> Option<Block>
     Some(block)
 }
 
-/// The quarter of a block that a step takes. None of a half.
+/// The quarter of a block that a step takes. None for a half.
 #[inline(always)]
 fn quarter_of(block: Block, step: Step) -> Option<Block>
     ensures { IfSome result (λ part. CanCut block (cut_of step) × (part ≡ part_of block (cut_of step))) }

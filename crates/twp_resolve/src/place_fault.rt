@@ -6,8 +6,8 @@ use twp_grid::Refusal;
 
 /// Why a description names no land on the plat (this project's rules; lots and aliquot parts as in
 /// the Specifications for Descriptions of Land). Places are offsets in the text. The first item
-/// with a fault is answered; of one item's faults, that of the least number, and of the two numbers
-/// of a range, the first before the second.
+/// with a fault is reported; of one item's faults, the one with the least number, and of the two
+/// numbers of a range, the first before the second.
 #[derive(Clone, Copy, Debug, PartialEq, Eq, Hash, Error)]
 pub enum PlaceFault {
     /// 61, at the heading: it is of another township than the plat.

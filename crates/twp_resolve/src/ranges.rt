@@ -16,7 +16,7 @@ use twp_grid::{Block, Section, lot_count};
 use twp_land::Land;
 
 /// Takes the sections from the first to the last, and gives the first. They are added where they
-/// are whole; else parts of the one section follow.
+/// are whole; otherwise parts of the one section follow.
 pub(crate) fn resolve_sections<L: Land>(
     land: &mut L,
     first: Numeral,
@@ -102,7 +102,7 @@ fn add_sections<L: Land>(land: &mut L, first: u8, last: u8, at: u32) -> Result<(
     Ok(())
 }
 
-/// Judges that a range doesn't run backward.
+/// Checks that a range doesn't run backward.
 fn check_order(first: Numeral, last: Numeral) -> Result<(), PlaceFault>
     ensures { MatchResult result (λ _. first.value ≤ last.value)
         (λ fault. (fault ≡ PlaceFault.Backward last.at) × (last.value < first.value)) }

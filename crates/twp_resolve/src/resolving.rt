@@ -34,8 +34,8 @@ pub fn resolve<L: Land>(description: &Description, township: Township) -> Result
     Ok(land)
 }
 
-/// Makes a land the one that `resolve` gives. What it held before is gone; after a fault it is of
-/// no use.
+/// Makes a land the one that `resolve` gives. What it held before is gone; after a fault its
+/// content has no meaning.
 pub fn resolve_into<L: Land>(
     land: &mut L,
     description: &Description,

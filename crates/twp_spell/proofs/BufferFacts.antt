@@ -1,4 +1,4 @@
--- Parts behind each other in one array.
+-- Parts one after another in one array.
 use Rattle.std.proofs.Common.{◌≡◌, ℕ, ◌+◌, ◌≤◌, List, ◌++◌, length, length-take-le, take, refl, sym, ap, ◌∙◌}
 use Rattle.std.proofs.Common.{arith, codes}
 use Rattle.std.proofs.lemmas.Slice.{take-put_mid}
@@ -11,7 +11,7 @@ use Rattle.twp_spell.specs.CanonicalText.{step_text}
 use Rattle.twp_spell.proofs.PathFacts.{take_front, take_less}
 use borrow.Rule.Slice.PartMut.{put_mid}
 
--- a step is written behind what stands there
+-- a step is written after what stands there
 pub put_behind : (bytes front step old : List ℕ) (len n wide : ℕ) → take len bytes ≡ old → len ≤ length bytes
     → front ≡ step → length step ≡ n
     → take (len + n) (put_mid len wide bytes front) ≡ old ++ step
@@ -37,7 +37,7 @@ pub known_length : (bytes known : List ℕ) (len : ℕ) → take len bytes ≡ k
     → length known ≡ len
 known_length bytes known len is within = ap length (sym is) ∙ length-take-le len bytes within
 
--- a quarter behind a comma has seven bytes, and a half six
+-- a quarter after a comma has seven bytes, and a half six
 pub long_quarter_step : (corner : Corner) → length (codes ", " ++ step_text (Quarter corner)) ≡ 7
 long_quarter_step NE = refl
 long_quarter_step NW = refl

@@ -228,7 +228,7 @@ begins_at g held parent corner part fits full (inr half) =
     subst (λ c. BeginsAt g parent (turn_of_quarter c) part) half.2
     (subst (λ p. BeginsAt g parent (turn_of_quarter (quarter_on half.0)) p) (sym half.1) begins)
 
--- parts that begin in an earlier quarter stand ahead
+-- parts that begin in an earlier quarter come first
 pub quarters_ahead : (g : ℕ) (held : ℕ → ℕ → Bool) (parent : List Corner) (corner other : Corner)
     (part next : Part)
     → length parent < g → turn_of_quarter corner < turn_of_quarter other

@@ -30,7 +30,7 @@ search (suc n) test = elim (cases_Bool (test n)) [
   ]
 ]
 
--- a place that a test holds of
+-- a place for which a test holds
 pub record Found (g : ℕ) (test : ℕ → ℕ → Bool) : Type 0 where
   pub column : ℕ
   pub row : ℕ

@@ -55,7 +55,7 @@ is_west zero zero small on = absurd on
 is_west zero (suc y) small on = absurd on
 is_west (suc x) y small on = omega arith
 
--- what a half asks for behind its square's quarters
+-- what a half asks for after its square's quarters
 column_begins : List Corner → ℕ → Bool
 column_begins quarters column =
     begins (columns_asked (cuts_of (quarter_steps quarters))) (binary (length quarters) (column / 2))

@@ -1,4 +1,4 @@
--- What the places of a whole section's block and of a lot's block tell of a land.
+-- What the places of a whole section's block and of a lot's block say of a land.
 use Rattle.std.proofs.Common.{◌≡◌, ℕ, ◌≤◌, Bool, Some, sym, ap, ◌∙◌}
 use Rattle.twp_grid.specs.Winding.{IsSection}
 use Rattle.twp_grid.specs.Lots.{position_of_lot, number_of_lots}

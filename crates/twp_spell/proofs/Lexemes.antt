@@ -73,8 +73,8 @@ placed (many g) at vs = placed_each (λ here v. placed g here v) (λ here v. end
 
 -- each token of a draft is one before the bytes that follow it
 abbrev pub fit_each : {A : Type 0} → (A → List ℕ → Type 0) → (A → List ℕ → List ℕ) → List A → List ℕ → Type 0
-fit_each f spelt [] rest = Unit {0}
-fit_each f spelt (v ∷ vs) rest = f v (bytes_each spelt vs rest) × fit_each f spelt vs rest
+fit_each f spelled [] rest = Unit {0}
+fit_each f spelled (v ∷ vs) rest = f v (bytes_each spelled vs rest) × fit_each f spelled vs rest
 
 abbrev pub Fits : (g : Ebnf) → Draft g → List ℕ → Type 0
 Fits never v rest = Unit {0}
@@ -100,7 +100,7 @@ has_tokens : (g : Ebnf) (v : Draft g) → TokensOf g v
 has_tokens never v at rest ts fits has = absurd v
 has_tokens nothing v at rest ts fits has = has
 has_tokens (one class) m at rest ts fits has =
-    (rest, record { space = m.space; white = fits.0; spelt = refl; place = refl; is = good fits.1 }, has)
+    (rest, record { space = m.space; white = fits.0; spelled = refl; place = refl; is = good fits.1 }, has)
 has_tokens (g ⨾ h) (v & w) at rest ts fits has =
     has_tokens g v at (bytes h w rest) (onto h (placed h (end_at g at v) w) ts) fits.0
     (has_tokens h w (end_at g at v) rest ts fits.1 has)
@@ -121,7 +121,7 @@ drafted v rest fits white = record {
   cut = has_tokens description v 0 rest [] fits white;
   named = record {
     tree = placed description 0 v;
-    spelt =
+    spelled =
         sym
         (onto_is description (placed description 0 v) []
         ∙ append-nil (tokens description (placed description 0 v)));

@@ -7,7 +7,7 @@ use Rattle.twp_spell.specs.Listing.{AreListed}
 use Rattle.twp_grammar.proofs.Membership.{Among, among_contains, contains_among, among_either, among_left}
 use Rattle.twp_grammar.proofs.Membership.{among_right}
 
--- each comes before all that stand behind it
+-- each comes before all that stand after it
 abbrev pub InOrder : {T : Type 0} → (T → T → Type 0) → List T → Type 0
 InOrder before [] = Unit {0}
 InOrder {T = T} before (first ∷ list) =
@@ -51,8 +51,8 @@ pairs_order {T = T} before (first ∷ list) pairs = (
         pairs 0 (suc found.0) thing (omega arith) (omega arith) in
         rw is at pair
 
--- the first of a list in order stands nowhere behind, so what stands in two lists with one first stands
--- behind both
+-- of two lists that begin with one thing, the second has all things of the first: since that thing doesn't
+-- come again in the first, whatever follows it there follows it in the second
 behind_both : {T : Type 0} (before : T → T → Type 0) → ((x y : T) → before x y → before y x → ⊥) → (x y : T)
     → x ≡ y → (list more : List T)
     → ((z : T) → Among z list → before x z) → ((z : T) → Among z (x ∷ list) → Among z (y ∷ more)) → (z : T)

@@ -123,7 +123,7 @@ least_of g held part written =
     let there = some_place g held part (full_part g held part written) in
     least_place (address g there.column there.row) g part there.column there.row there.inside (omega arith)
 
--- of two written parts, one stands ahead
+-- of two written parts, one comes first
 ahead_of : (g : ℕ) (part other : Part) (first : Least g part) (second : Least g other)
     → address g first.column first.row < address g second.column second.row → StandsAhead g part other
 ahead_of g part other first second less = record {

@@ -70,7 +70,7 @@ longer step more rest len end five sixteen short long = elim (cases_lt SHORT len
     enough : len ≤ SHORT → len ≤ length (take SHORT more)
     enough less = let same = long_take in omega arith
 
--- a path of so few quarters is whole
+-- a path of this few quarters is whole
 pub long_path : (quarters : List Corner) → length (quarters_text quarters) ≡ 5 * length quarters
 long_path [] = refl
 long_path (corner ∷ parent) =

@@ -108,7 +108,7 @@ four_places g held quarters block full of_square two ne nw sw se = each
     each SE =
         place_full g held (square (SE ∷ quarters)) (quarter_of block SE) full.se (of_quarter SE) wide high se
 
--- a square so many places wide is cut so much less than places are
+-- a square this many places wide is cut that much less than places are
 power_four : (n : ℕ) → 2 ^ n ≡ 4 → n ≡ 2
 power_four zero is = absurd (omega arith)
 power_four (suc zero) is = absurd (omega arith)

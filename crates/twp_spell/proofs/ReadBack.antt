@@ -81,7 +81,7 @@ told_of_lines g township places numbers (first ∷ more) land small =
     (fits_land township first more (omega (arith, numbers.0.1)) (omega (arith, numbers.1.1)) small)
     one_line_end in
     let same = items_are township first more in
-    let spelt : NamesLand g township (bytes description draft line_end) places = record {
+    let spelled : NamesLand g township (bytes description draft line_end) places = record {
       tokens = here.tokens;
       items = its;
       cut = here.cut;
@@ -98,7 +98,7 @@ told_of_lines g township places numbers (first ∷ more) land small =
       };
     } in
     names_it (not_empty township (line_text first) (map line_text more))
-    (subst (λ t. NamesLand g township t places) (bytes_land township first more) spelt)
+    (subst (λ t. NamesLand g township t places) (bytes_land township first more) spelled)
 
 told : (g : ℕ) (township : Designation) (places : ℕ → ℕ → ℕ → Bool) (text : List ℕ)
     → HasTownshipNumbers township → IsTownshipLand g places → IsCanonicalText g township places text

@@ -145,8 +145,9 @@ pub line_of_section : (g : ℕ) (township : Designation) (places : ℕ → ℕ �
     → HasWholeLots g places
     → IsSectionOfLand g places section → IsSectionText g places section text
     → IsLineOf g township places section text
-line_of_section g township places section text whole of_land spelt =
-    subst (λ t. IsLineOf g township places section t) (sym spelt.text_is) (by_list spelt.list spelt.list_is)
+line_of_section g township places section text whole of_land spelled =
+    subst (λ t. IsLineOf g township places section t) (sym spelled.text_is)
+    (by_list spelled.list spelled.list_is)
   where
     small : section < 10000
     small = omega (arith, of_land.0.1)

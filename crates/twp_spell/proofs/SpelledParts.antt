@@ -1,4 +1,5 @@
--- The items of the canonical text with their sections, and what it takes that they lie on the plat.
+-- The items of the canonical text with their sections, and what it takes for them to lie on the
+-- plat.
 use Rattle.std.proofs.Common.{◌≡◌, ℕ, ◌||◌, Bool, true, false, List, [], ◌∷◌, ◌++◌, map, refl, sym, ap, subst}
 use Rattle.std.proofs.Common.{◌∙◌, inl, inr, append_assoc}
 use Rattle.std.specs.List.{flat_map, list_any}

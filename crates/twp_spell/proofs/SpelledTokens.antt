@@ -76,7 +76,7 @@ further_step_grammar = maybe (one of ⨾ maybe (one the)) ⨾ step
 abbrev pub further_step : Step → Draft further_step_grammar
 further_step s = inr tt & step_draft [] s
 
--- lots: a number, and more behind commas
+-- lots: a number, and more after commas
 abbrev pub number_entry : ℕ → Draft entry
 number_entry n = number_mark n & inr tt
 
@@ -121,15 +121,16 @@ land_draft township first more =
     inl (heading_draft township) & line_draft first & map further_line more & inl a_stop_mark
 
 -- the bytes of a list of drafts
-bytes_list : {X A : Type 0} (f : A → List ℕ → List ℕ) (draft : X → A) (spelt : List ℕ → List ℕ)
+bytes_list : {X A : Type 0} (f : A → List ℕ → List ℕ) (draft : X → A) (spelled : List ℕ → List ℕ)
     (text : X → List ℕ)
-    → ((x : X) (rest : List ℕ) → f (draft x) rest ≡ spelt (text x) ++ rest)
-    → (xs : List X) (rest : List ℕ) → bytes_each f (map draft xs) rest ≡ flat_map spelt (map text xs) ++ rest
-bytes_list f draft spelt text each [] rest = refl
-bytes_list f draft spelt text each (x ∷ xs) rest =
+    → ((x : X) (rest : List ℕ) → f (draft x) rest ≡ spelled (text x) ++ rest)
+    → (xs : List X) (rest : List ℕ)
+    → bytes_each f (map draft xs) rest ≡ flat_map spelled (map text xs) ++ rest
+bytes_list f draft spelled text each [] rest = refl
+bytes_list f draft spelled text each (x ∷ xs) rest =
     each x (bytes_each f (map draft xs) rest)
-    ∙ ap (λ us. spelt (text x) ++ us) (bytes_list f draft spelt text each xs rest)
-    ∙ sym (append_assoc (spelt (text x)) (flat_map spelt (map text xs)) rest)
+    ∙ ap (λ us. spelled (text x) ++ us) (bytes_list f draft spelled text each xs rest)
+    ∙ sym (append_assoc (spelled (text x)) (flat_map spelled (map text xs)) rest)
 
 bytes_step : (front : List ℕ) (s : Step) (rest : List ℕ)
     → bytes step (step_draft front s) rest ≡ front ++ (step_text s ++ rest)

@@ -45,7 +45,7 @@ word c cs rest kind all ends is =
     (record { some = omega arith; all = AllPass-from_list_all is_ascii_alphabetic (c ∷ cs) all; ends = ends })
     is
 
--- digits are no half and no quarter where no slash follows them
+-- digits are neither a half nor a quarter where no slash follows them
 no_part : (d : ℕ) (text : List ℕ) (byte : ℕ) (rest : List ℕ) → 0 < length text
     → list_all is_ascii_digit text ≡ true → (byte == 47) ≡ false
     → ¬ Begins (49 ∷ 47 ∷ d ∷ []) (text ++ (byte ∷ rest))
@@ -117,7 +117,7 @@ fits_steps (s ∷ ss) rest = (
   fits_steps ss rest,
 )
 
--- a number behind a space
+-- a number after a space
 fits_number : (n byte : ℕ) (rest : List ℕ) → n < 10000 → is_ascii_digit byte ≡ false → (byte == 47) ≡ false
     → Fits (one number) (number_mark n) (byte ∷ rest)
 fits_number n byte rest small ends clear = (one_space, number_token n byte rest small ends clear)
@@ -143,7 +143,7 @@ abbrev pub AreSmallLines : List SectionLine → Type 0
 AreSmallLines [] = Unit {0}
 AreSmallLines (line ∷ lines) = IsSmallLine line × AreSmallLines lines
 
--- behind any number of entries stands a comma, or what stands behind all
+-- after any number of entries comes a comma, or what comes after all of them
 stopped_numbers : (ns : List ℕ) (rest : List ℕ) → Stopped rest
     → Stopped (bytes (many (separator ⨾ entry)) (map further_number ns) rest)
 stopped_numbers [] rest stopped = stopped

@@ -86,7 +86,7 @@ numbers_begin old lead mid new (lot ∷ lots) d some is is' =
     ∙ append_assoc old lead (decimal lot)
     ∙ ap (λ t. old ++ (lead ++ t)) (sym (append-nil (decimal lot)))
 
--- what stands ahead of so many lots' numbers
+-- what comes before the numbers of this many lots
 pub lead_of : ℕ → List ℕ
 lead_of zero = codes ", lots "
 lead_of (suc zero) = codes ", lot "

@@ -133,7 +133,7 @@ pub none_written : (g : ℕ) (held : ℕ → ℕ → Bool) (quarters : List Corn
 none_written g held quarters corner text off are =
     written_none (AreOfQuarter g held quarters corner) text (of_quarter g held quarters corner [] off are)
 
--- the four quarters, one behind the other
+-- the four quarters, one after the other
 pub quarters_written : {T E : Type 0} (result : Result T E) (g : ℕ) (held : ℕ → ℕ → Bool)
     (quarters : List Corner) (old ne nw sw se : List ℕ)
     → length quarters < g → ¬ IsFull g held (square quarters)
@@ -171,7 +171,7 @@ quarters_written result g held quarters old ne nw sw se fits short first second 
         → front ++ parts_text more ≡ old ++ parts_text (parts ++ more)
     one_more front parts is more = ap (λ t. t ++ parts_text more) is ∙ both old parts more
 
--- the same of a list that can't lack memory
+-- the same for a list that can't run out of memory
 pub half_added : (g : ℕ) (held : ℕ → ℕ → Bool) (quarters : List Corner) (side : Side) (corner : Corner)
     (path old new : List ℕ)
     → IsChosenHalf g held quarters side → IsOnSide side corner → path ≡ quarters_text quarters

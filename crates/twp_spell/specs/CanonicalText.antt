@@ -69,8 +69,8 @@ pub record IsLotHeld (g section : ℕ) (held : ℕ → ℕ → Bool) (lot : ℕ)
   pub of_lot : lot_of_place g section column row ≡ Some lot
   pub is_held : held column row ≡ true
 
--- A section's list: `all` where each place is held; else the lots that are held, by rising number,
--- and then the written parts of what is held off the lots.
+-- A section's list: `all` where each place is held; otherwise the lots that are held, by rising
+-- number, and then the written parts of what is held off the lots.
 pub data IsSectionList (g section : ℕ) (held : ℕ → ℕ → Bool) (text : List ℕ) : Type 0 where
   all : HoldsEach g held → text ≡ codes "all" → IsSectionList g section held text
   by_parts : ¬ HoldsEach g held → (lots : List ℕ) (parts : List Part)
@@ -97,8 +97,8 @@ heading_line township =
     ++ codes "., R. " ++ decimal township.range ++ codes " " ++ east_west_letter township.east_west
     ++ codes ".," ++ line_end
 
--- the lines of a land: none without sections, else the heading and a line for each section, with a
--- semicolon at the end of each but the last, which ends with a full stop
+-- the lines of a land: none without sections, otherwise the heading and a line for each section,
+-- with a semicolon at the end of each but the last, which ends with a full stop
 abbrev pub land_lines : Designation → List (List ℕ) → List ℕ
 land_lines township [] = []
 land_lines township (text ∷ more) =

@@ -1,5 +1,5 @@
 -- The parts that a section's land is written as: squares, which quarters reach from the section,
--- and halves of squares. Held is a test of column and row: the places that are to be written.
+-- and halves of squares. `Held` is a test of column and row: the places that are to be written.
 use Rattle.std.specs.Prelude.{◌≡◌, ℕ, zero, suc, ◌+◌, ◌*◌, ◌/◌, ◌%◌, ◌<◌, Bool, true, List, [], ◌∷◌}
 use Rattle.std.specs.Prelude.{map}
 use Rattle.twp_grid.specs.Places.{IsPlace}
@@ -14,7 +14,7 @@ use Rattle.twp_grammar.specs.ItemPlaces.{cuts_of, in_chain}
 use Rattle.twp_spell.specs.Listing.{AreListed}
 
 -- A square, or a half of one. A square's quarters are listed as they are written, smallest first:
--- those behind the first reach its parent. No quarters reach the whole section.
+-- those after the first reach its parent. No quarters reach the whole section.
 pub data Part : Type 0 where
   square : List Corner → Part
   half_of_square : Side → List Corner → Part
@@ -49,7 +49,7 @@ pub record IsChosenHalf (g : ℕ) (held : ℕ → ℕ → Bool) (quarters : List
   pub first : (other : Side) → preference other < preference side
       → ¬ IsFull g held (half_of_square other quarters)
 
--- a square's quarter at this corner lies in its half towards this side
+-- a square's quarter at this corner lies in its half toward this side
 abbrev pub IsOnSide : Side → Corner → Type 0
 IsOnSide N NE = Unit {0}
 IsOnSide N NW = Unit {0}
@@ -61,8 +61,8 @@ IsOnSide W NW = Unit {0}
 IsOnSide W SW = Unit {0}
 IsOnSide side corner = ⊥
 
--- Written are the chosen halves, the section where it is full, and each other full square whose
--- parent isn't full and that doesn't lie in its parent's chosen half.
+-- The written parts are the chosen halves, the section where it is full, and every other full
+-- square whose parent isn't full and that doesn't lie in its parent's chosen half.
 abbrev pub IsWritten : ℕ → (ℕ → ℕ → Bool) → Part → Type 0
 IsWritten g held (half_of_square side quarters) = IsChosenHalf g held quarters side
 IsWritten g held (square []) = IsFull g held (square [])
@@ -78,7 +78,7 @@ quarter_named zero (suc row) = NE
 quarter_named (suc column) zero = SW
 quarter_named (suc column) (suc row) = NW
 
--- quarters are counted from the north-east against the course of the sun
+-- quarters are counted counterclockwise from the north-east
 abbrev pub turn_of_quarter : Corner → ℕ
 turn_of_quarter NE = 0
 turn_of_quarter NW = 1
@@ -91,7 +91,7 @@ address zero column row = 0
 address (suc g) column row =
     4 * address g (column / 2) (row / 2) + turn_of_quarter (quarter_named (column % 2) (row % 2))
 
--- a part stands ahead of another: some place of it has a lower address than each place of the other
+-- a part comes before another: some place of it has a lower address than each place of the other
 pub record StandsAhead (g : ℕ) (part other : Part) : Type 0 where
   pub column : ℕ
   pub row : ℕ

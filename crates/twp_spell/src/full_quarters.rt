@@ -43,8 +43,8 @@ impl FullQuarters {
         (self.ne || self.sw) && (self.nw || self.se)
     }
 
-    /// Of a square that isn't full, the half that is written as one part: the first in the north,
-    /// south, east and west of which both quarters are full.
+    /// Of a square that isn't full, the half that is written as one part: the first, in the order
+    /// north, south, east and west, of which both quarters are full.
     #[inline(always)]
     pub fn chosen_half(self) -> Option<Side>
         ensures { result ≡ chosen_of self }

@@ -9,13 +9,13 @@ use std::alloc::AllocError;
 use std::marker::Model;
 use twp_grid::{Corner, Side};
 
-/// The bytes of a half behind a comma.
+/// The bytes of a half after a comma.
 const HALF_BYTES: usize = 6;
 
-/// The bytes of a quarter behind a comma.
+/// The bytes of a quarter after a comma.
 const QUARTER_BYTES: usize = 7;
 
-/// The bytes that are kept of a place: a quarter behind a comma, the quarter that it is of, and a
+/// The bytes that are kept of a place: a quarter after a comma, the quarter that it is of, and a
 /// path.
 const PLACE_BYTES: usize = QUARTER_BYTES + PATH_QUARTER_BYTES + PATH_BYTES;
 
@@ -25,7 +25,7 @@ pub(crate) const FINE_SIDE: u8 = 1 << 2;
 /// The bytes of as many parts as a fine square has places.
 const BUFFER_BYTES: usize = FINE_SIDE as usize * FINE_SIDE as usize * PLACE_BYTES;
 
-/// Parts as they are written, each behind a comma. No memory is taken for them.
+/// Parts as they are written, each after a comma. No memory is taken for them.
 #[derive(Drop)]
 pub(crate) struct PartBuffer {
     bytes: [u8; BUFFER_BYTES],
@@ -57,7 +57,7 @@ impl PartBuffer {
     }
 
     /// Adds a quarter of the square that a path reaches. All bytes that are kept of the path are
-    /// copied, since a copy of a known length is quick; the next part is written over those behind
+    /// copied, since a copy of a known length is quick; the next part is written over those after
     /// the path's end.
     #[inline(always)]
     pub(crate) fn push_quarter(&mut self, corner: Corner, path: &Path)
@@ -109,7 +109,7 @@ impl PartBuffer {
     }
 }
 
-/// The half towards a side, as it is written behind a comma.
+/// The half toward a side, as it is written after a comma.
 #[inline(always)]
 fn half_step(side: Side) -> &'static [u8; HALF_BYTES]
     ensures { result.now ≡ codes ", " ++ step_text (Half side) }
@@ -122,7 +122,7 @@ fn half_step(side: Side) -> &'static [u8; HALF_BYTES]
     }
 }
 
-/// The quarter at a corner, as it is written behind a comma.
+/// The quarter at a corner, as it is written after a comma.
 #[inline(always)]
 fn quarter_step(corner: Corner) -> &'static [u8; QUARTER_BYTES]
     ensures { result.now ≡ codes ", " ++ step_text (Quarter corner) }

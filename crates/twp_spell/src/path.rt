@@ -1,4 +1,4 @@
-//! The path of a square, as it is written behind a smaller part.
+//! The path of a square, as it is written after a smaller part.
 ghost use Rattle.std.specs.Prelude.{◌≡◌, ◌≤◌, ◌++◌, [], length, take};
 ghost use Rattle.twp_spell.specs.CanonicalText.{step_text};
 ghost use Rattle.twp_spell.specs.steps.Spelling.{PATH_MOST};
@@ -65,7 +65,7 @@ impl Path {
         self.len
     }
 
-    /// The path's bytes, and behind them others.
+    /// The path's bytes, followed by others.
     #[inline(always)]
     pub(crate) fn bytes(&self) -> &[u8; PATH_BYTES]
         ensures { take (length self.now) result.now ≡ self.now }

@@ -13,10 +13,10 @@ use std::alloc::{AllocError, Global};
 use twp_grid::{Block, EastWest, NorthSouth, SECTIONS, Section, Township, lot_count};
 use twp_land::Land;
 
-/// The canonical text of a land of a township, as of `T. 2 N., R. 3 W.,` and, on the next line,
+/// The canonical text of a land of a township, such as `T. 2 N., R. 3 W.,` and, on the next line,
 /// `sec. 14, N1/2, SE1/4.`: its sections by rising number, each with `all` or with the lots and the
-/// aliquot parts that are held. The empty land's is empty. A lot of which some place is held is
-/// named.
+/// aliquot parts that are held. The empty land's text is empty. A lot is named where some place of
+/// it is held.
 pub fn spell<L: Land>(alloc: Global, land: &L, township: Township) -> Result<Vec<u8>, AllocError>
     ensures text { IfOk result
         (λ text. IsCanonicalText PLACE_DIGITS township (L.places land.now) text.items) }
@@ -30,7 +30,7 @@ pub fn spell<L: Land>(alloc: Global, land: &L, township: Township) -> Result<Vec
     Ok(text)
 }
 
-/// Appends a section behind those before it, where some place of it is held.
+/// Appends a section after those before it, where some place of it is held.
 fn write_if_held<L: Land>(
     alloc: Global,
     land: &L,
@@ -49,7 +49,7 @@ fn write_if_held<L: Land>(
     write_section(alloc, land, section, text)
 }
 
-/// Appends what stands ahead of a section: the heading's line, or the end of the line before.
+/// Appends what comes before a section: the heading's line, or the end of the line before.
 fn write_lead(township: Township, text: &mut Vec<u8>) -> Result<(), AllocError>
     ensures first { text.old.items ≡ []
         → OnOk result (text.new.items ≡ heading_line township) }
@@ -131,7 +131,7 @@ fn write_section<L: Land>(
     write_parts(land, section, text)
 }
 
-/// Appends the list of a section that is held whole, behind a comma.
+/// Appends the list of a section that is held whole, after a comma.
 fn write_all(text: &mut Vec<u8>) -> Result<(), AllocError>
     ensures { OnOk result (text.new.items ≡ text.old.items ++ codes ", all") }
 {
@@ -166,7 +166,7 @@ fn held_lots<L: Land>(alloc: Global, land: &L, section: Section) -> Result<Vec<u
     Ok(lots)
 }
 
-/// Appends lots as one entry behind a comma.
+/// Appends lots as one entry after a comma.
 fn write_lots(lots: &[u8], text: &mut Vec<u8>) -> Result<(), AllocError>
     ensures { OnOk result
         (text.new.items ≡ text.old.items ++ entries_text (lots_entry lots.now)) }
@@ -184,7 +184,7 @@ fn write_lots(lots: &[u8], text: &mut Vec<u8>) -> Result<(), AllocError>
     Ok(())
 }
 
-/// What stands ahead of so many lots' numbers.
+/// What comes before the numbers of this many lots.
 fn lots_lead(count: usize) -> &'static [u8]
     ensures one { count ≡ 1 → result.now ≡ codes ", lot " }
     ensures several { ¬ (count ≡ 1) → result.now ≡ codes ", lots " }

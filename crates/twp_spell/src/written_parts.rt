@@ -19,7 +19,7 @@ use std::alloc::AllocError;
 use twp_grid::{Block, Corner, PLACES_TO_POSITION, Section, lot_at};
 use twp_land::{Land, holds_of_lot};
 
-/// Appends the written parts of what a land holds of a section off its lots, each behind a comma.
+/// Appends the written parts of what a land holds of a section off its lots, each after a comma.
 /// The section isn't held whole.
 pub(crate) fn write_parts<L: Land>(
     land: &L,
@@ -34,7 +34,7 @@ pub(crate) fn write_parts<L: Land>(
     write_square(land, section, Block::whole(), &Path::whole(), text)
 }
 
-/// Appends the written parts of a square that isn't full, each behind a comma.
+/// Appends the written parts of a square that isn't full, each after a comma.
 #[cycle(descent)]
 fn write_square<L: Land>(
     land: &L,
@@ -167,7 +167,7 @@ fn full_quarters<L: Land>(land: &L, section: Section, block: Block) -> FullQuart
     }
 }
 
-/// Which of four places are held. The south-eastern one is of this column and row.
+/// Which of four places are held. The south-eastern one has this column and row.
 #[inline(always)]
 fn held_places<L: Land>(land: &L, section: Section, column: u8, row: u8) -> FullQuarters
     requires column { column + 1 < places_across PLACE_DIGITS }

@@ -17,7 +17,7 @@ use Rattle.twp_grammar.specs.Tokens.{Token, is_white, kind_of_word, seen, Starts
 abbrev pub lexeme : Kind → ℕ → Lexeme
 lexeme kind size = record { kind = kind; size = size }
 
--- a letter as a small one
+-- a letter in lowercase
 abbrev pub small_letter : ℕ → Option ℕ
 small_letter byte = if is_ascii_alphabetic byte then Some (to_ascii_lowercase byte) else None
 
@@ -29,18 +29,18 @@ is_dark byte = not (is_white byte)
 abbrev pub letters_in_front : List ℕ → ℕ
 letters_in_front bytes = prefix_len is_ascii_alphabetic bytes
 
--- the word of all the letters in front
+-- the word of all the letters at the start
 unfoldable pub cut_word : List ℕ → Lexeme
 cut_word bytes =
     lexeme (kind_of_word (take (letters_in_front bytes) bytes)) (letters_in_front bytes)
 
--- what so many digits are
+-- what this many digits are
 abbrev pub numeral_of : ℕ → List ℕ → Lexeme
 numeral_of size bytes =
     if nat_le size 4 then lexeme (Number (digits_value 10 (take size bytes))) size
     else lexeme BadNumber size
 
--- the number of all the digits in front
+-- the number of all the digits at the start
 unfoldable pub cut_number : List ℕ → Lexeme
 cut_number bytes = numeral_of (prefix_len is_ascii_digit bytes) bytes
 
@@ -56,7 +56,7 @@ cut_digits bytes =
     else if one_over bytes 52 then lexeme Quarter 3
     else cut_number bytes
 
--- a byte that is neither a letter nor a digit, and the one behind it
+-- a byte that is neither a letter nor a digit, and the one after it
 unfoldable pub cut_mark : ℕ → ℕ → Lexeme
 cut_mark byte behind =
     if byte == 44 then lexeme Comma 1
@@ -74,7 +74,7 @@ cut bytes =
     else if is_ascii_digit (slice_index bytes 0) then cut_digits bytes
     else cut_mark (slice_index bytes 0) (slice_index bytes 1)
 
--- the token, behind a place of a text and white space there
+-- the token that follows a place of a text, after any white space
 pub record IsFirstIn (text : List ℕ) (from : ℕ) (token : Token) : Type 0 where
   pub starts : StartsWith from (drop from text) token (drop (token.at + length token.text) text)
   pub further : from < token.at + length token.text

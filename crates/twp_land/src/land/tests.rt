@@ -275,7 +275,7 @@ fn check_far_apart<L: Land>(rt: &impl Abort) -> Result<(), Fail> {
     assert!(rt; rising.same(&falling) && falling.same(&rising));
     assert_eq!(rt; (numbers(&rising), numbers(&falling)), ((1, 36), (1, 36)));
 
-    // Without section 36 in the one and section 1 in the other they have no place in common.
+    // With section 36 taken from one and section 1 from the other they have no place in common.
     rising.remove(last, whole);
     falling.remove(first, whole);
     assert!(rt; !rising.meets_land(&falling) && !falling.meets_land(&rising));
@@ -289,7 +289,7 @@ fn check_far_apart<L: Land>(rt: &impl Abort) -> Result<(), Fail> {
     assert_eq!(rt; joined.count(first, whole), 256);
     assert_eq!(rt; joined.count(last, whole), 256);
 
-    // A land that was cleared is as good as a new one.
+    // A land that was cleared is as good as new.
     joined.clear();
     assert!(rt; joined.same(&L::empty()) && !joined.meets(last, whole));
     assert_eq!(rt; numbers(&joined), (0, 0));

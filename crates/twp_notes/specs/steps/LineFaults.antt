@@ -38,7 +38,7 @@ IsNotTaken fields table number (fault.Repeated at) = (at ≡ number)
     × IsOfReturnedLine fields table × ¬ HasNoLength fields
 IsNotTaken fields table number other = ⊥
 
--- so many of the records were taken down, and the next one isn't
+-- this many of the records were taken down, and the next one isn't
 pub record IsRefusedNext (records : List Fields) (fault : NotesFault) : Type 0 where
   pub count : ℕ
   pub table : List (Option Returned)

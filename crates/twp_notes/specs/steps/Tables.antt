@@ -39,13 +39,13 @@ pub record IsTaken (fields : Fields) (table : List (Option Returned)) : Type 0 w
   pub is : IsLineRecord fields line returned
   pub taken : entry_of table line ≡ Some returned
 
--- one of so many records names the line
+-- one of this many records names the line
 pub record IsNamedBy (records : List Fields) (count line : ℕ) : Type 0 where
   pub place : ℕ
   pub within : place < count
   pub names : NamesLine (record_at records place) line
 
--- the table has just what the first so many of these records return, each of another line
+-- the table has exactly what the first records up to this number return, each of another line
 pub record AreTaken (records : List Fields) (count : ℕ) (table : List (Option Returned))
     : Type 0 where
   pub each : (place : ℕ) → place < count → IsTaken (record_at records place) table

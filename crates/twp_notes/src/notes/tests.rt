@@ -43,7 +43,7 @@ fn writes_each_record(rt: HostRuntime) -> Result<(), Fail> {
     let mut text = Vec::from_slice(alloc, b"# notes\n")?;
     uneven_notes()?.write(&mut text)?;
     let records = records_of(alloc, text.as_slice())?;
-    // Behind the line that stood there, the heading, the township and 84 lines.
+    // After the line that stood there, the heading, the township and 84 lines.
     assert_eq!(rt; records.len(), 87);
     for (number, record) in [
         (0, "# notes\n"),
@@ -56,7 +56,7 @@ fn writes_each_record(rt: HostRuntime) -> Result<(), Fail> {
         (7, "N,4,5,40.00,80.20\n"),
         (8, "N,5,6,40.00,80.40\n"),
         (9, "N,6,,40.00,80.80\n"),
-        // The second row is numbered from the west: 7 lines on, from 12 in the east.
+        // The second row is numbered from the west: 7 lines further on, from 12 in the east.
         (10, "N,12,,40.00,80.00\n"),
         (11, "N,12,11,40.00,80.00\n"),
         // The last of 6 rows, 31 in the west.
@@ -101,7 +101,7 @@ fn reads_other_forms_of_a_text(rt: HostRuntime) -> Result<(), Fail> {
     let notes = uneven_notes()?;
     let text = text_of(alloc, &notes)?;
     let text = text.as_slice();
-    // Other ends of records, and records apart by empty lines.
+    // Other ends of records, and records separated by empty lines.
     for end in ["\r\n", "\r", "\n\n", "\r\n\r\n\n"] {
         let other = with_ends(alloc, text, end)?;
         assert_eq!(rt; read(alloc, other.as_slice())?, notes, "{end:?}");
@@ -196,7 +196,7 @@ fn refuses_texts_that_end_early(rt: HostRuntime) -> Result<(), Fail> {
         ("x", 3, 1),
         ("line,between,and,quarter,corner\n", 5, 2),
         ("line,between,and,quarter,corner\nT,2,N,3,W", 11, 0),
-        // Records are numbered as they come, and empty lines are none.
+        // Records are numbered as they come, and empty lines aren't records.
         (
             "\nline,between,and,quarter,corner\n\n\nT,2,N,3,W\r\n\nX,1,,40,80",
             6,
@@ -212,7 +212,8 @@ fn refuses_texts_that_end_early(rt: HostRuntime) -> Result<(), Fail> {
     Ok(())
 }
 
-// Of several faults the first record's is answered, of one record's that of the least number.
+// Of several faults the first record's is reported, and of one record's faults the one with the
+// least number.
 #[test]
 fn answers_the_first_fault(rt: HostRuntime) -> Result<(), Fail> {
     let alloc = rt.alloc();
@@ -226,7 +227,7 @@ fn answers_the_first_fault(rt: HostRuntime) -> Result<(), Fail> {
         ([(10, ""), (61, "")], 11, 7),
         // A line is missing, and the last record, now the 85th, has a fault.
         ([(10, ""), (86, "W,31,,40,\n")], 9, 85),
-        // Columns, run, section, line, length, repeated: each with all that come behind it.
+        // Columns, run, section, line, length, repeated: each with all that come after it.
         ([(4, "X,37,,4O\n"), (5, "")], 4, 4),
         ([(4, "X,37,,4O,80\n"), (5, "")], 6, 4),
         ([(4, "N,37,,4O,80\n"), (5, "")], 7, 4),
@@ -244,8 +245,8 @@ fn answers_the_first_fault(rt: HostRuntime) -> Result<(), Fail> {
     Ok(())
 }
 
-// Notes of many lengths up to the limit, each filled up with empty lines, which are no records: none
-// wants more memory than there is.
+// Notes of many lengths up to the limit, each filled up with empty lines, which are no records:
+// none needs more memory than there is.
 #[test]
 fn reads_long_notes(rt: HostRuntime) -> Result<(), Fail> {
     let alloc = rt.alloc();

@@ -31,7 +31,7 @@ fn reads_one_byte_past_the_limit(rt: HostRuntime) -> Result<(), Fail> {
     let mut slow = Device::new(Reader::endless(b' ').at_most(1));
     assert_eq!(rt; Notes::read(alloc, &mut slow), Err(NotesFault::TooLarge));
     assert_eq!(rt; slow.get().calls(), 65_537);
-    // Behind the last byte the end is asked for once.
+    // After the last byte the end is asked for once.
     let mut short = Device::new(Reader::new(b"line"));
     assert_eq!(rt; Notes::read(alloc, &mut short), Err(NotesFault::Heading));
     assert_eq!(rt; short.get().calls(), 2);
@@ -62,7 +62,7 @@ fn tells_that_a_reader_failed(rt: HostRuntime) -> Result<(), Fail> {
     let text = text_of(alloc, &uneven_notes()?)?;
     // 32 bytes of the heading, 10 of the township, 16 of each of the 84 lines, and of each of the
     // 36 sections its digits at each of its 4 sides: 32 + 10 + 84 * 16 + 4 * (9 + 27 * 2) is 1,638.
-    // They are given by 4 calls, and the 5th finds the end.
+    // 4 calls give them, and the 5th finds the end.
     assert_eq!(rt; text.len(), 1_638);
     for kind in [ErrorKind::Interrupted, ErrorKind::BrokenPipe] {
         for call in 1..7u32 {

@@ -118,7 +118,7 @@ fn has_the_notes_township(rt: HostRuntime) -> Result<(), Fail> {
     Ok(())
 }
 
-// What an acre's hundredths are of a position, by its section, its column and its row.
+// The hundredths of an acre of a position, by its section, its column and its row.
 fn hundredths(plat: &Plat, number: u8, column: u8, row: u8) -> Result<u64, Fail> {
     if column > 3 || row > 3 {
         return Err("no position".into());

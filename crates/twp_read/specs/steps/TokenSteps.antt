@@ -42,7 +42,7 @@ abbrev pub with_newest : Change → List Item → List Item
 with_newest change [] = []
 with_newest change (it ∷ items) = changed change it ∷ items
 
--- a first part makes its section one that isn't whole
+-- with its first part a section becomes one that isn't whole
 abbrev pub before_parts : State → List Item → List Item
 before_parts past.SectionNumber items = with_newest change.Parted items
 before_parts past.SectionComma items = with_newest change.Parted items
@@ -78,7 +78,7 @@ take_number past.LotLastComma n items = item.Lots n n ∷ items
 take_number past.LotAnd n items = item.Lots n n ∷ items
 take_number _ n items = item.Sections n n true ∷ items
 
--- all: of several sections, which are whole anyhow, or of one
+-- all: of several sections, which are whole anyway, or of one
 abbrev pub take_all : State → ℕ → List Item → List Item
 take_all past.ListNumber at items = items
 take_all past.ListLast at items = items
@@ -105,7 +105,7 @@ take_token state kind.Colon at items = before_parts state items
 take_token state kind.All at items = take_all state at items
 take_token state _ at items = items
 
--- where the machine stands behind the tokens, and the items with the newest first; None where it
+-- where the machine stands after the tokens, and the items with the newest first; None where it
 -- can't take one
 abbrev pub run : Option State → List Item → List Token → Option (State × List Item)
 run None items tokens = None

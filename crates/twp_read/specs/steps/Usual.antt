@@ -51,7 +51,7 @@ fraction_of (step.Quarter corner) = Quarter
 abbrev pub end_of : Token → ℕ
 end_of token = token.at + length token.text
 
--- at a place of a text stands a token of this kind, as so many bytes
+-- at a place of a text stands a token of this kind, of this many bytes
 pub record StandsAt (text : List ℕ) (at : ℕ) (kind : Kind) (size : ℕ) : Type 0 where
   pub token : Token
   pub starts : StartsWith at (drop at text) token (drop (at + size) text)
@@ -60,7 +60,7 @@ pub record StandsAt (text : List ℕ) (at : ℕ) (kind : Kind) (size : ℕ) : Ty
   pub ends : end_of token ≡ at + size
   pub within : at + size ≤ length text
 
--- at a place of a text stand the letters of a step, and its fraction right behind them
+-- at a place of a text stand the letters of a step, and its fraction right after them
 pub record IsStepAt (text : List ℕ) (at : ℕ) (step : Step) (size : ℕ) : Type 0 where
   pub letters_size : ℕ
   pub letters : StandsAt text at (letters_of step) letters_size
@@ -109,17 +109,17 @@ abbrev pub entry_of : Listed → Numeral → Item
 entry_of listed.Lots it = Lots it it
 entry_of listed.Sections it = Sections it it true
 
--- the state behind a number in a list
+-- the state after a number in a list
 abbrev pub state_behind : Listed → State
 state_behind listed.Lots = past.LotNumber
 state_behind listed.Sections = past.ListNumber
 
--- the state behind the last number of a range in a list
+-- the state after the last number of a range in a list
 abbrev pub last_state_behind : Listed → State
 last_state_behind listed.Lots = past.LotLast
 last_state_behind listed.Sections = past.ListLast
 
--- what a list is of that goes on in a state by a comma and a number
+-- what a list is of that continues in a state with a comma and a number
 abbrev pub listed_in : State → Option Listed
 listed_in past.LotNumber = Some listed.Lots
 listed_in past.LotLast = Some listed.Lots
@@ -130,19 +130,19 @@ listed_in past.ListLast = Some listed.Sections
 listed_in past.ListInclusive = Some listed.Sections
 listed_in _ = None
 
--- what a list is of whose next number stands behind `and`
+-- what a list is of whose next number stands after `and`
 abbrev pub listed_behind_and : State → Option Listed
 listed_behind_and past.LotAnd = Some listed.Lots
 listed_behind_and past.ListAnd = Some listed.Sections
 listed_behind_and _ = None
 
--- what a list is of that has a range whose last number stands behind `to`
+-- what a list is of that has a range whose last number stands after `to`
 abbrev pub listed_behind_to : State → Option Listed
 listed_behind_to past.LotTo = Some listed.Lots
 listed_behind_to past.ListTo = Some listed.Sections
 listed_behind_to _ = None
 
--- no bad token stands in a text before this place, behind which its other tokens stand
+-- no bad token stands in a text before this place, after which its other tokens stand
 pub record HasNoneBadBefore (text : List ℕ) (at : ℕ) : Type 0 where
   pub tokens : List Token
   pub joins : (left : List Token) → HasTokens at (drop at text) left → HasTokens 0 text (tokens ++ left)

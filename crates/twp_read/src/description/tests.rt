@@ -40,7 +40,7 @@ const READ: [&[u8]; 39] = [
     b"secs. 9 to 4.",
     b"secs. 1, 1.",
     b"sec. 6, SE1/4, S1/2NE1/4, E1/2SW1/4, SE1/4NW1/4.",
-    // Each choice of the grammar once more: capitals, brackets left out, `and` behind each
+    // Each choice of the grammar once more: capitals, brackets left out, `and` after each
     // separator.
     b"T 2 S R 3 E sec 1",
     b"t2n.,r3w.,sections 1 through 3 inclusive;and sec 9:lots 1,2 and all",
@@ -84,18 +84,18 @@ fn refuses_other_texts(rt: HostRuntime) -> Result<(), Fail> {
         (b"lot 1.", 44, 0),
         // `01/2` is no half: the number 01 and a byte that begins nothing, at 9 + 2.
         (b"sec. 14, 01/2.", 42, 11),
-        // `1/24` is a half and the number 4, at 12, which can't stand behind N1/2.
+        // `1/24` is a half and the number 4, at 12, which can't follow N1/2.
         (b"sec. 14, N1/24", 44, 13),
-        // A half, and then a number of five digits at 13: `1/2` has three bytes behind N at 9.
+        // A half, and then a number of five digits at 13: `1/2` has three bytes after N at 9.
         (b"sec. 14, N1/210000", 43, 13),
-        // The two bytes of a no-break space, U+00A0, are bad bytes each: the first is answered.
+        // The two bytes of a no-break space, U+00A0, are both bad bytes: the first one is reported.
         (b"sec.\xC2\xA014", 42, 4),
         (b"sec. 14 of NE1/4", 44, 8),
         (b"sec. 14, of the NE1/4", 44, 9),
         (b"sec. 14 NE1/4 the SW1/4", 44, 14),
         (b"sec. 14, NE1/4 4", 44, 15),
         (b"sec. 14..", 44, 8),
-        // `inclusive` stands behind a range alone.
+        // `inclusive` only follows a range.
         (b"sec 1, lot 1, inclusive", 44, 14),
     ];
     for (text, number, at) in table {
@@ -104,7 +104,7 @@ fn refuses_other_texts(rt: HostRuntime) -> Result<(), Fail> {
     Ok(())
 }
 
-/// Fronts of `sec. 14, NE1/4.`: what is answered at each length.
+/// Prefixes of `sec. 14, NE1/4.`: what the answer is at each length.
 #[test]
 fn reads_a_text_cut_short(rt: HostRuntime) -> Result<(), Fail> {
     let text = b"sec. 14, NE1/4.";
@@ -134,8 +134,8 @@ fn reads_a_text_cut_short(rt: HostRuntime) -> Result<(), Fail> {
     Ok(())
 }
 
-/// Whatever two bytes come, the answer is there, and a refusal's place lies in the text or at its
-/// end.
+/// Whatever two bytes there are, there is an answer, and a refusal's place lies in the text or at
+/// its end.
 #[test]
 fn answers_all_pairs_of_bytes(rt: HostRuntime) -> Result<(), Fail> {
     for first in 0..=255 {
@@ -171,7 +171,7 @@ fn refuses_too_large_texts_before_all(rt: HostRuntime) -> Result<(), Fail> {
     Ok(())
 }
 
-/// A front, and more behind it again and again, beyond the limit.
+/// A prefix, and then more again and again, beyond the limit.
 fn repeated(alloc: Global, front: &[u8], more: &[u8]) -> Result<Vec<u8>, Fail> {
     let mut text = Vec::from_slice(alloc, front)?;
     for _ in 0..TEXT_LIMIT {
@@ -186,7 +186,7 @@ fn count_items(alloc: Global, text: &[u8], length: usize) -> Result<usize, Fail>
     Ok(Description::read(alloc, front)?.items().len())
 }
 
-/// No text wants more memory than there is: white space up to each length near the limit.
+/// No text needs more memory than there is: white space up to each length near the limit.
 #[test]
 fn reads_each_length_near_the_limit(rt: HostRuntime) -> Result<(), Fail> {
     let text = repeated(rt.alloc(), b"sec. 14", b" ")?;
@@ -202,8 +202,8 @@ fn reads_each_length_near_the_limit(rt: HostRuntime) -> Result<(), Fail> {
 fn reads_powers_of_two(rt: HostRuntime) -> Result<(), Fail> {
     let alloc = rt.alloc();
     let blank = repeated(alloc, b"sec. 14", b" ")?;
-    // `sec 1` has 5 bytes, and each section behind it 2: a list of odd length has
-    // (length - 5) / 2 + 1 sections, and one of even length begins with a space.
+    // `sec 1` has 5 bytes, and each section after it 2: a list of odd length has (length - 5) / 2 +
+    // 1 sections, and one of even length begins with a space.
     let odd = repeated(alloc, b"sec 1", b",1")?;
     let even = repeated(alloc, b" sec 1", b",1")?;
     for power in [
@@ -243,7 +243,7 @@ fn names_items(rt: HostRuntime) -> Result<(), Fail> {
     Ok(())
 }
 
-/// The items of a heading, a section and parts as they are mostly spelled. The places are counted
+/// The items of a heading, a section and parts as they are usually spelled. The places are counted
 /// by hand.
 #[test]
 fn names_items_in_usual_spelling(rt: HostRuntime) -> Result<(), Fail> {
@@ -287,7 +287,7 @@ fn names_long_chains(rt: HostRuntime) -> Result<(), Fail> {
 /// A token of each class that a sentence can have, and a word of none.
 const SAMPLES: &str = "sec lot all and to inclusive of the t r n e ne 1/2 1/4 1 , ; : . x";
 
-/// Fronts of sentences, and which of the samples may follow, worked out by hand from the grammar.
+/// Prefixes of sentences, and which of the samples may follow, worked out by hand from the grammar.
 const FRONTS: [(&str, &str); 46] = [
     ("", "sec t"),
     ("t", ". 1"),
@@ -337,7 +337,8 @@ const FRONTS: [(&str, &str); 46] = [
     ("sec 1.", ""),
 ];
 
-/// Where a token may follow, the text goes wrong behind it, if at all; and else at it.
+/// Where a token may follow, the text goes wrong after it, if at all; otherwise it goes wrong at
+/// it.
 #[test]
 fn takes_the_tokens_that_may_follow(rt: HostRuntime) -> Result<(), Fail> {
     for (front, may_follow) in FRONTS {
@@ -395,7 +396,7 @@ fn tells_what_could_stand_there(rt: HostRuntime) -> Result<(), Fail> {
     Ok(())
 }
 
-/// What is told at a word that is none of a description, behind a front of each kind: worked out by
+/// What is reported at a word that no description has, after a prefix of each kind: worked out by
 /// hand from the grammar.
 const TOLD: [(&str, &str); 33] = [
     ("", "`T.` of a heading, or `sec.`"),

@@ -1,4 +1,4 @@
-//! A chain that goes on by steps that are spelled as is usual.
+//! A chain that continues with steps in their usual spelling.
 ghost use Rattle.std.specs.Prelude.{◌≡◌, ◌≤◌, ◌∷◌, ℕ, List, length, true, IfOk};
 ghost use Rattle.twp_grammar.specs.declared.item.Item.{Item};
 ghost use Rattle.twp_grammar.specs.declared.item.Item.TheVariants.{Chain};
@@ -11,7 +11,7 @@ use crate::usual::step::step_at;
 use std::alloc::AllocError;
 use twp_grammar::{Item, State, Steps};
 
-/// Takes the steps by which a chain goes on, and the comma behind it.
+/// Takes the steps that a chain continues with, and the comma after it.
 #[inline(always)]
 pub fn take_more_steps(item: &mut Item, text: &[u8], from: Reached) -> Result<Reached, AllocError>
     requires place { from.at ≤ length text.now }
@@ -27,8 +27,8 @@ pub fn take_more_steps(item: &mut Item, text: &[u8], from: Reached) -> Result<Re
     Ok(from)
 }
 
-/// Takes the steps by which a chain goes on, as long as each is spelled as is usual: those that
-/// stand right behind each other, and those behind `of the`.
+/// Takes the steps that a chain continues with, as long as each is spelled in the usual way: those
+/// that stand right after one another, and those after `of the`.
 #[inline(always)]
 fn take_steps(steps: &mut Steps, text: &[u8], from: Reached) -> Result<Reached, AllocError>
     requires place { from.at ≤ length text.now }
@@ -45,7 +45,7 @@ fn take_steps(steps: &mut Steps, text: &[u8], from: Reached) -> Result<Reached, 
     Ok(reached)
 }
 
-/// Takes the steps that stand right behind each other.
+/// Takes the steps that stand right after one another.
 #[inline(always)]
 fn take_adjoining(steps: &mut Steps, text: &[u8], from: Reached) -> Result<Reached, AllocError>
     requires place { from.at ≤ length text.now }

@@ -23,7 +23,7 @@ const TOWNSHIP_SIDE: usize = 8;
 /// How many bytes ` W.,` has.
 const RANGE_SIDE: usize = 4;
 
-/// What a heading says, and the place behind it.
+/// What a heading says, and the place after it.
 #[derive(Clone, Copy)]
 struct UsualHeading {
     number: u16,

@@ -1,4 +1,4 @@
-//! Numbers, and how a list of lots or of sections goes on with them.
+//! Numbers, and how a list of lots or of sections continues with them.
 ghost use Rattle.std.specs.Prelude.{◌≡◌, ◌≤◌, ◌<◌, ◌+◌, ◌++◌, false, List, length, drop, codes};
 ghost use Rattle.std.specs.Prelude.{IfOk, IfSome, IsTrue};
 ghost use Rattle.twp_grammar.specs.Tokens.{is_white};
@@ -20,7 +20,7 @@ use twp_grammar::{Item, Kind, Numeral, State};
 /// How many bytes a comma has.
 const COMMA: usize = 1;
 
-/// A number, and the place behind it.
+/// A number, and the place after it.
 #[derive(Clone, Copy)]
 pub struct UsualNumber {
     pub numeral: Numeral,
@@ -35,7 +35,7 @@ pub enum Listed {
 }
 
 impl Listed {
-    /// What a list is of that goes on in a state by a comma and a number.
+    /// What a list is of that continues in a state with a comma and a number.
     #[inline(always)]
     pub fn in_state(state: State) -> Option<Listed>
         ensures { result ≡ listed_in state }
@@ -48,7 +48,7 @@ impl Listed {
         }
     }
 
-    /// What a list is of whose next number stands behind `and`.
+    /// What a list is of whose next number stands after `and`.
     #[inline(always)]
     pub fn behind_and(state: State) -> Option<Listed>
         ensures { result ≡ listed_behind_and state }
@@ -60,7 +60,7 @@ impl Listed {
         }
     }
 
-    /// What a list is of that has a range whose last number stands behind `to`.
+    /// What a list is of that has a range whose last number stands after `to`.
     #[inline(always)]
     pub fn behind_to(state: State) -> Option<Listed>
         ensures { result ≡ listed_behind_to state }
@@ -72,7 +72,7 @@ impl Listed {
         }
     }
 
-    /// The state behind the last number of a range.
+    /// The state after the last number of a range.
     #[inline(always)]
     pub fn last_state(self) -> State
         ensures { result ≡ last_state_behind self }
@@ -101,7 +101,7 @@ impl Listed {
         }
     }
 
-    /// The state behind one of its numbers.
+    /// The state after one of its numbers.
     #[inline(always)]
     pub fn state(self) -> State
         ensures { result ≡ state_behind self }
@@ -164,10 +164,10 @@ pub fn ahead(text: &[u8], from: Reached) -> Reached
     }
 }
 
-/// Passes over a comma and the white space behind it, where the tokens so far may go on by one.
+/// Passes over a comma and the white space after it, where a comma may follow the tokens so far.
 #[inline(always)]
 pub fn behind_list_comma(text: &[u8], comma: Reached, next: usize) -> Reached
-    requires spelt { drop comma.at text.now ≡ codes "," ++ drop (comma.at + 1) text.now }
+    requires spelled { drop comma.at text.now ≡ codes "," ++ drop (comma.at + 1) text.now }
     requires within { comma.at + 1 ≤ length text.now }
     requires next { IsBehindWhite text.now (comma.at + 1) next }
     ensures { (items : List TakenItem)
@@ -179,8 +179,8 @@ pub fn behind_list_comma(text: &[u8], comma: Reached, next: usize) -> Reached
     }
 }
 
-/// The place behind `and`, or behind `to` or a word for it, in letters of any kind, if one stands
-/// right there and the tokens so far may go on by it.
+/// The place after `and`, or after `to` or a word for it, in either case, if one stands right there
+/// and may follow the tokens so far.
 #[inline(always)]
 pub fn behind_joining_word(text: &[u8], from: Reached) -> Option<Reached>
     requires { from.at ≤ length text.now }
@@ -215,7 +215,7 @@ fn begins_joining_word(byte: u8) -> bool
 }
 
 impl Items {
-    /// Takes the numbers that a list of lots or of sections goes on with, and what joins them.
+    /// Takes the numbers that a list of lots or of sections continues with, and what joins them.
     #[inline(always)]
     pub(crate) fn take_list(&mut self, text: &[u8], from: Reached) -> Result<Reached, AllocError>
         requires place { from.at ≤ length text.now }
@@ -234,8 +234,8 @@ impl Items {
         Ok(reached)
     }
 
-    /// Takes the numbers that a list goes on with, as long as each stands behind a comma, and a
-    /// comma behind the last of them.
+    /// Takes the numbers that a list continues with, as long as each follows a comma, and a comma
+    /// after the last of them.
     #[inline(always)]
     fn take_numbers(&mut self, text: &[u8], from: Reached) -> Result<Reached, AllocError>
         requires place { from.at ≤ length text.now }
@@ -262,7 +262,7 @@ impl Items {
         Ok(reached)
     }
 
-    /// Takes the number behind a word that joins it to a list, if one stands there.
+    /// Takes the number after a word that joins it to a list, if one stands there.
     #[inline(always)]
     fn take_joined(&mut self, text: &[u8], word: Reached) -> Result<Reached, AllocError>
         requires place { word.at ≤ length text.now }

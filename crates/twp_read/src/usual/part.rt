@@ -23,15 +23,15 @@ const OF_THE: usize = 8;
 /// How many bytes a comma has.
 const COMMA: usize = 1;
 
-/// How many bytes a comma has, with a space behind it.
+/// How many bytes a comma has, with a space after it.
 const COMMA_SPACE: usize = 2;
 
-/// How many bytes `and` has, with a space behind it.
+/// How many bytes `and` has, with a space after it.
 const AND: usize = 4;
 
 impl Items {
-    /// Takes what stands next of a chain, and the parts behind it, as long as each step is spelled
-    /// as is usual.
+    /// Takes what stands next of a chain, and the parts after it, as long as each step is spelled
+    /// in the usual way.
     #[inline(always)]
     pub(crate) fn take_parts(
         &mut self,
@@ -59,7 +59,7 @@ impl Items {
         Ok(reached)
     }
 
-    /// Takes what the newest item goes on by, where it is a chain that may go on.
+    /// Takes what the newest item continues with, where it is a chain that may continue.
     #[inline(always)]
     fn take_more(&mut self, text: &[u8], from: Reached) -> Result<Reached, AllocError>
         requires { from.at ≤ length text.now }
@@ -75,7 +75,7 @@ impl Items {
         take_more_steps(item, text, from)
     }
 
-    /// Takes a chain whose first step is known, and the comma behind it.
+    /// Takes a chain whose first step is known, and the comma after it.
     #[inline(always)]
     fn take_chain(
         &mut self,
@@ -94,8 +94,8 @@ impl Items {
     }
 }
 
-/// Passes over the half or the quarter that mostly stands behind the letters of a step. It says
-/// nothing more of the items; what is spelled otherwise is left as it is.
+/// Passes over the half or the quarter that usually follows the letters of a step. It says nothing
+/// more of the items; what is spelled in another way is left as it is.
 #[inline(always)]
 pub fn behind_fraction(text: &[u8], from: Reached) -> Reached
     requires { from.at ≤ length text.now }
@@ -109,7 +109,7 @@ pub fn behind_fraction(text: &[u8], from: Reached) -> Reached
     }
 }
 
-/// The place behind a step.
+/// The place after a step.
 #[inline(always)]
 pub fn behind_step(at: usize) -> Reached
     ensures { result ≡ record { at = at; state = State.Step } }
@@ -120,7 +120,7 @@ pub fn behind_step(at: usize) -> Reached
     }
 }
 
-/// The place behind `of the`, if it stands behind a step in these very bytes.
+/// The place after `of the`, if exactly these bytes follow a step.
 #[inline(always)]
 pub fn behind_of_the(text: &[u8], end: Reached) -> Option<Reached>
     requires { end.at ≤ length text.now }
@@ -138,7 +138,7 @@ pub fn behind_of_the(text: &[u8], end: Reached) -> Option<Reached>
     }
 }
 
-/// Passes over the white space ahead of a part.
+/// Passes over the white space before a part.
 #[inline(always)]
 pub fn ahead_of_part(text: &[u8], from: Reached) -> Reached
     requires { from.at ≤ length text.now }
@@ -154,7 +154,7 @@ pub fn ahead_of_part(text: &[u8], from: Reached) -> Reached
     }
 }
 
-/// Passes over the comma behind a part, and the space behind the comma, or the end of the line.
+/// Passes over the comma after a part, and the space after the comma, or the end of the line.
 #[inline(always)]
 pub fn behind_comma(text: &[u8], end: Reached) -> Reached
     requires { end.at ≤ length text.now }
@@ -174,7 +174,7 @@ pub fn behind_comma(text: &[u8], end: Reached) -> Reached
     }
 }
 
-/// The place behind `and`, if it stands behind the comma of a part in these very bytes.
+/// The place after `and`, if exactly these bytes follow the comma of a part.
 #[inline(always)]
 pub fn behind_and(text: &[u8], comma: Reached) -> Option<Reached>
     requires { comma.at ≤ length text.now }

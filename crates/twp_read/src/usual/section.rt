@@ -31,7 +31,7 @@ const COMMA_LOTS: usize = 7;
 const COLON: usize = 1;
 
 impl Items {
-    /// Takes a section as `sec. 5`, and the colon behind it.
+    /// Takes a section as `sec. 5`, and the colon after it.
     #[inline(always)]
     pub(crate) fn take_section(&mut self, text: &[u8], from: Reached) -> Result<Reached, AllocError>
         requires place { from.at ≤ length text.now }
@@ -86,7 +86,7 @@ impl Items {
     }
 }
 
-/// The place behind the word that a section begins with, if it is spelled as `sec. ` or `Section `.
+/// The place after the word that a section begins with, if it is spelled as `sec. ` or `Section `.
 #[inline(always)]
 fn behind_sec(text: &[u8], from: Reached) -> Option<Reached>
     requires { from.at ≤ length text.now }
@@ -113,8 +113,8 @@ fn behind_sec(text: &[u8], from: Reached) -> Option<Reached>
     None
 }
 
-/// The place behind the word that several lots begin with, if it stands there as `lots `, behind the
-/// number of a section as `, lots `.
+/// The place after the word that several lots begin with, if it stands there as `lots `, or after
+/// the number of a section as `, lots `.
 #[inline(always)]
 fn behind_lots(text: &[u8], from: Reached) -> Option<usize>
     requires { from.at ≤ length text.now }

@@ -1,4 +1,4 @@
-//! A step in its usual spelling: its letters, and its fraction right behind them.
+//! A step in its usual spelling: its letters, and its fraction right after them.
 ghost use Rattle.std.specs.Prelude.{◌≡◌, ◌≤◌, ◌∷◌, ◌+◌, [], true, length, IfSome};
 ghost use Rattle.std.specs.Char.{is_ascii_lowercase};
 ghost use Rattle.twp_grammar.specs.Tokens.{kind_among, words};
@@ -17,7 +17,7 @@ const SIGN: usize = 2;
 /// How many bytes the longest step in its usual spelling has.
 const LONGEST: usize = 5;
 
-/// The bit in which a small letter differs from a capital one.
+/// The bit in which a lowercase letter differs from an uppercase one.
 const SMALL: u8 = 0x20;
 
 /// A step, and how many bytes its letters and its fraction have.
@@ -27,8 +27,8 @@ pub struct UsualStep {
     pub size: usize,
 }
 
-/// The step that stands at a place, if its fraction stands right behind its letters, as `1/2`,
-/// `1/4` or one sign.
+/// The step that stands at a place, if its fraction stands right after its letters, as `1/2`, `1/4`
+/// or one sign.
 #[inline(always)]
 pub fn step_at(text: &[u8], at: usize) -> Option<UsualStep>
     requires { at ≤ length text.now }
@@ -66,7 +66,7 @@ fn step_of(first: u8, second: u8, third: u8, fourth: u8, fifth: u8) -> Option<Us
     None
 }
 
-/// The half of a letter, capital or small, with so many bytes behind it.
+/// The half that a letter stands for, uppercase or lowercase, with this many bytes after it.
 #[inline(always)]
 fn half(first: u8, fraction: usize) -> Option<UsualStep>
     requires { fraction ≤ 3 }
@@ -81,7 +81,7 @@ fn half(first: u8, fraction: usize) -> Option<UsualStep>
     })
 }
 
-/// The quarter of two letters, capital or small, with so many bytes behind them.
+/// The quarter that two letters stand for, uppercase or lowercase, with this many bytes after them.
 #[inline(always)]
 fn quarter(first: u8, second: u8, fraction: usize) -> Option<UsualStep>
     requires { fraction ≤ 3 }
@@ -97,7 +97,7 @@ fn quarter(first: u8, second: u8, fraction: usize) -> Option<UsualStep>
     })
 }
 
-/// The side of a small letter.
+/// The side that a lowercase letter stands for.
 #[inline(always)]
 fn side_of(small: u8) -> Option<Side>
     ensures kind { IfSome result
@@ -113,7 +113,7 @@ fn side_of(small: u8) -> Option<Side>
     }
 }
 
-/// The corner of two small letters.
+/// The corner that two lowercase letters stand for.
 #[inline(always)]
 fn corner_of(small: u8, behind: u8) -> Option<Corner>
     ensures kind { IfSome result

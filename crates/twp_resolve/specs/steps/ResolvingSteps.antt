@@ -1,5 +1,5 @@
 -- What each step of resolving does with an item: it is taken into the land of the items before it,
--- or its first flaw is answered. No public promise speaks of it; proofs/ResolvingFacts shows that
+-- or its first flaw is reported. No public promise speaks of it; proofs/ResolvingFacts shows that
 -- the steps lead to the land of all items, or to the first fault.
 use Rattle.std.specs.Prelude.{◌≡◌, ◌==◌, ◌&&◌, nat_le, ℕ, ◌≤◌, Bool, List, drop}
 use Rattle.std.specs.Prelude.{Option}
@@ -50,7 +50,7 @@ pub record IsTaken (g : ℕ) (township : Designation) (section : ℕ) (some : It
   pub apart : ¬ SharePlace old (item_places g (item_of section some))
   pub added : new ≡ union old (item_places g (item_of section some))
 
--- the fault is the item's first flaw, behind items of this land
+-- the fault is the item's first flaw, after items of this land
 pub record IsFirstFlaw (g : ℕ) (township : Designation) (section : ℕ) (some : Item)
     (earlier : ℕ → ℕ → ℕ → Bool) (fault : PlaceFault) : Type 0 where
   pub flaw : Flaw

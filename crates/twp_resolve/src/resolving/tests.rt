@@ -88,7 +88,7 @@ fn refuses_what_is_no_section(rt: HostRuntime) -> Result<(), Fail> {
     )
 }
 
-/// A range that runs backward is refused at its second number, also where that is no lot.
+/// A range that runs backward is refused at its second number, even where that is no lot.
 #[test]
 fn refuses_what_runs_backward(rt: HostRuntime) -> Result<(), Fail> {
     check_refused(

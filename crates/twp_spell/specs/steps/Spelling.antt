@@ -64,7 +64,7 @@ abbrev pub IsChoice : ℕ → (ℕ → ℕ → Bool) → List Corner → Option 
 IsChoice g held quarters (Some side) = IsChosenHalf g held quarters side
 IsChoice g held quarters None = (side : Side) → ¬ IsFull g held (half_of_square side quarters)
 
--- the quarter at this corner is told to be full
+-- the quarter at this corner is given as full
 abbrev pub full_at : FullQuarters → Corner → Bool
 full_at full NE = full.ne
 full_at full NW = full.nw
@@ -76,7 +76,7 @@ abbrev pub AreFull : ℕ → (ℕ → ℕ → Bool) → List Corner → FullQuar
 AreFull g held quarters full =
     (corner : Corner) → IsTrue (full_at full corner) ↔ IsFull g held (square (corner ∷ quarters))
 
--- all four are told to be full
+-- all four are given as full
 abbrev pub all_of : FullQuarters → Bool
 all_of full = full.ne && (full.nw && (full.sw && full.se))
 
@@ -115,11 +115,11 @@ PART_MOST = 2 + QUARTER_LENGTH + QUARTER_LENGTH + PATH_MOST
 abbrev pub BUFFER_MOST : ℕ
 BUFFER_MOST = FINE_SIDE * FINE_SIDE * PART_MOST
 
--- quarters as they are written behind a smaller part
+-- quarters as they are written after a smaller part
 abbrev pub quarters_text : List Corner → List ℕ
 quarters_text quarters = flat_map step_text (map (λ corner. Quarter corner) quarters)
 
--- parts as they are written behind others
+-- parts as they are written after others
 abbrev pub parts_text : List Part → List ℕ
 parts_text parts = flat_map (λ part. codes ", " ++ part_text part) parts
 

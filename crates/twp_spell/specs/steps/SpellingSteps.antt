@@ -7,7 +7,7 @@ use Rattle.twp_spell.specs.Listing.{AreListed}
 use Rattle.twp_spell.specs.CanonicalText.{lots_entry, IsLotHeld, IsSectionText, IsSectionOfLand}
 use Rattle.twp_spell.specs.CanonicalText.{heading_line, line_end}
 
--- entries as they are written behind a section's number
+-- entries as they are written after a section's number
 abbrev pub entries_text : List (List ℕ) → List ℕ
 entries_text entries = flat_map (λ entry. codes ", " ++ entry) entries
 

@@ -4,7 +4,7 @@ use std::test::Fail;
 use twp_grid::{Corner, Side};
 use twp_land::{Grid, Lanes};
 
-/// A township of which texts are written.
+/// The township of the texts.
 fn township() -> Result<Township, Fail> {
     Ok(Township::new(2, NorthSouth::N, 3, EastWest::W).ok_or("a township")?)
 }
@@ -47,7 +47,7 @@ fn spells_the_empty_land(rt: HostRuntime) -> Result<(), Fail> {
     check_the_empty_land::<Lanes>(rt.alloc(), &rt)
 }
 
-/// Lots stand ahead of parts, whatever they were added as.
+/// Lots come before parts, however they were added.
 fn check_lots_and_parts<L: Land>(alloc: Global, rt: &impl Abort) -> Result<(), Fail> {
     let section = Section::new(5).ok_or("a section")?;
     let mut land = L::empty();

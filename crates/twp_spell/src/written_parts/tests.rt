@@ -5,7 +5,7 @@ use std::test::Fail;
 use twp_grid::Side;
 use twp_land::Grid;
 
-/// The parts that are written of blocks of a section.
+/// The parts that blocks of a section are written as.
 fn parts(alloc: Global, number: u8, blocks: &[Block]) -> Result<Vec<u8>, Fail> {
     let section = Section::new(number).ok_or("a section")?;
     let mut land = Grid::empty();
@@ -17,7 +17,7 @@ fn parts(alloc: Global, number: u8, blocks: &[Block]) -> Result<Vec<u8>, Fail> {
     Ok(text)
 }
 
-/// The north half and the south-east quarter, whatever they were added as.
+/// The north half and the south-east quarter, however they were added.
 #[test]
 fn writes_three_quarters(rt: HostRuntime) -> Result<(), Fail> {
     let whole = Block::whole();

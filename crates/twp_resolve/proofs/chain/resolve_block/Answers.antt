@@ -1,4 +1,4 @@
--- A block holds of a lot, or shares a place with what came before, or is taken.
+-- A block holds a place of a lot, or shares a place with what came before, or is taken.
 use Rattle.twp_resolve.proofs.ChainFlaws.{is_on_lot, chain_taken, chain_refused}
 use Rattle.twp_resolve.proofs.chain.resolve_block.Goals as goal
 

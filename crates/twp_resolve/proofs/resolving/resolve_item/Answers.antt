@@ -1,4 +1,4 @@
--- What each kind of item answers is what the item answers.
+-- The answer for each kind of item is the answer for the item.
 use Rattle.std.proofs.lemmas.Result.{err_from_is_err_and}
 use Rattle.twp_resolve.specs.steps.ResolvingSteps.{number_of_section}
 use Rattle.twp_resolve.proofs.ItemFlaws.{heading_taken, heading_refused, all_taken, all_refused}

@@ -1,4 +1,4 @@
--- One section more is joined.
+-- One more section is joined.
 use Rattle.std.proofs.Common.{◌+◌, refl, arith, length-set, ◌∙◌}
 use Rattle.twp_land.proofs.LandRanges.{within_wider}
 use Rattle.twp_land.proofs.JoinedLands.{joined_first, joined_next, joined_within, joined_all}

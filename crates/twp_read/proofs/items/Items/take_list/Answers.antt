@@ -1,4 +1,4 @@
--- One more word, and what the list goes on with behind it.
+-- One more word, and what the list continues with after it.
 use Rattle.std.proofs.Common.{List, ℕ}
 use Rattle.twp_grammar.specs.declared.item.Item.{Item}
 use Rattle.twp_read.specs.declared.reached.Reached.{Reached}

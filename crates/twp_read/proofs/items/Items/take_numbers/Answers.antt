@@ -1,4 +1,4 @@
--- One more number of the list, or the comma behind the last.
+-- One more number of the list, or the comma after the last.
 use Rattle.std.proofs.Common.{◌≡◌, ℕ, ◌+◌, ◌<◌, ◌≤◌, List, length, drop, refl, arith}
 use Rattle.std.specs.List.{prefix_len}
 use Rattle.twp_grammar.specs.Tokens.{is_white}
@@ -47,7 +47,7 @@ numbers-preserved c =
     rw (c.state.ensures, c.in_ok-push.ensures, c.entry.ensures)
     (entry_leads text reached.at c.behind_white-next.result reached.state so_far c.in-Some.list number.numeral
     number.end
-    c.numbers.invariant.goes_on (c.numbers-test.ensures.spelt refl) (c.numbers-test.ensures.within refl)
+    c.numbers.invariant.goes_on (c.numbers-test.ensures.spelled refl) (c.numbers-test.ensures.within refl)
     (c.behind_white-next.ensures.value, c.behind_white-next.ensures.range)
     c.in-Some-number_at.ensures.number) in
     record {

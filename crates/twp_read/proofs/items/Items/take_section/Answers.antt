@@ -50,5 +50,5 @@ returns c =
     (leads_then text from.at from.state items end past.SectionNumber numbered (end + 1) past.BeforePart parted
     (leads_then text from.at from.state items word.at word.state items end past.SectionNumber numbered
     (c.in-Some.ensures.leads items) number_leads)
-    (colon_leads text end numbered (c.if-not-goes_on.ensures.spelt refl)
+    (colon_leads text end numbered (c.if-not-goes_on.ensures.spelled refl)
     (c.if-not-goes_on.ensures.within refl)))

@@ -34,7 +34,7 @@ returns c items =
     (leads_then text at past.Start items number_end past.TownshipNumber numbered side_end past.RangeStop sided
     (leads_then text at past.Start items (at + 3) past.TownshipStop begun number_end past.TownshipNumber
     numbered
-    (township_leads text at items (c.if-not-goes_on.ensures.spelt refl)
+    (township_leads text at items (c.if-not-goes_on.ensures.spelled refl)
     (c.if-not-goes_on.ensures.within refl))
     (c.in_ok-number.ensures.number past.TownshipStop past.TownshipNumber begun refl))
     (c.in_ok-north_south.ensures numbered))

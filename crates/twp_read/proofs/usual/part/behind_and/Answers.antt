@@ -5,5 +5,5 @@ use Rattle.twp_read.proofs.usual.part.behind_and.Goals as goal
 pub returns-in-PartComma-clause-leads : goal.returns-in-PartComma-clause-leads
 returns-in-PartComma-clause-leads c =
     rw c.in-PartComma.is (λ items.
-    and_leads c.args.text.now c.args.comma.at items (c.if-goes_on.ensures.spelt refl)
+    and_leads c.args.text.now c.args.comma.at items (c.if-goes_on.ensures.spelled refl)
     (c.if-goes_on.ensures.within refl))

@@ -7,10 +7,10 @@ pub returns-then-goes_on-clause-leads : goal.returns-then-goes_on-clause-leads
 returns-then-goes_on-clause-leads c items =
     section_leads c.args.text.now c.args.from.at c.behind_white-at.result c.args.from.state items
     (sym (sections_begin c.args.from.state (sym c.if-not-begins_sections.ensures)))
-    c.behind_white-at.ensures.value (c.if-goes_on.ensures.spelt refl) (c.if-goes_on.ensures.within refl)
+    c.behind_white-at.ensures.value (c.if-goes_on.ensures.spelled refl) (c.if-goes_on.ensures.within refl)
 
 pub returns-then-goes_on-2-clause-leads : goal.returns-then-goes_on-2-clause-leads
 returns-then-goes_on-2-clause-leads c items =
     sec_leads c.args.text.now c.args.from.at c.behind_white-at.result c.args.from.state items
     (sym (sections_begin c.args.from.state (sym c.if-not-begins_sections.ensures)))
-    c.behind_white-at.ensures.value (c.if-goes_on-2.ensures.spelt refl) (c.if-goes_on-2.ensures.within refl)
+    c.behind_white-at.ensures.value (c.if-goes_on-2.ensures.spelled refl) (c.if-goes_on-2.ensures.within refl)
