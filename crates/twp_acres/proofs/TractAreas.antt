@@ -8,6 +8,7 @@ use Rattle.twp_land.specs.Lands.{no_places, union, SharePlace}
 use Rattle.twp_plat.specs.Plats.{TownshipPlat}
 use Rattle.twp_plat.specs.Pieces.{over_of}
 use Rattle.twp_plat.specs.PlatAreas.{ArePieces}
+use Rattle.twp_area.specs.steps.Bounds.{OF_POSITION}
 use Rattle.twp_area.specs.LandAreas.{section_sum, township_sum, IsLandArea}
 use Rattle.twp_area.specs.Laws.{township_places}
 use Rattle.twp_acres.specs.ReportAnswers.{other_places}
@@ -101,7 +102,7 @@ totals_none plat totals none over_is all =
         pieces = all.pieces;
         are = all.are;
         over_is = over_is;
-        sum_is = ap (λ u. 16 * u) none ∙ zero_area.sum_is;
+        sum_is = ap (λ u. OF_POSITION * u) none ∙ zero_area.sum_is;
       };
       remaining_is = subst (λ p. IsLandArea PLACE_DIGITS plat p totals.remaining) (sym all_left) all;
     }
@@ -123,12 +124,12 @@ totals_next plat places more old new area apart is are takes =
         pieces = sum.pieces;
         are = sum.are;
         over_is = takes.total_over ∙ sum.over_is;
-        sum_is = ap (λ u. 16 * u) takes.total_is ∙ sum.sum_is;
+        sum_is = ap (λ u. OF_POSITION * u) takes.total_is ∙ sum.sum_is;
       };
       remaining_is = record {
         pieces = rest.1.pieces;
         are = rest.1.are;
         over_is = takes.remaining_over ∙ rest.1.over_is;
-        sum_is = ap (λ u. 16 * u) takes.remaining_is ∙ rest.1.sum_is;
+        sum_is = ap (λ u. OF_POSITION * u) takes.remaining_is ∙ rest.1.sum_is;
       };
     }
