@@ -1,4 +1,4 @@
-use twp_grid::{Block, Section, Side};
+use twp_grid::{Block, PLACE_DIGITS, Section, Side};
 
 /// Sections and blocks that look random: each step multiplies by 1,664,525 and adds 1,013,904,223,
 /// modulo 2 to the 32nd.
@@ -27,13 +27,12 @@ impl Mixed {
         Section::at((number % 6) as u8, (number / 6 % 6) as u8)
     }
 
-    /// A block that up to seven halves of a section leave.
+    /// A block that halves of a section leave, as many as the finest part has or fewer.
     pub fn block(&mut self) -> Block {
         let mut block = Block::whole();
-        let mut number = self.next();
-        for _ in 0..number % 8 {
-            number /= 8;
-            let side = match number % 4 {
+        let halves = self.next() % (2 * PLACE_DIGITS as u32 + 1);
+        for _ in 0..halves {
+            let side = match self.next() % 4 {
                 0 => Side::N,
                 1 => Side::S,
                 2 => Side::E,

@@ -7,14 +7,14 @@ use std::test::Fail;
 use twp_fixtures::Mixed;
 use twp_grid::{Corner, Side};
 
-// The lengths of the sides that halving 16 places gives, and how many such sides there are: 31 in
-// all, and 31 times 31 blocks.
-const SIDES: [(u8, u8); 5] = [(16, 1), (8, 2), (4, 4), (2, 8), (1, 16)];
+// The lengths of the sides that halving 32 places gives, and how many such sides there are: 63 in
+// all, and 63 times 63 blocks.
+const SIDES: [(u8, u8); 6] = [(32, 1), (16, 2), (8, 4), (4, 8), (2, 16), (1, 32)];
 
 // The block of these columns and rows, by halving the whole section.
 fn reach(column: u8, width: u8, row: u8, height: u8) -> Option<Block> {
     let mut block = Block::whole();
-    for _ in 0..4u8 {
+    for _ in 0..5u8 {
         if block.width() > width {
             let west = block.half(Side::W)?;
             let is_west = column >= west.column();
@@ -62,8 +62,8 @@ fn check_added<L: Land>(alloc: Global, rt: &impl Abort) -> Result<(), Fail> {
     for number in 1..37u8 {
         let section = Section::new(number).ok_or("a section")?;
         let mut count = 0u32;
-        for column in 0..16u8 {
-            for row in 0..16u8 {
+        for column in 0..32u8 {
+            for row in 0..32u8 {
                 let held = land.holds(section, column, row);
                 let wanted = added.iter().any(|(other, block)| *other == section
                     && is_inside(*block, column, row));
@@ -74,13 +74,13 @@ fn check_added<L: Land>(alloc: Global, rt: &impl Abort) -> Result<(), Fail> {
         let whole = Block::whole();
         assert_eq!(rt; land.count(section, whole), count, "section {number}");
         assert_eq!(rt; land.meets(section, whole), count > 0);
-        assert_eq!(rt; land.full(section, whole), count == 256);
+        assert_eq!(rt; land.full(section, whole), count == 1_024);
     }
     Ok(())
 }
 
 #[test]
-fn grid_tells_961_blocks_apart(rt: HostRuntime) -> Result<(), Fail> {
+fn grid_tells_3_969_blocks_apart(rt: HostRuntime) -> Result<(), Fail> {
     let section = Section::new(14).ok_or("a section")?;
     for block in blocks(rt.alloc(), &rt)? {
         check_alone::<Grid>(&rt, section, block);
@@ -89,7 +89,7 @@ fn grid_tells_961_blocks_apart(rt: HostRuntime) -> Result<(), Fail> {
 }
 
 #[test]
-fn lanes_tell_961_blocks_apart(rt: HostRuntime) -> Result<(), Fail> {
+fn lanes_tell_3_969_blocks_apart(rt: HostRuntime) -> Result<(), Fail> {
     let section = Section::new(14).ok_or("a section")?;
     for block in blocks(rt.alloc(), &rt)? {
         check_alone::<Lanes>(&rt, section, block);
@@ -139,8 +139,8 @@ fn lanes_answer_as_a_grid_does(rt: HostRuntime) -> Result<(), Fail> {
         let less = mixed.block();
         grid.remove(section, less);
         lanes.remove(section, less);
-        for column in 0..16u8 {
-            for row in 0..16u8 {
+        for column in 0..32u8 {
+            for row in 0..32u8 {
                 assert_eq!(&rt;
                     lanes.holds(section, column, row),
                     grid.holds(section, column, row)
@@ -161,8 +161,8 @@ fn lanes_share_and_join(rt: HostRuntime) -> Result<(), Fail> {
     check_joined::<Lanes>(&rt)
 }
 
-// The north-east quarter of section 14 and the south-west one have no place in common; each has 8
-// by 8 places.
+// The north-east quarter of section 14 and the south-west one have no place in common; each has 16
+// by 16 places.
 fn check_joined<L: Land>(rt: &impl Abort) -> Result<(), Fail> {
     let section = Section::new(14).ok_or("a section")?;
     let last = Section::new(36).ok_or("a section")?;
@@ -176,19 +176,19 @@ fn check_joined<L: Land>(rt: &impl Abort) -> Result<(), Fail> {
     assert!(rt; second.meets_land(&second) && !L::empty().meets_land(&second));
     first.add_land(&second);
     assert!(rt; first.meets_land(&second) && second.meets_land(&first));
-    assert_eq!(rt; first.count(section, whole), 128);
-    assert_eq!(rt; first.count(last, whole), 256);
-    assert_eq!(rt; second.count(section, whole), 64);
-    assert!(rt; first.holds(section, 7, 15) && first.holds(section, 8, 0));
-    assert!(rt; !first.holds(section, 8, 15) && !first.holds(section, 7, 0));
+    assert_eq!(rt; first.count(section, whole), 512);
+    assert_eq!(rt; first.count(last, whole), 1_024);
+    assert_eq!(rt; second.count(section, whole), 256);
+    assert!(rt; first.holds(section, 15, 31) && first.holds(section, 16, 0));
+    assert!(rt; !first.holds(section, 16, 31) && !first.holds(section, 15, 0));
 
     // One place in the corner of section 36 is enough.
     let mut corner = L::empty();
-    for column in 0..16u8 {
-        corner.add(section, reach(column, 1, 15, 1).ok_or("a place")?);
+    for column in 0..32u8 {
+        corner.add(section, reach(column, 1, 31, 1).ok_or("a place")?);
     }
     assert!(rt; !corner.meets_land(&second));
-    corner.add(last, reach(15, 1, 15, 1).ok_or("a place")?);
+    corner.add(last, reach(31, 1, 31, 1).ok_or("a place")?);
     assert!(rt; corner.meets_land(&second) && second.meets_land(&corner));
     Ok(())
 }
@@ -203,7 +203,7 @@ fn lanes_lose_what_is_removed(rt: HostRuntime) -> Result<(), Fail> {
     check_removed::<Lanes>(&rt)
 }
 
-// Of section 14's 256 places the S1/2 has 128, and the SW1/4 lies in it. What is left without the
+// Of section 14's 1,024 places the S1/2 has 512, and the SW1/4 lies in it. What is left without the
 // W1/2 is the NE1/4.
 fn check_removed<L: Land>(rt: &impl Abort) -> Result<(), Fail> {
     let section = Section::new(14).ok_or("a section")?;
@@ -213,13 +213,13 @@ fn check_removed<L: Land>(rt: &impl Abort) -> Result<(), Fail> {
     land.add(section, whole);
     land.add(last, whole);
     land.remove(section, whole.half(Side::S).ok_or("a half")?);
-    assert_eq!(rt; land.count(section, whole), 128);
-    assert_eq!(rt; land.count(last, whole), 256);
-    assert!(rt; land.holds(section, 0, 8) && !land.holds(section, 0, 7));
+    assert_eq!(rt; land.count(section, whole), 512);
+    assert_eq!(rt; land.count(last, whole), 1_024);
+    assert!(rt; land.holds(section, 0, 16) && !land.holds(section, 0, 15));
 
     // What isn't held stays so.
     land.remove(section, whole.quarter(Corner::SW).ok_or("a quarter")?);
-    assert_eq!(rt; land.count(section, whole), 128);
+    assert_eq!(rt; land.count(section, whole), 512);
     land.remove(section, whole.half(Side::W).ok_or("a half")?);
     let mut northeast = L::empty();
     northeast.add(section, whole.quarter(Corner::NE).ok_or("a quarter")?);
@@ -228,7 +228,7 @@ fn check_removed<L: Land>(rt: &impl Abort) -> Result<(), Fail> {
     assert!(rt; land.same(&northeast) && northeast.same(&land));
 
     // One place makes a difference, and two lands of no place make none.
-    northeast.remove(last, reach(15, 1, 15, 1).ok_or("a place")?);
+    northeast.remove(last, reach(31, 1, 31, 1).ok_or("a place")?);
     assert!(rt; !land.same(&northeast) && !northeast.same(&land));
     land.remove(last, whole);
     land.remove(section, whole);
@@ -286,8 +286,8 @@ fn check_far_apart<L: Land>(rt: &impl Abort) -> Result<(), Fail> {
     joined.add_land(&rising);
     assert!(rt; joined.meets_land(&rising) && joined.full(middle, whole));
     joined.add_land(&L::empty());
-    assert_eq!(rt; joined.count(first, whole), 256);
-    assert_eq!(rt; joined.count(last, whole), 256);
+    assert_eq!(rt; joined.count(first, whole), 1_024);
+    assert_eq!(rt; joined.count(last, whole), 1_024);
 
     // A land that was cleared is as good as new.
     joined.clear();
@@ -316,7 +316,7 @@ fn blocks(alloc: Global, rt: &impl Abort) -> Result<Vec<Block>, Fail> {
             }
         }
     }
-    assert_eq!(rt; blocks.len(), 961);
+    assert_eq!(rt; blocks.len(), 3_969);
     Ok(blocks)
 }
 
@@ -329,8 +329,8 @@ fn check_alone<L: Land>(rt: &impl Abort, section: Section, block: Block) {
     let size = u32::from(block.width()).wrapping_mul(u32::from(block.height()));
     assert_eq!(rt; land.count(section, block), size);
     assert_eq!(rt; land.count(section, Block::whole()), size);
-    for column in 0..16u8 {
-        for row in 0..16u8 {
+    for column in 0..32u8 {
+        for row in 0..32u8 {
             assert_eq!(rt;
                 land.holds(section, column, row),
                 is_inside(block, column, row)

@@ -12,7 +12,7 @@ fn section(number: u8) -> Result<Section, Fail> {
 // The place in the corner of a block.
 fn corner(block: Block, corner: Corner) -> Result<Block, Fail> {
     let mut block = block;
-    for _ in 0..4u8 {
+    for _ in 0..5u8 {
         block = block.quarter(corner).ok_or("a quarter")?;
     }
     Ok(block)
