@@ -8,7 +8,6 @@ ghost use Rattle.twp_acres.specs.steps.TractTaking.{tally_of, AreTotals, TakesTr
 ghost use Rattle.twp_acres.specs.steps.TractTaking.{IsTractRefused, fault_of_stop};
 
 use crate::answer::write_acres_line;
-use twp_area::area_of;
 use crate::names::Names;
 use crate::stages::describe_into;
 use crate::stop::Stop;
@@ -17,6 +16,7 @@ use crate::tract::tract_of;
 use crate::tract_fault::TractFault;
 use csv::ByteRecord;
 use std::alloc::{AllocError, Global};
+use twp_area::area_of;
 use twp_land::Land;
 use twp_plat::Plat;
 
