@@ -38,7 +38,8 @@ KeepsPlatAreas g finer = (plat : TownshipPlat) (places : ℕ → ℕ → ℕ →
 abbrev pub FinerPlacesKeepAll : Type 0
 FinerPlacesKeepAll = (g : ℕ) → POSITIONS_ACROSS ≤ places_across g → StaysTheSame g (suc g)
 
--- and plat areas do, where the nominal share of a place cut from another is a whole number of units
+-- and plat areas do, where the nominal share of a place with one digit more is a whole number of
+-- units, as it is up to seven digits
 abbrev pub FinerPlacesKeepPlatAreas : Type 0
 FinerPlacesKeepPlatAreas = (g share : ℕ) → POSITIONS_ACROSS ≤ places_across g
     → IsNominalShare (suc g) share → KeepsPlatAreas g (suc g)

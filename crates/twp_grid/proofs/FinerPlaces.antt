@@ -1,13 +1,11 @@
 -- Places where each is cut into four: their digits, their positions, and sums over them.
 use Rattle.std.proofs.Common.{◌≡◌, ◌==◌, ℕ, zero, suc, ◌+◌, ◌*◌, ◌/◌, ◌%◌, ◌^◌, ◌≤◌, ◌&&◌, List, [], ◌∷◌}
-use Rattle.std.proofs.Common.{◌++◌}
-use Rattle.std.proofs.Common.{length, nat_lt, refl, sym, ap, ◌∙◌, arith}
+use Rattle.std.proofs.Common.{◌++◌, length, nat_lt, refl, sym, ap, ◌∙◌, arith}
 use Rattle.std.proofs.Math.Nat.{pow-succ', div-div-eq-div-mul, div-one}
 use Rattle.std.proofs.lemmas.Bool.Decides.{nat_tests}
 use Rattle.twp_grid.specs.Lots.{POSITIONS_ACROSS}
 use Rattle.twp_grid.specs.Places.{places_across, places_to_position, is_place, position_along, binary, begins}
-use Rattle.twp_grid.specs.Spans.{span_from, rectangle, whole_block, position_span}
-use Rattle.twp_grid.specs.Spans.{position_block}
+use Rattle.twp_grid.specs.Spans.{span_from, rectangle, whole_block, position_span, position_block}
 use Rattle.twp_grid.specs.Totals.{total, total_over}
 use Rattle.twp_grid.proofs.TilingFacts.{position_has_places}
 use Rattle.twp_grid.proofs.TotalFacts.{total-ext, total-scale}
@@ -42,7 +40,8 @@ axis_coarser g asked n fits =
 
 -- a place, and the position that it lies in
 pub same_place : (g column row : ℕ) → is_place (suc g) column row ≡ is_place g (column / 2) (row / 2)
-same_place g column row = ap (λ b. b && nat_lt row (2 ^ suc g)) (along column)
+same_place g column row =
+    ap (λ b. b && nat_lt row (2 ^ suc g)) (along column)
     ∙ ap (λ b. nat_lt (column / 2) (2 ^ g) && b) (along row)
   where
     along : (n : ℕ) → nat_lt n (2 ^ suc g) ≡ nat_lt (n / 2) (2 ^ g)
@@ -80,7 +79,7 @@ total_twice_from s n f =
     total-ext (2 * n) (λ k. f ((2 * s + k) / 2)) (λ k. f (s + k / 2)) (λ k _. ap f (omega arith))
     ∙ total_twice n (λ k. f (s + k))
 
--- the sum over a rectangle, four times each
+-- the sum over a rectangle, each term four times
 over_finer : (s t m n : ℕ) (f : ℕ → ℕ → ℕ)
     → total_over (rectangle (span_from (2 * s) (2 * m)) (span_from (2 * t) (2 * n))) (λ column row.
     f (column / 2) (row / 2)) ≡ 4 * total_over (rectangle (span_from s m) (span_from t n)) f
