@@ -15,3 +15,4 @@ pub mod TractSums
 pub mod OneReport
 pub mod OneNormal
 pub mod OwnText
+pub mod FinerPlaces

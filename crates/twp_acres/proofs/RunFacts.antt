@@ -1,6 +1,6 @@
 -- What runs read and write, over plain values.
 use Rattle.std.proofs.Common.{◌≡◌, ◌≢◌, ℕ, List, [], Option, Some, None, Result, Ok, Err, inl, inr}
-use Rattle.std.proofs.Common.{refl, ap, subst, sym, ◌∙◌, ◌+◌, Bool, true, false, ◌⊎◌, ◌↔◌}
+use Rattle.std.proofs.Common.{refl, ap, subst, sym, ◌∙◌, Bool, true, false, ◌⊎◌, ◌↔◌}
 use Rattle.std.specs.Prelude.{IfOk, IfErr, OnOk, OnErr, IsErrOf, IsOkUnless, is_err, unwrap_or}
 use Rattle.std.specs.Io.KnownBytes.{Appends}
 use Rattle.twp_grid.specs.Devices.{Tells}

@@ -1,7 +1,7 @@
 -- What the stages of a run promise of their reading, from stage to stage, and how a stop is
 -- answered; over plain values.
 use Rattle.std.proofs.Common.{◌≡◌, ◌≢◌, ℕ, ◌+◌, ◌≤◌, List, [], Option, Some, None, Result, Ok, Err}
-use Rattle.std.proofs.Common.{refl, ap, Bool, true, false, ◌⊎◌, ◌↔◌, inl, inr, arith}
+use Rattle.std.proofs.Common.{refl, ap, Bool, true, false, ◌↔◌, inl, inr, arith}
 use Rattle.std.specs.Prelude.{IfOk, IfErr, IsErrOf, unwrap_or}
 use Rattle.twp_grid.specs.Devices.{TakesAtMost}
 use Rattle.twp_grid.specs.declared.refusal.Refusal.{Refusal}

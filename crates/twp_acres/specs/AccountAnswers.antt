@@ -10,7 +10,6 @@ use Rattle.twp_area.specs.PlatAccounts.{IsPlatArea}
 use Rattle.twp_acres.specs.Runs.{AnswerRelation}
 use Rattle.twp_area.specs.declared.account.Account.{Account}
 use Rattle.twp_area.specs.declared.account.Account.TheVariants.{Exact, Plat}
-use Rattle.twp_acres.specs.declared.verdict.Verdict.{Verdict}
 use Rattle.twp_acres.specs.declared.verdict.Verdict.TheVariants.{Accepted, Refused, TractRefused}
 
 -- The hundredths of an acre of a set of places by the plat: its plat area, rounded once, half up.

@@ -10,4 +10,5 @@ pub mod AccountAnswers
 pub mod NormalAnswers
 pub mod NormalLaws
 pub mod Laws
+pub mod FinerPlaces
 pub mod steps

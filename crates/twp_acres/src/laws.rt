@@ -4,6 +4,8 @@ ghost use Rattle.twp_acres.specs.TractLaws.{RestAddsUp, TractsAddUp, OneReportAn
 ghost use Rattle.twp_acres.specs.Laws.{OneAnswer, OneAnswerOfLand, OnePlatAnswer, OneNormalAnswer};
 ghost use Rattle.twp_acres.specs.Laws.{OneAnswerBy};
 ghost use Rattle.twp_acres.specs.NormalLaws.{NormalTextIsItsOwn, LongNormalTextIsRefused};
+ghost use Rattle.twp_acres.specs.FinerPlaces.{FinerPlacesKeepAll, FinerPlacesKeepPlatAreas};
+ghost use Rattle.twp_acres.specs.FinerPlaces.{ThirtySecondsKeepAll};
 
 /// The area of a set of places and that of all others are together the township's, exactly.
 pub fn rest_adds_up()
@@ -55,4 +57,21 @@ pub fn long_normal_text_is_refused()
 /// Field notes and a list of tracts have one account and one verdict.
 pub fn one_report_answer()
     ensures { OneReportAnswer }
+{}
+
+/// Where each place is cut into four, all that descriptions said stays: what lies on the plat without
+/// overlap still does, and is the same land, with the same exact area and the same canonical text.
+pub fn finer_places_keep_all()
+    ensures { FinerPlacesKeepAll }
+{}
+
+/// So do plat areas, as long as the nominal share of a place is a whole number of units.
+pub fn finer_places_keep_plat_areas()
+    ensures { FinerPlacesKeepPlatAreas }
+{}
+
+/// From places of 2.5 acres, whose side is a sixteenth of a section's, to places of 5/8 of an acre all
+/// stays, plat areas too.
+pub fn thirty_seconds_keep_all()
+    ensures { ThirtySecondsKeepAll }
 {}

@@ -1,8 +1,7 @@
 -- The figures of a plat: there are some, and they are one.
-use Rattle.std.proofs.Common.{◌≡◌, ℕ, suc, ◌+◌, ◌-◌, ◌*◌, ◌/◌, ◌<◌, ◌≤◌, List, [], ◌++◌, Option}
-use Rattle.std.proofs.Common.{Some, ap, refl, sym, ◌∙◌, arith, append_assoc}
-use Rattle.std.specs.Prelude.{OnOk, Result, Ok, Err, unwrap_or}
-use Rattle.std.proofs.lemmas.List.{append-nil}
+use Rattle.std.proofs.Common.{◌≡◌, ℕ, ◌+◌, ◌*◌, ◌/◌, ◌<◌, Option}
+use Rattle.std.proofs.Common.{Some, refl, arith}
+use Rattle.std.specs.Prelude.{unwrap_or}
 use Rattle.std.proofs.lemmas.Nat.{mul-le}
 use Rattle.twp_measure.specs.Areas.{Fraction, IsRounded}
 use Rattle.twp_measure.proofs.RoundingFacts.{one_rounding, rounded}

@@ -8,3 +8,4 @@ pub mod WholeAreas
 pub mod AreaFacts
 pub mod FigureFacts
 pub mod PlatLaws
+pub mod FinerAreas

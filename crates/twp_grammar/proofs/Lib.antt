@@ -12,3 +12,4 @@ pub mod StateFacts
 pub mod CutPlaces
 pub mod Membership
 pub mod TreeFacts
+pub mod FinerItems

@@ -5,3 +5,4 @@ pub mod SpanFacts
 pub mod CutFacts
 pub mod TotalFacts
 pub mod TilingFacts
+pub mod FinerPlaces

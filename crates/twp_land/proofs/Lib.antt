@@ -12,3 +12,4 @@ pub mod RemovalFacts
 pub mod RowFacts
 pub mod RowLaneFacts
 pub mod SameFacts
+pub mod FinerLands

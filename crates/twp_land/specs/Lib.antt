@@ -1,4 +1,5 @@
 pub mod Lands
+pub mod FinerLands
 pub mod Storage
 pub mod WholeLots
 pub mod steps

@@ -7,36 +7,36 @@ use Rattle.twp_grid.specs.declared.block.Side.{Side}
 use Rattle.twp_grid.specs.declared.block.Corner.{Corner}
 use Rattle.twp_grid.specs.Cuts.{AreWithin}
 use Rattle.twp_grid.specs.Places.{IsPlace}
+use Rattle.twp_land.specs.FinerLands.{cut_in_four}
 use Rattle.twp_grammar.specs.ItemPlaces.{cuts_of, in_chain}
 use Rattle.twp_spell.specs.WrittenParts.{Part, steps_of_part, IsInPart, IsFull, IsChosenHalf, IsWritten}
 use Rattle.twp_spell.specs.WrittenParts.{quarter_named, address, StandsAhead, AreWrittenParts}
 use Rattle.twp_spell.specs.WrittenParts.Part.{square, half_of_square}
-use Rattle.twp_spell.specs.SpellingLaws.{cut_in_four}
 use Rattle.twp_grammar.proofs.Membership.{Among, among_contains}
+use Rattle.twp_grammar.proofs.FinerItems.{chain_coarser, within_greater}
 use Rattle.twp_spell.proofs.Listings.{other_pairs}
-use Rattle.twp_spell.proofs.SquareFacts.{chain_coarser, within_greater, square_within, square_fits}
-use Rattle.twp_spell.proofs.SquareFacts.{half_within, half_fits}
+use Rattle.twp_spell.proofs.SquareFacts.{square_within, square_fits, half_within, half_fits}
 use Rattle.twp_spell.proofs.SquarePlaces.{up, in_square, square_in, up_all, one_place, turn_small}
 use Rattle.twp_spell.proofs.HalfPlaces.{in_half}
 use Rattle.twp_spell.proofs.WrittenFacts.{parent_of}
 use Rattle.twp_spell.proofs.PartOrder.{some_place, full_part, has_parts, one_parts}
 
 -- the places of a part that isn't finer than the greater places
-place_coarser : (g column row : ℕ) → IsPlace (suc g) column row → IsPlace g (column / 2) (row / 2)
+pub place_coarser : (g column row : ℕ) → IsPlace (suc g) column row → IsPlace g (column / 2) (row / 2)
 place_coarser g column row place =
     let power = pow-succ' 2 g in
     let across = place.0 in
     let upward = place.1 in
     (omega arith, omega arith)
 
-place_finer : (g column row : ℕ) → IsPlace g column row → IsPlace (suc g) (2 * column) (2 * row)
+pub place_finer : (g column row : ℕ) → IsPlace g column row → IsPlace (suc g) (2 * column) (2 * row)
 place_finer g column row place =
     let power = pow-succ' 2 g in
     let across = place.0 in
     let upward = place.1 in
     (omega arith, omega arith)
 
-twice : (n : ℕ) → 2 * n / 2 ≡ n
+pub twice : (n : ℕ) → 2 * n / 2 ≡ n
 twice n = omega arith
 
 in_coarser : (g : ℕ) (part : Part) (column row : ℕ) → AreWithin g (cuts_of (steps_of_part part))

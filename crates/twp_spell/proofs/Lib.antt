@@ -8,6 +8,7 @@ pub mod FullParts
 pub mod WrittenFacts
 pub mod PartOrder
 pub mod FinerParts
+pub mod FinerTexts
 pub mod Descent
 pub mod DescentLists
 pub mod SquareBlocks

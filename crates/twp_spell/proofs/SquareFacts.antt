@@ -10,29 +10,18 @@ use Rattle.twp_grid.specs.declared.block.Corner.TheVariants.{NE, NW, SW, SE}
 use Rattle.twp_grid.specs.Cuts.{row_asked, column_asked, rows_asked, columns_asked, AreWithin}
 use Rattle.twp_grid.specs.Cuts.Cut.{half, quarter}
 use Rattle.twp_grid.specs.Places.{binary, begins}
+use Rattle.twp_grid.proofs.FinerPlaces.{halved, binary_last, length_binary, axis_coarser}
 use Rattle.twp_grammar.specs.declared.item.Step.{Step}
 use Rattle.twp_grammar.specs.declared.item.Step.TheVariants.{Quarter}
 use Rattle.twp_grammar.specs.ItemPlaces.{cuts_of, in_chain}
+use Rattle.twp_grammar.proofs.FinerItems.{chain_coarser, within_greater}
 use Rattle.twp_spell.specs.WrittenParts.{steps_of_part, quarter_named}
 use Rattle.twp_spell.specs.WrittenParts.Part.{half_of_square}
 
--- the digits of a number: those of its half, and whether it is odd
-pub halved : (n h : ℕ) → n / 2 ^ suc h ≡ n / 2 / 2 ^ h
-halved n h = ap (λ p. n / p) (pow-succ' 2 h) ∙ sym (div-div-eq-div-mul n 2 (2 ^ h))
-
+-- the digits of a number
 pub halved_last : (n h : ℕ) → n / 2 ^ suc h ≡ n / 2 ^ h / 2
 halved_last n h =
     sym (div-div-eq-div-mul n (2 ^ h) 2 ∙ ap (λ p. n / p) (let power = pow-succ' 2 h in omega arith))
-
-binary_last : (g n : ℕ) → binary (suc g) n ≡ binary g (n / 2) ++ (n % 2) ∷ []
-binary_last zero n = ap (λ m. (m % 2) ∷ []) (div-one n)
-binary_last (suc g) n =
-    ap (λ m. (m % 2) ∷ binary (suc g) n) (halved n g)
-    ∙ ap (λ digits. (n / 2 / 2 ^ g % 2) ∷ digits) (binary_last g n)
-
-length_binary : (g n : ℕ) → length (binary g n) ≡ g
-length_binary zero n = refl
-length_binary (suc g) n = ap suc (length_binary g n)
 
 and_true : (x : Bool) → (x && true) ≡ x
 and_true true = refl
@@ -42,13 +31,6 @@ pub and_and : (x y z : Bool) → (x && (y && z)) ≡ ((x && y) && z)
 and_and true y z = refl
 and_and false y z = refl
 
-begins_longer : (asked digits more : List ℕ) → length asked ≤ length digits
-    → begins asked (digits ++ more) ≡ begins asked digits
-begins_longer [] digits more fits = refl
-begins_longer (d ∷ asked) [] more fits = absurd (omega arith)
-begins_longer (d ∷ asked) (e ∷ digits) more fits =
-    ap (λ b. (d == e) && b) (begins_longer asked digits more (omega arith))
-
 begins_last : (asked digits : List ℕ) (d e : ℕ) → length asked ≡ length digits
     → begins (asked ++ d ∷ []) (digits ++ e ∷ []) ≡ (begins asked digits && (d == e))
 begins_last [] [] d e same = and_true (d == e)
@@ -57,12 +39,6 @@ begins_last (a ∷ asked) [] d e same = absurd (omega arith)
 begins_last (a ∷ asked) (b ∷ digits) d e same =
     ap (λ x. (a == b) && x) (begins_last asked digits d e (omega arith))
     ∙ and_and (a == b) (begins asked digits) (d == e)
-
-pub axis_coarser : (g : ℕ) (asked : List ℕ) (n : ℕ) → length asked ≤ g
-    → begins asked (binary (suc g) n) ≡ begins asked (binary g (n / 2))
-axis_coarser g asked n fits =
-    ap (λ digits. begins asked digits) (binary_last g n)
-    ∙ begins_longer asked (binary g (n / 2)) ((n % 2) ∷ []) (rw length_binary fits)
 
 pub axis_last : (g : ℕ) (asked : List ℕ) (d n : ℕ) → length asked ≡ g
     → begins (asked ++ d ∷ []) (binary (suc g) n) ≡ (begins asked (binary g (n / 2)) && (d == n % 2))
@@ -75,22 +51,7 @@ pub axis_none : (g : ℕ) (asked : List ℕ) (n : ℕ) → length asked ≡ g
 axis_none g asked n same =
     ap (λ a. begins a (binary (suc g) n)) (append-nil asked) ∙ axis_coarser g asked n (omega arith)
 
--- what steps hold, where each place is one of the four that a greater place was cut into
-pub chain_coarser : (g : ℕ) (steps : List Step) (column row : ℕ) → AreWithin g (cuts_of steps)
-    → in_chain (suc g) steps column row ≡ in_chain g steps (column / 2) (row / 2)
-chain_coarser g steps column row within =
-    ap (λ b. b && begins (rows_asked (cuts_of steps)) (binary (suc g) row))
-    (axis_coarser g (columns_asked (cuts_of steps)) column within.columns)
-    ∙ ap (λ b. begins (columns_asked (cuts_of steps)) (binary g (column / 2)) && b)
-    (axis_coarser g (rows_asked (cuts_of steps)) row within.rows)
-
-pub within_greater : (k g : ℕ) (steps : List Step) → k ≤ g → AreWithin k (cuts_of steps)
-    → AreWithin g (cuts_of steps)
-within_greater k g steps more within =
-    let rows = within.rows in
-    let columns = within.columns in
-    record { rows = omega arith; columns = omega arith }
-
+-- what steps hold, where each place is one of those that a greater place was cut into
 pub chain_up : (h g k : ℕ) (steps : List Step) (column row : ℕ) → g ≡ k + h → AreWithin k (cuts_of steps)
     → in_chain g steps column row ≡ in_chain k steps (column / 2 ^ h) (row / 2 ^ h)
 chain_up zero g k steps column row is within =

@@ -1,9 +1,10 @@
 -- Laws of written parts and of canonical texts.
-use Rattle.std.specs.Prelude.{◌≡◌, ◌↔◌, ℕ, suc, ◌/◌, Bool, true, List, []}
+use Rattle.std.specs.Prelude.{◌≡◌, ◌↔◌, ℕ, suc, Bool, true, List, []}
 use Rattle.std.specs.List.{Contains, AllPairs}
 use Rattle.twp_grid.specs.Places.{IsPlace}
 use Rattle.twp_grid.specs.Townships.{Designation}
 use Rattle.twp_land.specs.Lands.{no_places}
+use Rattle.twp_land.specs.FinerLands.{cut_in_four}
 use Rattle.twp_spell.specs.CanonicalText.{IsCanonicalText}
 use Rattle.twp_spell.specs.WrittenParts.{Part, IsInPart, AreWrittenParts}
 
@@ -26,10 +27,6 @@ WrittenPartsHoldAll = (g : ℕ) (held : ℕ → ℕ → Bool) (parts : List Part
     → AreWrittenParts g held parts → (column row : ℕ) → IsPlace g column row
     → (held column row ≡ true)
     ↔ ((part : Part) × Contains parts part × IsInPart g part column row)
-
--- the same land where each place is cut into four
-abbrev pub cut_in_four : (ℕ → ℕ → Bool) → ℕ → ℕ → Bool
-cut_in_four held column row = held (column / 2) (row / 2)
 
 -- where each place is cut into four, the written parts are the same
 abbrev pub FinerPlacesSameParts : Type 0

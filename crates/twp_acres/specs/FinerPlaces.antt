@@ -1,0 +1,58 @@
+-- What stays as it is where each place is cut into four, so that its column and its row have one
+-- binary digit more: what was described lies on the plat as before, and is the same land, with the
+-- same areas and the same canonical text.
+use Rattle.std.specs.Prelude.{◌↔◌, ℕ, suc, ◌≤◌, Bool, List}
+use Rattle.twp_measure.specs.Areas.{Fraction}
+use Rattle.twp_grid.specs.Lots.{POSITIONS_ACROSS}
+use Rattle.twp_grid.specs.Places.{places_across}
+use Rattle.twp_grid.specs.Townships.{Designation}
+use Rattle.twp_land.specs.FinerLands.{finer_land}
+use Rattle.twp_plat.specs.Plats.{TownshipPlat}
+use Rattle.twp_area.specs.LandAreas.{IsLandArea}
+use Rattle.twp_area.specs.PlatAccounts.{IsNominalShare, IsPlatArea}
+use Rattle.twp_grammar.specs.declared.item.Item.{Item}
+use Rattle.twp_grammar.specs.OnPlat.{AreOnPlat, IsLandOfItems}
+use Rattle.twp_text.specs.CanonicalText.{IsCanonicalText}
+
+-- From one number of digits to one digit more: items that lie on the plat without overlap still do,
+-- and their land is the same, each place cut into four. A land's exact area is the same fraction,
+-- and its canonical text is the same bytes.
+pub record StaysTheSame (g finer : ℕ) : Type 0 where
+  pub on_plat : (township : Designation) (items : List Item)
+      → AreOnPlat g township items → AreOnPlat finer township items
+  pub land : (township : Designation) (items : List Item) (places : ℕ → ℕ → ℕ → Bool)
+      → IsLandOfItems g township items places
+      → IsLandOfItems finer township items (finer_land places)
+  pub area : (plat : TownshipPlat) (places : ℕ → ℕ → ℕ → Bool) (area : Fraction)
+      → IsLandArea g plat places area ↔ IsLandArea finer plat (finer_land places) area
+  pub text : (township : Designation) (places : ℕ → ℕ → ℕ → Bool) (text : List ℕ)
+      → IsCanonicalText g township places text
+      ↔ IsCanonicalText finer township (finer_land places) text
+
+-- and a land's plat area is the same
+abbrev pub KeepsPlatAreas : ℕ → ℕ → Type 0
+KeepsPlatAreas g finer = (plat : TownshipPlat) (places : ℕ → ℕ → ℕ → Bool) (area : Fraction)
+    → IsPlatArea g plat places area ↔ IsPlatArea finer plat (finer_land places) area
+
+-- where a section's side has as many places as positions or more, all stays with one digit more
+abbrev pub FinerPlacesKeepAll : Type 0
+FinerPlacesKeepAll = (g : ℕ) → POSITIONS_ACROSS ≤ places_across g → StaysTheSame g (suc g)
+
+-- and plat areas do, where the nominal share of a place with one digit more is a whole number of
+-- units, as it is up to seven digits
+abbrev pub FinerPlacesKeepPlatAreas : Type 0
+FinerPlacesKeepPlatAreas = (g share : ℕ) → POSITIONS_ACROSS ≤ places_across g
+    → IsNominalShare (suc g) share → KeepsPlatAreas g (suc g)
+
+-- the digits of a place whose side is a sixteenth of a section's: nominally 2.5 acres
+abbrev pub DIGITS_OF_A_SIXTEENTH : ℕ
+DIGITS_OF_A_SIXTEENTH = 4
+
+-- the digits of a place whose side is a thirty-second of a section's: nominally 5/8 of an acre
+abbrev pub DIGITS_OF_A_THIRTY_SECOND : ℕ
+DIGITS_OF_A_THIRTY_SECOND = 5
+
+-- from places of 2.5 acres to places of 5/8 of an acre, all stays
+abbrev pub ThirtySecondsKeepAll : Type 0
+ThirtySecondsKeepAll = StaysTheSame DIGITS_OF_A_SIXTEENTH DIGITS_OF_A_THIRTY_SECOND
+    × KeepsPlatAreas DIGITS_OF_A_SIXTEENTH DIGITS_OF_A_THIRTY_SECOND
