@@ -271,15 +271,15 @@ fn names_items_in_usual_spelling(rt: HostRuntime) -> Result<(), Fail> {
 fn names_long_chains(rt: HostRuntime) -> Result<(), Fail> {
     let description = Description::read(
         rt.alloc(),
-        b"sec 1, NE1/4E1/2S1/2W1/2N1/2SW1/4SE1/4NW1/4S1/2of N1/2",
+        b"sec 1, W1/2SW1/4NE1/4E1/2S1/2W1/2N1/2SW1/4SE1/4NW1/4S1/2of N1/2",
     )?;
     let items = description.items();
     assert_eq!(rt; items.len(), 2);
     let told = format!(in rt.alloc(); "{:?}", items.last())?;
     assert_eq!(rt;
         told.as_str(),
-        "Some(Chain { steps: Steps { first: [Quarter(NE), Half(E), Half(S), Half(W), Half(N), \
-        Quarter(SW), Quarter(SE), Quarter(NW)], more: [Half(S), Half(N)] }, at: 7 })"
+        "Some(Chain { steps: Steps { first: [Half(W), Quarter(SW), Quarter(NE), Half(E), Half(S), \
+        Half(W), Half(N), Quarter(SW), Quarter(SE), Quarter(NW)], more: [Half(S), Half(N)] }, at: 7 })"
     );
     Ok(())
 }

@@ -124,19 +124,19 @@ fn refuses_what_is_no_lot(rt: HostRuntime) -> Result<(), Fail> {
     )
 }
 
-/// A side of a section is halved four times at most. In section 5 the part would lie in lot 1.
+/// A side of a section is halved five times at most. In section 5 the part would lie in lot 1.
 #[test]
 fn refuses_what_is_too_fine(rt: HostRuntime) -> Result<(), Fail> {
     check_refused(
         rt.alloc(),
         &rt,
         &[
-            (b"sec. 14, N1/2NE1/4NE1/4NE1/4NE1/4.", 65, 9),
-            (b"sec. 14, W1/2NE1/4NE1/4NE1/4NE1/4.", 65, 9),
-            (b"sec. 14, SE1/4NE1/4NE1/4NE1/4NE1/4.", 65, 9),
-            (b"sec. 14, N1/2N1/2N1/2N1/2N1/2.", 65, 9),
-            (b"sec. 14, NE1/4NE1/4N1/2N1/2N1/2.", 65, 9),
-            (b"sec. 5, N1/2NE1/4NE1/4NE1/4NE1/4.", 65, 8),
+            (b"sec. 14, N1/2NE1/4NE1/4NE1/4NE1/4NE1/4.", 65, 9),
+            (b"sec. 14, W1/2NE1/4NE1/4NE1/4NE1/4NE1/4.", 65, 9),
+            (b"sec. 14, SE1/4NE1/4NE1/4NE1/4NE1/4NE1/4.", 65, 9),
+            (b"sec. 14, N1/2N1/2N1/2N1/2N1/2N1/2.", 65, 9),
+            (b"sec. 14, NE1/4NE1/4N1/2N1/2N1/2N1/2.", 65, 9),
+            (b"sec. 5, N1/2NE1/4NE1/4NE1/4NE1/4NE1/4.", 65, 8),
         ],
     )
 }
@@ -151,7 +151,7 @@ fn refuses_what_holds_of_a_lot(rt: HostRuntime) -> Result<(), Fail> {
         &[
             (b"sec. 5, N1/2.", 66, 8),
             (b"sec. 5, NE1/4NE1/4.", 66, 8),
-            (b"sec. 5, NE1/4NE1/4NE1/4NE1/4.", 66, 8),
+            (b"sec. 5, NE1/4NE1/4NE1/4NE1/4NE1/4.", 66, 8),
             (b"sec. 5, W1/2W1/2.", 66, 8),
             (b"sec. 7, W1/2.", 66, 8),
             (b"sec. 6, NE1/4.", 66, 8),
@@ -180,33 +180,40 @@ fn refuses_overlaps(rt: HostRuntime) -> Result<(), Fail> {
             (b"sec. 14, all, NE1/4.", 67, 14),
             (b"sec. 5, all, lot 1.", 67, 17),
             (b"sec. 14, NE1/4; sec. 15; sec. 14, N1/2.", 67, 34),
-            (b"secs. 1 thru 36; sec. 36, NE1/4NE1/4NE1/4NE1/4.", 67, 26),
+            (
+                b"secs. 1 thru 36; sec. 36, NE1/4NE1/4NE1/4NE1/4NE1/4.",
+                67,
+                26,
+            ),
         ],
     )
 }
 
-/// A section has 16 by 16 places, a quarter 8 by 8, a lot 4 by 4.
+/// A section has 32 by 32 places, a quarter 16 by 16, a lot 8 by 8.
 #[test]
 fn names_land(rt: HostRuntime) -> Result<(), Fail> {
-    let rows: [(&[u8], u32); 15] = [
-        (b"sec. 14.", 256),
-        (b"T. 2 N., R. 3 W., sec. 14.", 256),
-        (b"sec. 14: all", 256),
-        (b"secs. 1 thru 36.", 9216),
-        (b"secs. 1, 3 to 5.", 1024),
-        (b"sec. 5, lot 1.", 16),
-        (b"sec. 6, lots 1 to 7.", 112),
+    let rows: [(&[u8], u32); 18] = [
+        (b"sec. 14.", 1_024),
+        (b"T. 2 N., R. 3 W., sec. 14.", 1_024),
+        (b"sec. 14: all", 1_024),
+        (b"secs. 1 thru 36.", 36_864),
+        (b"secs. 1, 3 to 5.", 4_096),
+        (b"sec. 5, lot 1.", 64),
+        (b"sec. 6, lots 1 to 7.", 448),
         (
             b"sec. 6, lots 1 thru 7, SE1/4, S1/2NE1/4, E1/2SW1/4, SE1/4NW1/4.",
-            256,
+            1_024,
         ),
-        (b"sec. 6, SE1/4, S1/2NE1/4, E1/2SW1/4, SE1/4NW1/4.", 144),
-        (b"sec. 14, S1/2N1/2, N1/2N1/2, and S1/2.", 256),
-        (b"sec. 14, NE1/4NE1/4NE1/4NE1/4.", 1),
-        (b"sec. 14, N1/2N1/2N1/2N1/2.", 16),
-        (b"sec. 14, N1/2E1/2N1/2E1/2N1/2E1/2N1/2E1/2.", 1),
-        (b"sec. 5, S1/2; sec. 5, S1/2N1/2.", 192),
-        (b"sec. 5, SW1/4NE1/4; sec. 7, SE1/4NW1/4.", 32),
+        (b"sec. 6, SE1/4, S1/2NE1/4, E1/2SW1/4, SE1/4NW1/4.", 576),
+        (b"sec. 14, S1/2N1/2, N1/2N1/2, and S1/2.", 1_024),
+        (b"sec. 14, NE1/4NE1/4NE1/4NE1/4.", 4),
+        (b"sec. 14, NE1/4NE1/4NE1/4NE1/4NE1/4.", 1),
+        (b"sec. 14, N1/2N1/2N1/2N1/2.", 64),
+        (b"sec. 14, N1/2N1/2N1/2N1/2N1/2.", 32),
+        (b"sec. 14, N1/2E1/2N1/2E1/2N1/2E1/2N1/2E1/2.", 4),
+        (b"sec. 14, N1/2E1/2N1/2E1/2N1/2E1/2N1/2E1/2N1/2E1/2.", 1),
+        (b"sec. 5, S1/2; sec. 5, S1/2N1/2.", 768),
+        (b"sec. 5, SW1/4NE1/4; sec. 7, SE1/4NW1/4.", 128),
     ];
     for (text, places) in rows {
         let land: Grid = answer(rt.alloc(), text)??;
@@ -217,21 +224,21 @@ fn names_land(rt: HostRuntime) -> Result<(), Fail> {
     Ok(())
 }
 
-/// The south half of the north-east quarter: columns 0 to 7 from the east, rows 8 to 11 from the
-/// south. The west half of the south-east quarter: columns 4 to 7, rows 0 to 7.
+/// The south half of the north-east quarter: columns 0 to 15 from the east, rows 16 to 23 from the
+/// south. The west half of the south-east quarter: columns 8 to 15, rows 0 to 15.
 fn check_the_last_step_first<L: Land>(alloc: Global, rt: &impl Abort) -> Result<(), Fail> {
     let section = Section::new(14).ok_or("a section")?;
     let land: L = answer(alloc, b"sec. 14, S1/2NE1/4, W1/2SE1/4.")??;
-    assert_eq!(rt; count(&land), 64);
+    assert_eq!(rt; count(&land), 256);
     for (column, row, held) in [
-        (0, 8, true),
-        (7, 11, true),
-        (0, 12, false),
-        (8, 8, false),
-        (4, 0, true),
-        (7, 7, true),
-        (3, 0, false),
-        (0, 7, false),
+        (0, 16, true),
+        (15, 23, true),
+        (0, 24, false),
+        (16, 16, false),
+        (8, 0, true),
+        (15, 15, true),
+        (7, 0, false),
+        (0, 15, false),
     ] {
         assert_eq!(rt;
             land.holds(section, column, row),
@@ -246,4 +253,27 @@ fn check_the_last_step_first<L: Land>(alloc: Global, rt: &impl Abort) -> Result<
 fn takes_the_last_step_first(rt: HostRuntime) -> Result<(), Fail> {
     check_the_last_step_first::<Grid>(rt.alloc(), &rt)?;
     check_the_last_step_first::<Lanes>(rt.alloc(), &rt)
+}
+
+/// The place in each corner of a section: columns from the east, rows from the south, 0 to 31.
+fn check_corners<L: Land>(alloc: Global, rt: &impl Abort) -> Result<(), Fail> {
+    let section = Section::new(14).ok_or("a section")?;
+    let rows: [(&[u8], u8, u8); 4] = [
+        (b"sec. 14, NE1/4NE1/4NE1/4NE1/4NE1/4.", 0, 31),
+        (b"sec. 14, NW1/4NW1/4NW1/4NW1/4NW1/4.", 31, 31),
+        (b"sec. 14, SW1/4SW1/4SW1/4SW1/4SW1/4.", 31, 0),
+        (b"sec. 14, SE1/4SE1/4SE1/4SE1/4SE1/4.", 0, 0),
+    ];
+    for (text, column, row) in rows {
+        let land: L = answer(alloc, text)??;
+        assert_eq!(rt; count(&land), 1, "of {text:?}");
+        assert!(rt; land.holds(section, column, row), "of {text:?}");
+    }
+    Ok(())
+}
+
+#[test]
+fn names_the_place_in_each_corner(rt: HostRuntime) -> Result<(), Fail> {
+    check_corners::<Grid>(rt.alloc(), &rt)?;
+    check_corners::<Lanes>(rt.alloc(), &rt)
 }

@@ -13,8 +13,21 @@ fn measures_the_even_township(rt: HostRuntime) -> Result<(), Fail> {
         ("secs. 1 thru 36.", Acres("23040.00")),
         // 80 acres of the south half of the north half, 80 of its north half, and 320.
         ("sec. 14, S1/2N1/2, N1/2N1/2, and S1/2.", Acres("640.00")),
-        // The smallest place: 640 acres halved eight times.
+        // 640 acres halved eight times, and nine times.
         ("sec. 14, NE1/4NE1/4NE1/4NE1/4.", Acres("2.50")),
+        ("sec. 14, N1/2NE1/4NE1/4NE1/4NE1/4.", Acres("1.25")),
+        // The smallest place in each corner: halved ten times, 0.625 acres, a tie; all four have 2.5.
+        ("sec. 14, NE1/4NE1/4NE1/4NE1/4NE1/4.", Acres("0.63")),
+        ("sec. 14, NW1/4NW1/4NW1/4NW1/4NW1/4.", Acres("0.63")),
+        ("sec. 14, SW1/4SW1/4SW1/4SW1/4SW1/4.", Acres("0.63")),
+        ("sec. 14, SE1/4SE1/4SE1/4SE1/4SE1/4.", Acres("0.63")),
+        (
+            "sec. 14, NE1/4NE1/4NE1/4NE1/4NE1/4, NW1/4NW1/4NW1/4NW1/4NW1/4, \
+            SW1/4SW1/4SW1/4SW1/4SW1/4, SE1/4SE1/4SE1/4SE1/4SE1/4.",
+            Acres("2.50"),
+        ),
+        // The northern row of places: 640 acres halved five times.
+        ("sec. 14, N1/2N1/2N1/2N1/2N1/2.", Acres("20.00")),
         ("sec. 14, S\u{BD} of the NE\u{BC}", Acres("80.00")),
         ("T2N R3W sec 14", Acres("640.00")),
         ("T. 2 N., R. 3 W., sec. 14.", Acres("640.00")),

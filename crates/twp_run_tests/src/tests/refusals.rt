@@ -135,9 +135,9 @@ fn refuses_items(rt: HostRuntime) -> Result<(), Fail> {
         ("sec. 5, lot 5.", Refused(64, 12)),
         ("sec. 6, lots 3 to 8.", Refused(64, 18)),
         ("sec. 14, lot 1.", Refused(64, 13)),
-        ("sec. 14, N1/2NE1/4NE1/4NE1/4NE1/4.", Refused(65, 9)),
+        ("sec. 14, N1/2NE1/4NE1/4NE1/4NE1/4NE1/4.", Refused(65, 9)),
         // Too fine, in the north half of section 5: where it lies isn't asked any more.
-        ("sec. 5, N1/2NE1/4NE1/4NE1/4NE1/4.", Refused(65, 8)),
+        ("sec. 5, N1/2NE1/4NE1/4NE1/4NE1/4NE1/4.", Refused(65, 8)),
         ("sec. 5, N1/2.", Refused(66, 8)),
         ("sec. 7, SE1/4, W1/2SW1/4.", Refused(66, 15)),
         ("sec. 14, NE1/4 and N1/2.", Refused(67, 19)),
@@ -146,7 +146,7 @@ fn refuses_items(rt: HostRuntime) -> Result<(), Fail> {
         ("sec. 14, SE1/4, all.", Refused(67, 16)),
         ("sec. 5, lots 1, 2 to 4, 3.", Refused(67, 24)),
         (
-            "secs. 1 thru 36; sec. 36, NE1/4NE1/4NE1/4NE1/4.",
+            "secs. 1 thru 36; sec. 36, NE1/4NE1/4NE1/4NE1/4NE1/4.",
             Refused(67, 26),
         ),
     ] {

@@ -131,16 +131,33 @@ fn refuses_lists(rt: HostRuntime) -> Result<(), Fail> {
     Ok(())
 }
 
-/// The record of a tract that has one place alone, of section 8, 9, 10 or 11, and another one than
-/// those of other numbers.
+/// Two places of 0.625 acres: each is printed as 0.63, and both as 1.25.
+#[test]
+fn adds_the_smallest_places_up(rt: HostRuntime) -> Result<(), Fail> {
+    let alloc = rt.alloc();
+    let notes = even(alloc)?;
+    let list = b"name,description\n\
+        A,\"sec. 14, NE1/4NE1/4NE1/4NE1/4NE1/4.\"\n\
+        B,\"sec. 14, NW1/4NE1/4NE1/4NE1/4NE1/4.\"\n";
+    let (text, verdict) = report_of(alloc, &notes, list)?;
+    assert_eq!(rt;
+        str::from_utf8(&text)?,
+        "tract A: 0.63 acres\ntract B: 0.63 acres\ntotal: 1.25 acres\nremaining: 23038.75 acres\n"
+    );
+    assert_eq!(rt; verdict, Verdict::Accepted);
+    Ok(())
+}
+
+/// The record of a tract that has one place alone, of section 8, and another one than those of other
+/// numbers to 1,023.
 fn tract_of_one_place(alloc: Global, number: u32) -> Result<String, Fail> {
     let quarters = ["NE", "NW", "SW", "SE"];
-    let section = number / 256 + 8;
-    let a = quarters[(number / 64 % 4) as usize];
-    let b = quarters[(number / 16 % 4) as usize];
-    let c = quarters[(number / 4 % 4) as usize];
-    let d = quarters[(number % 4) as usize];
-    Ok(format!(in alloc; "{number},\"sec. {section}, {a}1/4{b}1/4{c}1/4{d}1/4.\"\n")?)
+    let a = quarters[(number / 256 % 4) as usize];
+    let b = quarters[(number / 64 % 4) as usize];
+    let c = quarters[(number / 16 % 4) as usize];
+    let d = quarters[(number / 4 % 4) as usize];
+    let e = quarters[(number % 4) as usize];
+    Ok(format!(in alloc; "{number},\"sec. 8, {a}1/4{b}1/4{c}1/4{d}1/4{e}1/4.\"\n")?)
 }
 
 #[test]
@@ -148,19 +165,19 @@ fn counts_tracts(rt: HostRuntime) -> Result<(), Fail> {
     let notes = even(rt.alloc())?;
     let mut list = Vec::from_slice(rt.alloc(), b"name,description\n")?;
     let mut count = 0;
-    // Each tract is a place of 2.5 acres, of 23,040.
+    // Each tract is a place of 0.625 acres, of 23,040: 991 of them are 619.375, a tie.
     for (next_count, total, remaining) in [
-        (990, "2475.00", "20565.00"),
-        (991, "2477.50", "20562.50"),
-        (992, "2480.00", "20560.00"),
-        (993, "2482.50", "20557.50"),
-        (994, "2485.00", "20555.00"),
-        (995, "2487.50", "20552.50"),
-        (996, "2490.00", "20550.00"),
-        (997, "2492.50", "20547.50"),
-        (998, "2495.00", "20545.00"),
-        (999, "2497.50", "20542.50"),
-        (1_000, "2500.00", "20540.00"),
+        (990, "618.75", "22421.25"),
+        (991, "619.38", "22420.63"),
+        (992, "620.00", "22420.00"),
+        (993, "620.63", "22419.38"),
+        (994, "621.25", "22418.75"),
+        (995, "621.88", "22418.13"),
+        (996, "622.50", "22417.50"),
+        (997, "623.13", "22416.88"),
+        (998, "623.75", "22416.25"),
+        (999, "624.38", "22415.63"),
+        (1_000, "625.00", "22415.00"),
     ] {
         for number in count..next_count {
             list.extend_from_slice(tract_of_one_place(rt.alloc(), number)?.as_bytes())?;
@@ -172,10 +189,10 @@ fn counts_tracts(rt: HostRuntime) -> Result<(), Fail> {
         assert!(&rt; text.ends_with(end.as_bytes()), "{count}");
     }
 
-    // One more is refused, whatever it is: another place of section 11, one without a name, no
+    // One more is refused, whatever it is: another place of section 8, one without a name, no
     // tract.
     for more in [
-        "1001,\"sec. 11, SE1/4SE1/4SE1/4SE1/4.\"\n",
+        "1001,\"sec. 8, SE1/4SE1/4SE1/4SE1/4SE1/4.\"\n",
         ",sec. 12.\n",
         "too,many,fields\n",
     ] {

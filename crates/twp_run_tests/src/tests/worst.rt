@@ -11,12 +11,10 @@ const CORNERS: [&str; 4] = ["NE1/4", "NW1/4", "SW1/4", "SE1/4"];
 const LIMIT: usize = 65_536;
 
 /// Sections without lots.
-const REGULAR: [&str; 11] = [
-    "8", "9", "10", "11", "12", "13", "14", "15", "16", "17", "20",
-];
+const REGULAR: [&str; 2] = ["8", "9"];
 
-/// A description that names each place of eleven sections, one after another, and behind it white
-/// space up to the limit; and where its last place is named.
+/// A description that names each place of two sections, one after another, and after it white space
+/// up to the limit; and where its last place is named.
 fn each_place(alloc: Global) -> Result<(Vec<u8>, usize), Fail> {
     let mut text = Vec::new(alloc);
     let mut last = 0;
@@ -27,10 +25,16 @@ fn each_place(alloc: Global) -> Result<(Vec<u8>, usize), Fail> {
             b"; sec. "
         })?;
         text.extend_from_slice(number.as_bytes())?;
-        for place in 0..256usize {
+        for place in 0..1_024usize {
             text.extend_from_slice(b", ")?;
             last = text.len();
-            for corner in [place / 64, place / 16 % 4, place / 4 % 4, place % 4] {
+            for corner in [
+                place / 256,
+                place / 64 % 4,
+                place / 16 % 4,
+                place / 4 % 4,
+                place % 4,
+            ] {
                 text.extend_from_slice(CORNERS[corner].as_bytes())?;
             }
         }
@@ -44,16 +48,16 @@ fn names_one_place_each_time(rt: HostRuntime) -> Result<(), Fail> {
     let alloc = rt.alloc();
     let notes = even(alloc)?;
     let (text, last) = each_place(alloc)?;
-    // 11 times 256 places of 2.5 acres.
+    // 2 times 1,024 places of 0.625 acres.
     let answer = answer_to(alloc, notes.as_slice(), text.as_slice())?;
-    assert_eq!(&rt; answer, expected(alloc, Acres("7040.00"))?);
-    // Instead of the last place of section 20 its first one, once more.
+    assert_eq!(&rt; answer, expected(alloc, Acres("1280.00"))?);
+    // Instead of the last place of section 9 its first one, once more.
     assert!(&rt; last <= text.len());
     let (front, rest) = text.as_slice().split_at(last);
-    assert!(&rt; rest.len() >= 20);
+    assert!(&rt; rest.len() >= 25);
     let mut twice = Vec::from_slice(alloc, front)?;
-    twice.extend_from_slice(b"NE1/4NE1/4NE1/4NE1/4")?;
-    twice.extend_from_slice(rest.split_at(20).1)?;
+    twice.extend_from_slice(b"NE1/4NE1/4NE1/4NE1/4NE1/4")?;
+    twice.extend_from_slice(rest.split_at(25).1)?;
     assert_eq!(&rt; twice.len(), LIMIT);
     let answer = answer_to(alloc, notes.as_slice(), twice.as_slice())?;
     assert_eq!(&rt; answer, expected(alloc, Refused(67, last as u32))?);
