@@ -18,7 +18,6 @@ use Rattle.twp_read.specs.steps.TokenSteps.{take_token, run}
 use Rattle.twp_grammar.specs.declared.kind.Kind.{Kind}
 use Rattle.twp_grammar.specs.declared.kind.Kind.TheVariants.{BadByte, BadNumber}
 use Rattle.twp_read.specs.declared.fault.TextFault.{TextFault}
-use Rattle.twp_read.specs.declared.fault.TextFault.TheVariants as faults
 use Rattle.twp_grammar.specs.declared.expected.Expected.{Expected}
 use Rattle.twp_grammar.specs.Expected.{expected_of}
 use Rattle.twp_read.specs.TextFaults.{refusal_of, fault_of_bad, refusal, number_of_bad, NoneBad, place_of}
