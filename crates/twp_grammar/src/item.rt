@@ -1,4 +1,5 @@
-ghost use Rattle.std.specs.Prelude.{◌≡◌, ℕ, ◌≤◌, ◌<◌, ◌≤◌, [], ◌∷◌, ◌++◌, length, slice_get, OnOk};
+ghost use Rattle.std.specs.Prelude.{◌≡◌, ℕ, ◌≤◌, ◌<◌, ◌≤◌, [], ◌∷◌, ◌++◌, length, slice_get, OnOk, OnErr};
+ghost use Rattle.std.specs.Prelude.{IsTrue, is_ok};
 
 use arrayvec::ArrayVec;
 use std::alloc::{AllocError, Global};
@@ -100,11 +101,13 @@ impl Steps {
         }
     }
 
-    /// Adds the step of which the last one is a part.
+    /// Adds the step of which the last one is a part. The first eight can't fail.
     #[inline(always)]
     #[tactic(auto, using(crate::proofs::StepFacts::push_first, crate::proofs::StepFacts::push_more))]
     pub fn push(&mut self, step: Step) -> Result<(), AllocError>
-        ensures { OnOk result (self.new ≡ self.old ++ step ∷ []) }
+        ensures added { OnOk result (self.new ≡ self.old ++ step ∷ []) }
+        ensures unchanged { OnErr result (self.new ≡ self.old) }
+        ensures room { length self.old < FINEST_CUTS → IsTrue (is_ok result) }
     {
         if self.first.len() < FINEST_STEPS {
             self.first.push(step);
@@ -119,7 +122,8 @@ impl Steps {
     #[tactic(auto, using(crate::proofs::StepFacts::push_more))]
     fn push_more(&mut self, step: Step) -> Result<(), AllocError>
         requires { FINEST_CUTS ≤ length self.old }
-        ensures { OnOk result (self.new ≡ self.old ++ step ∷ []) }
+        ensures added { OnOk result (self.new ≡ self.old ++ step ∷ []) }
+        ensures unchanged { OnErr result (self.new ≡ self.old) }
     {
         self.more.push(step)?;
         Ok(())

@@ -1,8 +1,8 @@
 pub mod ChainFacts
-pub mod ChainFlaws
+pub mod ChainFaults
 pub mod RangeFacts
-pub mod RangeFlaws
-pub mod ItemFlaws
+pub mod RangeFaults
+pub mod ItemFaults
 pub mod PlaceAnswers
 pub mod ResolvingFacts
 pub mod LandLots

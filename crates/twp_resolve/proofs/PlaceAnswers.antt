@@ -11,78 +11,37 @@ use Rattle.twp_grammar.specs.declared.item.Item.TheVariants as item
 use Rattle.twp_resolve.specs.declared.place_fault.PlaceFault.{PlaceFault}
 use Rattle.twp_grammar.specs.ItemPlaces.{ItemOfSection, item_places, parts_of, land_of}
 use Rattle.twp_land.specs.Lands.{SharePlace}
-use Rattle.twp_grammar.specs.OnPlat.{LiesOnPlat, AreOnPlat}
-use Rattle.twp_resolve.specs.PlaceFaults.{Flaw, HasFlaw, turn_of, HasFlawAt, IsFrom, fault_of_flaw}
-use Rattle.twp_resolve.specs.PlaceFaults.{offset_of_flaw, IsFirstPlaceFault, AnswersPlaces}
-use Rattle.twp_resolve.specs.PlaceFaults.Flaw.{other_township, no_first_section, no_last_section, backward}
-use Rattle.twp_resolve.specs.PlaceFaults.Flaw.{no_first_lot, no_last_lot, too_fine, on_lot, overlap}
+use Rattle.twp_grammar.specs.OnPlat.{HasLot, LiesOnPlat, AreOnPlat}
+use Rattle.twp_resolve.specs.PlaceFaults.{IsFirstUnlike, HasFault, HasFaultAt, IsFrom, number_of}
+use Rattle.twp_resolve.specs.PlaceFaults.{IsFirstPlaceFault, AnswersPlaces}
+use Rattle.twp_resolve.specs.declared.place_fault.PlaceFault.TheVariants as fault
+use Rattle.twp_grid.specs.Winding.{IsSection}
+use Rattle.twp_grammar.specs.declared.item.Numeral.{Numeral}
+use Rattle.twp_resolve.proofs.RangeFaults.{none_unlike}
 use Rattle.twp_grammar.specs.ItemPlaces.{item_of}
 
--- an item on the plat, whose places no item before it named, has no flaw
-pub no_flaw : (g : ℕ) (township : Designation) (earlier : ℕ → ℕ → ℕ → Bool) (section : ℕ) (it : Item)
-    (flaw : Flaw)
+-- an item on the plat, whose places no item before it named, has no fault
+pub none_of_item : (g : ℕ) (township : Designation) (earlier : ℕ → ℕ → ℕ → Bool) (section : ℕ) (it : Item)
+    (is : PlaceFault)
     → LiesOnPlat g township section it → ¬ SharePlace earlier (item_places g (item_of section it))
-    → ¬ HasFlaw g township earlier section it flaw
-no_flaw g township earlier section (item.Heading number north_south range east_west at) other_township lies
-    apart has = absurd (has lies)
-no_flaw g township earlier section (item.Heading number north_south range east_west at) no_first_section
-    lies apart has = absurd has
-no_flaw g township earlier section (item.Heading number north_south range east_west at) no_last_section lies
-    apart has = absurd has
-no_flaw g township earlier section (item.Heading number north_south range east_west at) backward lies apart
-    has = absurd has
-no_flaw g township earlier section (item.Heading number north_south range east_west at) no_first_lot lies
-    apart has = absurd has
-no_flaw g township earlier section (item.Heading number north_south range east_west at) no_last_lot lies
-    apart has = absurd has
-no_flaw g township earlier section (item.Heading number north_south range east_west at) too_fine lies apart
-    has = absurd has
-no_flaw g township earlier section (item.Heading number north_south range east_west at) on_lot lies apart
-    has = absurd has
-no_flaw g township earlier section (item.Heading number north_south range east_west at) overlap lies apart
-    has = apart has
-no_flaw g township earlier section (item.Sections first last whole) other_township lies apart has = absurd has
-no_flaw g township earlier section (item.Sections first last whole) no_first_section lies apart has =
-    absurd (has lies.0)
-no_flaw g township earlier section (item.Sections first last whole) no_last_section lies apart has =
-    absurd (has lies.1)
-no_flaw g township earlier section (item.Sections first last whole) backward lies apart has =
-    absurd (omega (arith, lies.2))
-no_flaw g township earlier section (item.Sections first last whole) no_first_lot lies apart has = absurd has
-no_flaw g township earlier section (item.Sections first last whole) no_last_lot lies apart has = absurd has
-no_flaw g township earlier section (item.Sections first last whole) too_fine lies apart has = absurd has
-no_flaw g township earlier section (item.Sections first last whole) on_lot lies apart has = absurd has
-no_flaw g township earlier section (item.Sections first last whole) overlap lies apart has = apart has
-no_flaw g township earlier section (item.Lots first last) other_township lies apart has = absurd has
-no_flaw g township earlier section (item.Lots first last) no_first_section lies apart has = absurd has
-no_flaw g township earlier section (item.Lots first last) no_last_section lies apart has = absurd has
-no_flaw g township earlier section (item.Lots first last) backward lies apart has =
-    absurd (omega (arith, lies.0))
-no_flaw g township earlier section (item.Lots first last) no_first_lot lies apart has =
-    absurd (has (lies.1 first.value (omega arith) lies.0))
-no_flaw g township earlier section (item.Lots first last) no_last_lot lies apart has =
-    absurd (has (lies.1 last.value lies.0 (omega arith)))
-no_flaw g township earlier section (item.Lots first last) too_fine lies apart has = absurd has
-no_flaw g township earlier section (item.Lots first last) on_lot lies apart has = absurd has
-no_flaw g township earlier section (item.Lots first last) overlap lies apart has = apart has
-no_flaw g township earlier section (item.Chain steps at) other_township lies apart has = absurd has
-no_flaw g township earlier section (item.Chain steps at) no_first_section lies apart has = absurd has
-no_flaw g township earlier section (item.Chain steps at) no_last_section lies apart has = absurd has
-no_flaw g township earlier section (item.Chain steps at) backward lies apart has = absurd has
-no_flaw g township earlier section (item.Chain steps at) no_first_lot lies apart has = absurd has
-no_flaw g township earlier section (item.Chain steps at) no_last_lot lies apart has = absurd has
-no_flaw g township earlier section (item.Chain steps at) too_fine lies apart has = absurd (has lies.0)
-no_flaw g township earlier section (item.Chain steps at) on_lot lies apart has = absurd (lies.1 has)
-no_flaw g township earlier section (item.Chain steps at) overlap lies apart has = apart has
-no_flaw g township earlier section (item.All at) other_township lies apart has = absurd has
-no_flaw g township earlier section (item.All at) no_first_section lies apart has = absurd has
-no_flaw g township earlier section (item.All at) no_last_section lies apart has = absurd has
-no_flaw g township earlier section (item.All at) backward lies apart has = absurd has
-no_flaw g township earlier section (item.All at) no_first_lot lies apart has = absurd has
-no_flaw g township earlier section (item.All at) no_last_lot lies apart has = absurd has
-no_flaw g township earlier section (item.All at) too_fine lies apart has = absurd has
-no_flaw g township earlier section (item.All at) on_lot lies apart has = absurd has
-no_flaw g township earlier section (item.All at) overlap lies apart has = apart has
+    → ¬ HasFault g township earlier section it is
+none_of_item g township earlier section (item.Heading number north_south range east_west start)
+    (fault.OtherTownship at) lies apart has = has.1 lies
+none_of_item g township earlier section (item.Sections first last whole) (fault.NoSection at) lies apart has =
+    none_unlike IsSection first last at lies.0 lies.1 has
+none_of_item g township earlier section (item.Sections first last whole) (fault.Backward at) lies apart has =
+    omega (arith, lies.2, has.1)
+none_of_item g township earlier section (item.Lots first last) (fault.Backward at) lies apart has =
+    omega (arith, lies.0, has.1)
+none_of_item g township earlier section (item.Lots first last) (fault.NoLot at) lies apart has =
+    none_unlike (HasLot section) first last at (lies.1 first.value (omega arith) lies.0)
+    (lies.1 last.value lies.0 (omega arith)) has
+none_of_item g township earlier section (item.Chain steps start) (fault.TooFine at) lies apart has =
+    has.1 lies.0
+none_of_item g township earlier section (item.Chain steps start) (fault.OnLot at) lies apart has =
+    lies.1 has.1
+none_of_item g township earlier section it (fault.Overlap at) lies apart has = apart has.1
+none_of_item g township earlier section it other lies apart has = has
 
 -- some of the first elements pass a test
 record IsFound {X : Type 0} (test : X → Bool) (xs : List X) (n : ℕ) (d : X) : Type 0 where
@@ -151,10 +110,10 @@ pairs_of_apart g parts apart i j d before within shared =
       in_second = shared.in_second;
     })
 
--- what lies on the plat without overlap has no flaw
-none_at : (g : ℕ) (township : Designation) (items : List Item) (index : ℕ) (flaw : Flaw)
-    → AreOnPlat g township items → ¬ HasFlawAt g township items index flaw
-none_at g township items index flaw on has =
+-- what lies on the plat without overlap has no fault
+none_at : (g : ℕ) (township : Designation) (items : List Item) (index : ℕ) (is : PlaceFault)
+    → AreOnPlat g township items → ¬ HasFaultAt g township items index is
+none_at g township items index is on has =
     let part = has.part in
     let within : index < length (parts_of items) = slice_get_within (parts_of items) index part has.part_is in
     let same : get_or (parts_of items) index part ≡ part =
@@ -164,39 +123,49 @@ none_at g township items index flaw on has =
     let apart =
     subst (λ (p : ItemOfSection). ¬ SharePlace (land_of g (take index (parts_of items))) (item_places g p))
     same (apart_of_pairs g (parts_of items) on.apart index part within) in
-    no_flaw g township (land_of g (take index (parts_of items))) part.section part.item flaw lies apart
+    none_of_item g township (land_of g (take index (parts_of items))) part.section part.item is lies apart
     has.has
 
-pub no_fault : (g : ℕ) (township : Designation) (items : List Item) (fault : PlaceFault)
-    → AreOnPlat g township items → ¬ IsFirstPlaceFault g township items fault
-no_fault g township items fault on first =
-    none_at g township items first.index first.flaw on first.is.at_index
+pub no_fault : (g : ℕ) (township : Designation) (items : List Item) (is : PlaceFault)
+    → AreOnPlat g township items → ¬ IsFirstPlaceFault g township items is
+no_fault g township items is on first = none_at g township items first.index is on first.is
 
--- one first fault
-flaw_at : ℕ → Flaw
-flaw_at zero = other_township
-flaw_at (suc zero) = no_first_section
-flaw_at (suc (suc zero)) = no_last_section
-flaw_at (suc (suc (suc zero))) = backward
-flaw_at (suc (suc (suc (suc zero)))) = no_first_lot
-flaw_at (suc (suc (suc (suc (suc zero))))) = no_last_lot
-flaw_at (suc (suc (suc (suc (suc (suc zero)))))) = too_fine
-flaw_at (suc (suc (suc (suc (suc (suc (suc zero))))))) = on_lot
-flaw_at _ = overlap
+-- there is one first number that isn't of the kind
+one_unlike : (IsOfKind : ℕ → Type 0) (first last : Numeral) (at at' : ℕ)
+    → IsFirstUnlike IsOfKind first last at → IsFirstUnlike IsOfKind first last at' → at ≡ at'
+one_unlike IsOfKind first last at at' (inl a) (inl b) = a.0 ∙ sym b.0
+one_unlike IsOfKind first last at at' (inl a) (inr b) = absurd (a.1 b.1)
+one_unlike IsOfKind first last at at' (inr a) (inl b) = absurd (b.1 a.1)
+one_unlike IsOfKind first last at at' (inr a) (inr b) = a.0 ∙ sym b.0
 
-at_its_turn : (flaw : Flaw) → flaw_at (turn_of flaw) ≡ flaw
-unfolding flaw_at
-at_its_turn other_township = refl
-at_its_turn no_first_section = refl
-at_its_turn no_last_section = refl
-at_its_turn backward = refl
-at_its_turn no_first_lot = refl
-at_its_turn no_last_lot = refl
-at_its_turn too_fine = refl
-at_its_turn on_lot = refl
-at_its_turn overlap = refl
+-- an item has one fault of a number
+one_of_number : (g : ℕ) (township : Designation) (earlier : ℕ → ℕ → ℕ → Bool) (section : ℕ) (it : Item)
+    (one other : PlaceFault)
+    → number_of one ≡ number_of other
+    → HasFault g township earlier section it one → HasFault g township earlier section it other → one ≡ other
+one_of_number g township earlier section (item.Heading number north_south range east_west start)
+    (fault.OtherTownship at) (fault.OtherTownship at') same a b =
+    ap (λ x. fault.OtherTownship x) (a.0 ∙ sym b.0)
+one_of_number g township earlier section (item.Sections first last whole) (fault.NoSection at)
+    (fault.NoSection at') same a b =
+    ap (λ x. fault.NoSection x) (one_unlike IsSection first last at at' a b)
+one_of_number g township earlier section (item.Sections first last whole) (fault.Backward at)
+    (fault.Backward at') same a b = ap (λ x. fault.Backward x) (a.0 ∙ sym b.0)
+one_of_number g township earlier section (item.Lots first last) (fault.Backward at) (fault.Backward at') same
+    a b = ap (λ x. fault.Backward x) (a.0 ∙ sym b.0)
+one_of_number g township earlier section (item.Lots first last) (fault.NoLot at) (fault.NoLot at') same a b =
+    ap (λ x. fault.NoLot x) (one_unlike (HasLot section) first last at at' a b)
+one_of_number g township earlier section (item.Chain steps start) (fault.TooFine at) (fault.TooFine at') same
+    a b = ap (λ x. fault.TooFine x) (a.0 ∙ sym b.0)
+one_of_number g township earlier section (item.Chain steps start) (fault.OnLot at) (fault.OnLot at') same a
+    b = ap (λ x. fault.OnLot x) (a.0 ∙ sym b.0)
+one_of_number g township earlier section it (fault.Overlap at) (fault.Overlap at') same a b =
+    ap (λ x. fault.Overlap x) (a.0 ∙ sym b.0)
+one_of_number g township earlier section it one other same a b =
+    absurd (first_of (omega (arith, same), assumption (a, b)))
 
-same_index : (i j : ℕ) (f h : Flaw) → IsFrom i f j h → IsFrom j h i f → (i ≡ j) × (turn_of f ≡ turn_of h)
+same_index : (i j : ℕ) (f h : PlaceFault) → IsFrom i f j h → IsFrom j h i f
+    → (i ≡ j) × (number_of f ≡ number_of h)
 same_index i j f h (inl a) (inl b) = absurd (omega arith)
 same_index i j f h (inl a) (inr b) = absurd (omega (arith, b.0))
 same_index i j f h (inr a) (inl b) = absurd (omega (arith, a.0))
@@ -205,22 +174,23 @@ same_index i j f h (inr a) (inr b) = (a.0, omega (arith, a.1, b.1))
 some_inside : {X : Type 0} (a b : X) → Some a ≡ Some b → a ≡ b
 some_inside a b e = cc e
 
-one_fault : (g : ℕ) (township : Designation) (items : List Item) (fault fault' : PlaceFault)
-    → IsFirstPlaceFault g township items fault → IsFirstPlaceFault g township items fault' → fault ≡ fault'
-one_fault g township items fault fault' a b =
-    let same =
-    same_index a.index b.index a.flaw b.flaw (a.first b.index b.flaw b.is.at_index)
-    (b.first a.index a.flaw a.is.at_index) in
-    let flaws : a.flaw ≡ b.flaw = sym (at_its_turn a.flaw) ∙ ap flaw_at same.1 ∙ at_its_turn b.flaw in
-    let p = a.is.at_index.part in
-    let q = b.is.at_index.part in
-    let parts : p ≡ q =
-    some_inside p q
-    (sym a.is.at_index.part_is ∙ ap (λ i. slice_get (parts_of items) i) same.0 ∙ b.is.at_index.part_is) in
-    a.is.fault_is
-    ∙ ap (λ f. fault_of_flaw f (offset_of_flaw p.item f)) flaws
-    ∙ ap (λ (x : ItemOfSection). fault_of_flaw b.flaw (offset_of_flaw x.item b.flaw)) parts
-    ∙ sym b.is.fault_is
+-- one first fault
+one_fault : (g : ℕ) (township : Designation) (items : List Item) (one other : PlaceFault)
+    → IsFirstPlaceFault g township items one → IsFirstPlaceFault g township items other → one ≡ other
+one_fault g township items one other a b =
+    let same = same_index a.index b.index one other (a.first b.index other b.is) (b.first a.index one a.is) in
+    let p = a.is.part in
+    let q = b.is.part in
+    let parts : q ≡ p =
+    some_inside q p
+    (sym b.is.part_is ∙ ap (λ i. slice_get (parts_of items) i) (sym same.0) ∙ a.is.part_is) in
+    let here : HasFault g township (land_of g (take a.index (parts_of items))) p.section p.item other =
+    subst (λ (x : ItemOfSection).
+    HasFault g township (land_of g (take a.index (parts_of items))) x.section x.item other) parts
+    (subst (λ i. HasFault g township (land_of g (take i (parts_of items))) q.section q.item other)
+    (sym same.0) b.is.has) in
+    one_of_number g township (land_of g (take a.index (parts_of items))) p.section p.item one other same.1
+    a.is.has here
 
 pub one_answer : (g : ℕ) (township : Designation) (items : List Item)
     (answer answer' : Result (ℕ → ℕ → ℕ → Bool) PlaceFault)

@@ -19,10 +19,11 @@ use Rattle.twp_grammar.specs.Items.{BeginWithSections}
 use Rattle.twp_grammar.specs.ItemPlaces.{ItemOfSection, item_places, section_behind, with_sections, parts_of}
 use Rattle.twp_grammar.specs.ItemPlaces.{land_of}
 use Rattle.twp_grammar.specs.OnPlat.{LiesOnPlat, IsLandOfItems}
-use Rattle.twp_resolve.specs.PlaceFaults.{Flaw, HasFlaw, HasFlawAt, IsFrom, IsFirstPlaceFault}
+use Rattle.twp_resolve.specs.PlaceFaults.{HasFault, HasFaultAt, IsFrom, IsFirstPlaceFault}
 use Rattle.twp_grammar.specs.ItemPlaces.{item_of}
-use Rattle.twp_resolve.specs.steps.ResolvingSteps.{IsTaken, IsFirstFlaw, IsBeforeParts, number_of_section}
-use Rattle.twp_resolve.proofs.PlaceAnswers.{no_flaw, pairs_of_apart}
+use Rattle.twp_resolve.specs.steps.ResolvingSteps.{IsTaken, IsItemsFirstFault, IsBeforeParts}
+use Rattle.twp_resolve.specs.steps.ResolvingSteps.{number_of_section}
+use Rattle.twp_resolve.proofs.PlaceAnswers.{none_of_item, pairs_of_apart}
 
 -- the items before an index lie on the plat, no place is named by two of them, and this is their land
 pub record AreTaken (g : ℕ) (township : Designation) (items : List Item) (index section : ℕ)
@@ -121,34 +122,30 @@ taken_next g township items index section it places new inside at so_far taken =
           ∙ sym (list_any_more (λ p. item_places g p s c r) (parts_of items) index d next.within))));
     }
 
--- the first flaw of the item at an index is the first fault
+-- the first fault of the item at an index, of which those before have none, is the first of all
 pub refused_here : (g : ℕ) (township : Designation) (items : List Item) (index section : ℕ) (it : Item)
     (places : ℕ → ℕ → ℕ → Bool) (fault : PlaceFault)
     → index < length items → get_or items index it ≡ it
-    → AreTaken g township items index section places → IsFirstFlaw g township section it places fault
+    → AreTaken g township items index section places → IsItemsFirstFault g township section it places fault
     → IsFirstPlaceFault g township items fault
-refused_here g township items index section it places fault inside at so_far flawed =
+refused_here g township items index section it places fault inside at so_far refused =
     let next : IsNext items index section it = next_is items index section it inside at so_far.left in
     let part : ItemOfSection = item_of section it in
     let there : slice_get (parts_of items) index ≡ Some part =
     slice_get-get_or (parts_of items) index part next.within ∙ ap (λ p. Some p) (next.here part) in
-    let has = subst (λ land. HasFlaw g township land section it flawed.flaw) so_far.land flawed.has in
+    let has = subst (λ land. HasFault g township land section it fault) so_far.land refused.is in
     record {
       index = index;
-      flaw = flawed.flaw;
-      is = record {
-        at_index = record { part = part; part_is = there; has = has };
-        fault_is = flawed.fault_is;
-      };
+      is = record { part = part; part_is = there; has = has };
       first = first;
     }
   where
     some_part : (a b : ItemOfSection) → Some a ≡ Some b → a ≡ b
     some_part a b e = cc e
 
-    first : (index' : ℕ) (flaw' : Flaw) → HasFlawAt g township items index' flaw'
-        → IsFrom index flawed.flaw index' flaw'
-    first index' flaw' other = elim (cases_lt index' index) [
+    first : (index' : ℕ) (fault' : PlaceFault) → HasFaultAt g township items index' fault'
+        → IsFrom index fault index' fault'
+    first index' fault' other = elim (cases_lt index' index) [
       | inl earlier ↦
           let p = other.part in
           let count = parts_count 0 items in
@@ -164,7 +161,8 @@ refused_here g township items index section it places fault inside at so_far fla
           ¬ SharePlace (land_of g (take index' (parts_of items))) (item_places g q)) same
           (so_far.apart index' p earlier within) in
           absurd
-          (no_flaw g township (land_of g (take index' (parts_of items))) p.section p.item flaw' lies apart
+          (none_of_item g township (land_of g (take index' (parts_of items))) p.section p.item fault' lies
+          apart
           other.has)
       | inr not_earlier ↦ elim (cases_lt index index') [
         | inl later ↦ inl later
@@ -179,10 +177,10 @@ refused_here g township items index section it places fault inside at so_far fla
             some_part p part (sym other.part_is ∙ ap (λ n. slice_get (parts_of items) n) same ∙ there) in
             let land_is : land_of g (take index' (parts_of items)) ≡ places =
             ap (λ n. land_of g (take n (parts_of items))) same ∙ sym so_far.land in
-            let has : HasFlaw g township places part.section part.item flaw' =
-            subst (λ (q : ItemOfSection). HasFlaw g township places q.section q.item flaw') it_is
-            (subst (λ land. HasFlaw g township land p.section p.item flaw') land_is other.has) in
-            inr (sym same, flawed.first flaw' has)
+            let has : HasFault g township places part.section part.item fault' =
+            subst (λ (q : ItemOfSection). HasFault g township places q.section q.item fault') it_is
+            (subst (λ land. HasFault g township land p.section p.item fault') land_is other.has) in
+            inr (sym same, refused.first fault' has)
       ]
     ]
 

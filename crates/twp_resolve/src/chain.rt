@@ -5,7 +5,7 @@ ghost use Rattle.twp_grid.specs.Places.{PLACE_DIGITS};
 ghost use Rattle.twp_grid.specs.Cuts.{AreWithin, part_of, reached};
 ghost use Rattle.twp_grid.specs.Townships.{Designation};
 ghost use Rattle.twp_grammar.specs.ItemPlaces.{cut_of, cuts_of};
-ghost use Rattle.twp_resolve.specs.steps.ResolvingSteps.{CanCut, IsCutTo, IsTaken, IsFirstFlaw};
+ghost use Rattle.twp_resolve.specs.steps.ResolvingSteps.{CanCut, IsCutTo, IsTaken, IsItemsFirstFault};
 ghost use Rattle.twp_grammar.specs.declared.item.Item.TheVariants.{Chain};
 ghost use Rattle.twp_grammar.specs.declared.item.Step.{Step as TakenStep};
 
@@ -26,7 +26,7 @@ pub(crate) fn resolve_chain<L: Land>(
         → IsTaken PLACE_DIGITS township section (Chain steps.now at)
         (L.places land.old) (L.places land.new)) }
     ensures refused { IfErr result (λ fault. (township : Designation)
-        → IsFirstFlaw PLACE_DIGITS township section (Chain steps.now at) (L.places land.old) fault) }
+        → IsItemsFirstFault PLACE_DIGITS township section (Chain steps.now at) (L.places land.old) fault) }
 {
     if let Some(place) = place_of(steps) {
         return resolve_block(land, section, place, at);
@@ -51,7 +51,7 @@ fn resolve_block<L: Land>(
         (L.places land.old) (L.places land.new)) }
     ensures refused { (steps : List TakenStep) → IsCutTo PLACE_DIGITS steps 0 block
         → IfErr result (λ fault. (township : Designation)
-        → IsFirstFlaw PLACE_DIGITS township section (Chain steps at) (L.places land.old) fault) }
+        → IsItemsFirstFault PLACE_DIGITS township section (Chain steps at) (L.places land.old) fault) }
 {
     if holds_of_lot(section, block) {
         return Err(PlaceFault::OnLot { at });

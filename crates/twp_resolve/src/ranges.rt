@@ -5,8 +5,7 @@ ghost use Rattle.twp_grid.specs.Townships.{Designation};
 ghost use Rattle.twp_grid.specs.Winding.{IsSection};
 ghost use Rattle.twp_land.specs.Lands.{SharePlace};
 ghost use Rattle.twp_grammar.specs.OnPlat.{HasLot};
-ghost use Rattle.twp_resolve.specs.steps.ResolvingSteps.{sections_from, lots_from, AreAdded};
-ghost use Rattle.twp_resolve.specs.steps.ResolvingSteps.{IsTaken, IsFirstFlaw};
+ghost use Rattle.twp_resolve.specs.steps.ResolvingSteps.{sections_from, lots_from, AreAdded, IsTaken, IsItemsFirstFault};
 ghost use Rattle.twp_grammar.specs.declared.item.Item.TheVariants.{Sections, Lots};
 
 use crate::blocks::add_block;
@@ -28,7 +27,7 @@ pub(crate) fn resolve_sections<L: Land>(
         (L.places land.old) (L.places land.new)) }
     ensures first { IfOk result (λ section. section ≡ first.value) }
     ensures refused { IfErr result (λ fault. (township : Designation) (section : ℕ)
-        → IsFirstFlaw PLACE_DIGITS township section (Sections first last whole)
+        → IsItemsFirstFault PLACE_DIGITS township section (Sections first last whole)
         (L.places land.old) fault) }
 {
     let from = section_of(first)?;
@@ -52,7 +51,7 @@ pub(crate) fn resolve_lots<L: Land>(
         → IsTaken PLACE_DIGITS township section (Lots first last)
         (L.places land.old) (L.places land.new)) }
     ensures refused { IfErr result (λ fault. (township : Designation)
-        → IsFirstFlaw PLACE_DIGITS township section (Lots first last) (L.places land.old) fault) }
+        → IsItemsFirstFault PLACE_DIGITS township section (Lots first last) (L.places land.old) fault) }
 {
     check_order(first, last)?;
     let from = lot_of(section, first)?;

@@ -6,7 +6,7 @@ ghost use Rattle.twp_land.specs.WholeLots.{HasWholeLots};
 ghost use Rattle.twp_grammar.specs.ItemPlaces.{section_behind};
 ghost use Rattle.twp_grammar.specs.OnPlat.{AreOnPlat, IsLandOfItems};
 ghost use Rattle.twp_resolve.specs.PlaceFaults.{IsFirstPlaceFault};
-ghost use Rattle.twp_resolve.specs.steps.ResolvingSteps.{IsTaken, IsFirstFlaw, IsBeforeParts};
+ghost use Rattle.twp_resolve.specs.steps.ResolvingSteps.{IsTaken, IsItemsFirstFault, IsBeforeParts};
 ghost use Rattle.twp_resolve.specs.steps.ResolvingSteps.{number_of_section};
 
 use crate::blocks::add_block;
@@ -68,7 +68,7 @@ fn resolve_item<L: Land>(
         item.now (L.places land.old) (L.places land.new)) }
     ensures behind { IfOk result (λ behind. number_of_section behind
         ≡ section_behind (number_of_section section) item.now) }
-    ensures refused { IfErr result (IsFirstFlaw PLACE_DIGITS township (number_of_section section)
+    ensures refused { IfErr result (IsItemsFirstFault PLACE_DIGITS township (number_of_section section)
         item.now (L.places land.old)) }
 {
     match item {

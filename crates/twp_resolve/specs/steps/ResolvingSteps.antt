@@ -1,5 +1,5 @@
 -- What each step of resolving does with an item: it is taken into the land of the items before it,
--- or its first flaw is reported. No public promise speaks of it; proofs/ResolvingFacts shows that
+-- or its first fault is answered. No public promise speaks of it; proofs/ResolvingFacts shows that
 -- the steps lead to the land of all items, or to the first fault.
 use Rattle.std.specs.Prelude.{◌≡◌, ◌==◌, ◌&&◌, nat_le, ℕ, ◌≤◌, Bool, List, drop}
 use Rattle.std.specs.Prelude.{Option}
@@ -18,8 +18,7 @@ use Rattle.twp_resolve.specs.declared.place_fault.PlaceFault.{PlaceFault}
 use Rattle.twp_grammar.specs.declared.item.Step.{Step}
 use Rattle.twp_grammar.specs.ItemPlaces.{cuts_of, is_lot_from, item_places}
 use Rattle.twp_grammar.specs.OnPlat.{LiesOnPlat}
-use Rattle.twp_resolve.specs.PlaceFaults.{Flaw, HasFlaw, turn_of, fault_of_flaw}
-use Rattle.twp_resolve.specs.PlaceFaults.{offset_of_flaw}
+use Rattle.twp_resolve.specs.PlaceFaults.{HasFault, number_of}
 use Rattle.twp_grammar.specs.ItemPlaces.{item_of}
 
 -- the block is large enough for the cut
@@ -50,14 +49,12 @@ pub record IsTaken (g : ℕ) (township : Designation) (section : ℕ) (some : It
   pub apart : ¬ SharePlace old (item_places g (item_of section some))
   pub added : new ≡ union old (item_places g (item_of section some))
 
--- the fault is the item's first flaw, after items of this land
-pub record IsFirstFlaw (g : ℕ) (township : Designation) (section : ℕ) (some : Item)
+-- the item, after items of this land, has the fault, and none of a lesser number
+pub record IsItemsFirstFault (g : ℕ) (township : Designation) (section : ℕ) (some : Item)
     (earlier : ℕ → ℕ → ℕ → Bool) (fault : PlaceFault) : Type 0 where
-  pub flaw : Flaw
-  pub has : HasFlaw g township earlier section some flaw
-  pub first : (other : Flaw) → HasFlaw g township earlier section some other
-      → turn_of flaw ≤ turn_of other
-  pub fault_is : fault ≡ fault_of_flaw flaw (offset_of_flaw some flaw)
+  pub is : HasFault g township earlier section some fault
+  pub first : (other : PlaceFault) → HasFault g township earlier section some other
+      → number_of fault ≤ number_of other
 
 -- the number of the section named last, or 0
 abbrev pub number_of_section : Option ℕ → ℕ

@@ -1,5 +1,5 @@
--- A block holds a place of a lot, or shares a place with what came before, or is taken.
-use Rattle.twp_resolve.proofs.ChainFlaws.{is_on_lot, chain_taken, chain_refused}
+-- A block holds of a lot, or shares a place with what came before, or is taken.
+use Rattle.twp_resolve.proofs.ChainFaults.{is_on_lot, chain_taken, chain_refused}
 use Rattle.twp_resolve.proofs.chain.resolve_block.Goals as goal
 
 pub returns-then-holds_of_lot-clause-refused : goal.returns-then-holds_of_lot-clause-refused

@@ -1,5 +1,5 @@
 -- A part is too fine, or its block is taken.
-use Rattle.twp_resolve.proofs.ChainFlaws.{is_too_fine}
+use Rattle.twp_resolve.proofs.ChainFaults.{is_too_fine}
 use Rattle.twp_resolve.proofs.chain.resolve_chain.Goals as goal
 
 pub returns-in-Some-clause-taken : goal.returns-in-Some-clause-taken

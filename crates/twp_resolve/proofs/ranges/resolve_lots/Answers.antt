@@ -1,7 +1,7 @@
 -- Order, first lot, last lot, and then the places.
 use Rattle.std.proofs.lemmas.Result.{err_from_is_err_and}
-use Rattle.twp_resolve.proofs.RangeFlaws.{lots_backward, lots_no_first, lots_no_last, lots_taken}
-use Rattle.twp_resolve.proofs.RangeFlaws.{lots_refused}
+use Rattle.twp_resolve.proofs.RangeFaults.{lots_backward, lots_no_first, lots_no_last, lots_taken}
+use Rattle.twp_resolve.proofs.RangeFaults.{lots_refused}
 use Rattle.twp_resolve.proofs.ranges.resolve_lots.Goals as goal
 
 pub returns-in_err-check_order-clause-refused : goal.returns-in_err-check_order-clause-refused

@@ -1,8 +1,8 @@
 -- First section, last section, order, and then the places.
 use Rattle.std.proofs.Common.{◌≡◌, true}
 use Rattle.std.proofs.lemmas.Result.{err_from_is_err_and}
-use Rattle.twp_resolve.proofs.RangeFlaws.{sections_no_first, sections_no_last, sections_backward}
-use Rattle.twp_resolve.proofs.RangeFlaws.{sections_overlap}
+use Rattle.twp_resolve.proofs.RangeFaults.{sections_no_first, sections_no_last, sections_backward}
+use Rattle.twp_resolve.proofs.RangeFaults.{sections_overlap}
 use Rattle.twp_resolve.proofs.ranges.resolve_sections.Goals as goal
 
 pub returns-in_err-from-clause-refused : goal.returns-in_err-from-clause-refused

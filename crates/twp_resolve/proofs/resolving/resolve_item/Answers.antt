@@ -1,7 +1,7 @@
 -- The answer for each kind of item is the answer for the item.
 use Rattle.std.proofs.lemmas.Result.{err_from_is_err_and}
 use Rattle.twp_resolve.specs.steps.ResolvingSteps.{number_of_section}
-use Rattle.twp_resolve.proofs.ItemFlaws.{heading_taken, heading_refused, all_taken, all_refused}
+use Rattle.twp_resolve.proofs.ItemFaults.{heading_taken, heading_refused, all_taken, all_refused}
 use Rattle.twp_resolve.proofs.resolving.resolve_item.Goals as goal
 use Rattle.twp_resolve.proofs.resolving.resolve_item.Goals.{in-Heading+in_ok-resolve_heading-in-Heading}
 use Rattle.twp_resolve.proofs.resolving.resolve_item.Goals.{in-Lots+in_ok-resolve_lots-in-Lots}
@@ -16,6 +16,33 @@ returns-in_err-resolve_heading-in-Heading-clause-refused g c =
     rw (gone.1, gone.2, (c.in_err-resolve_heading-in-Heading.ensures).0, it.is)
     (heading_refused (number_of_section c.args.section) it.number it.north_south it.range it.east_west it.at
     (g.L.Land.places c.args.land.now) c.args.township (c.in_err-resolve_heading-in-Heading.ensures).1)
+
+pub returns-in_err-resolve_sections-in-Sections-clause-refused :
+    goal.returns-in_err-resolve_sections-in-Sections-clause-refused
+returns-in_err-resolve_sections-in-Sections-clause-refused g c =
+    let gone =
+    err_from_is_err_and c.from_residual-in_err-resolve_sections-in-Sections.result
+    c.from_residual-in_err-resolve_sections-in-Sections.ensures.1 in
+    rw (gone.1, gone.2, c.in-Sections.is)
+    (c.in_err-resolve_sections-in-Sections.ensures.refused c.args.township (number_of_section c.args.section))
+
+pub returns-in_err-resolve_lots-in-Lots-clause-refused :
+    goal.returns-in_err-resolve_lots-in-Lots-clause-refused
+returns-in_err-resolve_lots-in-Lots-clause-refused g c =
+    let gone =
+    err_from_is_err_and c.from_residual-in_err-resolve_lots-in-Lots.result
+    c.from_residual-in_err-resolve_lots-in-Lots.ensures.1 in
+    rw (gone.1, gone.2, c.in-Lots.is, c.unwrap.ensures)
+    (c.in_err-resolve_lots-in-Lots.ensures.refused c.args.township)
+
+pub returns-in_err-resolve_chain-in-Chain-clause-refused :
+    goal.returns-in_err-resolve_chain-in-Chain-clause-refused
+returns-in_err-resolve_chain-in-Chain-clause-refused g c =
+    let gone =
+    err_from_is_err_and c.from_residual-in_err-resolve_chain-in-Chain.result
+    c.from_residual-in_err-resolve_chain-in-Chain.ensures.1 in
+    rw (gone.1, gone.2, c.in-Chain.is, c.unwrap-in-Chain.ensures)
+    (c.in_err-resolve_chain-in-Chain.ensures.refused c.args.township)
 
 pub returns-in-Sections-clause-taken : goal.returns-in-Sections-clause-taken
 returns-in-Sections-clause-taken g c =

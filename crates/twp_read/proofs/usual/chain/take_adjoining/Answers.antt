@@ -33,7 +33,7 @@ loop-usual-preserved c =
       λ place items.
           subst (λ (steps : List Step).
           Leads text from.at from.state (Chain c.args.steps.now place ∷ items) (reached.at + usual.size)
-          past.Step (Chain steps place ∷ items)) (sym c.in_ok-push.ensures)
+          past.Step (Chain steps place ∷ items)) (sym c.in_ok-push.ensures.added)
           (step_leads text from.at from.state (Chain c.args.steps.now place ∷ items) reached.at reached.state
           (Chain c.loop-usual.steps place ∷ items) usual.step usual.size
           c.loop-usual.invariant.2 (c.loop-usual.invariant.3 place items) c.in-Some.ensures),

@@ -1,4 +1,4 @@
--- The answer for an aliquot part: the first of its flaws, or its places are taken.
+-- What is answered of an aliquot part: the first of its faults, or its places are taken.
 use Rattle.std.proofs.Common.{◌≡◌, ◌==◌, ℕ, ◌≤◌, Bool, List, refl, sym, ap, subst, ◌∙◌, arith, Result, Ok}
 use Rattle.std.proofs.Common.{Err, IfOk, IfErr, MatchResult}
 use Rattle.std.proofs.lemmas.Bool.{and_parts}
@@ -13,42 +13,33 @@ use Rattle.twp_resolve.specs.declared.place_fault.PlaceFault.{PlaceFault}
 use Rattle.twp_resolve.specs.declared.place_fault.PlaceFault.TheVariants as fault
 use Rattle.twp_grammar.specs.ItemPlaces.{cuts_of, item_places}
 use Rattle.twp_grammar.specs.OnPlat.{HoldsOfLot}
-use Rattle.twp_resolve.specs.PlaceFaults.{Flaw, HasFlaw, turn_of}
-use Rattle.twp_resolve.specs.PlaceFaults.Flaw.{other_township, no_first_section, no_last_section, backward}
-use Rattle.twp_resolve.specs.PlaceFaults.Flaw.{no_first_lot, no_last_lot, too_fine, on_lot, overlap}
+use Rattle.twp_resolve.specs.PlaceFaults.{HasFault, number_of}
 use Rattle.twp_grammar.specs.ItemPlaces.{item_of}
 use Rattle.twp_land.specs.WholeLots.{HoldsLotPlace}
-use Rattle.twp_resolve.specs.steps.ResolvingSteps.{IsTaken, IsFirstFlaw}
+use Rattle.twp_resolve.specs.steps.ResolvingSteps.{IsTaken, IsItemsFirstFault}
 use Rattle.twp_land.proofs.LotBlocks.{same_section, share_of_meets, meets_of_share}
 use Rattle.twp_resolve.proofs.ChainFacts.{chain_places}
 
--- an aliquot part's flaws are three
+-- an aliquot part is too fine, holds land of a lot, or was named before
 at_least : (township : Designation) (earlier : ℕ → ℕ → ℕ → Bool) (section : ℕ) (steps : List Step)
-    (at turn : ℕ)
-    → (¬ AreWithin PLACE_DIGITS (cuts_of steps) → turn ≤ 6)
-    → (HoldsOfLot PLACE_DIGITS (item_of section (Chain steps at)) → turn ≤ 7)
-    → turn ≤ 8
-    → (other : Flaw) → HasFlaw PLACE_DIGITS township earlier section (Chain steps at) other
-    → turn ≤ turn_of other
-at_least township earlier section steps at turn fine lot most other_township has = absurd has
-at_least township earlier section steps at turn fine lot most no_first_section has = absurd has
-at_least township earlier section steps at turn fine lot most no_last_section has = absurd has
-at_least township earlier section steps at turn fine lot most backward has = absurd has
-at_least township earlier section steps at turn fine lot most no_first_lot has = absurd has
-at_least township earlier section steps at turn fine lot most no_last_lot has = absurd has
-at_least township earlier section steps at turn fine lot most too_fine has = fine has
-at_least township earlier section steps at turn fine lot most on_lot has = lot has
-at_least township earlier section steps at turn fine lot most overlap has = most
+    (at number : ℕ)
+    → (¬ AreWithin PLACE_DIGITS (cuts_of steps) → number ≤ 65)
+    → (HoldsOfLot PLACE_DIGITS (item_of section (Chain steps at)) → number ≤ 66)
+    → number ≤ 67
+    → (other : PlaceFault) → HasFault PLACE_DIGITS township earlier section (Chain steps at) other
+    → number ≤ number_of other
+at_least township earlier section steps at number fine lot most (fault.TooFine at') has = fine has.1
+at_least township earlier section steps at number fine lot most (fault.OnLot at') has = lot has.1
+at_least township earlier section steps at number fine lot most (fault.Overlap at') has = most
+at_least township earlier section steps at number fine lot most other has = absurd has
 
 pub is_too_fine : (section : ℕ) (steps : List Step) (at : ℕ) (earlier : ℕ → ℕ → ℕ → Bool)
     → ¬ AreWithin PLACE_DIGITS (cuts_of steps)
     → (township : Designation)
-    → IsFirstFlaw PLACE_DIGITS township section (Chain steps at) earlier (fault.TooFine at)
+    → IsItemsFirstFault PLACE_DIGITS township section (Chain steps at) earlier (fault.TooFine at)
 is_too_fine section steps at earlier fine township = record {
-  flaw = too_fine;
-  has = fine;
-  first = at_least township earlier section steps at 6 (λ _. omega arith) (λ _. omega arith) (omega arith);
-  fault_is = refl;
+  is = (refl, fine);
+  first = at_least township earlier section steps at 65 (λ _. omega arith) (λ _. omega arith) (omega arith);
 }
 
 -- the block of an aliquot part holds a lot's place where the part names one
@@ -85,14 +76,12 @@ pub is_on_lot : (section : ℕ) (steps : List Step) (at : ℕ) (earlier : ℕ �
     → AreWithin PLACE_DIGITS (cuts_of steps) → block ≡ reached PLACE_DIGITS (cuts_of steps)
     → HoldsLotPlace PLACE_DIGITS section block
     → (township : Designation)
-    → IsFirstFlaw PLACE_DIGITS township section (Chain steps at) earlier (fault.OnLot at)
+    → IsItemsFirstFault PLACE_DIGITS township section (Chain steps at) earlier (fault.OnLot at)
 is_on_lot section steps at earlier block within is held township = record {
-  flaw = on_lot;
-  has = of_lot_of_block section steps at within (rw is at held);
+  is = (refl, of_lot_of_block section steps at within (rw is at held));
   first =
-      at_least township earlier section steps at 7 (λ fine. absurd (fine within)) (λ _. omega arith)
+      at_least township earlier section steps at 66 (λ fine. absurd (fine within)) (λ _. omega arith)
       (omega arith);
-  fault_is = refl;
 }
 
 -- the answer when a block is added
@@ -126,16 +115,17 @@ pub chain_refused : {A : Type 0} (result : Result A PlaceFault) (section : ℕ) 
     → ¬ HoldsLotPlace PLACE_DIGITS section block
     → AddsBlock old new section block at result
     → IfErr result
-    (λ e. (township : Designation) → IsFirstFlaw PLACE_DIGITS township section (Chain steps at) old e)
+    (λ e. (township : Designation) → IsItemsFirstFault PLACE_DIGITS township section (Chain steps at) old e)
 chain_refused (Ok _) section steps at old new block within is off adds = tt
 chain_refused (Err e) section steps at old new block within is off adds = λ township.
     let places : item_places PLACE_DIGITS (item_of section (Chain steps at)) ≡ block_places section block =
     chain_places PLACE_DIGITS section steps at within ∙ ap (λ b. block_places section b) (sym is) in
-    record {
-      flaw = overlap;
-      has = subst (λ named. SharePlace old named) (sym places) (share_of_meets old section block adds.1);
+    subst (λ f. IsItemsFirstFault PLACE_DIGITS township section (Chain steps at) old f) (sym adds.0) (record {
+      is = (
+        refl,
+        subst (λ named. SharePlace old named) (sym places) (share_of_meets old section block adds.1),
+      );
       first =
-          at_least township old section steps at 8 (λ fine. absurd (fine within))
+          at_least township old section steps at 67 (λ fine. absurd (fine within))
           (λ held. absurd (off (rw is (block_of_of_lot section steps at within held)))) (omega arith);
-      fault_is = adds.0;
-    }
+    })

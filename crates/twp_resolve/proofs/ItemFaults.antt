@@ -1,4 +1,4 @@
--- The answer for a heading and for `all`: the first of their flaws, or their places are taken.
+-- What is answered of a heading and of `all`: the first of their faults, or their places are taken.
 use Rattle.std.proofs.Common.{◌≡◌, ◌≢◌, ◌==◌, ℕ, ◌≤◌, ◌&&◌, Bool, true, false, refl, sym, ap, subst, ◌∙◌}
 use Rattle.std.proofs.Common.{arith}
 use Rattle.std.proofs.Math.Path.{fun_ext}
@@ -11,11 +11,10 @@ use Rattle.twp_land.specs.Lands.{Meets, block_places, union, SharePlace}
 use Rattle.twp_grammar.specs.declared.item.Item.TheVariants.{Heading, All}
 use Rattle.twp_resolve.specs.declared.place_fault.PlaceFault.TheVariants as fault
 use Rattle.twp_grammar.specs.ItemPlaces.{item_places}
-use Rattle.twp_resolve.specs.PlaceFaults.{Flaw, HasFlaw, turn_of}
-use Rattle.twp_resolve.specs.PlaceFaults.Flaw.{other_township, no_first_section, no_last_section, backward}
-use Rattle.twp_resolve.specs.PlaceFaults.Flaw.{no_first_lot, no_last_lot, too_fine, on_lot, overlap}
+use Rattle.twp_resolve.specs.declared.place_fault.PlaceFault.{PlaceFault}
+use Rattle.twp_resolve.specs.PlaceFaults.{HasFault, number_of}
 use Rattle.twp_grammar.specs.ItemPlaces.{item_of}
-use Rattle.twp_resolve.specs.steps.ResolvingSteps.{AreAdded, IsTaken, IsFirstFlaw}
+use Rattle.twp_resolve.specs.steps.ResolvingSteps.{AreAdded, IsTaken, IsItemsFirstFault}
 use Rattle.twp_land.proofs.LotBlocks.{share_of_meets, meets_of_share}
 use Rattle.twp_resolve.proofs.RangeFacts.{added_none}
 use Rattle.twp_grammar.proofs.CutPlaces.{whole_is_place}
@@ -38,14 +37,16 @@ heading_taken section number north_south range east_west at old township is =
 pub heading_refused : (section number : ℕ) (north_south : NorthSouth) (range : ℕ) (east_west : EastWest)
     (at : ℕ) (old : ℕ → ℕ → ℕ → Bool) (township : Designation)
     → designation number north_south range east_west ≢ township
-    → IsFirstFlaw PLACE_DIGITS township section (Heading number north_south range east_west at) old
+    → IsItemsFirstFault PLACE_DIGITS township section (Heading number north_south range east_west at) old
     (fault.OtherTownship at)
 heading_refused section number north_south range east_west at old township other = record {
-  flaw = other_township;
-  has = other;
-  first = λ other has. omega arith;
-  fault_is = refl;
+  is = (refl, other);
+  first = λ more has. least more;
 }
+  where
+    least : (more : PlaceFault) → 61 ≤ number_of more
+    least (fault.OtherTownship at') = omega arith
+    least more = omega arith
 
 -- all of a section is its block of all places
 all_places : (section at : ℕ)
@@ -74,23 +75,17 @@ all_taken section at old new township free grown = record {
 
 pub all_refused : (section at : ℕ) (old : ℕ → ℕ → ℕ → Bool) (township : Designation)
     → Meets (old section) (whole_block PLACE_DIGITS)
-    → IsFirstFlaw PLACE_DIGITS township section (All at) old (fault.Overlap at)
+    → IsItemsFirstFault PLACE_DIGITS township section (All at) old (fault.Overlap at)
 all_refused section at old township meets = record {
-  flaw = overlap;
-  has =
-      subst (λ named. SharePlace old named) (sym (all_places section at))
-      (share_of_meets old section (whole_block PLACE_DIGITS) meets);
+  is = (
+    refl,
+    subst (λ named. SharePlace old named) (sym (all_places section at))
+        (share_of_meets old section (whole_block PLACE_DIGITS) meets),
+  );
   first = only;
-  fault_is = refl;
 }
   where
-    only : (other : Flaw) → HasFlaw PLACE_DIGITS township old section (All at) other → 8 ≤ turn_of other
-    only other_township has = absurd has
-    only no_first_section has = absurd has
-    only no_last_section has = absurd has
-    only backward has = absurd has
-    only no_first_lot has = absurd has
-    only no_last_lot has = absurd has
-    only too_fine has = absurd has
-    only on_lot has = absurd has
-    only overlap has = omega arith
+    only : (other : PlaceFault) → HasFault PLACE_DIGITS township old section (All at) other
+        → 67 ≤ number_of other
+    only (fault.Overlap at') has = omega arith
+    only other has = absurd has
