@@ -16,7 +16,7 @@ use Rattle.twp_grammar.specs.Tokens.{Token}
 use Rattle.twp_grammar.specs.Grammar.{Class, sec, lot, all, and, to, inclusive, of, the, t, r, north_south}
 use Rattle.twp_grammar.specs.Grammar.{east_west, corner, half, quarter, number, comma, semicolon, colon, stop}
 use Rattle.twp_grammar.specs.Grammar.{other, bad_number, bad_byte, Value, class_of, kind_of, description}
-use Rattle.twp_grammar.specs.Items.{tokens, items}
+use Rattle.twp_grammar.specs.Items.{items}
 use Rattle.twp_grammar.specs.Sentences.{HasItems, IsSentence, IsFront, IsFault, MayFollow}
 use Rattle.twp_read.specs.Laws.{classes_of, ClassesDecide}
 use Rattle.twp_grammar.specs.Machine.{next, is_final}
