@@ -8,7 +8,7 @@ ghost use Rattle.twp_acres.specs.Tracts.{TRACTS_LIMIT};
 ghost use Rattle.twp_acres.specs.TractFaults.{verdict_of};
 ghost use Rattle.twp_acres.specs.ReportAnswers.{IsReportAnswer, AnswersList, refusal_lines};
 ghost use Rattle.twp_acres.specs.Runs.{Reads, ReadsTwo, used};
-ghost use Rattle.twp_acres.specs.steps.Stages.{ReadsOnPlat, same_fault};
+ghost use Rattle.twp_acres.specs.steps.Stages.{ReadsUpTo, ReadsOnPlat, same_fault};
 
 use crate::answer::{Answer, answer_stop, write_refusal};
 use crate::stages::read_plat;
@@ -49,12 +49,9 @@ pub fn answer_of<N: Source, T: Source>(
 #[inline(never)]
 fn report_on<T: Source>(alloc: Global, plat: &Plat, tracts: &mut T) -> Result<Answer, RunFault>
     requires { T.has_failed tracts.old ≡ false }
-    ensures read { IsErrOf result RunFault.Read ↔ (T.has_failed tracts.new ≡ true) }
-    ensures no_write { IfErr result (λ fault. fault ≢ RunFault.Write) }
-    ensures most { TakesAtMost (T.remaining tracts.old)
-        (T.remaining tracts.new) (TRACTS_LIMIT + 1) }
-    ensures exact { T.has_failed tracts.new ≡ false → result ≢ Err RunFault.Memory
-        → TakesFirst (T.remaining tracts.old) (T.remaining tracts.new) (TRACTS_LIMIT + 1) }
+    ensures reads { ReadsUpTo same_fault TRACTS_LIMIT
+        (used (T.remaining tracts.old) (T.remaining tracts.new) (T.has_failed tracts.new))
+        result }
     ensures answer { Reads (T.remaining tracts.old) (λ t.
         IfOk result (λ answer. AnswersList plat.now t answer.text.items answer.verdict)) }
 {

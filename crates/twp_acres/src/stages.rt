@@ -9,7 +9,7 @@ ghost use Rattle.twp_land.specs.WholeLots.{HasWholeLots};
 ghost use Rattle.twp_text.specs.TextFaults.{TEXT_LIMIT};
 ghost use Rattle.twp_acres.specs.Answers.{MakePlat};
 ghost use Rattle.twp_acres.specs.Runs.{Reads, ReadsTwo, used};
-ghost use Rattle.twp_acres.specs.steps.Stages.{ReadsOnPlat};
+ghost use Rattle.twp_acres.specs.steps.Stages.{ReadsUpTo, ReadsOnPlat};
 ghost use Rattle.twp_acres.specs.steps.Stops.{IfFailed, IsPlatted, IsDescribed, IsRead};
 ghost use Rattle.twp_acres.specs.declared.stop.Stop.TheVariants.{Failed};
 ghost use Rattle.twp_acres.specs.declared.verdict.RunFault.{RunFault};
@@ -25,12 +25,9 @@ use twp_text::{Description, TEXT_LIMIT, TextFault, resolve_into};
 /// The plat of the notes that a source gives.
 pub fn read_plat<N: Source>(alloc: Global, notes: &mut N) -> Result<Plat, Stop>
     requires { N.has_failed notes.old ≡ false }
-    ensures read { IsErrOf result (Failed RunFault.Read) ↔ (N.has_failed notes.new ≡ true) }
-    ensures no_write { IfErr result (λ stop. stop ≢ Failed RunFault.Write) }
-    ensures most { TakesAtMost (N.remaining notes.old)
-        (N.remaining notes.new) (NOTES_MOST + 1) }
-    ensures exact { N.has_failed notes.new ≡ false → result ≢ Err (Failed RunFault.Memory)
-        → TakesFirst (N.remaining notes.old) (N.remaining notes.new) (NOTES_MOST + 1) }
+    ensures reads { ReadsUpTo Failed NOTES_MOST
+        (used (N.remaining notes.old) (N.remaining notes.new) (N.has_failed notes.new))
+        result }
     ensures plat { Reads (N.remaining notes.old) (λ n. IsPlatted n result) }
 {
     let notes = Notes::read(alloc, notes)?;
@@ -44,12 +41,9 @@ fn read_land<D: Source, L: Land>(
     description: &mut D,
 ) -> Result<L, Stop>
     requires { D.has_failed description.old ≡ false }
-    ensures read { IsErrOf result (Failed RunFault.Read) ↔ (D.has_failed description.new ≡ true) }
-    ensures no_write { IfErr result (λ stop. stop ≢ Failed RunFault.Write) }
-    ensures most { TakesAtMost (D.remaining description.old)
-        (D.remaining description.new) (TEXT_LIMIT + 1) }
-    ensures exact { D.has_failed description.new ≡ false → result ≢ Err (Failed RunFault.Memory)
-        → TakesFirst (D.remaining description.old) (D.remaining description.new) (TEXT_LIMIT + 1) }
+    ensures reads { ReadsUpTo Failed TEXT_LIMIT
+        (used (D.remaining description.old) (D.remaining description.new)
+        (D.has_failed description.new)) result }
     ensures land { Reads (D.remaining description.old) (λ d.
         IsDescribed L.places township d result) }
     ensures whole_lots { IfOk result (λ land. HasWholeLots PLACE_DIGITS (L.places land)) }
