@@ -3,7 +3,7 @@ use Rattle.twp_read.proofs.description.fault_of.Goals as goal
 
 pub returns-in-Some-clause-refused : goal.returns-in-Some-clause-refused
 returns-in-Some-clause-refused c =
-    bad_first c.args.text.now c.in-Some.fault c.requires.limit c.in-Some.ensures
+    bad_first c.args.text.now _ c.requires.limit c.in-Some.ensures
 
 pub returns-in-None-clause-refused : goal.returns-in-None-clause-refused
 returns-in-None-clause-refused c =
