@@ -66,12 +66,6 @@ one_hundredths plat places h h' is is' =
     one_land_area PLACE_DIGITS (omega arith) plat places is.area is'.area is.area_is is'.area_is in
     one_rounding is'.area h h' (rw area at is.rounded) is'.rounded
 
--- the plat and the land of two texts
-same_plat : (notes d d' : List ℕ) (plat plat' : TownshipPlat) (places places' : ℕ → ℕ → ℕ → Bool)
-    → IsLandOnPlat notes d plat places
-    → IsLandOnPlat notes d' plat' places' → plat ≡ plat'
-same_plat notes d d' plat plat' places places' is is' = one_plat notes plat plat' is.platted is'.platted
-
 -- two descriptions of one land have the same acres
 acres_of_land : (notes d : List ℕ) (h : ℕ) (plat : TownshipPlat) (places : ℕ → ℕ → ℕ → Bool)
     → IsLandOnPlat notes d plat places → HasAcres notes d h → AreHundredthsOf plat places h

@@ -1,12 +1,11 @@
 -- What the stages of a run promise of their reading, from stage to stage, and how a stop is
 -- answered; over plain values.
 use Rattle.std.proofs.Common.{◌≡◌, ◌≢◌, ℕ, ◌+◌, ◌≤◌, List, [], Option, Some, None, Result, Ok, Err}
-use Rattle.std.proofs.Common.{refl, ap, Bool, true, false, ◌⊎◌, ◌↔◌, inl, inr, arith}
+use Rattle.std.proofs.Common.{refl, ap, Bool, true, false, ◌↔◌, inl, inr, arith}
 use Rattle.std.specs.Prelude.{IfOk, IfErr, IsErrOf, unwrap_or}
 use Rattle.twp_grid.specs.Devices.{TakesAtMost}
 use Rattle.twp_grid.specs.declared.refusal.Refusal.{Refusal}
 use Rattle.twp_notes.specs.FieldNotes.{NOTES_MOST}
-use Rattle.twp_notes.specs.ReadBytes.{TakesFirst}
 use Rattle.twp_acres.specs.Answers.{IsNoPlat, refusal_line}
 use Rattle.twp_acres.specs.Runs.{AnswerRelation, AnyFailed, Reads, ReadsTwo, Use, used}
 use Rattle.twp_acres.specs.steps.Stages.{ReadsUpTo, ReadsOnPlat, same_fault}
@@ -46,7 +45,7 @@ write_of_stop (stop.Refused refusal) (Err fault) is no_write = λ wrong. cc (is,
 write_of_stop (stop.Failed fault) (Ok answer) is no_write = absurd is
 write_of_stop (stop.Failed fault) (Err answered) is no_write = λ wrong. no_write (cc (is, wrong))
 
--- where no memory was wanting the stage didn't stop for it
+-- where memory didn't run out the stage didn't stop for it
 memory_of_stop : {T : Type 0} (by : Stop) (r : Result Answer RunFault) → AnswersStop by r → r ≢ Err Memory
     → stopped {T = T} by ≢ Err (stop.Failed Memory)
 memory_of_stop (stop.Refused refusal) r is not_memory wrong = cc wrong
@@ -81,7 +80,7 @@ stopped_on_plat {T = T} most notes second unread by r reads is = record {
       reads.second_exact n told makes notes_open second_open (memory_of_stop {T = T} by r is not_memory);
 }
 
--- an answer that fails for want of memory alone
+-- an answer that fails only because memory ran out
 memory_reads : (r : Result Answer RunFault) → IfErr r (λ fault. fault ≡ Memory) → IsErrOf r Read → ⊥
 memory_reads (Ok answer) memory wrong = cc wrong
 memory_reads (Err fault) memory wrong = cc (memory, wrong)

@@ -7,12 +7,11 @@ ghost use Rattle.twp_acres.specs.AccountAnswers.{IsAcresAnswerBy};
 ghost use Rattle.twp_acres.specs.Runs.{ReadsTwo, used};
 ghost use Rattle.twp_acres.specs.steps.Stages.{ReadsOnPlat, same_fault};
 
-use twp_area::Account;
 use crate::answer::{Answer, answer_stop, write_acres_line};
-use twp_area::area_by;
 use crate::stages::read_land_on_plat;
 use crate::verdict::{RunFault, Verdict};
 use std::alloc::Global;
+use twp_area::{Account, area_by};
 use twp_grid::Source;
 use twp_land::Lanes;
 

@@ -21,6 +21,6 @@ mod verdict;
 mod writing;
 
 pub use running::{run_acres, run_acres_as, run_normal, run_plat, run_report};
-pub use twp_area::{Account, area_of, plat_area_of};
 pub use tract_fault::TractFault;
+pub use twp_area::{Account, area_of, plat_area_of};
 pub use verdict::{RunFault, Verdict};

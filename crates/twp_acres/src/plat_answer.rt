@@ -1,11 +1,8 @@
 //! The answer of the plat run.
-ghost use Rattle.std.specs.Prelude.{◌≡◌, ◌≢◌, ◌≤◌, ◌+◌, ◌++◌, ◌↔◌, true, false, OnOk, IfOk, IfErr};
-ghost use Rattle.std.specs.Prelude.{IsErrOf};
-ghost use Rattle.twp_grid.specs.Devices.{TakesAtMost};
+ghost use Rattle.std.specs.Prelude.{◌≡◌, ◌≤◌, ◌++◌, false, OnOk, IfOk, IfErr};
 ghost use Rattle.twp_grid.specs.Winding.{IsSection};
 ghost use Rattle.twp_grid.specs.Lots.{number_of_lots};
 ghost use Rattle.twp_notes.specs.FieldNotes.{NOTES_MOST};
-ghost use Rattle.twp_notes.specs.ReadBytes.{TakesFirst};
 ghost use Rattle.twp_area.specs.PlatFigures.{PlatFigures, AreFigures};
 ghost use Rattle.twp_acres.specs.PlatAnswers.{IsPlatAnswer};
 ghost use Rattle.twp_acres.specs.PlatAnswers.{lot_text, total_text, section_name, section_line};

@@ -1,8 +1,5 @@
 //! The answer of the report run.
-ghost use Rattle.std.specs.Prelude.{◌≡◌, ◌≢◌, ◌+◌, ◌↔◌, Some, true, false};
-ghost use Rattle.std.specs.Prelude.{IfOk, IfErr, IsErrOf};
-ghost use Rattle.twp_grid.specs.Devices.{TakesAtMost};
-ghost use Rattle.twp_notes.specs.ReadBytes.{TakesFirst};
+ghost use Rattle.std.specs.Prelude.{◌≡◌, ◌≢◌, Some, false, IfOk, IfErr};
 ghost use Rattle.twp_acres.specs.Answers.{MakePlat};
 ghost use Rattle.twp_acres.specs.Tracts.{TRACTS_LIMIT};
 ghost use Rattle.twp_acres.specs.TractFaults.{verdict_of};
@@ -45,7 +42,7 @@ pub fn answer_of<N: Source, T: Source>(
 }
 
 /// The answer of a list of tracts on a plat.
-// Not inlined: else its reader stands on the stack while the notes are read.
+// Not inlined: otherwise its reader would be on the stack while the notes are read.
 #[inline(never)]
 fn report_on<T: Source>(alloc: Global, plat: &Plat, tracts: &mut T) -> Result<Answer, RunFault>
     requires { T.has_failed tracts.old ≡ false }

@@ -15,12 +15,12 @@ ghost use Rattle.twp_acres.specs.ReportAnswers.{IsReportAnswer};
 ghost use Rattle.twp_acres.specs.Tracts.{TRACTS_LIMIT};
 ghost use Rattle.twp_acres.specs.Runs.{AppendsFront, IsAnswered, IsRun, Reads, RunsOnPlat, used};
 
-use twp_area::Account;
 use crate::answer::Answer;
 use crate::verdict::{RunFault, Verdict};
 use crate::writing::write_whole;
 use crate::{acres_answer, normal_answer, plat_answer, report_answer};
 use std::alloc::Global;
+use twp_area::Account;
 use twp_grid::{Sink, Source};
 
 /// Writes the acres of the land described, where the field notes make a plat and the parts of the

@@ -8,7 +8,6 @@ ghost use Rattle.twp_acres.specs.steps.TractTaking.{tally_of, AreTotals, TakesTr
 ghost use Rattle.twp_acres.specs.steps.TractTaking.{IsTractRefused, fault_of_stop};
 
 use crate::answer::write_acres_line;
-use twp_area::area_of;
 use crate::names::Names;
 use crate::stages::describe_into;
 use crate::stop::Stop;
@@ -17,11 +16,12 @@ use crate::tract::tract_of;
 use crate::tract_fault::TractFault;
 use csv::ByteRecord;
 use std::alloc::{AllocError, Global};
+use twp_area::area_of;
 use twp_land::Land;
 use twp_plat::Plat;
 
-/// What is known of the tracts so far. One land is kept for the tract at hand, so that none has to
-/// be made for each.
+/// What is known of the tracts so far. One land is kept and used for each tract in turn, so that no
+/// new one has to be made.
 #[derive(Drop)]
 pub(crate) struct RunningAccount<L> {
     pub(crate) names: Names,

@@ -1,10 +1,7 @@
 //! The stages of a run: the plat of the field notes, and the land of a description on it.
-ghost use Rattle.std.specs.Prelude.{◌≡◌, ◌≢◌, ◌+◌, ◌↔◌, true, false};
-ghost use Rattle.std.specs.Prelude.{IfOk, OnOk, IfErr, IsErrOf};
-ghost use Rattle.twp_grid.specs.Devices.{TakesAtMost};
+ghost use Rattle.std.specs.Prelude.{◌≡◌, false, IfOk, OnOk, IfErr};
 ghost use Rattle.twp_grid.specs.Places.{PLACE_DIGITS};
 ghost use Rattle.twp_notes.specs.FieldNotes.{NOTES_MOST};
-ghost use Rattle.twp_notes.specs.ReadBytes.{TakesFirst};
 ghost use Rattle.twp_land.specs.WholeLots.{HasWholeLots};
 ghost use Rattle.twp_text.specs.TextFaults.{TEXT_LIMIT};
 ghost use Rattle.twp_acres.specs.Answers.{MakePlat};
@@ -56,7 +53,7 @@ fn read_land<D: Source, L: Land>(
     Ok(land)
 }
 
-/// Makes a land the one of a description, on the plat of a township. What it held before is gone.
+/// Sets a land to that of a description, on the plat of a township. What it held before is gone.
 pub fn describe_into<L: Land>(
     alloc: Global,
     land: &mut L,
