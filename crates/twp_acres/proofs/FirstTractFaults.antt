@@ -1,5 +1,5 @@
 -- The first fault of a list of tracts.
-use Rattle.std.proofs.Common.{◌≡◌, ◌≢◌, ℕ, ◌+◌, ◌<◌, ◌≤◌, ◌⊎◌, false, List, [], ◌∷◌, length, Some}
+use Rattle.std.proofs.Common.{◌≡◌, ◌≢◌, ℕ, ◌+◌, ◌<◌, ◌≤◌, ◌⊎◌, false, List, ◌∷◌, length, Some}
 use Rattle.std.proofs.Common.{ap, refl, sym, ◌∙◌, inl, inr, subst, arith}
 use Rattle.std.specs.Prelude.{IfSome}
 use Rattle.std.proofs.lemmas.Bool.{cases_lt, cases_eq}
@@ -142,30 +142,6 @@ module _ (plat : TownshipPlat) (rows : List Fields) (count : ℕ) (tally : Tally
   refused_next fault.TractsTooLarge is = absurd is
   refused_next fault.TooManyTracts is = absurd is
 
--- a list whose first record is another than the heading
-pub no_heading_first : (township : Designation) (bytes : List ℕ) → length bytes ≤ TRACTS_LIMIT
-    → record_numbered (records_of bytes) 1 ≢ tracts_heading
-    → IsFirstTractFault township bytes (fault.TractRow 1)
-no_heading_first township bytes size differs = record { is = inl (refl, differs); first = first }
-  where
-    first : (other : TractFault) → HasTractFault township bytes other → IsFrom 1 1 other
-    first fault.TractsTooLarge large = absurd (omega arith)
-    first fault.TooManyTracts many = inl (omega arith)
-    first (fault.TractRow n) (inl (e, bad)) = inr (omega arith, omega arith)
-    first (fault.TractRow n) (inr at_tract) =
-        inl (let e : n ≡ at_tract.index + 2 = at_tract.has.0 in omega arith)
-    first (fault.NameRepeated n) (inl none) = absurd none
-    first (fault.NameRepeated n) (inr at_tract) =
-        inl (let e : n ≡ at_tract.index + 2 = at_tract.has.0 in omega arith)
-    first (fault.TractRefused n inner) (inl none) = absurd none
-    first (fault.TractRefused n inner) (inr at_tract) =
-        inl (let e : n ≡ at_tract.index + 2 = at_tract.has.0 in omega arith)
-    first (fault.TractsOverlap n) (inl none) = absurd none
-    first (fault.TractsOverlap n) (inr at_tract) =
-        inl (let e : n ≡ at_tract.index + 2 = at_tract.has.0 in omega arith)
-    first fault.Memory (inl none) = absurd none
-    first fault.Memory (inr at_tract) = absurd at_tract.has
-
 -- more bytes than a list may have
 pub large_first : (township : Designation) (bytes : List ℕ) → TRACTS_LIMIT < length bytes
     → IsFirstTractFault township bytes fault.TractsTooLarge
@@ -289,7 +265,7 @@ module _ (township : Designation) (bytes : List ℕ) (size : length bytes ≤ TR
   first_refused fault.Memory next = tt
   first_refused fault.TractsTooLarge next = absurd (next.has)
 
--- the first of the records, and those behind it
+-- the first of the records, and those after it
 pub record AreBehind (bytes : List ℕ) (fields : Fields) (rest : List Fields) : Type 0 where
   pub first : record_numbered (records_of bytes) 1 ≡ fields
   pub behind : tract_records bytes ≡ rest
@@ -297,13 +273,6 @@ pub record AreBehind (bytes : List ℕ) (fields : Fields) (rest : List Fields) :
 pub behind_of : (bytes : List ℕ) (fields : Fields) (rest : List Fields) → records_of bytes ≡ fields ∷ rest
     → AreBehind bytes fields rest
 behind_of bytes fields rest split = record { first = rw split refl; behind = rw split refl }
-
-pub no_first : (bytes : List ℕ) → records_of bytes ≡ []
-    → record_numbered (records_of bytes) 1 ≢ tracts_heading
-no_first bytes none same =
-    let nothing : record_numbered (records_of bytes) 1 ≡ [] = rw none refl in
-    let heading : [] ≡ tracts_heading = sym nothing ∙ same in
-    cc heading
 
 -- the lines of a list's refusal are its answer
 pub list_refused : (plat : TownshipPlat) (bytes answer : List ℕ) (verdict : Verdict)

@@ -66,12 +66,6 @@ one_hundredths plat places h h' is is' =
     one_land_area PLACE_DIGITS (omega arith) plat places is.area is'.area is.area_is is'.area_is in
     one_rounding is'.area h h' (rw area at is.rounded) is'.rounded
 
--- the plat and the land of two texts
-same_plat : (notes d d' : List ℕ) (plat plat' : TownshipPlat) (places places' : ℕ → ℕ → ℕ → Bool)
-    → IsLandOnPlat notes d plat places
-    → IsLandOnPlat notes d' plat' places' → plat ≡ plat'
-same_plat notes d d' plat plat' places places' is is' = one_plat notes plat plat' is.platted is'.platted
-
 -- two descriptions of one land have the same acres
 acres_of_land : (notes d : List ℕ) (h : ℕ) (plat : TownshipPlat) (places : ℕ → ℕ → ℕ → Bool)
     → IsLandOnPlat notes d plat places → HasAcres notes d h → AreHundredthsOf plat places h
@@ -107,7 +101,8 @@ not_platted notes refusal plat (inr is) are =
 pub not_described : (township : Designation) (d : List ℕ) (refusal : Refusal) (places : ℕ → ℕ → ℕ → Bool)
     → IsNoDescription township d refusal
     → Describe township d places → ⊥
-not_described township d refusal places (inl is) land = texts.no_fault d land.items refusal land.read is
+not_described township d refusal places (inl is) land =
+    texts.no_fault d land.items is.fault land.read is.first.is
 not_described township d refusal places (inr is) land =
     let same : is.items ≡ land.items = texts.one_reading d is.items land.items is.read land.read in
     let both : found places ≡ unfound is.fault =
@@ -144,9 +139,14 @@ one_plat_refusal notes r r' (inr is) (inr is') =
 -- one refusal of a description is the first
 pub one_description_refusal : (township : Designation) (d : List ℕ) (r r' : Refusal)
     → IsNoDescription township d r → IsNoDescription township d r' → r ≡ r'
-one_description_refusal township d r r' (inl is) (inl is') = texts.one_refusal d r r' is is'
-one_description_refusal township d r r' (inl is) (inr is') = absurd (texts.no_fault d is'.items r is'.read is)
-one_description_refusal township d r r' (inr is) (inl is') = absurd (texts.no_fault d is.items r' is.read is')
+one_description_refusal township d r r' (inl is) (inl is') =
+    let refusals : Some r ≡ Some r' =
+    sym is.refusal_is ∙ texts.one_refusal d is.fault is'.fault is.first is'.first ∙ is'.refusal_is in
+    cc refusals
+one_description_refusal township d r r' (inl is) (inr is') =
+    absurd (texts.no_fault d is'.items is.fault is'.read is.first.is)
+one_description_refusal township d r r' (inr is) (inl is') =
+    absurd (texts.no_fault d is.items is'.fault is.read is'.first.is)
 one_description_refusal township d r r' (inr is) (inr is') =
     let same : is.items ≡ is'.items = texts.one_reading d is.items is'.items is.read is'.read in
     let both : unfound is.fault ≡ unfound is'.fault =

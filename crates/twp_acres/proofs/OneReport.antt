@@ -115,7 +115,7 @@ same_fault township bytes (fault.TractRefused n inner) (fault.TractRefused n' in
     ap (λ k. fault.TractRefused k inner) at_ ∙ ap (λ r. fault.TractRefused n' r) same
 same_fault township bytes one other has has' at_ turn = absurd (omega arith)
 
--- of two faults, each at the other or behind it
+-- of two faults, each at the other or after it
 record AreOne (one other : TractFault) : Type 0 where
   at_ : record_of one ≡ record_of other
   turn : turn_of one ≡ turn_of other

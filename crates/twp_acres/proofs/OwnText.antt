@@ -4,10 +4,11 @@ use Rattle.twp_grid.specs.Places.{PLACE_DIGITS}
 use Rattle.twp_land.specs.Lands.{no_places}
 use Rattle.twp_plat.specs.Plats.{TownshipPlat}
 use Rattle.twp_text.specs.TextFaults.{TEXT_LIMIT}
-use Rattle.twp_text.specs.TextFaults.IsFirstTextFault.{too_large as longer}
+use Rattle.twp_read.specs.declared.fault.TextFault.TheVariants as text_fault
 use Rattle.twp_text.specs.ReadBack.{IsTownshipLand, HasTownshipNumbers}
 use Rattle.twp_text.proofs.DescribedLand.{names_some_place, is_of_township}
 use Rattle.twp_text.proofs.ReadBack.{read_back}
+use Rattle.twp_text.proofs.FirstTextFaults.{too_large_first}
 use Rattle.twp_acres.specs.Answers.{ArePlatted, refusal_line}
 use Rattle.twp_acres.specs.NormalAnswers.{IsNormalForm, IsNormalAnswer}
 use Rattle.twp_acres.specs.NormalLaws.{too_large}
@@ -52,5 +53,17 @@ is_its_own notes d text form within = own_form notes d text form within
 pub long_is_refused : (notes d text : List ℕ) → IsNormalAnswer notes d text Accepted
     → TEXT_LIMIT < length text
     → IsNormalAnswer notes text (refusal_line too_large) (Refused too_large)
-long_is_refused notes d text form over =
-    (inr (record { plat = form.plat; platted = form.land.platted; refused = inl (longer over refl) }), refl)
+long_is_refused notes d text form over = (
+  inr (record {
+    plat = form.plat;
+    platted = form.land.platted;
+    refused =
+        inl
+        (record {
+          fault = text_fault.TooLarge;
+          first = too_large_first text over;
+          refusal_is = refl;
+        });
+  }),
+  refl,
+)

@@ -14,7 +14,7 @@ pub texts_next : (n : ℕ) (text : ℕ → List ℕ) → texts_to (n + 1) text �
 unfolding texts_to
 texts_next n text = let e : n + 1 ≡ suc n = omega arith in rw e refl
 
--- a text that grows by the texts of numbers behind a name, and by an end
+-- a text that grows by the texts of numbers after a name, and by an end
 pub texts_begin : (old name new : List ℕ) (text : ℕ → List ℕ) → new ≡ old ++ name
     → new ≡ old ++ (name ++ texts_to 0 text)
 texts_begin old name new text is = rw (no_texts text, append-nil name) is
@@ -52,7 +52,7 @@ lines_grow number now new more text first is is' last =
     ∙ ap (λ t. texts_to (number - 1) text ++ t) (last ∙ ap text (sym here))
     ∙ sym (texts_next (number - 1) text))
 
--- two texts behind all lines
+-- two texts after all lines
 pub lines_end : (lines name total now mid new : List ℕ) → now ≡ lines → mid ≡ now ++ name → new ≡ mid ++ total
     → new ≡ lines ++ name ++ total
 lines_end lines name total now mid new is is' is'' =

@@ -12,12 +12,11 @@ use Rattle.twp_acres.specs.Runs.{Reads, ReadsTwo, RunsOnPlat, Use, used}
 use Rattle.twp_grid.specs.Places.{PLACE_DIGITS}
 use Rattle.twp_grid.specs.Townships.{Designation}
 use Rattle.twp_grid.specs.declared.refusal.Refusal.{Refusal}
-use Rattle.twp_plat.specs.Plats.{TownshipPlat}
 use Rattle.twp_text.specs.TextFaults.{IsReadAs}
 use Rattle.twp_text.specs.PlaceFaults.{IsFirstPlaceFault}
 use Rattle.twp_grammar.specs.declared.item.Item.{Item}
 use Rattle.twp_resolve.specs.declared.place_fault.PlaceFault.{PlaceFault}
-use Rattle.twp_acres.specs.Answers.{ArePlatted, IsNoDescription, IsNoPlat, IsRefusal, MakePlat}
+use Rattle.twp_acres.specs.Answers.{IsNoDescription, IsNoPlat, IsRefusal, MakePlat}
 use Rattle.twp_acres.specs.steps.Stages.{ReadsOnPlat, same_fault}
 use Rattle.twp_acres.specs.steps.Stops.{IfRefused, IfFailed}
 use Rattle.twp_acres.specs.declared.stop.Stop.{Stop}
@@ -54,16 +53,10 @@ pub if_ok : {T E : Type 0} (r : Result T E) (P Q : T → Type 0) → IfOk r P �
 if_ok (Ok x) P Q h f = f x h
 if_ok (Err e) P Q h f = tt
 
--- what the notes stop, and what the description stops on their plat, is refused of both
+-- what the notes stop is refused of both texts
 pub refused_of_notes : (n d : List ℕ) (is : Stop) → IfRefused is (IsNoPlat n) → IfRefused is (IsRefusal n d)
 refused_of_notes n d (stop.Refused refusal) none = inl none
 refused_of_notes n d (stop.Failed fault) none = tt
-
-pub refused_on_plat : (n d : List ℕ) (plat : TownshipPlat) (is : Stop) → ArePlatted n plat
-    → IfRefused is (IsNoDescription plat.township d) → IfRefused is (IsRefusal n d)
-refused_on_plat n d plat (stop.Refused refusal) platted none =
-    inr (record { plat = plat; platted = platted; refused = none })
-refused_on_plat n d plat (stop.Failed fault) platted none = tt
 
 -- notes that are refused make no plat
 pub none_platted : (told : Option (List ℕ)) (n : List ℕ) (refusal : Refusal)
@@ -99,7 +92,7 @@ pub places_never_fail : (fault : PlaceFault) (stopped : Stop) (Holds : RunFault 
 places_never_fail fault (stop.Refused refusal) Holds by = tt
 places_never_fail fault (stop.Failed failed) Holds by = absurd by
 
--- an answer was written, or a front of it
+-- an answer was written, or the beginning of it
 pub written : (Answers : AnswerRelation) (old new : Option (List ℕ)) (text : List ℕ) (verdict : Verdict)
     (r : Result Verdict RunFault)
     → Answers text verdict
@@ -192,7 +185,7 @@ nothing_written Answers None Memory not_write = tt
 nothing_written Answers (Some bytes) Memory not_write = refl
 nothing_written Answers old Write not_write = absurd (not_write refl)
 
--- and where no device failed it stops for want of memory
+-- and where no device failed it stops because memory ran out
 wants_memory : (fault : RunFault) → fault ≢ Read → fault ≢ Write → fault ≡ Memory
 wants_memory Read not_read not_write = absurd (not_read refl)
 wants_memory Write not_read not_write = absurd (not_write refl)

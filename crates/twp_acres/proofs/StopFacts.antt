@@ -6,10 +6,9 @@ use Rattle.std.specs.Prelude.{IfOk, IfErr, IsErrOf, unwrap_or}
 use Rattle.twp_grid.specs.Devices.{TakesAtMost}
 use Rattle.twp_grid.specs.declared.refusal.Refusal.{Refusal}
 use Rattle.twp_notes.specs.FieldNotes.{NOTES_MOST}
-use Rattle.twp_notes.specs.ReadBytes.{TakesFirst}
 use Rattle.twp_acres.specs.Answers.{IsNoPlat, refusal_line}
 use Rattle.twp_acres.specs.Runs.{AnswerRelation, AnyFailed, Reads, ReadsTwo, Use, used}
-use Rattle.twp_acres.specs.steps.Stages.{ReadsOnPlat, same_fault}
+use Rattle.twp_acres.specs.steps.Stages.{ReadsUpTo, ReadsOnPlat, same_fault}
 use Rattle.twp_acres.specs.steps.Stops.{AnswersStop, IfRefused}
 use Rattle.twp_acres.specs.declared.answer.Answer.{Answer}
 use Rattle.twp_acres.specs.declared.stop.Stop.{Stop}
@@ -27,7 +26,7 @@ abbrev pub stopped : {T E : Type 0} → E → Result T E
 stopped by = Err by
 
 -- an answer can't be read exactly where the stage before it couldn't
-pub read_of_stop : {T : Type 0} (by : Stop) (r : Result Answer RunFault) (HasFailed : Type 0)
+read_of_stop : {T : Type 0} (by : Stop) (r : Result Answer RunFault) (HasFailed : Type 0)
     → AnswersStop by r
     → IsErrOf (stopped {T = T} by) (stop.Failed Read) ↔ HasFailed → IsErrOf r Read ↔ HasFailed
 read_of_stop (stop.Refused refusal) (Ok answer) HasFailed is read =
@@ -39,21 +38,32 @@ read_of_stop (stop.Failed fault) (Err answered) HasFailed is read =
     ((λ wrong. read.0 (cc (is, wrong))), (λ failed. cc (is, read.1 failed)))
 
 -- nothing failed to write, if the stage didn't
-pub write_of_stop : (by : Stop) (r : Result Answer RunFault) → AnswersStop by r → by ≢ stop.Failed Write
+write_of_stop : (by : Stop) (r : Result Answer RunFault) → AnswersStop by r → by ≢ stop.Failed Write
     → IfErr r (λ fault. fault ≢ Write)
 write_of_stop (stop.Refused refusal) (Ok answer) is no_write = tt
 write_of_stop (stop.Refused refusal) (Err fault) is no_write = λ wrong. cc (is, wrong)
 write_of_stop (stop.Failed fault) (Ok answer) is no_write = absurd is
 write_of_stop (stop.Failed fault) (Err answered) is no_write = λ wrong. no_write (cc (is, wrong))
 
--- where no memory was wanting the stage didn't stop for it
-pub memory_of_stop : {T : Type 0} (by : Stop) (r : Result Answer RunFault) → AnswersStop by r → r ≢ Err Memory
+-- where memory didn't run out the stage didn't stop for it
+memory_of_stop : {T : Type 0} (by : Stop) (r : Result Answer RunFault) → AnswersStop by r → r ≢ Err Memory
     → stopped {T = T} by ≢ Err (stop.Failed Memory)
 memory_of_stop (stop.Refused refusal) r is not_memory wrong = cc wrong
 memory_of_stop (stop.Failed fault) (Ok answer) is not_memory wrong = absurd is
 memory_of_stop (stop.Failed fault) (Err answered) is not_memory wrong = not_memory (cc (is, wrong))
 
--- the answer of a stop promises what the stage did that stopped
+-- the answer of a stop promises what the stage did that stopped, of one source
+pub stopped_up_to : {T : Type 0} (most : ℕ) (source : Use) (by : Stop) (r : Result Answer RunFault)
+    → ReadsUpTo stop.Failed most source (stopped {T = T} by) → AnswersStop by r
+    → ReadsUpTo same_fault most source r
+stopped_up_to {T = T} most source by r reads is = record {
+  read = read_of_stop {T = T} by r (source.has_failed ≡ true) is reads.read;
+  no_write = write_of_stop by r is reads.no_write;
+  most_is = reads.most_is;
+  exact = λ open_ not_memory. reads.exact open_ (memory_of_stop {T = T} by r is not_memory);
+}
+
+-- and of the notes and a second text
 pub stopped_on_plat : {T : Type 0} (most : ℕ) (notes second : Use) (unread : Type 0) (by : Stop)
     (r : Result Answer RunFault)
     → ReadsOnPlat stop.Failed most notes second unread (stopped {T = T} by) → AnswersStop by r
@@ -70,7 +80,7 @@ stopped_on_plat {T = T} most notes second unread by r reads is = record {
       reads.second_exact n told makes notes_open second_open (memory_of_stop {T = T} by r is not_memory);
 }
 
--- an answer that fails for want of memory alone
+-- an answer that fails only because memory ran out
 memory_reads : (r : Result Answer RunFault) → IfErr r (λ fault. fault ≡ Memory) → IsErrOf r Read → ⊥
 memory_reads (Ok answer) memory wrong = cc wrong
 memory_reads (Err fault) memory wrong = cc (memory, wrong)
@@ -81,6 +91,16 @@ memory_writes (Ok answer) memory = tt
 memory_writes (Err fault) memory = λ wrong. cc (memory, wrong)
 
 -- and it promises what the stage did whose value it is made of
+pub accepted_up_to : {T : Type 0} (most : ℕ) (source : Use) (value : T) (r : Result Answer RunFault)
+    → ReadsUpTo stop.Failed most source (had value) → IfErr r (λ fault. fault ≡ Memory)
+    → ReadsUpTo same_fault most source r
+accepted_up_to most source value r reads memory = record {
+  read = ((λ is. absurd (memory_reads r memory is)), (λ failed. cc (reads.read.1 failed)));
+  no_write = memory_writes r memory;
+  most_is = reads.most_is;
+  exact = λ open_ _. reads.exact open_ (λ wrong. cc wrong);
+}
+
 pub accepted_on_plat : {T : Type 0} (most : ℕ) (notes second : Use) (unread : Type 0) (value : T)
     (r : Result Answer RunFault)
     → ReadsOnPlat stop.Failed most notes second unread (had value) → IfErr r (λ fault. fault ≡ Memory)
@@ -135,59 +155,48 @@ takes_nothing (Some bytes) most = let least : 0 ≤ most = omega arith in ([], r
 -- where the notes stop a run the second text isn't read
 pub first_stopped : {T U : Type 0} (most : ℕ) (notes : Use) (second : Option (List ℕ)) (second_failed : Bool)
     (unread : Type 0) (by : Stop)
-    → IsErrOf (stopped {T = T} by) (stop.Failed Read) ↔ (notes.has_failed ≡ true) → by ≢ stop.Failed Write
-    → TakesAtMost notes.old notes.new (NOTES_MOST + 1)
-    → (notes.has_failed ≡ false → stopped {T = T} by ≢ Err (stop.Failed Memory)
-    → TakesFirst notes.old notes.new (NOTES_MOST + 1))
+    → ReadsUpTo stop.Failed NOTES_MOST notes (stopped {T = T} by)
     → Reads notes.old (λ n. IfRefused by (IsNoPlat n)) → second_failed ≡ false → unread
     → ReadsOnPlat stop.Failed most notes (used second second second_failed) unread (stopped {T = U} by)
-first_stopped {T = T} {U = U} most notes second second_failed unread by read no_write notes_most notes_exact
-    plat second_open left =
+first_stopped {T = T} {U = U} most notes second second_failed unread by reads plat second_open left =
     let fails : AnyFailed notes.has_failed second_failed → stopped {T = U} by ≡ Err (stop.Failed Read) =
     of_any in
     record {
-      read = ((λ is. inl (read.0 (ap Err (cc is)))), fails);
+      read = ((λ is. inl (reads.read.0 (ap Err (cc is)))), fails);
       unread_after_fault = λ _. left;
-      no_write = no_write;
-      notes_most = notes_most;
+      no_write = reads.no_write;
+      notes_most = reads.most_is;
       second_most = takes_nothing second (most + 1);
-      notes_exact = λ notes_open not_memory. notes_exact notes_open (λ is. not_memory (ap Err (cc is)));
+      notes_exact = λ notes_open not_memory. reads.exact notes_open (λ is. not_memory (ap Err (cc is)));
       second_exact = λ n told makes notes_open _ not_memory.
           absurd (plat_stops_by_fault notes.old n by plat told makes (λ is.
-          cc (read.0 (ap Err is), notes_open)) no_write
+          cc (reads.read.0 (ap Err is), notes_open)) reads.no_write
           (λ is. not_memory (ap Err is)));
     }
   where
     of_any : AnyFailed notes.has_failed second_failed → stopped {T = U} by ≡ Err (stop.Failed Read)
-    of_any (inl failed) = ap Err (cc (read.1 failed))
+    of_any (inl failed) = ap Err (cc (reads.read.1 failed))
     of_any (inr failed) = cc (second_open, failed)
 
 -- where they make a plat it is
 pub second_read : {P T E : Type 0} (passed_on : RunFault → E) (most : ℕ) (notes second : Use)
     (unread : Type 0) (plat : P) (r : Result T E)
-    → IsErrOf (had {E = Stop} plat) (stop.Failed Read) ↔ (notes.has_failed ≡ true)
-    → TakesAtMost notes.old notes.new (NOTES_MOST + 1)
-    → (notes.has_failed ≡ false → had {E = Stop} plat ≢ Err (stop.Failed Memory)
-    → TakesFirst notes.old notes.new (NOTES_MOST + 1))
-    → IsErrOf r (passed_on Read) ↔ (second.has_failed ≡ true) → IfErr r (λ fault. fault ≢ passed_on Write)
-    → TakesAtMost second.old second.new (most + 1)
-    → (second.has_failed ≡ false → r ≢ Err (passed_on Memory) → TakesFirst second.old second.new (most + 1))
+    → ReadsUpTo stop.Failed NOTES_MOST notes (had {E = Stop} plat) → ReadsUpTo passed_on most second r
     → ReadsOnPlat passed_on most notes second unread r
-second_read passed_on most notes second unread plat r read notes_most notes_exact second_is_read no_write
-    second_most second_exact =
+second_read passed_on most notes second unread plat r first then =
     record {
-      read = ((λ is. inr (second_is_read.0 is)), of_any);
-      unread_after_fault = λ failed. cc (read.1 failed);
-      no_write = no_write;
-      notes_most = notes_most;
-      second_most = second_most;
-      notes_exact = λ notes_open _. notes_exact notes_open (λ wrong. cc wrong);
-      second_exact = λ n told makes notes_open second_open not_memory. second_exact second_open not_memory;
+      read = ((λ is. inr (then.read.0 is)), of_any);
+      unread_after_fault = λ failed. cc (first.read.1 failed);
+      no_write = then.no_write;
+      notes_most = first.most_is;
+      second_most = then.most_is;
+      notes_exact = λ notes_open _. first.exact notes_open (λ wrong. cc wrong);
+      second_exact = λ n told makes notes_open second_open not_memory. then.exact second_open not_memory;
     }
   where
     of_any : AnyFailed notes.has_failed second.has_failed → IsErrOf r (passed_on Read)
-    of_any (inl failed) = cc (read.1 failed)
-    of_any (inr failed) = second_is_read.1 failed
+    of_any (inl failed) = cc (first.read.1 failed)
+    of_any (inr failed) = then.read.1 failed
 
 -- what stopped a run is refused in its answer
 pub refused_answer : (Is : Refusal → Type 0) (Answers : AnswerRelation) (by : Stop)

@@ -29,7 +29,7 @@ rest_adds_up plat places area rest whole is others all =
     let within : area.units ≤ whole.units = left.0 in
     omega arith
 
--- no place has no area
+-- where there is no place there is no area
 pub no_area : (plat : TownshipPlat) (pieces : ℕ → ℕ → ℕ → ℕ) → ArePieces plat pieces
     → IsLandArea PLACE_DIGITS plat no_places (record { units = 0; over = over_of plat })
 no_area plat pieces are =

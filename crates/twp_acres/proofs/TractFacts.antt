@@ -17,7 +17,7 @@ two_fields (a ∷ []) first second two is is' = absurd (omega arith)
 two_fields (a ∷ b ∷ []) first second two is is' = λ i. is i ∷ is' i ∷ []
 two_fields (a ∷ b ∷ c ∷ rest) first second two is is' = absurd (omega arith)
 
--- bytes of printed ASCII are text
+-- bytes of printable ASCII are text
 pub printed_is_text : (bytes : List ℕ) → All IsPrinted bytes → IsUtf8 bytes
 printed_is_text bytes printed =
     IsUtf8-from_ascii bytes (IsAscii-from_all bytes (λ k d below.

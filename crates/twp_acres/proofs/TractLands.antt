@@ -28,7 +28,7 @@ pub with_right : (a b : Bool) → b ≡ true → (a || b) ≡ true
 with_right true b is = refl
 with_right false b is = is
 
--- no tract has no place
+-- where there is no tract there is no place
 pub no_land : (township : Designation) (rows : List Fields) → IsLandOfTracts township rows 0 no_places
 no_land township rows section column row = (
   λ held. cc held,

@@ -33,8 +33,8 @@ HasAcresBy Exact notes description hundredths = HasAcres notes description hundr
 HasAcresBy Plat notes description hundredths = HasPlatAcres notes description hundredths
 
 -- The acres of the land described, where the notes make a plat and the description's parts lie on
--- it without overlap. Else the refusal of the first fault. By the exact account it is the answer
--- of the acreage run.
+-- it without overlap. Otherwise the refusal of the first fault. By the exact account it is the
+-- answer of the acreage run.
 abbrev pub IsAcresAnswerBy : Account → List ℕ → List ℕ → AnswerRelation
 IsAcresAnswerBy account notes description answer Accepted =
     (hundredths : ℕ) × HasAcresBy account notes description hundredths

@@ -29,7 +29,7 @@ abbrev pub acres_line : ℕ → List ℕ
 acres_line hundredths = acres_text hundredths ++ codes " acres" ++ line_feed ∷ []
 
 -- The acres of the land described, where the notes make a plat and the description's parts lie on
--- it without overlap. Else the refusal of the first fault.
+-- it without overlap. Otherwise the refusal of the first fault.
 abbrev pub IsAcresAnswer : List ℕ → List ℕ → List ℕ → Verdict → Type 0
 IsAcresAnswer notes description answer Accepted =
     (hundredths : ℕ) × HasAcres notes description hundredths × (answer ≡ acres_line hundredths)

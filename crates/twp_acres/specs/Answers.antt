@@ -11,7 +11,9 @@ use Rattle.twp_notes.specs.declared.fault.NotesFault.{NotesFault}
 use Rattle.twp_plat.specs.Plats.{TownshipPlat, IsPlatOf}
 use Rattle.twp_plat.specs.PlatFaults as plat_faults
 use Rattle.twp_plat.specs.declared.fault.PlatFault.{PlatFault}
-use Rattle.twp_text.specs.TextFaults.{IsReadAs, IsFirstTextFault}
+use Rattle.twp_text.specs.TextFaults as text_faults
+use Rattle.twp_text.specs.TextFaults.{IsReadAs}
+use Rattle.twp_read.specs.declared.fault.TextFault.{TextFault}
 use Rattle.twp_text.specs.PlaceFaults as place_faults
 use Rattle.twp_grammar.specs.declared.item.Item.{Item}
 use Rattle.twp_resolve.specs.declared.place_fault.PlaceFault.{PlaceFault}
@@ -54,6 +56,12 @@ pub record MakeNoPlat (bytes : List ℕ) (refusal : Refusal) : Type 0 where
   pub first : plat_faults.IsFirstFault notes fault
   pub refusal_is : plat_faults.refusal_of fault ≡ Some refusal
 
+-- the bytes are read as no items, for their first fault
+pub record IsNoText (bytes : List ℕ) (refusal : Refusal) : Type 0 where
+  pub fault : TextFault
+  pub first : text_faults.IsFirstTextFault bytes fault
+  pub refusal_is : text_faults.refusal_of fault ≡ Some refusal
+
 -- the bytes are read as items that don't lie on the plat without overlap, for their first fault
 pub record DescribeNoLand (township : Designation) (bytes : List ℕ) (refusal : Refusal)
     : Type 0 where
@@ -67,7 +75,7 @@ pub record DescribeNoLand (township : Designation) (bytes : List ℕ) (refusal :
 -- items
 abbrev pub IsNoDescription : Designation → List ℕ → Refusal → Type 0
 IsNoDescription township bytes refusal =
-    IsFirstTextFault bytes refusal ⊎ DescribeNoLand township bytes refusal
+    IsNoText bytes refusal ⊎ DescribeNoLand township bytes refusal
 
 -- the notes make a plat, and the description is of no land on it
 pub record IsNoLandOnPlat (notes description : List ℕ) (refusal : Refusal) : Type 0 where

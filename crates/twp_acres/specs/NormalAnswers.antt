@@ -15,7 +15,7 @@ pub record IsNormalForm (notes description text : List ℕ) : Type 0 where
   pub text_is : IsCanonicalText PLACE_DIGITS plat.township places text
 
 -- The canonical text of the land described, where the notes make a plat and the description's parts
--- lie on it without overlap. Else the refusal of the first fault.
+-- lie on it without overlap. Otherwise the refusal of the first fault.
 abbrev pub IsNormalAnswer : List ℕ → List ℕ → List ℕ → Verdict → Type 0
 IsNormalAnswer notes description answer Accepted = IsNormalForm notes description answer
 IsNormalAnswer notes description answer (Refused refusal) =

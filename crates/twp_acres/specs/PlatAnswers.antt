@@ -10,7 +10,7 @@ use Rattle.twp_acres.specs.Answers.{AnswersRefusal, ArePlatted, IsNoPlat}
 use Rattle.twp_acres.specs.declared.verdict.Verdict.{Verdict}
 use Rattle.twp_acres.specs.declared.verdict.Verdict.TheVariants.{Accepted, Refused, TractRefused}
 
--- the texts of the numbers from 1 on, one behind the other
+-- the texts of the numbers from 1 on, one after another
 unfoldable pub texts_to : ℕ → (ℕ → List ℕ) → List ℕ
 texts_to zero text = []
 texts_to (suc n) text = texts_to n text ++ text (suc n)
@@ -52,7 +52,7 @@ pub record IsPrintedPlat (notes text : List ℕ) : Type 0 where
   pub are : AreFigures plat figures
   pub text_is : text ≡ plat_text figures
 
--- The printed plat, where the notes make one. Else the refusal of the first fault.
+-- The printed plat, where the notes make one. Otherwise the refusal of the first fault.
 abbrev pub IsPlatAnswer : List ℕ → List ℕ → Verdict → Type 0
 IsPlatAnswer notes answer Accepted = IsPrintedPlat notes answer
 IsPlatAnswer notes answer (Refused refusal) =

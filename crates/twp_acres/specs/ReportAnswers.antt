@@ -35,7 +35,7 @@ pub record AreTractLines (plat : TownshipPlat) (rows : List Fields) (count : ℕ
   pub each : (index : ℕ) → index < count
       → IsTractLine plat (record_at rows index) (slice_index_or lines index [])
 
--- the lines, one behind the other
+-- the lines, one after another
 abbrev pub text_of : List (List ℕ) → List ℕ
 text_of lines = flat_map (λ line. line) lines
 
@@ -100,7 +100,7 @@ IsPlatRefused notes answer (Refused refusal) =
 IsPlatRefused notes answer other = ⊥
 
 -- The account, where the notes make a plat and the list is one of tracts on it, of which no two
--- have a place in common. Else the refusal of the first fault; where a tract's description is
+-- have a place in common. Otherwise the refusal of the first fault; where a tract's description is
 -- refused itself, a second line has that refusal.
 abbrev pub IsReportAnswer : List ℕ → List ℕ → List ℕ → Verdict → Type 0
 IsReportAnswer notes tracts answer verdict =

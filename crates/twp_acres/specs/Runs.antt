@@ -14,7 +14,7 @@ use Rattle.twp_acres.specs.declared.verdict.RunFault.TheVariants.{Read, Write, M
 abbrev pub AnswerRelation : Type 1
 AnswerRelation = List ℕ → Verdict → Type 0
 
--- known bytes grow by some front of these
+-- known bytes grow by the first few of these, or by all
 pub record AppendsFront (old new : Option (List ℕ)) (bytes : List ℕ) : Type 0 where
   pub count : ℕ
   pub within : count ≤ length bytes
@@ -27,15 +27,16 @@ pub record Writes (Answers : AnswerRelation) (old new : Option (List ℕ)) (verd
   pub answers : Answers answer verdict
   pub appended : Appends old new answer
 
--- an answer was begun, and a front of it written
+-- an answer was begun, and what was written is its beginning
 pub record WritesFront (Answers : AnswerRelation) (old new : Option (List ℕ)) : Type 0 where
   pub answer : List ℕ
   pub verdict : Verdict
   pub answers : Answers answer verdict
   pub front : AppendsFront old new answer
 
--- What a run leaves in its writer: the whole answer at a verdict, which is the answer's; a front of
--- an answer where the writer failed; and nothing else where a reader or memory did.
+-- What a run leaves in its writer: the whole answer at a verdict, which is the answer's; the
+-- beginning of an answer where the writer failed; and nothing else where a reader failed or memory
+-- ran out.
 abbrev pub IsRun : AnswerRelation → Option (List ℕ) → Option (List ℕ)
     → Result Verdict RunFault → Type 0
 IsRun Answers old new (Ok verdict) = Writes Answers old new verdict
@@ -70,14 +71,14 @@ pub record ReadsTwo (first second : Option (List ℕ)) (GoesOn : List ℕ → Ty
 abbrev pub AnyFailed : Bool → Bool → Type 0
 AnyFailed first second = (first ≡ true) ⊎ (second ≡ true)
 
--- What a call shows of a device: the bytes that it tells before the call and behind it, which are
+-- What a call shows of a device: the bytes that it tells before the call and after it, which are
 -- those that are left of a source and those that a sink has taken, and whether it has failed.
 pub record Use : Type 0 where
   pub old : Option (List ℕ)
   pub new : Option (List ℕ)
   pub has_failed : Bool
 
--- a device that is used so
+-- a device that is used in this way
 abbrev pub used : Option (List ℕ) → Option (List ℕ) → Bool → Use
 used old new has_failed = record { old = old; new = new; has_failed = has_failed }
 

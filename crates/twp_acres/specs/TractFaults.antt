@@ -13,7 +13,7 @@ use Rattle.twp_acres.specs.declared.verdict.Verdict.TheVariants.{Refused, TractR
 use Rattle.twp_acres.specs.declared.tract_fault.TractFault.{TractFault}
 use Rattle.twp_acres.specs.declared.tract_fault.TractFault.TheVariants as fault
 
--- the number of the fault and its place; want of memory has none
+-- the number of the fault and its place; that memory ran out has none
 abbrev pub refusal_of : TractFault → Option Refusal
 refusal_of fault.TractsTooLarge = Some (record { number = 80; at = TRACTS_LIMIT })
 refusal_of (fault.TractRow number_) = Some (record { number = 81; at = number_ })
@@ -60,7 +60,7 @@ pub record HasAtTract (township : Designation) (rows : List Fields) (tract_fault
   pub within : index < length rows
   pub has : HasAt township rows index tract_fault
 
--- the first record is another than the heading, or is missing
+-- the first record isn't the heading, or is missing
 abbrev pub HasNoHeading : List ℕ → TractFault → Type 0
 HasNoHeading bytes (fault.TractRow number) =
     (number ≡ 1) × (record_numbered (records_of bytes) 1 ≢ tracts_heading)
@@ -83,7 +83,8 @@ record_of (fault.TractsOverlap number) = number
 record_of fault.TooManyTracts = TRACTS_MOST + 2
 record_of fault.Memory = 0
 
--- Of one tract too many nothing else is looked at. Else a record's faults are looked for by number.
+-- Where there is one tract too many, nothing else is looked at. Otherwise a record's faults are
+-- looked for by number.
 abbrev pub turn_of : TractFault → ℕ
 turn_of fault.TooManyTracts = 0
 turn_of (fault.TractRow number) = 1
@@ -92,7 +93,7 @@ turn_of (fault.TractRefused number inner) = 3
 turn_of (fault.TractsOverlap number) = 4
 turn_of other = 0
 
--- the fault is at this record and turn, or behind it
+-- the fault is at this record and turn, or after it
 abbrev pub IsFrom : ℕ → ℕ → TractFault → Type 0
 IsFrom number turn tract_fault = (number < record_of tract_fault)
     ⊎ ((number ≡ record_of tract_fault) × (turn ≤ turn_of tract_fault))

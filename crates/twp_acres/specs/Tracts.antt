@@ -1,4 +1,4 @@
--- A list of tracts: the heading, and behind it a record for each tract, with its name and the
+-- A list of tracts: the heading, and after it a record for each tract, with its name and the
 -- description of its land. The layout is this project's.
 use Rattle.std.specs.Prelude.{◌≡◌, ◌≢◌, ◌↔◌, ℕ, ◌≤◌, ◌<◌, Bool, true}
 use Rattle.std.specs.Prelude.{List, [], ◌∷◌, length, drop, codes}
@@ -24,7 +24,7 @@ NAME_MOST = 64
 abbrev pub tracts_heading : Fields
 tracts_heading = codes "name" ∷ codes "description" ∷ []
 
--- the records of tracts: all behind the heading
+-- the records of tracts: all after the heading
 abbrev pub tract_records : List ℕ → List Fields
 tract_records bytes = drop 1 (records_of bytes)
 
@@ -35,11 +35,11 @@ name_in fields = field fields 0
 abbrev pub description_in : Fields → List ℕ
 description_in fields = field fields 1
 
--- a byte of printed ASCII, from the blank to the tilde
+-- a byte of printable ASCII, from the space to the tilde
 abbrev pub IsPrinted : ℕ → Type 0
 IsPrinted byte = (0x20 ≤ byte) × (byte ≤ 0x7E)
 
--- a name has some bytes and no more than it may have, each of them printed
+-- a name has some bytes and no more than it may have, each of them printable
 pub record IsTractName (name : List ℕ) : Type 0 where
   pub some : 1 ≤ length name
   pub most : length name ≤ NAME_MOST

@@ -22,7 +22,7 @@ pub fn one_answer()
     ensures { OneAnswer }
 {}
 
-/// So they have by each account.
+/// So they have by either account.
 pub fn one_answer_by()
     ensures { OneAnswerBy }
 {}

@@ -1,4 +1,4 @@
-ghost use Rattle.std.specs.Prelude.{◌≡◌, ◌≤◌, ◌||◌, List, ℕ, Bool, false, not, length, IfOk, OnErr};
+ghost use Rattle.std.specs.Prelude.{◌≡◌, ◌≤◌, ◌||◌, List, ℕ, false, not, length, IfOk};
 ghost use Rattle.std.specs.Str.{bytes_eq};
 ghost use Rattle.twp_acres.specs.steps.Names.{has_name};
 ghost use Rattle.twp_acres.specs.Tracts.{NAME_MOST};
@@ -24,7 +24,7 @@ impl Names {
         }
     }
 
-    /// Adds a name, and answers whether it wasn't there.
+    /// Adds a name, and says whether it is new.
     pub fn add(&mut self, name: &str) -> Result<bool, AllocError>
         requires { length name.now ≤ NAME_MOST }
         ensures is_new { IfOk result (λ is_new. is_new ≡ not (has_name self.old name.now)) }

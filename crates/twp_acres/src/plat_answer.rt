@@ -1,16 +1,14 @@
 //! The answer of the plat run.
-ghost use Rattle.std.specs.Prelude.{◌≡◌, ◌≢◌, ◌≤◌, ◌+◌, ◌++◌, ◌↔◌, true, false, OnOk, IfOk, IfErr};
-ghost use Rattle.std.specs.Prelude.{IsErrOf};
-ghost use Rattle.twp_grid.specs.Devices.{TakesAtMost};
+ghost use Rattle.std.specs.Prelude.{◌≡◌, ◌≤◌, ◌++◌, false, OnOk, IfOk, IfErr};
 ghost use Rattle.twp_grid.specs.Winding.{IsSection};
 ghost use Rattle.twp_grid.specs.Lots.{number_of_lots};
 ghost use Rattle.twp_notes.specs.FieldNotes.{NOTES_MOST};
-ghost use Rattle.twp_notes.specs.ReadBytes.{TakesFirst};
 ghost use Rattle.twp_area.specs.PlatFigures.{PlatFigures, AreFigures};
 ghost use Rattle.twp_acres.specs.PlatAnswers.{IsPlatAnswer};
 ghost use Rattle.twp_acres.specs.PlatAnswers.{lot_text, total_text, section_name, section_line};
 ghost use Rattle.twp_acres.specs.PlatAnswers.{plat_text};
-ghost use Rattle.twp_acres.specs.Runs.{Reads};
+ghost use Rattle.twp_acres.specs.Runs.{Reads, used};
+ghost use Rattle.twp_acres.specs.steps.Stages.{ReadsUpTo, same_fault};
 
 use crate::answer::{Answer, answer_stop};
 use crate::stages::read_plat;
@@ -24,12 +22,9 @@ use twp_plat::Plat;
 /// The answer of field notes: the printed plat, or the refusal.
 pub fn answer_of<N: Source>(alloc: Global, notes: &mut N) -> Result<Answer, RunFault>
     requires { N.has_failed notes.old ≡ false }
-    ensures read { IsErrOf result RunFault.Read ↔ (N.has_failed notes.new ≡ true) }
-    ensures no_write { IfErr result (λ fault. fault ≢ RunFault.Write) }
-    ensures most { TakesAtMost (N.remaining notes.old)
-        (N.remaining notes.new) (NOTES_MOST + 1) }
-    ensures exact { N.has_failed notes.new ≡ false → result ≢ Err RunFault.Memory
-        → TakesFirst (N.remaining notes.old) (N.remaining notes.new) (NOTES_MOST + 1) }
+    ensures reads { ReadsUpTo same_fault NOTES_MOST
+        (used (N.remaining notes.old) (N.remaining notes.new) (N.has_failed notes.new))
+        result }
     ensures answer { Reads (N.remaining notes.old) (λ n.
         IfOk result (λ answer. IsPlatAnswer n answer.text.items answer.verdict)) }
 {

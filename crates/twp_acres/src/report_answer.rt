@@ -1,14 +1,11 @@
 //! The answer of the report run.
-ghost use Rattle.std.specs.Prelude.{◌≡◌, ◌≢◌, ◌+◌, ◌↔◌, Some, true, false};
-ghost use Rattle.std.specs.Prelude.{IfOk, IfErr, IsErrOf};
-ghost use Rattle.twp_grid.specs.Devices.{TakesAtMost};
-ghost use Rattle.twp_notes.specs.ReadBytes.{TakesFirst};
+ghost use Rattle.std.specs.Prelude.{◌≡◌, ◌≢◌, Some, false, IfOk, IfErr};
 ghost use Rattle.twp_acres.specs.Answers.{MakePlat};
 ghost use Rattle.twp_acres.specs.Tracts.{TRACTS_LIMIT};
 ghost use Rattle.twp_acres.specs.TractFaults.{verdict_of};
 ghost use Rattle.twp_acres.specs.ReportAnswers.{IsReportAnswer, AnswersList, refusal_lines};
 ghost use Rattle.twp_acres.specs.Runs.{Reads, ReadsTwo, used};
-ghost use Rattle.twp_acres.specs.steps.Stages.{ReadsOnPlat, same_fault};
+ghost use Rattle.twp_acres.specs.steps.Stages.{ReadsUpTo, ReadsOnPlat, same_fault};
 
 use crate::answer::{Answer, answer_stop, write_refusal};
 use crate::stages::read_plat;
@@ -45,16 +42,13 @@ pub fn answer_of<N: Source, T: Source>(
 }
 
 /// The answer of a list of tracts on a plat.
-// Not inlined: else its reader stands on the stack while the notes are read.
+// Not inlined: otherwise its reader would be on the stack while the notes are read.
 #[inline(never)]
 fn report_on<T: Source>(alloc: Global, plat: &Plat, tracts: &mut T) -> Result<Answer, RunFault>
     requires { T.has_failed tracts.old ≡ false }
-    ensures read { IsErrOf result RunFault.Read ↔ (T.has_failed tracts.new ≡ true) }
-    ensures no_write { IfErr result (λ fault. fault ≢ RunFault.Write) }
-    ensures most { TakesAtMost (T.remaining tracts.old)
-        (T.remaining tracts.new) (TRACTS_LIMIT + 1) }
-    ensures exact { T.has_failed tracts.new ≡ false → result ≢ Err RunFault.Memory
-        → TakesFirst (T.remaining tracts.old) (T.remaining tracts.new) (TRACTS_LIMIT + 1) }
+    ensures reads { ReadsUpTo same_fault TRACTS_LIMIT
+        (used (T.remaining tracts.old) (T.remaining tracts.new) (T.has_failed tracts.new))
+        result }
     ensures answer { Reads (T.remaining tracts.old) (λ t.
         IfOk result (λ answer. AnswersList plat.now t answer.text.items answer.verdict)) }
 {

@@ -20,8 +20,8 @@ use twp_area::area_of;
 use twp_land::Land;
 use twp_plat::Plat;
 
-/// What is known of the tracts so far. One land is kept for the tract at hand, so that none has to
-/// be made for each.
+/// What is known of the tracts so far. One land is kept and used for each tract in turn, so that no
+/// new one has to be made.
 #[derive(Drop)]
 pub(crate) struct RunningAccount<L> {
     pub(crate) names: Names,

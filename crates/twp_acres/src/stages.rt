@@ -1,15 +1,12 @@
 //! The stages of a run: the plat of the field notes, and the land of a description on it.
-ghost use Rattle.std.specs.Prelude.{◌≡◌, ◌≢◌, ◌+◌, ◌↔◌, true, false};
-ghost use Rattle.std.specs.Prelude.{IfOk, OnOk, IfErr, IsErrOf};
-ghost use Rattle.twp_grid.specs.Devices.{TakesAtMost};
+ghost use Rattle.std.specs.Prelude.{◌≡◌, false, IfOk, OnOk, IfErr};
 ghost use Rattle.twp_grid.specs.Places.{PLACE_DIGITS};
 ghost use Rattle.twp_notes.specs.FieldNotes.{NOTES_MOST};
-ghost use Rattle.twp_notes.specs.ReadBytes.{TakesFirst};
 ghost use Rattle.twp_land.specs.WholeLots.{HasWholeLots};
 ghost use Rattle.twp_text.specs.TextFaults.{TEXT_LIMIT};
 ghost use Rattle.twp_acres.specs.Answers.{MakePlat};
 ghost use Rattle.twp_acres.specs.Runs.{Reads, ReadsTwo, used};
-ghost use Rattle.twp_acres.specs.steps.Stages.{ReadsOnPlat};
+ghost use Rattle.twp_acres.specs.steps.Stages.{ReadsUpTo, ReadsOnPlat};
 ghost use Rattle.twp_acres.specs.steps.Stops.{IfFailed, IsPlatted, IsDescribed, IsRead};
 ghost use Rattle.twp_acres.specs.declared.stop.Stop.TheVariants.{Failed};
 ghost use Rattle.twp_acres.specs.declared.verdict.RunFault.{RunFault};
@@ -25,12 +22,9 @@ use twp_text::{Description, TEXT_LIMIT, TextFault, resolve_into};
 /// The plat of the notes that a source gives.
 pub fn read_plat<N: Source>(alloc: Global, notes: &mut N) -> Result<Plat, Stop>
     requires { N.has_failed notes.old ≡ false }
-    ensures read { IsErrOf result (Failed RunFault.Read) ↔ (N.has_failed notes.new ≡ true) }
-    ensures no_write { IfErr result (λ stop. stop ≢ Failed RunFault.Write) }
-    ensures most { TakesAtMost (N.remaining notes.old)
-        (N.remaining notes.new) (NOTES_MOST + 1) }
-    ensures exact { N.has_failed notes.new ≡ false → result ≢ Err (Failed RunFault.Memory)
-        → TakesFirst (N.remaining notes.old) (N.remaining notes.new) (NOTES_MOST + 1) }
+    ensures reads { ReadsUpTo Failed NOTES_MOST
+        (used (N.remaining notes.old) (N.remaining notes.new) (N.has_failed notes.new))
+        result }
     ensures plat { Reads (N.remaining notes.old) (λ n. IsPlatted n result) }
 {
     let notes = Notes::read(alloc, notes)?;
@@ -44,12 +38,9 @@ fn read_land<D: Source, L: Land>(
     description: &mut D,
 ) -> Result<L, Stop>
     requires { D.has_failed description.old ≡ false }
-    ensures read { IsErrOf result (Failed RunFault.Read) ↔ (D.has_failed description.new ≡ true) }
-    ensures no_write { IfErr result (λ stop. stop ≢ Failed RunFault.Write) }
-    ensures most { TakesAtMost (D.remaining description.old)
-        (D.remaining description.new) (TEXT_LIMIT + 1) }
-    ensures exact { D.has_failed description.new ≡ false → result ≢ Err (Failed RunFault.Memory)
-        → TakesFirst (D.remaining description.old) (D.remaining description.new) (TEXT_LIMIT + 1) }
+    ensures reads { ReadsUpTo Failed TEXT_LIMIT
+        (used (D.remaining description.old) (D.remaining description.new)
+        (D.has_failed description.new)) result }
     ensures land { Reads (D.remaining description.old) (λ d.
         IsDescribed L.places township d result) }
     ensures whole_lots { IfOk result (λ land. HasWholeLots PLACE_DIGITS (L.places land)) }
@@ -62,7 +53,7 @@ fn read_land<D: Source, L: Land>(
     Ok(land)
 }
 
-/// Makes a land the one of a description, on the plat of a township. What it held before is gone.
+/// Sets a land to that of a description, on the plat of a township. What it held before is gone.
 pub fn describe_into<L: Land>(
     alloc: Global,
     land: &mut L,

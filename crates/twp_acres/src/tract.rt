@@ -1,5 +1,5 @@
 //! The record of a tract.
-ghost use Rattle.std.specs.Prelude.{◌≡◌, ◌≤◌, ◌↔◌, IsTrue, MatchOption};
+ghost use Rattle.std.specs.Prelude.{◌≡◌, ◌↔◌, IsTrue, MatchOption};
 ghost use Rattle.std.specs.List.{All};
 ghost use Rattle.csv.specs.Records.{fields_of};
 ghost use Rattle.twp_acres.specs.Tracts.{tracts_heading, name_in, description_in};
@@ -39,7 +39,7 @@ fn is_text(bytes: &[u8], text: &str) -> bool
     bytes == text.as_bytes()
 }
 
-/// The tract of a record, if it is one of a tract.
+/// The tract of a record, if it is a tract's.
 pub(crate) fn tract_of(row: &ByteRecord) -> Option<TractRecord<'_>>
     ensures { MatchOption result (¬ (IsTractRecord (fields_of row.now)))
         (λ tract. IsTractRecord (fields_of row.now)
@@ -72,7 +72,7 @@ fn name_of(bytes: &[u8]) -> Option<&str>
     }
 }
 
-/// Whether each byte is one of printed ASCII.
+/// Whether each byte is printable ASCII.
 fn are_printed(bytes: &[u8]) -> bool
     ensures { IsTrue result ↔ All IsPrinted bytes.now }
 {

@@ -36,7 +36,7 @@ pub enum TractFault {
     /// 85, at the first record too many.
     #[error("there are more than 1,000 tracts")]
     TooManyTracts,
-    /// There was no memory.
+    /// Memory ran out.
     #[error("out of memory")]
     Memory,
 }

@@ -1,5 +1,5 @@
 //! The list of tracts, taken into an account record by record.
-ghost use Rattle.std.specs.Prelude.{◌≡◌, ◌≤◌, length, IfOk, IfErr};
+ghost use Rattle.std.specs.Prelude.{◌≤◌, length, IfOk, IfErr};
 ghost use Rattle.twp_notes.specs.Records.{records_left, IsReading};
 ghost use Rattle.twp_acres.specs.Tracts.{TRACTS_LIMIT, TRACTS_MOST};
 ghost use Rattle.twp_acres.specs.ReportAnswers.{IsAccountOf};
@@ -15,7 +15,7 @@ use twp_land::{Land, Lanes};
 use twp_notes::Records;
 use twp_plat::Plat;
 
-/// The number of the record behind the heading, the first one of a tract.
+/// The number of the record after the heading, the first one of a tract.
 const FIRST_TRACT: u32 = 2;
 
 /// The text of a list's account. The list is within its limit of bytes.
@@ -37,7 +37,7 @@ pub(crate) fn account_of(alloc: Global, plat: &Plat, bytes: &[u8]) -> Result<Vec
     Ok(account.text)
 }
 
-/// Takes the tracts of the records that are left, which stand behind the heading.
+/// Takes the tracts of the records that are left, which come after the heading.
 fn take_tracts<L: Land>(
     alloc: Global,
     plat: &Plat,

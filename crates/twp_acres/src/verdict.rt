@@ -28,7 +28,7 @@ pub enum RunFault {
     /// The writer failed.
     #[error("cannot write")]
     Write,
-    /// There was no memory.
+    /// Memory ran out.
     #[error("out of memory")]
     Memory,
 }

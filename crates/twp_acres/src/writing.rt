@@ -1,4 +1,4 @@
-ghost use Rattle.std.specs.Prelude.{◌≡◌, ℕ, OnOk, OnErr, is_err, false};
+ghost use Rattle.std.specs.Prelude.{◌≡◌, OnOk, OnErr, is_err, false};
 ghost use Rattle.std.specs.Io.KnownBytes.{Appends};
 ghost use Rattle.twp_acres.specs.Runs.{AppendsFront};
 

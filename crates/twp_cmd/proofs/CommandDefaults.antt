@@ -7,7 +7,7 @@ use Rattle.std.specs.Str.{bytes_eq}
 use Rattle.std.proofs.lemmas.Slice.Eq.{bytes_eq-Decides}
 use Rattle.clap.specs.Kinds.{request_kinds}
 use Rattle.clap.specs.Walk.{Held, Row, Rule, Text, action_of, default_rows, finished, first_of, has_row}
-use Rattle.clap.specs.Walk.{is_empty, more_values, reading_by, settled, value, with_default, with_values}
+use Rattle.clap.specs.Walk.{is_empty, more_values, reading_by, settled, with_default, with_values}
 use Rattle.clap.specs.Takes.{is_given}
 use Rattle.clap.specs.Faults.{default_fault, defaults_fault, given_default_fault, settle_fault}
 use Rattle.clap.specs.declared.builder.action.ArgAction.TheVariants.{Help}
@@ -92,7 +92,7 @@ given_row id (r ∷ rs) given = go (bytes_eq r.id id) refl (given_row id rs)
     go true t rest = refl
     go false t rest = rest (rw t at given)
 
--- more values for an id leave it a row, and each other
+-- more values for an id leave it a row, and leave every other id its own
 with_values_row : (id : Text) (how : Reading) (source : ValueSource) (vs : List Text) (rows : List Row)
     → has_row id (with_values id how source vs rows) ≡ true
 with_values_row id how source vs [] = rw ((bytes_eq-Decides id id).1 refl) refl

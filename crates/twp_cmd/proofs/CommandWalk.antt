@@ -1,4 +1,4 @@
--- What clap's walk over the words of a subcommand holds, where each argument wants a value or asks for help:
+-- What clap's walk over the words of a subcommand holds, where each argument needs a value or asks for help:
 -- each row has a value, and its values are such as its id may have.
 use Rattle.std.proofs.Common.{zero, suc, ◌≡◌, ◌⊎◌, ◌++◌, ◌<◌, ◌&&◌, ℕ, Bool, true, false, List, [], ◌∷◌}
 use Rattle.std.proofs.Common.{length, drop, is_some, Option, Some, None, refl, inl, inr, sym, subst, arith}
@@ -74,7 +74,7 @@ module _ (P : Text → Text → Type 0) where
   Good [] = ⊤
   Good (r ∷ rs) = (0 < length r.values) × EachMay r.id r.values × Good rs
 
-  -- the argument asks for help, or wants a value, and its parser takes only such as its id may have
+  -- the argument asks for help, or needs a value, and its parser takes only such as its id may have
   abbrev pub Fits : Rule → Type 0
   Fits a = AsksForHelp a ⊎ (WantsValue a
       × ((v : Text) → value_kinds a.ignore_case (parser_of_value a.parser) v ≡ [] → P a.id v))

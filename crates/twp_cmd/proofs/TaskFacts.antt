@@ -12,7 +12,7 @@ use Rattle.clap.specs.declared.error.kind.ErrorKind.TheVariants.{DisplayHelp, Ou
 use Rattle.clap.specs.declared.parser.matches.ArgMatches.{ArgMatches}
 use Rattle.clap.specs.declared.parser.matches.ArgMatches.TheViews.{out-ArgMatches, out-SubCommand}
 use Rattle.twp_cmd.specs.Commands.{IsTownship, township}
-use Rattle.twp_cmd.specs.steps.Parses.{HasAccount, HasValue, IsWhole, ShowsAs}
+use Rattle.twp_cmd.specs.steps.Parses.{HasValue, IsWhole, ShowsAs}
 use Rattle.twp_cmd.specs.Tasks.{IsFaultOf, IsTaskIn, IsTaskOf}
 use Rattle.twp_cmd.specs.declared.task.Task.{Task}
 use Rattle.twp_cmd.specs.declared.task.TaskFault.{TaskFault}
@@ -43,21 +43,6 @@ land_words (Some e) name rows whole named found no_plat no_report =
       | inr (inl is) ↦ absurd (no_report (sym same ∙ is.0))
       | inr (inr (inl is)) ↦ subst (HasValue (codes "DESCRIPTION")) those is.1
       | inr (inr (inr is)) ↦ subst (HasValue (codes "DESCRIPTION")) those is.1
-    ]
-
--- what is `acres` has an account
-pub acres_words : (entered : Option (Text × List Row)) (rows : List Row) → IsWhole entered
-    → option_map (λ p. p.0) entered ≡ Some (codes "acres") → option_map (λ p. p.1) entered ≡ Some rows
-    → HasAccount rows
-acres_words None rows whole named found = absurd whole
-acres_words (Some e) rows whole named found =
-    let name : e.0 ≡ codes "acres" = cc in
-    let those : e.1 ≡ rows = cc in
-    elim whole.1 [
-      | inl is ↦ absurd (let bad : codes "acres" ≡ codes "plat" = sym name ∙ is in cc bad)
-      | inr (inl is) ↦ absurd (let bad : codes "acres" ≡ codes "report" = sym name ∙ is.0 in cc bad)
-      | inr (inr (inl is)) ↦ absurd (let bad : codes "acres" ≡ codes "normal" = sym name ∙ is.0 in cc bad)
-      | inr (inr (inr is)) ↦ subst HasAccount those is.2
     ]
 
 simple : (app : App) → IsTownship app → is_simple app ≡ true

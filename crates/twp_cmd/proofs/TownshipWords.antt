@@ -164,7 +164,7 @@ help = built_leaf help_shape
 abbrev leaf_fault : Shape → List Text → Kinds
 leaf_fault s words = level_fault s [] nothing_held words false []
 
--- what the words behind a subcommand give is whole, where none is a fault
+-- what the words after a subcommand give is whole, where none is a fault
 abbrev GivesWhole : List Text → Shape → Type 0
 GivesWhole words s = leaf_fault s words ≡ [] → IsWhole (Some (rows_at s words))
 

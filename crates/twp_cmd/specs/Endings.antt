@@ -1,6 +1,6 @@
 -- How the program ends, by the words of its command line.
-use Rattle.std.specs.Prelude.{◌≡◌, ◌≢◌, ◌⊎◌, ◌↔◌, ℕ, ◌+◌, ◌<◌, Bool, true, false, List, length, ⊤}
-use Rattle.std.specs.Prelude.{Option, Some, Result, Err, IsErrOf, IsOkUnless}
+use Rattle.std.specs.Prelude.{◌≡◌, ◌≢◌, ◌⊎◌, ◌↔◌, ℕ, ◌+◌, ◌<◌, true, false, List, length, ⊤}
+use Rattle.std.specs.Prelude.{Some, Result, Err, IsErrOf, IsOkUnless}
 use Rattle.clap.specs.Words.{Text}
 use Rattle.clap.specs.declared.error.kind.ErrorKind.TheVariants.{DisplayHelp}
 use Rattle.twp_grid.specs.Devices.{TakesAtMost}
@@ -94,7 +94,7 @@ pub record IsJoinedVerdict (verdict : Verdict) : Type 0 where
   pub answer : List ℕ
   pub answers : IsAcresAnswer (joined_notes bytes) (joined_description bytes) answer verdict
 
--- the words can't be had for want of memory, or because they can't be read
+-- the words can't be obtained because memory ran out, or because they can't be read
 abbrev pub IsWordsFault : RunFault → Type 0
 IsWordsFault Write = ⊥
 IsWordsFault fault = ⊤
@@ -110,7 +110,7 @@ EndsWithoutWords (Answered verdict) = IsJoinedVerdict verdict
 EndsWithoutWords (Failed failure) = IsRunFailure failure
 EndsWithoutWords other = ⊥
 
--- the program ends by some words behind its name, since the host doesn't tell which, or without any
+-- the program ends by some words after its name, since the host doesn't tell which, or without any
 abbrev pub EndsProgram : Ending → Type 0
 EndsProgram ending =
     ((words : List Text) × (1 < length words) × EndsAs words ending) ⊎ EndsWithoutWords ending

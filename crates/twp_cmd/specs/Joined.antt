@@ -1,4 +1,4 @@
--- A description and field notes in one text: the description stands before the first line feed.
+-- A description and field notes in one text: the description comes before the first line feed.
 use Rattle.std.specs.Prelude.{ℕ, ◌+◌, ◌==◌, List, take}
 use Rattle.std.specs.List.{before_first, after_first}
 use Rattle.twp_grid.specs.Texts.{line_feed}
@@ -13,10 +13,10 @@ JOINED_MOST = TEXT_LIMIT + 1 + (NOTES_MOST + 1)
 unfoldable pub joined_bytes : List ℕ → List ℕ
 joined_bytes bytes = take JOINED_MOST bytes
 
--- the description of joined input: what stands before the first line feed
+-- the description of joined input: what comes before the first line feed
 abbrev pub joined_description : List ℕ → List ℕ
 joined_description bytes = before_first (λ byte. byte == line_feed) (joined_bytes bytes)
 
--- the notes of joined input: what stands behind the first line feed, nothing where there is none
+-- the notes of joined input: what comes after the first line feed, nothing where there is none
 abbrev pub joined_notes : List ℕ → List ℕ
 joined_notes bytes = after_first (λ byte. byte == line_feed) (joined_bytes bytes)

@@ -44,7 +44,7 @@ abbrev pub failing : Result Verdict RunFault → Result Verdict Failure
 failing (Ok verdict) = Ok verdict
 failing (Err fault) = Err (Run fault)
 
--- why the words of the command line can't be had: want of memory, and else they can't be read
+-- why the words of the command line can't be obtained: memory ran out, or they can't be read
 abbrev pub words_fault : ErrorKind → RunFault
 words_fault OutOfMemory = fault.Memory
 words_fault _ = fault.Read

@@ -68,7 +68,7 @@ pub record HasKindAt (words : List Text) (kind : ErrorKind) : Type 0 where
   pub is_township : IsTownship app
   pub among : IsAmong kind (fault_of app words)
 
--- the words are misused, or ask for help, as clap's rule says; or there was no memory
+-- the words are misused, or ask for help, as clap's rule says; or memory ran out
 abbrev pub IsFaultOf : List Text → TaskFault → Type 0
 IsFaultOf words (Usage text) = (kind : ErrorKind) × HasKindAt words kind × (kind ≢ DisplayHelp)
 IsFaultOf words (Help text) = HasKindAt words DisplayHelp

@@ -38,7 +38,7 @@ pub(crate) fn township<'a>(alloc: Global) -> Result<Command<'a>, AllocError>
     without_report(alloc)?.subcommand(report(alloc)?)
 }
 
-/// The command line but for `report`.
+/// The command line without `report`.
 fn without_report<'a>(alloc: Global) -> Result<Command<'a>, AllocError>
     ensures { IfOk result (λ command. IsTownshipWith (the_normal ∷ []) (app_of command)) }
 {

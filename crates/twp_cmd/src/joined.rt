@@ -21,8 +21,8 @@ const MOST_BYTES: usize = 131_074;
 const LINE_FEED: u8 = b'\n';
 
 /// Reads a description and field notes from one source, and answers as `run_acres` does on both:
-/// the description is what stands before the first line feed, and the notes are what stands behind
-/// it. Not more than the first 131,074 bytes are read.
+/// the description is what comes before the first line feed, and the notes are what comes after it.
+/// No more than the first 131,074 bytes are read.
 pub fn run_joined<R: Source, W: Sink>(
     alloc: Global,
     input: &mut R,
@@ -65,7 +65,7 @@ pub fn run_joined<R: Source, W: Sink>(
     )
 }
 
-/// What stands before the first line feed and what stands behind it: all and nothing where there is
+/// What comes before the first line feed and what comes after it: all and nothing where there is
 /// none.
 fn split_at_line_feed(bytes: &[u8]) -> (&[u8], &[u8])
     ensures before { result.0.now ≡ before_first (λ byte. byte == 10) bytes.now }

@@ -2,7 +2,7 @@ use std::alloc::{AllocError, Global};
 use std::fmt;
 use std::marker::Model;
 
-/// The name of a file, as a word of the command line gives it: any text, also the empty one.
+/// The name of a file, as a word of the command line gives it: any text, even an empty one.
 #[derive(Debug, Drop)]
 pub struct Name {
     text: String,

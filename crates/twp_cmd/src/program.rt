@@ -15,7 +15,7 @@ use std::{env, io};
 use twp_acres::{RunFault, Verdict};
 use twp_grid::Device;
 
-/// Runs the program, tells on standard error why there is no answer, and gives the status.
+/// Runs the program, reports on standard error why there is no answer, and gives the status.
 pub fn run<R: Env + Files + Input + Print + Eprint + AllocGlobal>(rt: &R) -> u8
     ensures { IsProgramStatus result }
 {
@@ -51,7 +51,7 @@ fn words_of<R: Env + AllocGlobal>(rt: &R) -> Result<Vec<String>, RunFault>
     }
 }
 
-/// Why the words can't be had, by what the host says of it.
+/// Why the words can't be obtained, by what the host says of it.
 fn fault_of_words(kind: ErrorKind) -> RunFault
     ensures { result ≡ words_fault kind }
 {
@@ -83,8 +83,8 @@ fn run_words<R: Files + Print + AllocGlobal>(rt: &R, words: Vec<String>) -> Endi
     }
 }
 
-/// Tells what is to be told, and gives the status: help on standard output, and on standard error
-/// how the command line was misused, or why there is no answer.
+/// Prints what there is to report, and gives the status: help on standard output, and on standard
+/// error how the command line was misused, or why there is no answer.
 fn conclude<R: Print + Eprint>(rt: &R, ending: &Ending) -> u8
     ensures { IsStatusOf ending.now result }
 {
@@ -103,7 +103,7 @@ fn conclude<R: Print + Eprint>(rt: &R, ending: &Ending) -> u8
     ending.status()
 }
 
-/// Tells why there is no answer, and gives the status of it.
+/// Reports why there is no answer, and gives the status of it.
 fn conclude_failure<R: Eprint>(rt: &R, failure: &Failure) -> u8
     ensures { result ≡ 3 }
 {

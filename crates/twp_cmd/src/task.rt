@@ -55,7 +55,7 @@ pub enum TaskFault {
     /// The words ask for help, which the text gives.
     #[error("{text}")]
     Help { text: String },
-    /// There was no memory.
+    /// Memory ran out.
     #[error("out of memory")]
     Memory,
 }
@@ -69,7 +69,7 @@ pub fn read_task(alloc: Global, words: Vec<String>) -> Result<Task, TaskFault>
     task_of_words(alloc, words.as_slice())
 }
 
-/// Reads words that are lent.
+/// Reads borrowed words.
 fn task_of_words(alloc: Global, words: &[String]) -> Result<Task, TaskFault>
     ensures task { IfOk result (IsTaskOf (map string_bytes words.now)) }
     ensures fault { IfErr result (IsFaultOf (map string_bytes words.now)) }

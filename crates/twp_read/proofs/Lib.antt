@@ -11,6 +11,7 @@ pub mod StandingSteps
 pub mod UsualFacts
 pub mod FrontFacts
 pub mod NumberFacts
+pub mod FirstTextFaults
 pub mod OneAnswer
 pub mod LetterFacts
 pub mod PlaceFacts

@@ -1,14 +1,13 @@
 -- What the reader knows between two tokens, and what follows from it where it ends.
 use Rattle.std.proofs.Common.{◌≡◌, ℕ, ◌+◌, ◌≤◌, true, false, List, [], ◌∷◌, ◌++◌, Option, Some, None}
-use Rattle.std.proofs.Common.{IsSomeAnd, length, reverse, refl, sym, ap, subst, ◌∙◌, append_assoc, arith}
-use Rattle.std.proofs.Common.{drop, length-append}
+use Rattle.std.proofs.Common.{length, reverse, refl, sym, ap, subst, ◌∙◌, append_assoc, arith}
+use Rattle.std.proofs.Common.{drop, length-append, length-drop}
 use Rattle.std.specs.List.{AllPass}
 use Rattle.std.proofs.lemmas.List.{append-nil, reverse-append, take_all}
 use Rattle.std.proofs.Math.Seq.{take-append_seam}
 use Rattle.twp_grammar.specs.declared.item.Item.{Item}
 use Rattle.twp_grammar.specs.declared.state.State.{State}
 use Rattle.twp_grammar.specs.declared.state.State.TheVariants.{Start}
-use Rattle.twp_grid.specs.declared.refusal.Refusal.{Refusal}
 use Rattle.twp_grammar.specs.Tokens.{Token, StartsWith, HasTokens, is_white}
 use Rattle.twp_grammar.specs.Grammar.{Class, class_of, bad_byte, bad_number}
 use Rattle.twp_grammar.specs.Items.{behind, BeginWithSections}
@@ -20,12 +19,13 @@ use Rattle.twp_grammar.specs.declared.kind.Kind.TheVariants.{BadByte, BadNumber}
 use Rattle.twp_read.specs.declared.fault.TextFault.{TextFault}
 use Rattle.twp_grammar.specs.declared.expected.Expected.{Expected}
 use Rattle.twp_grammar.specs.Expected.{expected_of}
-use Rattle.twp_read.specs.TextFaults.{refusal_of, fault_of_bad, refusal, number_of_bad, NoneBad, place_of}
-use Rattle.twp_read.specs.TextFaults.{IsBadToken, IsSyntaxFault, GoesWrong, HasNoneBad}
+use Rattle.twp_read.specs.declared.fault.TextFault.TheVariants as faults
+use Rattle.twp_read.specs.TextFaults.{place_of_token, NamesWhatFollows, Helps}
+use Rattle.twp_read.specs.steps.BadTokens.{fault_of_bad, NoneBad, HasNoneBad, IsLeftmostBad}
 use Rattle.twp_grammar.specs.Sentences.{TEXT_LIMIT, IsReadAs}
 use Rattle.twp_read.specs.steps.Usual.{HasNoneBadBefore}
 use Rattle.twp_grammar.proofs.Table.{takes_no_bad_byte, takes_no_bad_number}
-use Rattle.twp_grammar.proofs.TokenFacts.{one_token_list, has_token_list}
+use Rattle.twp_grammar.proofs.TokenFacts.{has_token_list}
 use Rattle.twp_grammar.proofs.TreeFacts.{tree_begins}
 use Rattle.twp_read.proofs.ListWalk.{newest_first}
 use Rattle.twp_read.proofs.Reading.{ended, go_on, run-append, accepted, fault_here, fault_at_end}
@@ -85,26 +85,28 @@ front_next text at bytes state behind its token at' rest f starts place step =
     }
 
 place_here : (before after_it : List Token) (token : Token) (end : ℕ)
-    → place_of (before ++ token ∷ after_it) (length before) end ≡ token.at
+    → place_of_token (before ++ token ∷ after_it) (length before) end ≡ token.at
 place_here [] after_it token end = refl
 place_here (first ∷ before) after_it token end = place_here before after_it token end
 
-place_at_end : (tokens : List Token) (end : ℕ) → place_of tokens (length tokens) end ≡ end
+place_at_end : (tokens : List Token) (end : ℕ) → place_of_token tokens (length tokens) end ≡ end
 place_at_end [] end = refl
 place_at_end (token ∷ tokens) end = place_at_end tokens end
 
 pub wrong_here : (text : List ℕ) (at : ℕ) (bytes : List ℕ) (state : State) (its : List Item) (token : Token)
     (rest : List ℕ)
     → Front text at bytes state its → StartsWith at bytes token rest → next state (class_of token.kind) ≡ None
-    → GoesWrong text token.at (expected_of state)
+    → NamesWhatFollows text token.at (expected_of state)
 wrong_here text at bytes state its token rest f starts stuck =
     let left = has_token_list (token.at + length token.text) rest in
     record {
-      tokens = f.tokens ++ token ∷ left.0;
-      cut = f.before.joins (token ∷ left.0) (rest, starts, left.1);
-      i = length f.tokens;
-      fault = fault_here f.tokens left.0 token state its f.walked stuck;
-      place = sym (place_here f.tokens left.0 token (length text));
+      wrong = record {
+        tokens = f.tokens ++ token ∷ left.0;
+        cut = f.before.joins (token ∷ left.0) (rest, starts, left.1);
+        i = length f.tokens;
+        fault = fault_here f.tokens left.0 token state its f.walked stuck;
+        place = sym (place_here f.tokens left.0 token (length text));
+      };
       named_is = λ other more is. what_follows f.tokens other more state its f.walked
           (subst (λ (ts : List Token). IsSentence (ts ++ other ∷ more))
           (take-append_seam f.tokens (token ∷ left.0)) is);
@@ -120,13 +122,15 @@ all_tokens text at bytes tokens b white =
 
 pub wrong_at_end : (text : List ℕ) (at : ℕ) (bytes : List ℕ) (state : State) (its : List Item)
     → Front text at bytes state its → AllPass is_white bytes → is_final state ≡ false
-    → GoesWrong text (length text) (expected_of state)
+    → NamesWhatFollows text (length text) (expected_of state)
 wrong_at_end text at bytes state its f white final = record {
-  tokens = f.tokens;
-  cut = all_tokens text at bytes f.tokens f.before white;
-  i = length f.tokens;
-  fault = fault_at_end f.tokens state its f.walked final;
-  place = sym (place_at_end f.tokens (length text));
+  wrong = record {
+    tokens = f.tokens;
+    cut = all_tokens text at bytes f.tokens f.before white;
+    i = length f.tokens;
+    fault = fault_at_end f.tokens state its f.walked final;
+    place = sym (place_at_end f.tokens (length text));
+  };
   named_is = λ other more is. what_follows f.tokens other more state its f.walked
       (subst (λ (ts : List Token). IsSentence (ts ++ other ∷ more))
       (take_all (length f.tokens) f.tokens (omega arith)) is);
@@ -174,12 +178,13 @@ not_taken state behind class none is =
     let both : ◌≡◌ {A = Option State} None (Some behind) = sym none ∙ is in
     cc both
 
-taken_is_good : (state : State) (kind : Kind) (behind : State) → next state (class_of kind) ≡ Some behind
-    → number_of_bad kind ≡ None
-taken_is_good state BadByte behind is = absurd (not_taken state behind bad_byte (takes_no_bad_byte state) is)
-taken_is_good state BadNumber behind is =
+taken_is_good : (state : State) (kind : Kind) (at : ℕ) (behind : State)
+    → next state (class_of kind) ≡ Some behind → fault_of_bad kind at ≡ None
+taken_is_good state BadByte at behind is =
+    absurd (not_taken state behind bad_byte (takes_no_bad_byte state) is)
+taken_is_good state BadNumber at behind is =
     absurd (not_taken state behind bad_number (takes_no_bad_number state) is)
-taken_is_good state _ behind is = refl
+taken_is_good state _ at behind is = refl
 
 one_more_taken : (token : Token) (tokens : List Token) (state : State) (its : List Item) (last : State)
     (grown : List Item) (o : Option State)
@@ -187,7 +192,7 @@ one_more_taken : (token : Token) (tokens : List Token) (state : State) (its : Li
     → next state (class_of token.kind) ≡ o → run o its tokens ≡ Some (last, grown) → NoneBad (token ∷ tokens)
 one_more_taken token tokens state its last grown None more is walked = cc walked
 one_more_taken token tokens state its last grown (Some behind) more is walked =
-    (taken_is_good state token.kind behind is, more behind walked)
+    (taken_is_good state token.kind token.at behind is, more behind walked)
 
 taken_are_good : (tokens : List Token) (state : State) (its : List Item) (last : State) (grown : List Item)
     → run (Some state) its tokens ≡ Some (last, grown) → NoneBad tokens
@@ -207,14 +212,25 @@ none_bad_before text at state its within f =
       within = within;
     }
 
-one_more_good : (tokens : List Token) (token : Token) → NoneBad tokens → number_of_bad token.kind ≡ None
+pub search_start : (text : List ℕ) (at : ℕ) → HasNoneBadBefore text at → Search text at (drop at text)
+search_start text at g =
+    let within : at ≤ length text = g.within in
+    record {
+      tokens = g.tokens;
+      before = record { joins = g.joins };
+      none_bad = g.none_bad;
+      within = rw (length-drop at text) (omega arith);
+    }
+
+one_more_good : (tokens : List Token) (token : Token) → NoneBad tokens
+    → fault_of_bad token.kind token.at ≡ None
     → NoneBad (tokens ++ token ∷ [])
 one_more_good [] token none_bad is = (is, tt)
 one_more_good (first ∷ tokens) token none_bad is = (none_bad.0, one_more_good tokens token none_bad.1 is)
 
 pub search_next : (text : List ℕ) (at : ℕ) (bytes : List ℕ) (token : Token) (at' : ℕ) (rest : List ℕ)
     → Search text at bytes → StartsWith at bytes token rest → at' ≡ token.at + length token.text
-    → number_of_bad token.kind ≡ None → Search text at' rest
+    → fault_of_bad token.kind token.at ≡ None → Search text at' rest
 search_next text at bytes token at' rest f starts place is =
     let inside : IsWithin at bytes token rest = is_within at bytes token rest starts in
     let sum : (token.at + length token.text) + length rest ≡ at + length bytes = inside.sum in
@@ -228,18 +244,19 @@ search_next text at bytes token at' rest f starts place is =
       within = omega arith;
     }
 
-pub search_found : (text : List ℕ) (at : ℕ) (bytes : List ℕ) (token : Token) (rest : List ℕ) (number : ℕ)
-    → Search text at bytes → StartsWith at bytes token rest → number_of_bad token.kind ≡ Some number
-    → IsBadToken text (refusal number token.at)
-search_found text at bytes token rest number f starts is =
+pub search_found : (text : List ℕ) (at : ℕ) (bytes : List ℕ) (token : Token) (rest : List ℕ)
+    (fault : TextFault)
+    → Search text at bytes → StartsWith at bytes token rest → fault_of_bad token.kind token.at ≡ Some fault
+    → IsLeftmostBad text fault
+search_found text at bytes token rest fault f starts is =
     let left = has_token_list (token.at + length token.text) rest in
     record {
-      tokens = f.tokens ++ token ∷ left.0;
-      cut = f.before.joins (token ∷ left.0) (rest, starts, left.1);
+      before = f.tokens;
       token = token;
-      first = record { before = f.tokens; after = left.0; is = refl; none_before = f.none_bad };
-      number = is;
-      place = refl;
+      after = left.0;
+      cut = f.before.joins (token ∷ left.0) (rest, starts, left.1);
+      none_before = f.none_bad;
+      fault_is = is;
     }
 
 pub search_none : (text : List ℕ) (at : ℕ) (bytes : List ℕ) → Search text at bytes → AllPass is_white bytes
@@ -250,43 +267,22 @@ search_none text at bytes f white = record {
   none_bad = f.none_bad;
 }
 
--- where there is no bad token, the text's fault is one of syntax
-pub syntax_fault : (text : List ℕ) (at : ℕ) (expected : Expected) → HasNoneBad text
-    → GoesWrong text at expected → IsSyntaxFault text (refusal 44 at)
-syntax_fault text at expected none wrong =
-    let same : none.tokens ≡ wrong.tokens =
-    one_token_list 0 text none.tokens wrong.tokens none.cut wrong.cut in
-    record {
-      tokens = wrong.tokens;
-      cut = wrong.cut;
-      none_bad = subst (λ (ts : List Token). NoneBad ts) same none.none_bad;
-      i = wrong.i;
-      fault = wrong.fault;
-      number = refl;
-      place = wrong.place;
-    }
+-- a place in the text is below 2 ^ 32
+pub token_within : (text : List ℕ) (at : ℕ) (bytes : List ℕ) (token : Token) (rest : List ℕ)
+    → at + length bytes ≤ length text → StartsWith at bytes token rest → token.at ≤ length text
+token_within text at bytes token rest within s =
+    let inside : IsWithin at bytes token rest = is_within at bytes token rest s in
+    let sum : (token.at + length token.text) + length rest ≡ at + length bytes = inside.sum in
+    omega arith
 
--- what the fault of a token says of its kind
-pub none_tells : (kind : Kind) (at : ℕ) → fault_of_bad kind at ≡ None → number_of_bad kind ≡ None
-none_tells BadByte at h = cc h
-none_tells BadNumber at h = cc h
-none_tells _ at h = refl
+-- a bad token is no fault of syntax
+not_syntax : (kind : Kind) (at at' : ℕ) (expected : Expected)
+    → fault_of_bad kind at ≡ Some (faults.Syntax at' expected) → ⊥
+not_syntax BadByte at at' expected e = cc e
+not_syntax BadNumber at at' expected e = cc e
+not_syntax _ at at' expected e = cc e
 
-abbrev Tells : Kind → ℕ → Option TextFault → Type 0
-Tells kind at None = Unit {0}
-Tells kind at (Some fault) =
-    (number : ℕ) × (number_of_bad kind ≡ Some number) × (refusal_of fault ≡ Some (refusal number at))
-
-some_tells : (kind : Kind) (at : ℕ) → Tells kind at (fault_of_bad kind at)
-some_tells BadByte at = (42, refl, refl)
-some_tells BadNumber at = (43, refl, refl)
-some_tells _ at = tt
-
-pub found_bad : (text : List ℕ) (at : ℕ) (bytes : List ℕ) (token : Token) (rest : List ℕ) (fault : TextFault)
-    → Search text at bytes → StartsWith at bytes token rest → fault_of_bad token.kind token.at ≡ Some fault
-    → IsSomeAnd (refusal_of fault) (IsBadToken text)
-found_bad text at bytes token rest fault f starts is =
-    let told : Tells token.kind token.at (Some fault) =
-    subst (λ (o : Option TextFault). Tells token.kind token.at o) is (some_tells token.kind token.at) in
-    subst (λ (o : Option Refusal). IsSomeAnd o (IsBadToken text)) (sym told.2)
-    (search_found text at bytes token rest told.0 f starts told.1)
+pub bad_helps : (text : List ℕ) (fault : TextFault) → IsLeftmostBad text fault → Helps text fault
+bad_helps text (faults.Syntax at expected) bad =
+    absurd (not_syntax bad.token.kind bad.token.at at expected bad.fault_is)
+bad_helps text _ bad = tt

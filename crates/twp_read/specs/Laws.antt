@@ -6,9 +6,9 @@ use Rattle.twp_grammar.specs.declared.item.Item.{Item}
 use Rattle.twp_grammar.specs.Tokens.{Token}
 use Rattle.twp_grammar.specs.Grammar.{Class, class_of}
 use Rattle.twp_grammar.specs.Items.{tokens}
-use Rattle.twp_grid.specs.declared.refusal.Refusal.{Refusal}
+use Rattle.twp_read.specs.declared.fault.TextFault.{TextFault}
 use Rattle.twp_grammar.specs.Sentences.{IsSentence, IsFront, IsReadAs}
-use Rattle.twp_read.specs.TextFaults.{IsFirstTextFault}
+use Rattle.twp_read.specs.TextFaults.{HasTextFault, IsFirstTextFault, refusal_of}
 
 -- an unknown word, a number of too many digits, or a byte that begins no token
 abbrev pub IsStray : Kind → Type 0
@@ -47,11 +47,12 @@ OneReading =
 -- a text that is read has no fault
 abbrev pub ReadHasNoFault : Type 0
 ReadHasNoFault =
-    (text : List ℕ) (items : List Item) (r : Refusal)
-    → IsReadAs text items → ¬ IsFirstTextFault text r
+    (text : List ℕ) (items : List Item) (fault : TextFault)
+    → IsReadAs text items → ¬ HasTextFault text fault
 
--- a text has one first fault
+-- a text has one first fault: its refusal is one
 abbrev pub OneTextFault : Type 0
 OneTextFault =
-    (text : List ℕ) (r r' : Refusal)
-    → IsFirstTextFault text r → IsFirstTextFault text r' → r ≡ r'
+    (text : List ℕ) (fault fault' : TextFault)
+    → IsFirstTextFault text fault → IsFirstTextFault text fault'
+    → refusal_of fault ≡ refusal_of fault'

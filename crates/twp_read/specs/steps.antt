@@ -1,2 +1,3 @@
 pub mod Usual
 pub mod TokenSteps
+pub mod BadTokens

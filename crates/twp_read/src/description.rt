@@ -1,7 +1,7 @@
-ghost use Rattle.std.specs.Prelude.{◌≡◌, ◌≤◌, List, length, IfOk, IfErr, IfSome, IsSomeAnd};
+ghost use Rattle.std.specs.Prelude.{◌≡◌, ◌≤◌, List, length, IfOk, IfErr, IfSome};
 ghost use Rattle.std.specs.Prelude.{MatchOption, MatchResult};
-ghost use Rattle.twp_read.specs.TextFaults.{refusal_of, fault_of_bad, HasNoneBad, GoesWrong, Helps};
-ghost use Rattle.twp_read.specs.TextFaults.{IsBadToken, IsFirstTextFault};
+ghost use Rattle.twp_read.specs.TextFaults.{refusal_of, IsFirstTextFault, NamesWhatFollows, Helps};
+ghost use Rattle.twp_read.specs.steps.BadTokens.{fault_of_bad, HasNoneBad, IsLeftmostBad};
 ghost use Rattle.twp_read.specs.steps.Usual.{HasNoneBadBefore};
 
 use crate::fault::{TEXT_LIMIT, TextFault};
@@ -45,7 +45,7 @@ impl Description {
         ensures taken { (items : List Item) → IsReadAs text.now items
             → MatchResult result (λ d. d ≡ items) (λ fault. fault ≡ TextFault.Memory) }
         ensures refused { IfErr result
-            (λ fault. IfSome (refusal_of fault) (IsFirstTextFault text.now)) }
+            (λ fault. IfSome (refusal_of fault) (λ _. IsFirstTextFault text.now fault)) }
         ensures helps { IfErr result (Helps text.now) }
     {
         if text.len() > TEXT_LIMIT {
@@ -60,7 +60,7 @@ impl Description {
         requires { length text.now ≤ TEXT_LIMIT }
         ensures read { IfOk result (IsReadAs text.now) }
         ensures refused { IfErr result
-            (λ fault. IfSome (refusal_of fault) (IsFirstTextFault text.now)) }
+            (λ fault. IfSome (refusal_of fault) (λ _. IsFirstTextFault text.now fault)) }
         ensures helps { IfErr result (Helps text.now) }
     {
         let mut items = Items::with_room(alloc, text.len() / BYTES_TO_ITEM)?;
@@ -107,8 +107,8 @@ fn fault_of(text: &[u8], taken: usize, at: usize, expected: Expected) -> TextFau
     requires good { HasNoneBadBefore text.now taken }
     requires within { at ≤ length text.now }
     requires limit { length text.now ≤ TEXT_LIMIT }
-    requires wrong { GoesWrong text.now at expected }
-    ensures refused { IsSomeAnd (refusal_of result) (IsFirstTextFault text.now) }
+    requires wrong { NamesWhatFollows text.now at expected }
+    ensures refused { IsFirstTextFault text.now result }
     ensures helps { Helps text.now result }
 {
     match first_bad(text, taken) {
@@ -124,8 +124,7 @@ fn fault_of(text: &[u8], taken: usize, at: usize, expected: Expected) -> TextFau
 fn first_bad(text: &[u8], taken: usize) -> Option<TextFault>
     requires good { HasNoneBadBefore text.now taken }
     requires limit { length text.now ≤ TEXT_LIMIT }
-    ensures { MatchOption result (HasNoneBad text.now)
-        (λ fault. IsSomeAnd (refusal_of fault) (IsBadToken text.now)) }
+    ensures { MatchOption result (HasNoneBad text.now) (IsLeftmostBad text.now) }
 {
     let mut tokens = Tokens::behind(text, taken);
     while let Some(token) = tokens.next() {

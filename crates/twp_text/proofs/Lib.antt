@@ -1,3 +1,4 @@
+pub use Rattle.twp_read.proofs.FirstTextFaults
 pub use Rattle.twp_read.proofs.OneAnswer
 pub use Rattle.twp_resolve.proofs.PlaceAnswers
 pub use Rattle.twp_resolve.proofs.DescribedLand

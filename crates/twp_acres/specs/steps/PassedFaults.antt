@@ -40,7 +40,7 @@ abbrev pub IsStopOfPlat : PlatFault → Stop → Type 0
 IsStopOfPlat fault (stop.Refused refusal) = plat_faults.refusal_of fault ≡ Some refusal
 IsStopOfPlat fault (stop.Failed answered) = ⊥
 
--- a text stops a run by its refusal, or by want of memory
+-- a text stops a run by its refusal, or because memory ran out
 abbrev pub IsStopOfText : TextFault → Stop → Type 0
 IsStopOfText fault (stop.Refused refusal) = text_faults.refusal_of fault ≡ Some refusal
 IsStopOfText fault (stop.Failed run.Memory) = fault ≡ text_fault.Memory

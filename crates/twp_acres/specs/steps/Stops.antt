@@ -12,12 +12,12 @@ use Rattle.twp_acres.specs.declared.verdict.RunFault.TheVariants as run
 use Rattle.twp_acres.specs.declared.stop.Stop.{Stop}
 use Rattle.twp_acres.specs.declared.stop.Stop.TheVariants as stop
 
--- the stop is no refusal, or this one's
+-- the stop is no refusal, or this holds of its refusal
 abbrev pub IfRefused : Stop → (Refusal → Type 0) → Type 0
 IfRefused (stop.Refused refusal) Holds = Holds refusal
 IfRefused (stop.Failed fault) Holds = ⊤
 
--- the stop is a refusal, or its fault is such a one
+-- the stop is a refusal, or this holds of its fault
 abbrev pub IfFailed : Stop → (RunFault → Type 0) → Type 0
 IfFailed (stop.Refused refusal) Holds = ⊤
 IfFailed (stop.Failed fault) Holds = Holds fault

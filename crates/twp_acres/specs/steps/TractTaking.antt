@@ -1,5 +1,5 @@
--- How an account grows by one tract, and for what the next record is refused. No public
--- promise speaks of it.
+-- How an account grows by one tract, and why the next record is refused. No public promise speaks
+-- of it.
 use Rattle.std.specs.Prelude.{◌≡◌, ℕ, ◌+◌, ◌-◌, ◌≤◌, ◌<◌, ◌||◌, Bool, true, false}
 use Rattle.std.specs.Prelude.{List, ◌++◌, length, ⊤}
 use Rattle.std.specs.Str.{bytes_eq}
@@ -137,7 +137,7 @@ pub record IsNextRefused (township : Designation) (rows : List Fields) (tract_fa
   pub first : (other : TractFault) → HasAt township rows index other
       → turn_of tract_fault ≤ turn_of other
 
--- the records are one tract too many, or one of them is refused, or there was no memory
+-- the records are one tract too many, or one of them is refused, or memory ran out
 abbrev pub AreTractsRefused : Designation → List Fields → TractFault → Type 0
 AreTractsRefused township rows fault.TooManyTracts =
     (TRACTS_MOST < length rows) × AreTracts township rows TRACTS_MOST

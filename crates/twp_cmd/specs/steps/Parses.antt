@@ -28,7 +28,8 @@ IsWhole (Some entered) = HasValue (codes "NOTES") entered.1
     ⊎ ((entered.0 ≡ codes "acres") × HasValue (codes "DESCRIPTION") entered.1
     × HasAccount entered.1))
 
--- an error of this kind shows as the fault: want of memory as that alone, the others so or so
+-- an error of this kind may show as this fault: as help if it asks for help, as misuse if it is
+-- neither that nor a lack of memory, and in any case as a lack of memory
 abbrev pub ShowsAs : ErrorKind → TaskFault → Type 0
 ShowsAs kind (Usage text) = (kind ≢ DisplayHelp) × (kind ≢ OutOfMemory)
 ShowsAs kind (Help text) = kind ≡ DisplayHelp

@@ -124,7 +124,7 @@ fn read(alloc: Global, line: &[&str]) -> Result<Result<Task, TaskFault>, Fail> {
     Ok(read_task(alloc, words))
 }
 
-/// Reads a command line of `acres`, by the words behind it.
+/// Reads a command line of `acres`, by the words after it.
 fn read_acres(alloc: Global, behind: &[&str]) -> Result<Result<Task, TaskFault>, Fail> {
     let mut line = Vec::new(alloc);
     line.push("township")?;
@@ -135,7 +135,7 @@ fn read_acres(alloc: Global, behind: &[&str]) -> Result<Result<Task, TaskFault>,
     read(alloc, line.as_slice())
 }
 
-/// The text of a fault, behind its kind.
+/// The text of a fault, after its kind.
 fn fault_text(alloc: Global, line: &[&str]) -> Result<String, Fail> {
     match read(alloc, line)? {
         Ok(task) => Ok(format!(in alloc; "a task: {task:?}")?),
@@ -168,7 +168,7 @@ fn a_task_is_a_subcommand_with_its_files(rt: HostRuntime) -> Result<(), Fail> {
         // Whatever the program was called by.
         (&["/usr/local/bin/tw", "plat", "n.csv"], "n.csv", None),
         (&["", "plat", "n.csv"], "n.csv", None),
-        // Behind `--` each word is a value.
+        // After `--` each word is a value.
         (
             &["township", "acres", "--", "-h", "--help"],
             "-h",
@@ -237,7 +237,7 @@ fn a_task_is_of_its_subcommand(rt: HostRuntime) -> Result<(), Fail> {
 
 #[test]
 fn acres_are_by_the_account_that_is_named(rt: HostRuntime) -> Result<(), Fail> {
-    // The words behind `acres`, and NOTES; DESCRIPTION is always the same.
+    // The words after `acres`, and NOTES; DESCRIPTION is always the same.
     let lines: [(&[&str], &str, Account); 10] = [
         // The exact one where none is named.
         (&["n.csv", "d.txt"], "n.csv", Account::Exact),
@@ -261,7 +261,7 @@ fn acres_are_by_the_account_that_is_named(rt: HostRuntime) -> Result<(), Fail> {
             "n.csv",
             Account::Exact,
         ),
-        // Between the files and behind them.
+        // Between the files and after them.
         (
             &["n.csv", "--account", "plat", "d.txt"],
             "n.csv",
@@ -282,7 +282,7 @@ fn acres_are_by_the_account_that_is_named(rt: HostRuntime) -> Result<(), Fail> {
             "n.csv",
             Account::Plat,
         ),
-        // Behind `--` it is a name like any other.
+        // After `--` it is a name like any other.
         (
             &["--", "--account=plat", "d.txt"],
             "--account=plat",
@@ -365,7 +365,7 @@ fn an_account_is_named_once_and_as_it_is_called(rt: HostRuntime) -> Result<(), F
             "error: invalid value 'PLAT' for '--account <ACCOUNT>'\n",
             VALUES,
         ),
-        // The option takes the word behind it, whatever it is: here the notes.
+        // The option takes the word after it, whatever it is: here the notes.
         (
             &["township", "acres", "--account", "n.csv", "d.txt"],
             "error: invalid value 'n.csv' for '--account <ACCOUNT>'\n",

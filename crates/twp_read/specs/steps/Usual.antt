@@ -23,7 +23,7 @@ use Rattle.twp_grammar.specs.declared.item.Numeral.{Numeral}
 use Rattle.twp_grammar.specs.Grammar.{number}
 use Rattle.twp_grammar.specs.Machine.{next}
 use Rattle.twp_read.specs.steps.TokenSteps.{run, take_number}
-use Rattle.twp_read.specs.TextFaults.{NoneBad}
+use Rattle.twp_read.specs.steps.BadTokens.{NoneBad}
 
 -- The tokens of a text between two places lead the machine from a state and items to others.
 pub record Leads (text : List ℕ) (at : ℕ) (state : State) (items : List Item)

@@ -11,17 +11,15 @@ use Rattle.twp_acres.proofs.report_answer.answer_of.Goals as goal
 
 pub returns-in-Ok-clause-reads : goal.returns-in-Ok-clause-reads
 returns-in-Ok-clause-reads g c =
-    let notes = c.in-Ok.ensures in
-    let list = c.report_on.ensures in
     second_read {P = TownshipPlat} same_fault TRACTS_LIMIT _ _ _ c.in-Ok.plat c.report_on.result
-    notes.read notes.most notes.exact list.read list.no_write list.most list.exact
+    c.in-Ok.ensures.reads c.report_on.ensures.reads
 
 pub returns-in-Err-clause-reads : goal.returns-in-Err-clause-reads
 returns-in-Err-clause-reads g c =
     let notes = c.in-Err.ensures in
     stopped_on_plat TRACTS_LIMIT _ _ _ c.in-Err.stop c.answer_stop.result
-    (first_stopped {T = TownshipPlat} {U = ⊤} TRACTS_LIMIT _ _ _ _ c.in-Err.stop notes.read notes.no_write
-    notes.most notes.exact notes.plat c.requires.tracts refl) c.answer_stop.ensures.answer
+    (first_stopped {T = TownshipPlat} {U = ⊤} TRACTS_LIMIT _ _ _ _ c.in-Err.stop notes.reads notes.plat
+    c.requires.tracts refl) c.answer_stop.ensures.answer
 
 pub returns-in-Err-clause-answer : goal.returns-in-Err-clause-answer
 returns-in-Err-clause-answer g c =

@@ -30,22 +30,18 @@ returns-in_err-plat-clause-reads g c =
     let stopped = c.in_err-plat.ensures in
     let gone = err_from_is_err_and c.from_residual.result c.from_residual.ensures.1 in
     rw (gone.1, gone.2) (first_stopped {T = TownshipPlat} TEXT_LIMIT _ _ _ _ c.in_err-plat.field-0.0
-    stopped.read stopped.no_write stopped.most stopped.exact stopped.plat c.requires.description refl)
+    stopped.reads stopped.plat c.requires.description refl)
 
 pub returns-in_err-land-clause-reads : goal.returns-in_err-land-clause-reads
 returns-in_err-land-clause-reads g c =
-    let notes = c.in_ok-plat.ensures in
-    let stopped = c.in_err-land.ensures in
     let gone = err_from_is_err_and c.from_residual-in_err-land.result
     c.from_residual-in_err-land.ensures.1 in
     rw (gone.1, gone.2) (other_stop TEXT_LIMIT _ _ _ c.in_err-land.field-0.0
-    (second_read {P = TownshipPlat} stop.Failed TEXT_LIMIT _ _ _ c.in_ok-plat.plat _ notes.read
-    notes.most notes.exact stopped.read stopped.no_write stopped.most stopped.exact))
+    (second_read {P = TownshipPlat} stop.Failed TEXT_LIMIT _ _ _ c.in_ok-plat.plat _
+    c.in_ok-plat.ensures.reads c.in_err-land.ensures.reads))
 
 pub returns-clause-reads : goal.returns-clause-reads
 returns-clause-reads g c =
-    let notes = c.in_ok-plat.ensures in
-    let described = c.in_ok-land.ensures in
     other_value TEXT_LIMIT _ _ _ c.in_ok-land.land _
-    (second_read {P = TownshipPlat} stop.Failed TEXT_LIMIT _ _ _ c.in_ok-plat.plat _ notes.read
-    notes.most notes.exact described.read described.no_write described.most described.exact)
+    (second_read {P = TownshipPlat} stop.Failed TEXT_LIMIT _ _ _ c.in_ok-plat.plat _
+    c.in_ok-plat.ensures.reads c.in_ok-land.ensures.reads)

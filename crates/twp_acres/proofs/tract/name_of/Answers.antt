@@ -1,4 +1,4 @@
--- Printed bytes are text.
+-- Printable bytes are text.
 use Rattle.twp_acres.proofs.TractFacts.{printed_is_text}
 use Rattle.twp_acres.proofs.tract.name_of.Goals as goal
 

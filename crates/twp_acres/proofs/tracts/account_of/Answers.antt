@@ -1,4 +1,4 @@
--- The heading was read; the tracts behind it were taken or refused.
+-- The heading was read; the tracts after it were taken or refused.
 use Rattle.std.proofs.Common.{sym, ◌∙◌, subst}
 use Rattle.std.proofs.lemmas.Result.{err_from_is_err_and}
 use Rattle.twp_acres.specs.steps.TractTaking.{AreTractsRefused}

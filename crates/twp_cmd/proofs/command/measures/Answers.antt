@@ -1,4 +1,4 @@
--- The subcommand `acres` stands behind `plat`.
+-- The subcommand `acres` comes after `plat`.
 use Rattle.std.proofs.Common.{◌≡◌, ◌∙◌, ap₂, rules, codes, true, []}
 use Rattle.std.proofs.lemmas.Result.{IfOk-weaker}
 use Rattle.clap.specs.Words.{App, app_of, with_subcommand}

@@ -1,4 +1,4 @@
--- The subcommand `report` stands behind those before it.
+-- The subcommand `report` comes after the others.
 use Rattle.std.proofs.Common.{◌∙◌, ap₂}
 use Rattle.std.proofs.lemmas.Result.{IfOk-weaker}
 use Rattle.clap.specs.Words.{with_subcommand}

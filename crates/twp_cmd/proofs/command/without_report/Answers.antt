@@ -1,4 +1,4 @@
--- The subcommand `normal` stands behind those before it.
+-- The subcommand `normal` comes after the two before it.
 use Rattle.std.proofs.Common.{◌∙◌, ap₂}
 use Rattle.std.proofs.lemmas.Result.{IfOk-weaker}
 use Rattle.clap.specs.Words.{with_subcommand}

@@ -1,4 +1,4 @@
--- There are words behind the program's name.
+-- There are words after the program's name.
 use Rattle.std.proofs.Common.{rules, ◌<◌, length, inl}
 use Rattle.std.specs.Prelude.{map, string_bytes}
 use Rattle.std.proofs.lemmas.List.{length-map}
