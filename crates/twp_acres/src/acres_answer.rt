@@ -13,7 +13,7 @@ use crate::verdict::{RunFault, Verdict};
 use std::alloc::Global;
 use twp_area::{Account, area_by};
 use twp_grid::Source;
-use twp_land::Lanes;
+use twp_land::{Land, Lanes};
 
 /// The answer of field notes and a description. The description is read only where the notes make a
 /// plat.
@@ -35,8 +35,9 @@ pub fn answer_of<N: Source, D: Source>(
         (λ n d. IfOk result (λ answer.
         IsAcresAnswerBy account n d answer.text.items answer.verdict)) }
 {
-    match read_land_on_plat::<N, D, Lanes>(alloc, notes, description) {
-        Ok(read) => accept(alloc, area_by(account, &read.plat, &read.land).hundredths()),
+    let mut land = Lanes::empty();
+    match read_land_on_plat(alloc, notes, description, &mut land) {
+        Ok(plat) => accept(alloc, area_by(account, &plat, &land).hundredths()),
         Err(stop) => answer_stop(alloc, stop),
     }
 }

@@ -10,11 +10,12 @@ ghost use Rattle.twp_acres.specs.Runs.{ReadsTwo, used};
 ghost use Rattle.twp_acres.specs.steps.Stages.{ReadsOnPlat, same_fault};
 
 use crate::answer::{Answer, answer_stop};
-use crate::stages::{LandOnPlat, read_land_on_plat};
+use crate::stages::read_land_on_plat;
 use crate::verdict::{RunFault, Verdict};
 use std::alloc::Global;
 use twp_grid::Source;
 use twp_land::{Land, Lanes};
+use twp_plat::Plat;
 use twp_text::spell;
 
 /// The answer of field notes and a description: the canonical text of the land. The description is
@@ -35,21 +36,22 @@ pub fn answer_of<N: Source, D: Source>(
         MakePlat (description.new ≡ description.old)
         (λ n d. IfOk result (λ answer. IsNormalAnswer n d answer.text.items answer.verdict)) }
 {
-    match read_land_on_plat::<N, D, Lanes>(alloc, notes, description) {
-        Ok(read) => accept(alloc, &read),
+    let mut land = Lanes::empty();
+    match read_land_on_plat(alloc, notes, description, &mut land) {
+        Ok(plat) => accept(alloc, &plat, &land),
         Err(stop) => answer_stop(alloc, stop),
     }
 }
 
 /// The answer of a land on a plat: its canonical text.
-fn accept<L: Land>(alloc: Global, read: &LandOnPlat<L>) -> Result<Answer, RunFault>
-    requires { HasWholeLots PLACE_DIGITS (L.places read.now.land) }
+fn accept<L: Land>(alloc: Global, plat: &Plat, land: &L) -> Result<Answer, RunFault>
+    requires { HasWholeLots PLACE_DIGITS (L.places land.now) }
     ensures text { IfOk result (λ answer. IsCanonicalText PLACE_DIGITS
-        read.now.plat.township (L.places read.now.land) answer.text.items) }
+        plat.now.township (L.places land.now) answer.text.items) }
     ensures verdict { IfOk result (λ answer. answer.verdict ≡ Verdict.Accepted) }
     ensures memory { IfErr result (λ fault. fault ≡ RunFault.Memory) }
 {
-    let text = spell(alloc, &read.land, read.plat.township())?;
+    let text = spell(alloc, land, plat.township())?;
     Ok(Answer {
         text,
         verdict: Verdict::Accepted,

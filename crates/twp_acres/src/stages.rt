@@ -31,26 +31,25 @@ pub fn read_plat<N: Source>(alloc: Global, notes: &mut N) -> Result<Plat, Stop>
     Ok(Plat::protract(&notes)?)
 }
 
-/// The land of the description that a source gives, on the plat of a township.
+/// Sets a land to that of the description that a source gives, on the plat of a township.
 fn read_land<D: Source, L: Land>(
     alloc: Global,
     township: Township,
     description: &mut D,
-) -> Result<L, Stop>
+    land: &mut L,
+) -> Result<(), Stop>
     requires { D.has_failed description.old ≡ false }
     ensures reads { ReadsUpTo Failed TEXT_LIMIT
         (used (D.remaining description.old) (D.remaining description.new)
         (D.has_failed description.new)) result }
     ensures land { Reads (D.remaining description.old) (λ d.
-        IsDescribed L.places township d result) }
-    ensures whole_lots { IfOk result (λ land. HasWholeLots PLACE_DIGITS (L.places land)) }
+        IsDescribed (λ _. L.places land.new) township d result) }
+    ensures whole_lots { OnOk result (HasWholeLots PLACE_DIGITS (L.places land.new)) }
 {
     let Some(text) = read_whole(alloc, description, TEXT_LIMIT)? else {
         return Err(Stop::from(TextFault::TooLarge));
     };
-    let mut land = L::empty();
-    describe_into(alloc, &mut land, township, text.as_slice())?;
-    Ok(land)
+    describe_into(alloc, land, township, text.as_slice())
 }
 
 /// Sets a land to that of a description, on the plat of a township. What it held before is gone.
@@ -68,20 +67,15 @@ pub fn describe_into<L: Land>(
     Ok(resolve_into(land, &description, township)?)
 }
 
-/// The plat of field notes, and the land of a description on it.
-#[derive(Drop)]
-pub struct LandOnPlat<L: Land> {
-    pub plat: Plat,
-    pub land: L,
-}
-
-/// The plat of the notes that a source gives, and the land on it of the description that another
-/// gives, which is read only where the notes make a plat.
+/// The plat of the notes that a source gives; and sets a land to that of the description, on this
+/// plat, that another source gives. It is read only where the notes make a plat. The land is set in
+/// place, since it is too large to be handed from one call to the next.
 pub fn read_land_on_plat<N: Source, D: Source, L: Land>(
     alloc: Global,
     notes: &mut N,
     description: &mut D,
-) -> Result<LandOnPlat<L>, Stop>
+    land: &mut L,
+) -> Result<Plat, Stop>
     requires notes { N.has_failed notes.old ≡ false }
     requires description { D.has_failed description.old ≡ false }
     ensures reads { ReadsOnPlat Failed TEXT_LIMIT
@@ -91,11 +85,10 @@ pub fn read_land_on_plat<N: Source, D: Source, L: Land>(
         (description.new ≡ description.old) result }
     ensures land { ReadsTwo (N.remaining notes.old) (D.remaining description.old)
         MakePlat (description.new ≡ description.old)
-        (λ n d. IsRead (λ read. read.plat) (λ read. L.places read.land) n d result) }
-    ensures whole_lots { IfOk result
-        (λ read. HasWholeLots PLACE_DIGITS (L.places read.land)) }
+        (λ n d. IsRead (λ plat. plat) (λ _. L.places land.new) n d result) }
+    ensures whole_lots { OnOk result (HasWholeLots PLACE_DIGITS (L.places land.new)) }
 {
     let plat = read_plat(alloc, notes)?;
-    let land = read_land(alloc, plat.township(), description)?;
-    Ok(LandOnPlat { plat, land })
+    read_land(alloc, plat.township(), description, land)?;
+    Ok(plat)
 }

@@ -10,6 +10,6 @@ pub mod LotBlocks
 pub mod LotFacts
 pub mod RemovalFacts
 pub mod RowFacts
-pub mod RowLaneFacts
+pub mod LowLaneFacts
 pub mod SameFacts
 pub mod FinerLands

@@ -1,3 +1,7 @@
+ghost use Rattle.std.specs.Prelude.{◌≡◌, ◌+◌, ◌-◌};
+ghost use Rattle.twp_grid.specs.Places.{PLACE_DIGITS};
+ghost use Rattle.twp_grid.specs.Spans.{IsDyadic};
+
 use crate::bits::{Lane, block_lanes, column_bits, vector};
 use crate::plot::Plot;
 use crate::sections::Sections;
@@ -10,12 +14,26 @@ pub type Lanes = Sections<LaneRows>;
 /// A section's places as lanes of bits: a lane for each row, from the south, and in it a bit for
 /// each column, from the east.
 ///
-/// The finest parts, which long lists are made of, are single places or lie in one row. To find
-/// whether such a block is met, and to add it, its row's lane is enough, and no vector of all lanes
-/// is made for it. A block of more rows takes all lanes at once.
+/// The finest parts, which long lists are made of, have one row of places or two. To tell whether
+/// such a block is met, and to add it, the lanes of its first and its last row are enough, and no
+/// vector of all lanes is made for it. A block of more rows takes all lanes at once.
 #[derive(Clone, Copy, Debug)]
 pub struct LaneRows {
     lanes: [Lane; PLACES_ACROSS],
+}
+
+/// The most rows of a block that has no others than its first and its last.
+const LOW: u8 = 2;
+
+/// The first and the last row of a block.
+#[inline(always)]
+fn end_rows(block: Block) -> (usize, usize)
+    ensures first { result.0 ≡ block.rows.start }
+    ensures last { result.1 ≡ block.rows.start + block.rows.len - 1 }
+    ensures dyadic { IsDyadic PLACE_DIGITS block.rows }
+{
+    let first = usize::from(block.row());
+    (first, first + usize::from(block.height()) - 1)
 }
 
 impl Plot for LaneRows {
@@ -40,8 +58,10 @@ impl Plot for LaneRows {
 
     #[inline]
     fn meets(&self, block: Block) -> bool {
-        if block.height() == 1 {
-            return self.lanes[usize::from(block.row())] & column_bits(block) != 0;
+        if block.height() <= LOW {
+            let bits = column_bits(block);
+            let (first, last) = end_rows(block);
+            return (self.lanes[first] & bits) | (self.lanes[last] & bits) != 0;
         }
         (vector(&self.lanes) & block_lanes(block)).reduce_or() != 0
     }
@@ -60,8 +80,12 @@ impl Plot for LaneRows {
 
     #[inline]
     fn add(&mut self, block: Block) {
-        if block.height() == 1 {
-            self.lanes[usize::from(block.row())] |= column_bits(block);
+        if block.height() <= LOW {
+            let bits = column_bits(block);
+            let (first, last) = end_rows(block);
+            let joined = self.lanes[first] | bits;
+            self.lanes[last] |= bits;
+            self.lanes[first] = joined;
             return;
         }
         let held = vector(&self.lanes) | block_lanes(block);

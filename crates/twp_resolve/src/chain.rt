@@ -15,6 +15,11 @@ use twp_grammar::{Step, Steps};
 use twp_grid::{Block, PLACE_DIGITS, Section};
 use twp_land::{Land, holds_of_lot};
 
+/// The quarters that leave a place of a section, and those that leave a square of four places.
+const TO_A_PLACE: usize = PLACE_DIGITS;
+
+const TO_FOUR_PLACES: usize = PLACE_DIGITS - 1;
+
 /// Takes an aliquot part of a section.
 pub(crate) fn resolve_chain<L: Land>(
     land: &mut L,
@@ -28,8 +33,8 @@ pub(crate) fn resolve_chain<L: Land>(
     ensures refused { IfErr result (λ fault. (township : Designation)
         → IsItemsFirstFault PLACE_DIGITS township section (Chain steps.now at) (L.places land.old) fault) }
 {
-    if let Some(place) = place_of(steps) {
-        return resolve_block(land, section, place, at);
+    if let Some(square) = small_square_of(steps) {
+        return resolve_block(land, section, square, at);
     }
     let Some(block) = block_of(steps) else {
         return Err(PlaceFault::TooFine { at });
@@ -73,18 +78,31 @@ fn block_of(steps: &Steps) -> Option<Block>
     Some(block)
 }
 
-/// The place that quarters leave of a section, as many as its sides are halved to a place. None of
-/// other steps. Each quarter's size is known here, so that none is tested for being too fine.
+/// The smallest squares, a place and one of four places, as quarters leave them of a section. None
+/// for other steps: these two are what long lists are made of.
 #[inline(always)]
-fn place_of(steps: &Steps) -> Option<Block>
+fn small_square_of(steps: &Steps) -> Option<Block>
+    ensures { IfSome result (IsCutTo PLACE_DIGITS steps.now 0) }
+{
+    match steps.len() {
+        TO_A_PLACE => square_of::<TO_A_PLACE>(steps),
+        TO_FOUR_PLACES => square_of::<TO_FOUR_PLACES>(steps),
+        _ => None,
+    }
+}
+
+/// The square that this many quarters leave of a section. None for other steps. Each quarter's size
+/// is known here, so none has to be tested for being too fine.
+#[inline(always)]
+fn square_of<const QUARTERS: usize>(steps: &Steps) -> Option<Block>
     ensures { IfSome result (IsCutTo PLACE_DIGITS steps.now 0) }
 {
     let first = steps.first();
-    if first.len() != PLACE_DIGITS || steps.len() != first.len() {
+    if first.len() != QUARTERS || steps.len() != first.len() {
         return None;
     }
     let mut block = Block::whole();
-    for index in (0..PLACE_DIGITS).rev() {
+    for index in (0..QUARTERS).rev() {
         block = quarter_of(block, first[index])?;
     }
     Some(block)

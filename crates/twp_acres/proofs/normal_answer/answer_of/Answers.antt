@@ -8,7 +8,7 @@ use Rattle.twp_acres.proofs.normal_answer.answer_of.Goals as goal
 
 pub returns-in-Ok-clause-reads : goal.returns-in-Ok-clause-reads
 returns-in-Ok-clause-reads g c =
-    accepted_on_plat TEXT_LIMIT _ _ _ c.in-Ok.read c.accept.result c.in-Ok.ensures.reads
+    accepted_on_plat TEXT_LIMIT _ _ _ c.in-Ok.plat c.accept.result c.in-Ok.ensures.reads
     c.accept.ensures.memory
 
 pub returns-in-Err-clause-reads : goal.returns-in-Err-clause-reads

@@ -32,16 +32,16 @@ returns-in_err-plat-clause-reads g c =
     rw (gone.1, gone.2) (first_stopped {T = TownshipPlat} TEXT_LIMIT _ _ _ _ c.in_err-plat.field-0.0
     stopped.reads stopped.plat c.requires.description refl)
 
-pub returns-in_err-land-clause-reads : goal.returns-in_err-land-clause-reads
-returns-in_err-land-clause-reads g c =
-    let gone = err_from_is_err_and c.from_residual-in_err-land.result
-    c.from_residual-in_err-land.ensures.1 in
-    rw (gone.1, gone.2) (other_stop TEXT_LIMIT _ _ _ c.in_err-land.field-0.0
+pub returns-in_err-read_land-clause-reads : goal.returns-in_err-read_land-clause-reads
+returns-in_err-read_land-clause-reads g c =
+    let gone = err_from_is_err_and c.from_residual-in_err-read_land.result
+    c.from_residual-in_err-read_land.ensures.1 in
+    rw (gone.1, gone.2) (other_stop TEXT_LIMIT _ _ _ c.in_err-read_land.field-0.0
     (second_read {P = TownshipPlat} stop.Failed TEXT_LIMIT _ _ _ c.in_ok-plat.plat _
-    c.in_ok-plat.ensures.reads c.in_err-land.ensures.reads))
+    c.in_ok-plat.ensures.reads c.in_err-read_land.ensures.reads))
 
 pub returns-clause-reads : goal.returns-clause-reads
 returns-clause-reads g c =
-    other_value TEXT_LIMIT _ _ _ c.in_ok-land.land _
+    other_value TEXT_LIMIT _ _ _ tt _
     (second_read {P = TownshipPlat} stop.Failed TEXT_LIMIT _ _ _ c.in_ok-plat.plat _
-    c.in_ok-plat.ensures.reads c.in_ok-land.ensures.reads)
+    c.in_ok-plat.ensures.reads c.in_ok-read_land.ensures.reads)

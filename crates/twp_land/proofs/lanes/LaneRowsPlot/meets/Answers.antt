@@ -1,16 +1,17 @@
-use Rattle.std.proofs.Common.{◌≡◌, sym, ◌∙◌, arith}
+use Rattle.std.proofs.Common.{◌≤◌, arith}
 use Rattle.twp_land.proofs.BlockFacts.{dyadic_in_section}
 use Rattle.twp_land.proofs.LaneFacts.{lanes_meet}
-use Rattle.twp_land.proofs.RowLaneFacts.{row_meets}
+use Rattle.twp_land.proofs.LowLaneFacts.{low_meets}
 use Rattle.twp_land.proofs.lanes.LaneRowsPlot.meets.Goals as goal
 
-pub returns-then-height-eq1 : goal.returns-then-height-eq1
-returns-then-height-eq1 c =
-    let one : c.args.block.rows.len ≡ 1 = sym c.height.ensures.value ∙ c.if-height-eq1.true in
-    let lies = dyadic_in_section c.args.block c.row.ensures.dyadic c.column_bits.ensures.dyadic in
-    rw (c.from.ensures, c.row.ensures.value)
-    (row_meets c.args.self.now.lanes c.column_bits.result c.args.block (omega arith) one
-    c.column_bits.ensures.value lies)
+pub returns-then-height-le-LOW : goal.returns-then-height-le-LOW
+returns-then-height-le-LOW c =
+    let few : c.args.block.rows.len ≤ 2 = omega (arith, c.height.ensures.value, c.if-height-le-LOW.true) in
+    let rows = c.end_rows-first.ensures.dyadic in
+    let columns = c.column_bits-bits.ensures in
+    rw (c.end_rows-first.ensures.first, c.end_rows-first.ensures.last)
+    (low_meets c.args.self.now.lanes c.column_bits-bits.result c.args.block (omega arith) rows.some few
+    columns.value (dyadic_in_section c.args.block rows columns.dyadic))
 
 pub returns : goal.returns
 returns c =

@@ -3,10 +3,10 @@ use Rattle.std.proofs.Common.{◌-◌, ◌∙◌, arith}
 use Rattle.std.proofs.lemmas.Option.{slice_get-get_or}
 use Rattle.twp_grid.specs.Places.{PLACE_DIGITS}
 use Rattle.twp_resolve.proofs.ChainFacts.{cut_next}
-use Rattle.twp_resolve.proofs.chain.place_of.Goals as goal
+use Rattle.twp_resolve.proofs.chain.square_of.Goals as goal
 
 pub loop-index-preserved : goal.loop-index-preserved
-loop-index-preserved c =
+loop-index-preserved g c =
     let within = c.loop-index.invariant.within in
     let at =
     c.first-first.ensures.front (c.loop-index.index - 1) (omega (arith, within))
