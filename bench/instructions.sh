@@ -47,44 +47,67 @@ cat samples/description.txt samples/b1.csv > "$work/sample"
     cat samples/b1.csv
     spaces $((65536 - $(wc -c < samples/b1.csv))) '\n'
 } > "$work/longest"
-# A description that names each place of eleven sections, 2,816 of them, and the sample's notes.
+# The corners of quarters, from the largest to the smallest: four quarters make a square of 2.5 acres, five
+# make a place, and the number in base four says which square or place of its section it is.
+quarters='
+    function quarters(number, size,   text) {
+        for (; size >= 1; size /= 4) text = text corner[int(number / size) % 4 + 1]
+        return text
+    }
+    BEGIN { split("NE1/4 NW1/4 SW1/4 SE1/4", corner, " ") }'
+# A description that names each square of 2.5 acres of eleven sections, 2,816 of them, and the sample's notes.
 {
-    awk 'BEGIN {
+    awk "$quarters"'BEGIN {
         split("8 9 10 11 12 13 14 15 16 17 20", sections, " ")
-        split("NE1/4 NW1/4 SW1/4 SE1/4", corners, " ")
         for (s = 1; s <= 11; s++) {
             printf "%ssec. %s", (s > 1 ? "; " : ""), sections[s]
-            for (p = 0; p < 256; p++)
-                printf ", %s%s%s%s", corners[int(p / 64) + 1], corners[int(p / 16) % 4 + 1],
-                    corners[int(p / 4) % 4 + 1], corners[p % 4 + 1]
+            for (p = 0; p < 256; p++) printf ", %s", quarters(p, 64)
         }
         printf ".\n"
     }' | tee "$work/parts"
     cat samples/b1.csv
+} > "$work/squares"
+# The same of places: each of two sections, 2,048 of them.
+{
+    awk "$quarters"'BEGIN {
+        for (s = 8; s <= 9; s++) {
+            printf "%ssec. %s", (s > 8 ? "; " : ""), s
+            for (p = 0; p < 1024; p++) printf ", %s", quarters(p, 256)
+        }
+        printf ".\n"
+    }' | tee "$work/place-parts"
+    cat samples/b1.csv
 } > "$work/places"
-# A chessboard: every other place of the 25 sections without lots, of which no two can be joined.
-awk 'BEGIN {
-    quarter[0, 0] = "SE\xc2\xbc"; quarter[1, 0] = "SW\xc2\xbc"
-    quarter[0, 1] = "NE\xc2\xbc"; quarter[1, 1] = "NW\xc2\xbc"
-    for (s = 8; s <= 36; s++) {
-        if (s == 18 || s == 19 || s == 30 || s == 31) continue
-        printf "%ssec %s", (s > 8 ? ";" : ""), s
-        for (c = 0; c < 16; c++)
-            for (r = c % 2; r < 16; r += 2) {
-                printf ","
-                for (size = 1; size < 16; size *= 2)
-                    printf "%s", quarter[int(c / size) % 2, int(r / size) % 2]
-            }
-    }
-}' > "$work/chessboard"
-# A list of 1,000 tracts, each another place of sections 8 to 11.
-awk 'BEGIN {
-    split("NE1/4 NW1/4 SW1/4 SE1/4", corners, " ")
+# A chessboard: every other square of 2.5 acres of the 25 sections without lots, of which no two can be
+# joined; or every other place of the first six of them. A side of a section has so many squares.
+chessboard() {
+    awk -v across="$1" -v last="$2" 'BEGIN {
+        quarter[0, 0] = "SE\xc2\xbc"; quarter[1, 0] = "SW\xc2\xbc"
+        quarter[0, 1] = "NE\xc2\xbc"; quarter[1, 1] = "NW\xc2\xbc"
+        for (s = 8; s <= last; s++) {
+            if (s == 18 || s == 19 || s == 30 || s == 31) continue
+            printf "%ssec %s", (s > 8 ? ";" : ""), s
+            for (c = 0; c < across; c++)
+                for (r = c % 2; r < across; r += 2) {
+                    printf ","
+                    for (size = 1; size < across; size *= 2)
+                        printf "%s", quarter[int(c / size) % 2, int(r / size) % 2]
+                }
+        }
+    }'
+}
+chessboard 16 36 > "$work/chessboard"
+chessboard 32 13 > "$work/place-chessboard"
+# A list of 1,000 tracts, each another square of 2.5 acres of sections 8 to 11; and each another place of
+# section 8.
+awk "$quarters"'BEGIN {
     print "name,description"
-    for (n = 0; n < 1000; n++)
-        printf "%s,\"sec. %s, %s%s%s%s.\"\n", n + 1, 8 + int(n / 256), corners[int(n / 64) % 4 + 1],
-            corners[int(n / 16) % 4 + 1], corners[int(n / 4) % 4 + 1], corners[n % 4 + 1]
+    for (n = 0; n < 1000; n++) printf "%s,\"sec. %s, %s.\"\n", n + 1, 8 + int(n / 256), quarters(n, 64)
 }' > "$work/tracts"
+awk "$quarters"'BEGIN {
+    print "name,description"
+    for (n = 0; n < 1000; n++) printf "%s,\"sec. 8, %s.\"\n", n + 1, quarters(n, 256)
+}' > "$work/place-tracts"
 head -n 501 "$work/tracts" > "$work/half-of-tracts"
 # The same tracts with names of 64 bytes, which fall into one place of a hashed set; and with names that
 # differ from them in that alone. bench/colliding-names has the 13 bytes by which each differs from the
@@ -101,7 +124,7 @@ names() {
 }
 names end > "$work/colliding"
 names count > "$work/long-names"
-# A list of 1,000 tracts near its limit, each of six places in words, on a line of its own each.
+# A list of 1,000 tracts near its limit, each of six squares in words, on a line of its own each.
 awk 'BEGIN {
     print "name,description"
     for (n = 0; n < 1000; n++) {
@@ -126,21 +149,28 @@ heading 'input' ''
 row "the sample, $(bytes sample) bytes, on standard input" "$(count < "$work/sample")"
 row 'nothing at all' "$(count < "$work/empty")"
 row "the longest description and notes, refused, $(bytes longest) bytes" "$(count < "$work/longest")"
-row "2,816 places, each named, $(bytes places) bytes, on standard input" "$(count < "$work/places")"
+row "2,816 squares of 2.5 acres, each named, $(bytes squares) bytes, on standard input" \
+    "$(count < "$work/squares")"
+row "2,048 places, each named, $(bytes places) bytes, on standard input" "$(count < "$work/places")"
 row 'acres of all 36 sections' "$(count acres samples/b1.csv "$work/all")"
 for account in exact plat; do
     row "acres of all 36 sections, --account $account" \
         "$(count acres --account "$account" samples/b1.csv "$work/all")"
 done
 row 'plat' "$(count plat samples/b1.csv)"
-row 'normal of the 2,816 places' "$(count normal samples/b1.csv "$work/parts")"
+row 'normal of the 2,816 squares' "$(count normal samples/b1.csv "$work/parts")"
 row 'normal of half of them' "$(count normal samples/b1.csv "$work/half-of-parts")"
-row "normal of a chessboard, 3,200 places that can't be joined, $(bytes chessboard) bytes" \
+row 'normal of the 2,048 places' "$(count normal samples/b1.csv "$work/place-parts")"
+row "normal of a chessboard, 3,200 squares that can't be joined, $(bytes chessboard) bytes" \
     "$(count normal samples/b1.csv "$work/chessboard")"
-row "report of 1,000 tracts of one place each, $(bytes tracts) bytes" \
+row "normal of a chessboard, 3,072 places that can't be joined, $(bytes place-chessboard) bytes" \
+    "$(count normal samples/b1.csv "$work/place-chessboard")"
+row "report of 1,000 tracts of one square each, $(bytes tracts) bytes" \
     "$(count report samples/b1.csv "$work/tracts")"
 row 'report of half of them' "$(count report samples/b1.csv "$work/half-of-tracts")"
-row "report of 1,000 tracts of six places each, in words, $(bytes words) bytes" \
+row "report of 1,000 tracts of one place each, $(bytes place-tracts) bytes" \
+    "$(count report samples/b1.csv "$work/place-tracts")"
+row "report of 1,000 tracts of six squares each, in words, $(bytes words) bytes" \
     "$(count report samples/b1.csv "$work/words")"
 row 'report of 1,000 tracts with names of 64 bytes' "$(count report samples/b1.csv "$work/long-names")"
 row 'report of 1,000 tracts with names that collide in a hashed set' \

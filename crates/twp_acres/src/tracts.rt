@@ -1,5 +1,5 @@
 //! The list of tracts, taken into an account record by record.
-ghost use Rattle.std.specs.Prelude.{◌≤◌, length, IfOk, IfErr};
+ghost use Rattle.std.specs.Prelude.{◌≤◌, length, OnOk, IfOk, IfErr};
 ghost use Rattle.twp_notes.specs.Records.{records_left, IsReading};
 ghost use Rattle.twp_acres.specs.Tracts.{TRACTS_LIMIT, TRACTS_MOST};
 ghost use Rattle.twp_acres.specs.ReportAnswers.{IsAccountOf};
@@ -32,26 +32,29 @@ pub(crate) fn account_of(alloc: Global, plat: &Plat, bytes: &[u8]) -> Result<Vec
     if !is_heading(&row) {
         return Err(TractFault::TractRow(1));
     }
-    let mut account: RunningAccount<Lanes> = take_tracts(alloc, plat, &mut records, &mut row)?;
+    let mut account: RunningAccount<Lanes> = RunningAccount::new(alloc, plat);
+    take_tracts(alloc, plat, &mut records, &mut row, &mut account)?;
     account.totals.write(&mut account.text)?;
     Ok(account.text)
 }
 
-/// Takes the tracts of the records that are left, which come after the heading.
+/// Takes the tracts of the records that are left, which come after the heading, into an account of
+/// no tract.
 fn take_tracts<L: Land>(
     alloc: Global,
     plat: &Plat,
     records: &mut Records<'_>,
     row: &mut ByteRecord,
-) -> Result<RunningAccount<L>, TractFault>
-    requires { IsReading records.old }
-    ensures taken { IfOk result (λ account. IsTallyOf plat.now (records_left records.old)
-        (length (records_left records.old)) (tally_of L.places account)) }
+    account: &mut RunningAccount<L>,
+) -> Result<(), TractFault>
+    requires reading { IsReading records.old }
+    requires empty { IsTallyOf plat.now (records_left records.old) 0 (tally_of L.places account.old) }
+    ensures taken { OnOk result (IsTallyOf plat.now (records_left records.old)
+        (length (records_left records.old)) (tally_of L.places account.new)) }
     ensures few { IfOk result (λ _. length (records_left records.old) ≤ TRACTS_MOST) }
     ensures fault { IfErr result
         (AreTractsRefused plat.now.township (records_left records.old)) }
 {
-    let mut account = RunningAccount::new(alloc, plat);
     let mut taken = 0;
     'records: while records.read(row)? {
         if taken == TRACTS_MOST {
@@ -60,5 +63,5 @@ fn take_tracts<L: Land>(
         account.take(alloc, plat, row, taken + FIRST_TRACT)?;
         taken += 1;
     }
-    Ok(account)
+    Ok(())
 }

@@ -4,22 +4,18 @@ use Rattle.std.proofs.lemmas.Result.{err_from_is_err_and}
 use Rattle.twp_notes.specs.Records.{records_left}
 use Rattle.twp_notes.proofs.Taking.{next_record_is, no_record_left}
 use Rattle.twp_acres.specs.steps.TractTaking.{tally_of, IsTallyOf}
-use Rattle.twp_acres.proofs.TallyFacts.{no_tally, next_tally}
+use Rattle.twp_acres.proofs.TallyFacts.{next_tally}
 use Rattle.twp_acres.proofs.FirstTractFaults.{refused_next}
 use Rattle.twp_acres.proofs.tracts.take_tracts.Goals as goal
 
 pub records-init : goal.records-init
-records-init g c =
-    let account = c.new-account.ensures in
-    record {
-      reading = c.requires;
-      rest = refl;
-      within = omega arith;
-      few = omega arith;
-      tally =
-          no_tally c.args.plat.now (records_left c.args.records.now) _ account.names account.land
-          account.totals account.text;
-    }
+records-init g c = record {
+  reading = c.requires.reading;
+  rest = refl;
+  within = omega arith;
+  few = omega arith;
+  tally = c.requires.empty;
+}
 
 pub take-requires : goal.take-requires
 take-requires g c = c.records.invariant.tally.totals_are
