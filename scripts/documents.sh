@@ -74,14 +74,15 @@ for document in README.md docs/DESCRIPTIONS.md docs/REFUSALS.md docs/TRACTS-FORM
     commands "$document"
 done
 
-# A list of so many tracts, each another place of 2.5 acres, of sections 8 to 11.
+# A list of so many tracts, at most 1,024, each another of the smallest places, of section 8.
 tracts() {
     awk -v count="$1" 'BEGIN {
         split("NE1/4 NW1/4 SW1/4 SE1/4", corners, " ")
         print "name,description"
         for (n = 0; n < count; n++)
-            printf "%s,\"sec. %s, %s%s%s%s.\"\n", n + 1, 8 + int(n / 256), corners[int(n / 64) % 4 + 1],
-                corners[int(n / 16) % 4 + 1], corners[int(n / 4) % 4 + 1], corners[n % 4 + 1]
+            printf "%s,\"sec. 8, %s%s%s%s%s.\"\n", n + 1, corners[int(n / 256) + 1],
+                corners[int(n / 64) % 4 + 1], corners[int(n / 16) % 4 + 1], corners[int(n / 4) % 4 + 1],
+                corners[n % 4 + 1]
     }'
 }
 

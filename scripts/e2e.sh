@@ -72,6 +72,11 @@ run acres n.csv lots --account plat; ended 'the account after the files' $? 0 '1
 run acres --account plat empty d.txt; ended 'refused notes, by the plat' $? 1 'refused 2 at 1' ''
 run acres -- --account=plat d.txt
 ended 'a file called as the option' $? 3 '' 'township: cannot open --account=plat'
+# 640 acres halved ten times are 0.625, which is rounded up. No side is halved a sixth time.
+printf 'sec. 14, NE1/4NE1/4NE1/4NE1/4NE1/4.' > smallest
+run acres n.csv smallest; ended 'the smallest place' $? 0 '0.63 acres' ''
+printf 'sec. 14, N1/2NE1/4NE1/4NE1/4NE1/4NE1/4.' > too-fine
+run acres n.csv too-fine; ended 'a part that is too fine' $? 1 'refused 65 at 9' ''
 run acres empty d.txt; ended 'refused notes' $? 1 'refused 2 at 1' ''
 run acres /dev/null d.txt; ended 'no notes' $? 1 'refused 2 at 1' ''
 run acres /dev/zero d.txt; ended 'endless notes' $? 1 'refused 1 at 65536' ''
@@ -121,6 +126,13 @@ run report n.csv dos.csv; ended 'tracts with CRLF' $? 0 "$account" ''
 sed 1q t.csv > heading
 run report "$root/samples/b0.csv" heading; ended 'no tract' $? 0 'total: 0.00 acres
 remaining: 23040.00 acres' ''
+# Two places of 0.625 acres are 1.25, of 23,040.
+printf 'name,description\nA,"sec. 14, NE1/4NE1/4NE1/4NE1/4NE1/4."\n' > two
+echo 'B,"sec. 14, NW1/4NE1/4NE1/4NE1/4NE1/4."' >> two
+run report "$root/samples/b0.csv" two; ended 'two of the smallest places' $? 0 'tract A: 0.63 acres
+tract B: 0.63 acres
+total: 1.25 acres
+remaining: 23038.75 acres' ''
 printf 'name,description\nA,"sec. 6, lot 5."' > one
 run report n.csv one; ended 'one tract, no line end' $? 0 'tract A: 38.70 acres
 total: 38.70 acres
@@ -156,24 +168,25 @@ ended 'a longer description' $? 1 'refused 83 at 2
 refused 41 at 65536' ''
 run report empty folder; ended 'no list is read after refused notes' $? 1 'refused 2 at 1' ''
 
-# A list of $1 tracts, each another place of 2.5 acres, of sections 8 to 11.
+# A list of $1 tracts, at most 1,024, each another of the smallest places, of section 8: 0.625 acres.
 places() {
     awk -v count="$1" 'BEGIN {
         split("NE1/4 NW1/4 SW1/4 SE1/4", corners, " ")
         print "name,description"
         for (n = 0; n < count; n++)
-            printf "%s,\"sec. %s, %s%s%s%s.\"\n", n + 1, 8 + int(n / 256), corners[int(n / 64) % 4 + 1],
-                corners[int(n / 16) % 4 + 1], corners[int(n / 4) % 4 + 1], corners[n % 4 + 1]
+            printf "%s,\"sec. 8, %s%s%s%s%s.\"\n", n + 1, corners[int(n / 256) + 1],
+                corners[int(n / 64) % 4 + 1], corners[int(n / 16) % 4 + 1], corners[int(n / 4) % 4 + 1],
+                corners[n % 4 + 1]
     }'
 }
 places 1000 > many
 run report n.csv many; status=$?
 lines=$(wc -l < out)
 sed -n '1p;1000,$p' out > some; mv some out
-ended '1,000 tracts' "$status $lines" '0 1002' 'tract 1: 2.50 acres
-tract 1000: 2.50 acres
-total: 2500.00 acres
-remaining: 20537.57 acres' ''
+ended '1,000 tracts' "$status $lines" '0 1002' 'tract 1: 0.63 acres
+tract 1000: 0.63 acres
+total: 625.00 acres
+remaining: 22412.57 acres' ''
 places 1001 > many
 run report n.csv many; ended '1,001 tracts' $? 1 'refused 85 at 1002' ''
 

@@ -157,8 +157,8 @@ remaining: 22959.37 acres'
 refuse_call 'run_report' '' "accepted
 $account
 " run-report uneven.csv t.csv
-# A chain of more steps than have room in its item, each half a half: the fifth is too fine.
-printf 'sec. 14, N1/2N1/2N1/2N1/2N1/2N1/2N1/2N1/2N1/2N1/2.' > chain
+# A chain of twelve steps, of which ten have room in its item, each half a half: the sixth is too fine.
+printf 'sec. 14, N1/2N1/2N1/2N1/2N1/2N1/2N1/2N1/2N1/2N1/2N1/2N1/2.' > chain
 refuse_call 'run_acres of a long chain' '' 'refused
 refused 65 at 9
 ' run-acres n.csv chain

@@ -101,7 +101,8 @@ impl Steps {
         }
     }
 
-    /// Adds the step of which the last one is a part. The first eight can't fail.
+    /// Adds the step of which the last one is a part. It can't fail where there are fewer steps than
+    /// the finest part has.
     #[inline(always)]
     #[tactic(auto, using(crate::proofs::StepFacts::push_first, crate::proofs::StepFacts::push_more))]
     pub fn push(&mut self, step: Step) -> Result<(), AllocError>

@@ -68,7 +68,7 @@ fn adds_lots_and_places_up_exactly(rt: HostRuntime) -> Result<(), Fail> {
     let nothing = area(&plat, &land)?;
     // Four times the lengths of section 6's north and west lines: 4 * 79,200 * 80,800.
     assert_eq!(rt; (nothing.units(), nothing.over()), (0, 25_597_440_000));
-    // One place of section 14 is a sixteenth of 40 acres: 25,000,000 units.
+    // Two by two places of section 14 are a sixteenth of 40 acres: 25,000,000 units.
     let mut place = Block::whole();
     for _ in 0..4u8 {
         place = place.half(Side::N).ok_or("a half")?;
@@ -145,7 +145,8 @@ fn counts_places_off_the_lots_by_their_share(rt: HostRuntime) -> Result<(), Fail
     let mut land = Grid::empty();
     assert_eq!(rt; plat_area(&plat, &land)?.units(), 0);
     assert_eq!(rt; plat_area(&plat, &land)?.over(), 1);
-    // A place of section 7 that is in no lot, in the south-eastern corner: a sixteenth of 40 acres.
+    // Two by two places of section 7 that are in no lot, in the south-eastern corner: a sixteenth of
+    // 40 acres.
     let mut place = Block::whole();
     for _ in 0..4u8 {
         place = place.half(Side::S).ok_or("a half")?;

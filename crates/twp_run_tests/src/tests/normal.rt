@@ -85,9 +85,9 @@ fn refuses_as_the_acreage_run_does(rt: HostRuntime) -> Result<(), Fail> {
 /// The quarters of a square, in the order that parts go by.
 const QUARTERS: [&str; 4] = ["NE", "NW", "SW", "SE"];
 
-/// The canonical text of every second place of sections, as the dark squares of a chessboard: of
-/// each square of two places by two the north-western and the south-eastern. No half is full, so
-/// each place is written by its quarters, of which the greatest one comes last.
+/// The canonical text of every second square of 2.5 acres of sections, as the dark squares of a
+/// chessboard: of each 10 acres the north-western and the south-eastern quarter. No half is full, so
+/// each of them is written by its quarters, of which the greatest one comes last.
 fn chessboard(alloc: Global, sections: &[u8]) -> Result<String, Fail> {
     let mut text = String::from_str(alloc, "T. 2 N., R. 3 W.,")?;
     for section in sections {
@@ -111,7 +111,7 @@ const REGULAR: [u8; 25] = [
     36,
 ];
 
-/// A chessboard of a section has 128 places of 20 bytes with 127 times 2 between them, and with
+/// A chessboard of a section has 128 squares of 20 bytes with 127 times 2 between them, and with
 /// `sec. 14, ` and the end of its line 2,825 bytes, or 2,824 with a number of one digit. With the
 /// heading's 18, those of all sections without lots have 70,641 bytes; without the last two 64,991.
 #[test]

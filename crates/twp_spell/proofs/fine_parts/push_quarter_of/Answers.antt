@@ -1,4 +1,4 @@
--- A quarter of a position is written as the half that it begins, or as a quarter, or by its places.
+-- A quarter of a fine square is written as the half that it begins, or as a quarter, or by its places.
 use Rattle.std.proofs.Common.{◌∷◌, sym, ◌∙◌, arith}
 use Rattle.std.proofs.lemmas.Bool.{false≢true}
 use Rattle.twp_grid.specs.Places.{PLACE_DIGITS}
