@@ -106,6 +106,9 @@ sec. 14, N1/2, SE1/4.' ''
 cp out canonical
 run normal n.csv canonical; ended 'normal, once more' $? 0 "$(cat canonical)" ''
 run acres n.csv canonical; ended 'its acres' $? 0 '480.00 acres' ''
+printf 'sec. 14, SE1/4SW1/4NE1/4NW1/4SW1/4, NW1/4SE1/4SW1/4NE1/4NW1/4.' > far-apart
+run normal n.csv far-apart; ended 'normal, two of the smallest places' $? 0 'T. 2 N., R. 3 W.,
+sec. 14, NW1/4SE1/4SW1/4NE1/4NW1/4, SE1/4SW1/4NE1/4NW1/4SW1/4.' ''
 run normal empty parts; ended 'normal, refused' $? 1 'refused 2 at 1' ''
 
 # The account of tracts: lots 1 and 4 of section 7 have 39.175 and 39.025 acres, the township has
