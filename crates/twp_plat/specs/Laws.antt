@@ -40,7 +40,8 @@ PieceIsFormula = (q : ClosingQuarters) (column row : ℕ) → column < POSITIONS
 -- outside section 6 a piece is a whole number of units
 abbrev pub PieceIsWhole : Type 0
 PieceIsWhole = (plat : TownshipPlat) (section column row : ℕ) (q : ClosingQuarters)
-    → IsPlat plat → AreClosingQuarters plat section q → section ≢ 6 → column < POSITIONS_ACROSS → row < POSITIONS_ACROSS
+    → IsPlat plat → AreClosingQuarters plat section q → section ≢ 6 → column < POSITIONS_ACROSS
+    → row < POSITIONS_ACROSS
     → (units : ℕ) × IsSame (piece q column row) (whole units)
 
 -- each piece is a whole number of parts of the plat's denominator: the division leaves no remainder

@@ -13,7 +13,8 @@ returns-in_err-take_tracts-clause-fault c =
     let behind = behind_of c.args.bytes.now _ _ (sym c.new-records.ensures.all ∙ one.0) in
     let heading_is = behind.first ∙ c.is_heading.ensures.0 c.if-not-is_heading.false in
     let gone =
-    err_from_is_err_and c.from_residual-in_err-take_tracts.result c.from_residual-in_err-take_tracts.ensures.1 in
+    err_from_is_err_and c.from_residual-in_err-take_tracts.result
+    c.from_residual-in_err-take_tracts.ensures.1 in
     rw (gone.1, gone.2) (first_refused c.args.plat.now.township c.args.bytes.now c.requires heading_is _
     (subst (λ rows. AreTractsRefused c.args.plat.now.township rows c.in_err-take_tracts.field-0.0)
     (sym behind.behind) c.in_err-take_tracts.ensures.fault))
