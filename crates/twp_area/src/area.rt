@@ -24,9 +24,9 @@ const REGULAR_POSITION: u128 = QUARTER_MILE as u128 * QUARTER_MILE as u128;
 /// The area of a place in such a position.
 const REGULAR_PLACE: u128 = REGULAR_POSITION / PLACES_OF_POSITION as u128;
 
-/// The area of a land: each place counts with its share of its position's area on the plat, which
-/// all places of the position have alike, and nothing is rounded (this project's rule; a lot is taken whole: Specifications for Descriptions
-/// of Land).
+/// The area of a land: each place counts with its share of its position's area on the plat, which all
+/// places of the position have alike, and nothing is rounded (this project's rule; a lot is taken
+/// whole: Specifications for Descriptions of Land).
 pub fn area_of<L: Land>(plat: &Plat, land: &L) -> Area
     requires whole { HasWholeLots PLACE_DIGITS (L.places land.now) }
     ensures { IsLandArea PLACE_DIGITS plat.now (L.places land.now) result }

@@ -116,7 +116,7 @@ impl SideQuarters {
 /// Twice the distance of a quarter mile's middle from the start of a line of this length.
 fn doubled_middle(length: u64, number: u8) -> u64
     requires length { (line_length 0 ≤ length) × (length ≤ line_length CLOSING_MOST) }
-    requires number { number < 4 }
+    requires number { number < POSITIONS_ACROSS }
     ensures value { result ≡ both_ends length number }
     ensures most { result ≤ 2 * length }
 {

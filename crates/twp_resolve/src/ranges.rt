@@ -5,7 +5,8 @@ ghost use Rattle.twp_grid.specs.Townships.{Designation};
 ghost use Rattle.twp_grid.specs.Winding.{IsSection};
 ghost use Rattle.twp_land.specs.Lands.{SharePlace};
 ghost use Rattle.twp_grammar.specs.OnPlat.{HasLot};
-ghost use Rattle.twp_resolve.specs.steps.ResolvingSteps.{sections_from, lots_from, AreAdded, IsTaken, IsItemsFirstFault};
+ghost use Rattle.twp_resolve.specs.steps.ResolvingSteps.{sections_from, lots_from, AreAdded};
+ghost use Rattle.twp_resolve.specs.steps.ResolvingSteps.{IsTaken, IsItemsFirstFault};
 ghost use Rattle.twp_grammar.specs.declared.item.Item.TheVariants.{Sections, Lots};
 
 use crate::blocks::add_block;

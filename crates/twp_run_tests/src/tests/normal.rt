@@ -85,19 +85,23 @@ fn refuses_as_the_acreage_run_does(rt: HostRuntime) -> Result<(), Fail> {
 /// The quarters of a square, in the order that parts go by.
 const QUARTERS: [&str; 4] = ["NE", "NW", "SW", "SE"];
 
-/// The canonical text of every second square of 2.5 acres of sections, as the dark squares of a
-/// chessboard: of each 10 acres the north-western and the south-eastern quarter. No half is full, so
-/// each of them is written by its quarters, of which the greatest one comes last.
-fn chessboard(alloc: Global, sections: &[u8]) -> Result<String, Fail> {
+/// The canonical text of every second square of sections, as the dark squares of a chessboard: of
+/// each four squares the north-western and the south-eastern one. No half is full, so each of them is
+/// written by its quarters, this many of them, of which the greatest one comes last.
+fn chessboard(alloc: Global, sections: &[u8], quarters: u8) -> Result<String, Fail> {
+    let fours: usize = if quarters == 5 { 256 } else { 64 };
     let mut text = String::from_str(alloc, "T. 2 N., R. 3 W.,")?;
     for section in sections {
         let end = if *section == sections[0] { "" } else { ";" };
         write!(text, "{end}\nsec. {section}")?;
-        for square in 0..64usize {
-            let [large, middle, small] = [square / 16, square / 4 % 4, square % 4];
-            for place in ["NW", "SE"] {
-                write!(text, ", {place}1/4{}1/4", QUARTERS[small])?;
-                write!(text, "{}1/4{}1/4", QUARTERS[middle], QUARTERS[large])?;
+        for four in 0..fours {
+            for corner in ["NW", "SE"] {
+                write!(text, ", {corner}1/4")?;
+                let mut larger = four;
+                for _ in 1..quarters {
+                    write!(text, "{}1/4", QUARTERS[larger % 4])?;
+                    larger /= 4;
+                }
             }
         }
     }
@@ -111,15 +115,22 @@ const REGULAR: [u8; 25] = [
     36,
 ];
 
-/// A chessboard of a section has 128 squares of 20 bytes with 127 times 2 between them, and with
-/// `sec. 14, ` and the end of its line 2,825 bytes, or 2,824 with a number of one digit. With the
-/// heading's 18, those of all sections without lots have 70,641 bytes; without the last two 64,991.
+/// A chessboard of a section's squares of 2.5 acres has 128 of 20 bytes with 127 times 2 between them,
+/// and with `sec. 14, ` and the end of its line 2,825 bytes, or 2,824 with a number of one digit. With
+/// the heading's 18, those of all sections without lots have 70,641 bytes; without the last two 64,991.
+/// One of a section's places has 512 of 25 bytes, and with what stands between and around them 13,833
+/// bytes, or 13,832: those of sections 8 to 11 have 55,348, and with section 12 69,181.
 #[test]
 fn spells_chessboards(rt: HostRuntime) -> Result<(), Fail> {
     let alloc = rt.alloc();
     let notes = even(alloc)?;
-    for (sections, size) in [(&REGULAR[..23], 64_991), (&REGULAR[..], 70_641)] {
-        let canonical = chessboard(alloc, sections)?;
+    for (sections, quarters, size) in [
+        (&REGULAR[..23], 4, 64_991),
+        (&REGULAR[..], 4, 70_641),
+        (&REGULAR[..4], 5, 55_348),
+        (&REGULAR[..5], 5, 69_181),
+    ] {
+        let canonical = chessboard(alloc, sections, quarters)?;
         assert_eq!(rt; canonical.len(), size);
         // The same without spaces, and with the sign for a quarter.
         let short = canonical

@@ -205,6 +205,35 @@ fn counts_tracts(rt: HostRuntime) -> Result<(), Fail> {
     Ok(())
 }
 
+/// The record of a tract that has one square of 2.5 acres alone, of section 8, 9, 10 or 11.
+fn tract_of_one_square(alloc: Global, number: u32) -> Result<String, Fail> {
+    let quarters = ["NE", "NW", "SW", "SE"];
+    let section = number / 256 + 8;
+    let a = quarters[(number / 64 % 4) as usize];
+    let b = quarters[(number / 16 % 4) as usize];
+    let c = quarters[(number / 4 % 4) as usize];
+    let d = quarters[(number % 4) as usize];
+    Ok(format!(in alloc; "{number},\"sec. {section}, {a}1/4{b}1/4{c}1/4{d}1/4.\"\n")?)
+}
+
+/// 1,000 squares of 2.5 acres have 2,500 of 23,040, and one more is a tract too many.
+#[test]
+fn counts_tracts_of_sections(rt: HostRuntime) -> Result<(), Fail> {
+    let notes = even(rt.alloc())?;
+    let mut list = Vec::from_slice(rt.alloc(), b"name,description\n")?;
+    for number in 0..1_000u32 {
+        list.extend_from_slice(tract_of_one_square(rt.alloc(), number)?.as_bytes())?;
+    }
+    let (text, verdict) = report_of(rt.alloc(), &notes, &list)?;
+    assert_eq!(&rt; verdict, Verdict::Accepted);
+    assert!(&rt; text.ends_with(b"total: 2500.00 acres\nremaining: 20540.00 acres\n"));
+    list.extend_from_slice(tract_of_one_square(rt.alloc(), 1_000)?.as_bytes())?;
+    let (text, verdict) = report_of(rt.alloc(), &notes, &list)?;
+    assert_eq!(&rt; str::from_utf8(&text)?, "refused 85 at 1002\n");
+    assert_eq!(&rt; verdict, refused(85, 1_002));
+    Ok(())
+}
+
 #[test]
 fn takes_names_to_their_limit(rt: HostRuntime) -> Result<(), Fail> {
     let notes = even(rt.alloc())?;
