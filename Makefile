@@ -1,8 +1,11 @@
 # What each command does, and when to use it, is said in CONTRIBUTING.md.
-.PHONY: run township try test e2e check bench install clean
+.PHONY: run township try test e2e check bench install install-built man clean
 
-# Where `make install` puts the program: in its folder bin.
+# Where `make install` puts the program, its man page, and the completions: in the folders bin and share. With
+# DESTDIR they are put below another root.
 PREFIX = /usr/local
+SHARE = $(DESTDIR)$(PREFIX)/share
+PROGRAM = township
 
 run:
 	@sh scripts/first_answer.sh
@@ -32,8 +35,18 @@ bench:
 	@sh bench/instructions.sh
 
 install: township
-	install -d $(DESTDIR)$(PREFIX)/bin
-	install -m 755 township $(DESTDIR)$(PREFIX)/bin/township
+	@$(MAKE) --no-print-directory install-built
+
+install-built:
+	install -d $(DESTDIR)$(PREFIX)/bin $(SHARE)/man/man1
+	install -d $(SHARE)/bash-completion/completions $(SHARE)/zsh/site-functions
+	install -m 755 $(PROGRAM) $(DESTDIR)$(PREFIX)/bin/township
+	install -m 644 man/township.1 $(SHARE)/man/man1/township.1
+	install -m 644 completions/township.bash $(SHARE)/bash-completion/completions/township
+	install -m 644 completions/_township $(SHARE)/zsh/site-functions/_township
+
+man:
+	@sh scripts/man_page.sh
 
 clean:
 	rm -rf crates/*/out township

@@ -2,9 +2,11 @@
 # Prints how many instructions the whole process of township takes, from its start to its end: on standard
 # input for the sample, for the longest that is refused, and for fine parts; for the commands on the sample;
 # for the spelling of fine parts and of half as many; for reports on 1,000 tracts and on 500; and for the
-# texts whose bytes cost the most to read. Beside each count stands its ratio to the one in bench/expected,
-# or `new` if there is none. The status is 1 if a ratio is over 1.02, or if a row of bench/expected is
-# missing.
+# texts whose bytes cost the most to read; and for refused input of each kind. Beside each count stands its
+# ratio to the one in bench/expected, or `new` if there is none. Behind it stands, for what is refused, how
+# many times as many it takes as it took while no refusal was explained, which bench/unexplained has. The
+# status is 1 if a ratio is over 1.02, if a refusal takes more than 4 times as many, or if a row of these
+# files is missing.
 #
 # It builds ./township and measures that. A program that is named is measured as it is.
 set -eu
@@ -19,10 +21,14 @@ count() {
 work=$(mktemp -d)
 trap 'rm -rf "$work"' EXIT
 too_much=0
+too_many_times=0
 found=0
-# A row: its name, its count, and what else is shown of it.
+# The count of a row in a file, if it is there.
+kept() { awk -v name="$2" 'substr($0, index($0, " ") + 1) == name { print $1 }' "$1"; }
+# A row: its name, its count, what else is shown of it, and the count of the whole process, where that is
+# another.
 row() {
-    expected=$(awk -v name="$1" 'substr($0, index($0, " ") + 1) == name { print $1 }' bench/expected)
+    expected=$(kept bench/expected "$1")
     ratio=new
     if [ -n "$expected" ]; then
         found=$((found + 1))
@@ -30,6 +36,17 @@ row() {
         if [ $((100 * $2)) -gt $((102 * expected)) ]; then
             too_much=$((too_much + 1))
             ratio="$ratio: too much"
+        fi
+    fi
+    unexplained=$(kept bench/unexplained "$1")
+    if [ -n "$unexplained" ]; then
+        found=$((found + 1))
+        whole=${4-$2}
+        times=$(awk -v count="$whole" -v was="$unexplained" 'BEGIN { printf "%.2f", count / was }')
+        ratio="$ratio, $times times"
+        if [ "$whole" -gt $((4 * unexplained)) ]; then
+            too_many_times=$((too_many_times + 1))
+            ratio="$ratio: too many"
         fi
     fi
     printf '%-72s %10s %5s  %s\n' "$1" "$2" "${3-}" "$ratio"
@@ -177,6 +194,36 @@ row 'report of 1,000 tracts with names that collide in a hashed set' \
     "$(count report samples/b1.csv "$work/colliding")"
 row 'report of the sample' "$(count report samples/b1.csv samples/tracts.csv)"
 row 'help' "$(count --help)"
+# Refused input: what is edited of the samples, or a short text.
+echo
+heading 'refused' ''
+refused_land() {
+    printf '%s' "$2" > "$work/text"
+    row "$1" "$(count acres samples/b0.csv "$work/text")"
+}
+refused_notes() {
+    sed "$2" samples/b0.csv > "$work/notes"
+    row "$1" "$(count plat "$work/notes")"
+}
+refused_list() {
+    printf 'name,description\nA,"sec. 7, lot 1."\nB,"%s"\n' "$2" > "$work/list"
+    row "$1" "$(count report samples/b1.csv "$work/list")"
+}
+refused_notes 'refused 3, a heading' '1s/line/Line/'
+refused_notes 'refused 9, a length' '3s/80.00/80.0000/'
+refused_notes 'refused 11, a missing line' '/^W,6,7,/d'
+refused_notes 'refused 21, a half mile' '/^W,8,17,/s/40.00/40.251/'
+refused_land 'refused 42, a byte' 'sec. 14, NE/4.'
+refused_land 'refused 44, a text that ends too soon' 'sec. 14,'
+refused_land 'refused 67, an overlap' 'sec. 14, NE1/4 and N1/2.'
+refused_list 'refused 83, a description' 'sec. 14, NE1/4 and N1/2.'
+refused_list 'refused 84, land of two tracts' 'sec. 7, lots 1 and 4.'
+# The last of 1,000 tracts names the land of the first one again.
+sed '$s/"sec.*/"sec. 8, NE1\/4NE1\/4NE1\/4NE1\/4."/' "$work/tracts" > "$work/last"
+row 'refused 84, the last of 1,000 tracts' "$(count report samples/b1.csv "$work/last")"
+# The longest joined input of places, of which the last overlaps.
+(sed '$s/\.$/, NE1\/4./' "$work/parts"; cat samples/b1.csv) > "$work/overlap"
+row 'refused 67, the last of 2,816 squares, on standard input' "$(count < "$work/overlap")"
 # 65,536 bytes of $1 and then $2 again and again, filled up with spaces.
 text() {
     awk -v front="$1" -v again="$2" 'BEGIN {
@@ -190,7 +237,7 @@ nothing=$(count acres samples/b1.csv "$work/empty")
 byte_row() {
     text "$2" "$3" > "$work/text"
     more=$(($(count acres samples/b1.csv "$work/text") - nothing))
-    row "$1" "$more" "$(awk -v more="$more" 'BEGIN { printf "%.1f", more / 65536 }')"
+    row "$1" "$more" "$(awk -v more="$more" 'BEGIN { printf "%.1f", more / 65536 }')" $((more + nothing))
 }
 echo
 heading '65,536 bytes, less those of an empty text' each
@@ -214,9 +261,12 @@ byte_row 'CRLF' '' '\r\n'
 byte_row 'indented empty lines' '' '\n    '
 byte_row 'no white space: form feeds' '' '\f'
 spaces 1048576 ',' > "$work/commas"
-more=$(($(count report samples/b1.csv "$work/commas") - $(count report samples/b1.csv "$work/empty")))
-row 'report of 1,048,576 commas' "$more" "$(awk -v more="$more" 'BEGIN { printf "%.1f", more / 1048576 }')"
-missing=$(($(grep -c '^[0-9]' bench/expected) - found))
-[ "$missing" = 0 ] || echo "$missing counts of bench/expected have no row here"
+nothing=$(count report samples/b1.csv "$work/empty")
+more=$(($(count report samples/b1.csv "$work/commas") - nothing))
+row 'report of 1,048,576 commas' "$more" "$(awk -v more="$more" 'BEGIN { printf "%.1f", more / 1048576 }')" \
+    $((more + nothing))
+missing=$(($(cat bench/expected bench/unexplained | grep -c '^[0-9]') - found))
+[ "$missing" = 0 ] || echo "$missing counts of bench/expected and bench/unexplained have no row here"
 [ "$too_much" = 0 ] || echo "$too_much counts are more than 1.02 times those of bench/expected"
-[ "$missing" = 0 ] && [ "$too_much" = 0 ]
+[ "$too_many_times" = 0 ] || echo "$too_many_times refusals take more than 4 times as many as unexplained"
+[ "$missing" = 0 ] && [ "$too_much" = 0 ] && [ "$too_many_times" = 0 ]

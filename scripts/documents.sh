@@ -36,10 +36,16 @@ all_read() {
     same "$1"
 }
 
-# Runs the program with these words: its output and its status are `found`.
+# Runs the program with these words: its output and its status are `found`, and what it has on standard error,
+# but for the explanation of a refusal, which there has to be.
 run() {
     { "$program" "$@" 2> errors; echo "status $?"; } > found
-    sed 's/^/standard error: /' errors >> found
+    if grep -q '^status 1$' found; then
+        sed -n '1!d; /^township: ./!s/^/no explanation: /p' errors >> found
+        [ -s errors ] || echo 'no explanation' >> found
+    else
+        sed 's/^/standard error: /' errors >> found
+    fi
 }
 
 # The last run: what it shows, its status, and its output.
@@ -49,30 +55,62 @@ ended() {
 }
 
 # The commands of a document, each on an indented line after a dollar sign, and what they print, on the
-# indented lines below it. They are run one after another in a folder of their own.
+# indented lines below it. They are run one after another in a folder of their own. What is told on standard
+# error of a refusal, or noted, stands in a document only where the command has `2>&1`. A third word is a
+# file that stands in the folder as notes.csv.
 commands() {
     rm -rf folder shown
     mkdir folder shown
     ln -s "$program" folder/township
     ln -s "$root/samples" folder/samples
+    [ -z "${3:-}" ] || cp "$3" folder/notes.csv
     awk '
         /^    [$] / { n++; command = "shown/" n; output = command ".out"; printf "" > output }
         /^    [$] / { print substr($0, 7) > command; next }
         !/^    / { output = "" }
         output { print substr($0, 5) > output }
-    ' "$root/$1"
+    ' "$2"
     n=0
     while [ -e "shown/$((n + 1))" ]; do
         n=$((n + 1))
         cp "shown/$n.out" wanted
-        (cd folder && sh "../shown/$n") > found 2>&1
+        (cd folder && PATH="$work/folder:$PATH" && sh "../shown/$n") > found 2> told
+        grep -q '^refused ' found || grep -q '^township: .*: note: ' told || cat told >> found
         same "$1: $(cat "shown/$n")"
     done
-    all_read "the commands of $1" "$(grep -c '^    [$] ' "$root/$1")" "$n"
+    all_read "the commands of $1" "$(grep -c '^    [$] ' "$2")" "$n"
 }
-for document in README.md docs/DESCRIPTIONS.md docs/REFUSALS.md docs/TRACTS-FORMAT.md; do
-    commands "$document"
+for document in README.md docs/DESCRIPTIONS.md docs/NOTES-FORMAT.md docs/REFUSALS.md docs/TRACTS-FORMAT.md; do
+    commands "$document" "$root/$document"
 done
+
+# The man page is the one that its template and docs/ make, and is well formed. It has the refusals of
+# docs/REFUSALS.md once each, and its examples are run as the documents' commands.
+page=$root/man/township.1
+: > wanted
+sh "$root/scripts/man_page.sh" --check > found 2>&1
+same 'man/township.1, by scripts/man_page.sh'
+if command -v mandoc > lost; then
+    mandoc -Tlint "$page" > found 2>&1
+    same 'man/township.1, by mandoc'
+else
+    echo 'skipped: the form of the man page, since there is no mandoc here'
+fi
+if man --version 2> lost | grep -q '^man [0-9]'; then
+    MANWIDTH=80 man -l --warnings -E UTF-8 "$page" 2> found > lost
+    same 'man/township.1, by man'
+else
+    echo 'skipped: the warnings of man, since there is no man of man-db here'
+fi
+sed -n 's/^| \([0-9][0-9]*\) | \([A-Z][A-Za-z]*\) |.*/\1 \2/p' "$docs/REFUSALS.md" > in_tables
+sed -n 's/^[.]It Sy \([0-9][0-9]*\) \([A-Z][A-Za-z]*\)$/\1 \2/p' "$page" > in_page
+all_read 'the refusals of man/township.1' "$(wc -l < in_tables)" "$(wc -l < in_page)"
+cp in_tables wanted
+cp in_page found
+same 'the refusals of man/township.1'
+sed -n -e '/^[.]Bd/,/^[.]Ed/{ s/^[^.]/    &/; p; }' \
+    "$page.in" > examples
+commands man/township.1 examples "$uneven"
 
 # A list of so many tracts, at most 1,024, each another of the smallest places, of section 8.
 tracts() {

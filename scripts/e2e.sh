@@ -1,11 +1,12 @@
 #!/bin/sh
 # Runs ./township, or the program that is named, as people do: on files, pipes, folders, and devices. It
 # compares the status, standard output, and standard error of each run. Then it tries what the documents
-# say, the program's limits, and refused growths of memory, each by its own script; twp_growth is found in
-# its crate, or is named second. The last line counts all: 'N passed, 0 failed'.
+# say, what is installed, the explanations of refusals, the program's limits, and refused growths of memory,
+# each by its own script; twp_growth is found in its crate, or is named second. The last line counts all:
+# 'N passed, 0 failed'.
 set -u
 # A program that goes wrong fills no disk and doesn't run forever.
-ulimit -f 2000
+ulimit -f 4000
 ulimit -t 20
 program=$(readlink -f "${1:-./township}")
 root=$(readlink -f "$(dirname "$0")/..")
@@ -19,13 +20,31 @@ failed=0
 # Compares the last run: what it shows, its status, and what it wrote to standard output and standard
 # error, each without its last line feed.
 ended() {
-    what=$1 status=$2 wanted_status=$3 wanted_out=$4 wanted_err=$5
-    text "$wanted_out" > wanted_out
-    text "$wanted_err" > wanted_err
+    what=$1 status=$2 wanted_status=$3
+    text "$4" > wanted_out
+    text "$5" > wanted_err
     if [ "$status" = "$wanted_status" ] && cmp -s wanted_out out && cmp -s wanted_err err; then
         passed=$((passed + 1))
-        return
+    else
+        fail
     fi
+}
+
+# The same of a run that refused its input: on standard error it explains the refusal, in lines of which the
+# first begins with the program's name. How it explains them is tried by scripts/explanations.sh.
+refused() {
+    what=$1 status=$2 wanted_status=1
+    text "$3" > wanted_out
+    if [ "$status" = 1 ] && cmp -s wanted_out out && sed 1q err | grep -q '^township: .*: .' &&
+        [ -z "$(tail -c 1 err)" ]; then
+        passed=$((passed + 1))
+    else
+        fail
+    fi
+}
+
+# Counts and shows a run that went wrong.
+fail() {
     failed=$((failed + 1))
     echo "FAILED: $what: status $status for $wanted_status; standard output, standard error:"
     head -c 2000 out
@@ -69,22 +88,22 @@ run acres --account plat n.csv lots; ended 'four lots by the plat' $? 0 '156.42 
 run acres --account=plat n.csv lots; ended 'four lots by the plat, in one word' $? 0 '156.42 acres' ''
 run acres n.csv --account plat lots; ended 'the account between the files' $? 0 '156.42 acres' ''
 run acres n.csv lots --account plat; ended 'the account after the files' $? 0 '156.42 acres' ''
-run acres --account plat empty d.txt; ended 'refused notes, by the plat' $? 1 'refused 2 at 1' ''
+run acres --account plat empty d.txt; refused 'refused notes, by the plat' $? 'refused 2 at 1'
 run acres -- --account=plat d.txt
 ended 'a file called as the option' $? 3 '' 'township: cannot open --account=plat'
 # 640 acres halved ten times are 0.625, which is rounded up. No side is halved a sixth time.
 printf 'sec. 14, NE1/4NE1/4NE1/4NE1/4NE1/4.' > smallest
 run acres n.csv smallest; ended 'the smallest place' $? 0 '0.63 acres' ''
 printf 'sec. 14, N1/2NE1/4NE1/4NE1/4NE1/4NE1/4.' > too-fine
-run acres n.csv too-fine; ended 'a part that is too fine' $? 1 'refused 65 at 9' ''
-run acres empty d.txt; ended 'refused notes' $? 1 'refused 2 at 1' ''
-run acres /dev/null d.txt; ended 'no notes' $? 1 'refused 2 at 1' ''
-run acres /dev/zero d.txt; ended 'endless notes' $? 1 'refused 1 at 65536' ''
-run acres empty folder; ended 'no description is read after refused notes' $? 1 'refused 2 at 1' ''
+run acres n.csv too-fine; refused 'a part that is too fine' $? 'refused 65 at 9'
+run acres empty d.txt; refused 'refused notes' $? 'refused 2 at 1'
+run acres /dev/null d.txt; refused 'no notes' $? 'refused 2 at 1'
+run acres /dev/zero d.txt; refused 'endless notes' $? 'refused 1 at 65536'
+run acres empty folder; refused 'no description is read after refused notes' $? 'refused 2 at 1'
 
 # Notes that make no plat: line 53 closes with a quarter mile of 25.01 chains.
 sed '/^W,6,7,/s/80.00/85.01/' "$root/samples/b0.csv" > edited
-run acres edited d.txt; ended 'a refused plat' $? 1 'refused 23 at 53' ''
+run acres edited d.txt; refused 'a refused plat' $? 'refused 23 at 53'
 
 # The plat: its sections 6, 7 and 8 and its last line, of 37.
 run plat n.csv; status=$?
@@ -94,10 +113,10 @@ ended 'plat' "$status $lines" '0 37' 'sec. 6: lot 1 40.90, lot 2 41.10, lot 3 41
 sec. 7: lot 1 39.18, lot 2 39.13, lot 3 39.08, lot 4 39.03, total 636.40
 sec. 8: total 640.00
 township total 23037.57' ''
-run plat empty; ended 'the plat of refused notes' $? 1 'refused 2 at 1' ''
-run plat /dev/stdin < edited; ended 'the plat of a device' $? 1 'refused 23 at 53' ''
+run plat empty; refused 'the plat of refused notes' $? 'refused 2 at 1'
+run plat /dev/stdin < edited; refused 'the plat of a device' $? 'refused 23 at 53'
 sed '/^W,6,7,/d' "$root/samples/b0.csv" > lacking
-run plat lacking; ended 'the plat of a line too few' $? 1 'refused 11 at 53' ''
+run plat lacking; refused 'the plat of a line too few' $? 'refused 11 at 53'
 
 # The canonical spelling, which is spelled as it is.
 printf 'sec. 14, SE1/4, NE1/4, NW1/4.' > parts
@@ -109,7 +128,7 @@ run acres n.csv canonical; ended 'its acres' $? 0 '480.00 acres' ''
 printf 'sec. 14, SE1/4SW1/4NE1/4NW1/4SW1/4, NW1/4SE1/4SW1/4NE1/4NW1/4.' > far-apart
 run normal n.csv far-apart; ended 'normal, two of the smallest places' $? 0 'T. 2 N., R. 3 W.,
 sec. 14, NW1/4SE1/4SW1/4NE1/4NW1/4, SE1/4SW1/4NE1/4NW1/4SW1/4.' ''
-run normal empty parts; ended 'normal, refused' $? 1 'refused 2 at 1' ''
+run normal empty parts; refused 'normal, refused' $? 'refused 2 at 1'
 
 # The account of tracts: lots 1 and 4 of section 7 have 39.175 and 39.025 acres, the township has
 # 23,037.56775..
@@ -140,21 +159,21 @@ printf 'name,description\nA,"sec. 6, lot 5."' > one
 run report n.csv one; ended 'one tract, no line end' $? 0 'tract A: 38.70 acres
 total: 38.70 acres
 remaining: 22998.86 acres' ''
-run report empty t.csv; ended 'report, refused notes' $? 1 'refused 2 at 1' ''
-run report edited t.csv; ended 'report, a refused plat' $? 1 'refused 23 at 53' ''
-run report n.csv empty; ended 'an empty list' $? 1 'refused 81 at 1' ''
-run report n.csv /dev/null; ended 'no list' $? 1 'refused 81 at 1' ''
-run report n.csv n.csv; ended 'notes for a list' $? 1 'refused 81 at 1' ''
-run report n.csv d.txt; ended 'a description for a list' $? 1 'refused 81 at 1' ''
-run report t.csv n.csv; ended 'the files of report exchanged' $? 1 'refused 3 at 1' ''
-run report n.csv /dev/zero; ended 'an endless list' $? 1 'refused 80 at 1048576' ''
+run report empty t.csv; refused 'report, refused notes' $? 'refused 2 at 1'
+run report edited t.csv; refused 'report, a refused plat' $? 'refused 23 at 53'
+run report n.csv empty; refused 'an empty list' $? 'refused 81 at 1'
+run report n.csv /dev/null; refused 'no list' $? 'refused 81 at 1'
+run report n.csv n.csv; refused 'notes for a list' $? 'refused 81 at 1'
+run report n.csv d.txt; refused 'a description for a list' $? 'refused 81 at 1'
+run report t.csv n.csv; refused 'the files of report exchanged' $? 'refused 3 at 1'
+run report n.csv /dev/zero; refused 'an endless list' $? 'refused 80 at 1048576'
 many() { head -c "$1" /dev/zero | tr '\0' "$2"; }
-many 1048577 '\n' | run report n.csv /dev/stdin; ended 'one byte too many' $? 1 'refused 80 at 1048576' ''
-many 1048577 x | run report n.csv /dev/stdin; ended 'one more x' $? 1 'refused 80 at 1048576' ''
-many 1048576 x | run report n.csv /dev/stdin; ended 'as many bytes as may be' $? 1 'refused 81 at 1' ''
+many 1048577 '\n' | run report n.csv /dev/stdin; refused 'one byte too many' $? 'refused 80 at 1048576'
+many 1048577 x | run report n.csv /dev/stdin; refused 'one more x' $? 'refused 80 at 1048576'
+many 1048576 x | run report n.csv /dev/stdin; refused 'as many bytes as may be' $? 'refused 81 at 1'
 echo 'C,' | cat t.csv - > third
-run report n.csv third; ended 'an empty description' $? 1 'refused 83 at 4
-refused 44 at 0' ''
+run report n.csv third; refused 'an empty description' $? 'refused 83 at 4
+refused 44 at 0'
 # A tract's name has at most 64 bytes, its description 65,536.
 name=$(many 64 n)
 printf 'name,description\n%s,sec. 14.\n' "$name" | run report n.csv /dev/stdin
@@ -162,14 +181,14 @@ ended 'the longest name' $? 0 "tract $name: 640.00 acres
 total: 640.00 acres
 remaining: 22397.57 acres" ''
 printf 'name,description\n%sn,sec. 14.\n' "$name" | run report n.csv /dev/stdin
-ended 'a longer name' $? 1 'refused 81 at 2' ''
+refused 'a longer name' $? 'refused 81 at 2'
 (cat heading; printf 'A,'; many 65536 ' ') | run report n.csv /dev/stdin
-ended 'the longest description' $? 1 'refused 83 at 2
-refused 44 at 65536' ''
+refused 'the longest description' $? 'refused 83 at 2
+refused 44 at 65536'
 (cat heading; printf 'A,'; many 65537 ' ') | run report n.csv /dev/stdin
-ended 'a longer description' $? 1 'refused 83 at 2
-refused 41 at 65536' ''
-run report empty folder; ended 'no list is read after refused notes' $? 1 'refused 2 at 1' ''
+refused 'a longer description' $? 'refused 83 at 2
+refused 41 at 65536'
+run report empty folder; refused 'no list is read after refused notes' $? 'refused 2 at 1'
 
 # A list of $1 tracts, at most 1,024, each another of the smallest places, of section 8: 0.625 acres.
 places() {
@@ -191,14 +210,14 @@ tract 1000: 0.63 acres
 total: 625.00 acres
 remaining: 22412.57 acres' ''
 places 1001 > many
-run report n.csv many; ended '1,001 tracts' $? 1 'refused 85 at 1002' ''
+run report n.csv many; refused '1,001 tracts' $? 'refused 85 at 1002'
 
 # Without a word: standard input.
 run < joined; ended 'joined input' $? 0 '40.45 acres' ''
 cat joined | run; ended 'joined input on a pipe' $? 0 '40.45 acres' ''
 (cat d.txt; echo; sleep 1; cat n.csv) | run; ended 'a slow pipe' $? 0 '40.45 acres' ''
-run < empty; ended 'no input' $? 1 'refused 2 at 1' ''
-run < /dev/zero; ended 'endless input' $? 1 'refused 2 at 1' ''
+run < empty; refused 'no input' $? 'refused 2 at 1'
+run < /dev/zero; refused 'endless input' $? 'refused 2 at 1'
 
 # Help.
 help_text="Draws a township's plat from its field notes, and gives the acres of land described on it
@@ -461,6 +480,8 @@ count() {
     passed=$((passed + more)) failed=$((failed + wrong))
 }
 count sh "$root/scripts/documents.sh" "$program"
+count sh "$root/scripts/installed.sh" "$program"
+count sh "$root/scripts/explanations.sh" "$program"
 count env -i PATH="$PATH" sh "$root/scripts/limits.sh" "$program"
 count sh "$root/scripts/growths.sh" "$program" "$calls"
 

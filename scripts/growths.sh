@@ -2,8 +2,10 @@
 # Refuses ./township, or the program that is named, one growth of its memory after another, in each of its
 # five ways of running; and so each call that takes memory, which twp_growth, or the program that is named
 # second, makes alone. A run with a refused growth ends there, as out of memory: it has written nothing, and
-# leaves a vector as it was. The first run in which there is nothing to refuse gives the right answer. The
-# last line is 'N passed, 0 failed'.
+# leaves a vector as it was. Only what serves to explain a refusal is done without: where memory is refused
+# for the copy of what the program reads, or for the explanation, the answer and the status are the same, and
+# the explanation is whole or left out. The first run in which there is nothing to refuse gives the right
+# answer. The last line is 'N passed, 0 failed'.
 set -u
 ulimit -f 2000
 ulimit -t 20
@@ -40,8 +42,13 @@ is_line() { { read -r line && [ "$line" = "$2" ] && ! read -r line && [ -z "$lin
 program_is_refused() { [ "$status" = 3 ] && [ ! -s out ] && is_line err 'township: out of memory'; }
 call_is_refused() { [ "$status" = 0 ] && [ ! -s err ] && cmp -s wanted_refused out; }
 
-# How a run ends that was not: in the lines that are looked at, its output is `wanted`.
-is_answered() { [ "$status" = 0 ] && [ ! -s err ] && sed -n "$lines" out | cmp -s wanted -; }
+# How a run ends that was not: in the lines that are looked at, its output is `wanted`, and so is its status.
+# An explanation is `wanted_err`, which is empty where the input is accepted.
+is_answer() { [ "$status" = "$wanted_status" ] && sed -n "$lines" out | cmp -s wanted -; }
+is_answered() { is_answer && cmp -s wanted_err err; }
+
+# How a run ends that did without: all the same, but the explanation may be left out.
+is_answered_without() { is_answer && { [ ! -s err ] || cmp -s wanted_err err; }; }
 
 # Counts the last run, and shows it where it failed.
 pass() { passed=$((passed + 1)); }
@@ -52,20 +59,22 @@ fail() {
     head -c 2000 err
 }
 
-# Begins a count of the growths that are refused to a call or a run, and tells that of the one before.
+# Begins a count of the growths that are refused to a call or a run, and tells that of the one before: how
+# many there were, and how many the program did without.
 of=
 begin() {
-    [ -z "$of" ] || echo "$of: $refused growths refused"
-    of=$1 refused=0
+    [ -z "$of" ] || echo "$of: $refused growths refused$done_without"
+    of=$1 refused=0 done_without=
 }
 
 # Runs a program with one growth refused after another, of those that count after so many writes. A growth
-# that was refused is the last one of its run.
+# that was refused is the last one of its run, unless the program does without, as it does of so many.
 refuse_in_turn() {
-    what=$1 is_refused=$2 writes=$3
-    shift 3
+    what=$1 is_refused=$2 writes=$3 spared=$4
+    shift 4
     [ "$what" = "$of" ] || begin "$what"
     growth=0
+    without=0
     while
         growth=$((growth + 1))
         LD_PRELOAD="$work/refuse_growth.so" REFUSED_GROWTH=$growth AFTER_WRITES=$writes \
@@ -75,22 +84,42 @@ refuse_in_turn() {
     do
         if is_line told refused && "$is_refused"; then
             pass
+        elif [ "$spared" != 0 ] && [ "$(sed q told)" = refused ] && is_answered_without; then
+            without=$((without + 1))
+            pass
         else
             fail
             return
         fi
     done
-    # Only what takes no memory may have nothing to refuse.
-    if [ "$growth" -gt "$least" ] && is_answered; then pass; else fail; fi
+    # Only what takes no memory may have nothing to refuse. Behind the answer the program does without all.
+    [ "$spared" != all ] || spared=$((growth - 1))
+    if [ "$growth" -gt "$least" ] && [ "$without" = "$spared" ] && is_answered; then pass; else fail; fi
     refused=$((refused + growth - 1))
+    [ "$without" = 0 ] || done_without=", $without of them done without"
 }
 
-# A run of the program, its answer, and the words.
+# A run of the program that accepts its input, how many growths are for copies of what it reads, its answer,
+# and the words.
 refuse_program() {
-    what=$1
-    printf '%s\n' "$2" > wanted
-    shift 2
-    refuse_in_turn "township: $what" program_is_refused 0 "$program" "$@"
+    what=$1 copies=$2
+    printf '%s\n' "$3" > wanted
+    : > wanted_err
+    wanted_status=0
+    shift 3
+    refuse_in_turn "township: $what" program_is_refused 0 "$copies" "$program" "$@"
+}
+
+# The same of a run that refuses its input, first up to its answer, and then behind it. What it explains is
+# what it explains of itself.
+refuse_refusal() {
+    refusal=$1 copies=$2
+    printf '%s\n' "$3" > wanted
+    wanted_status=1
+    shift 3
+    "$program" "$@" < "$input" > lost 2> wanted_err
+    refuse_in_turn "township, refused: $refusal" program_is_refused 0 "$copies" "$program" "$@"
+    refuse_in_turn "township, explained: $refusal" program_is_refused 1 all "$program" "$@"
 }
 
 # A call, what is told of it where memory is refused and where none is, and the words that name it.
@@ -98,8 +127,10 @@ refuse_call() {
     what=$1
     printf 'calling\nout of memory\n%s' "$2" > wanted_refused
     printf 'calling\n%s' "$3" > wanted
+    : > wanted_err
+    wanted_status=0
     shift 3
-    refuse_in_turn "$what" call_is_refused 1 "$calls" "$@"
+    refuse_in_turn "$what" call_is_refused 1 0 "$calls" "$@"
 }
 
 lines=p
@@ -147,6 +178,12 @@ printf 'sec. 7, lots 1 to 4, inclusive.' > lots
 refuse_call 'run_acres_as, by the plat' '' 'accepted
 156.42 acres
 ' run-acres-by-plat uneven.csv lots
+refuse_call 'held_lots' '' 'answered
+1
+2
+3
+4
+' held-lots lots
 refuse_call 'run_normal' '' "accepted
 $normal
 " run-normal n.csv parts
@@ -180,15 +217,37 @@ $plat
 39
 " run-plat uneven.csv
 lines='6,8p;37p;$='
-refuse_program 'plat' "$plat
+refuse_program 'plat' 1 "$plat
 37" plat uneven.csv
 lines=p
-refuse_program 'acres' '640.00 acres' acres n.csv d.txt
-refuse_program 'acres by the plat' '156.42 acres' acres --account plat uneven.csv lots
-refuse_program 'normal' "$normal" normal n.csv parts
-refuse_program 'report' "$account" report uneven.csv t.csv
+refuse_program 'acres' 2 '640.00 acres' acres n.csv d.txt
+refuse_program 'acres by the plat' 2 '156.42 acres' acres --account plat uneven.csv lots
+refuse_program 'normal' 2 "$normal" normal n.csv parts
+refuse_program 'report' 2 "$account" report uneven.csv t.csv
+# A copy has room for 131,072 bytes, and grows for more.
+(cat t.csv; head -c 200000 /dev/zero | tr '\0' '\n') > long.csv
+refuse_program 'report of a long list' 3 "$account" report uneven.csv long.csv
 input=joined
-refuse_program 'joined input' '40.45 acres'
+refuse_program 'joined input' 1 '40.45 acres'
+
+# Refused input: notes, a plat, descriptions, lists, and joined input.
+input=/dev/null
+sed '/^W,6,7,/d' n.csv > lacking.csv
+sed '/^W,6,7,/s/80.00/85.01/' n.csv > long-line.csv
+printf 'sec. 14, NE1/4 and N1/2.' > overlap
+printf 'sec. 14,' > short
+printf 'name,description\nA,"sec. 14, NE1/4 and N1/2."\n' > refused-tract.csv
+printf 'name,description\nA,"sec. 14, NE1/4."\nB,"sec. 14, N1/2."\n' > shared-land.csv
+refuse_refusal 'missing notes' 1 'refused 11 at 53' plat lacking.csv
+refuse_refusal 'a long line' 2 'refused 23 at 53' acres long-line.csv d.txt
+refuse_refusal 'a short text' 2 'refused 44 at 8' normal n.csv short
+refuse_refusal 'an overlap' 2 'refused 67 at 19' acres n.csv overlap
+refuse_refusal 'a refused tract' 2 'refused 83 at 2
+refused 67 at 19' report n.csv refused-tract.csv
+refuse_refusal 'land of two tracts' 2 'refused 84 at 3' report n.csv shared-land.csv
+printf 'sec. 14, NE1/4 and N1/2.\n' | cat - n.csv > joined
+input=joined
+refuse_refusal 'joined input' 1 'refused 67 at 19'
 begin ''
 
 echo "$passed passed, $failed failed"

@@ -1,8 +1,9 @@
 #!/bin/sh
 # Runs ./township, or the program that is named, with little stack and with little memory, in each of its five
-# ways of running: on little stack it gives the right answer; and from the least memory in which the system
-# can start it up to enough, in steps of a page, it gives that answer or ends as out of memory. The last line
-# is 'N passed, 0 failed'.
+# ways of running, on input that it accepts and on input that it refuses: on little stack it gives the right
+# answer, and explains a refusal; and from the least memory in which the system can start it up to enough, in
+# steps of a page, it gives that answer or ends as out of memory. With too little for the explanation it
+# leaves that out. The last line is 'N passed, 0 failed'.
 #
 # What the environment holds stands on the stack too: `env -i PATH="$PATH" sh scripts/limits.sh` tries the
 # program without any.
@@ -31,9 +32,12 @@ lines=p
 # Whether a file is this one line.
 is_line() { { read -r line && [ "$line" = "$2" ] && ! read -r line && [ -z "$line" ]; } < "$1"; }
 
-# How a run ends that has memory enough, in the lines that are looked at; and how one that hasn't.
-is_answered() { [ "$status" = 0 ] && [ ! -s err ] && sed -n "$lines" out | cmp -s wanted -; }
+# How a run ends that has memory enough, in the lines that are looked at; how one that hasn't; and how one
+# that has enough for its answer, and not for what explains it.
+is_answer() { [ "$status" = "$wanted_status" ] && sed -n "$lines" out | cmp -s wanted -; }
+is_answered() { is_answer && cmp -s wanted_err err; }
 is_refused() { [ "$status" = 3 ] && [ ! -s out ] && is_line err 'township: out of memory'; }
+is_unexplained() { is_answer && [ ! -s err ]; }
 
 # Counts the last run, and shows it where it failed.
 pass() { passed=$((passed + 1)); }
@@ -66,6 +70,9 @@ more_and_more() {
             enough=0
             refused=$((refused + 1))
             pass
+        elif is_unexplained; then
+            enough=0
+            pass
         else
             fail "$what in $memory KiB of memory"
         fi
@@ -77,9 +84,22 @@ more_and_more() {
 
 # A way of running, its answer, and the words.
 limit() {
-    what=$1
-    printf '%s\n' "$2" > wanted
+    : > wanted_err
+    limit_of 0 "$@"
+}
+
+# The same of input that is refused. What explains it is what explains it on much stack.
+limit_refused() {
+    what=$1 answer=$2
     shift 2
+    "$program" "$@" < "$input" > out 2> wanted_err
+    limit_of 1 "$what, refused" "$answer" "$@"
+}
+
+limit_of() {
+    wanted_status=$1 what=$2
+    printf '%s\n' "$3" > wanted
+    shift 3
     {
         (ulimit -s "$stack" && exec "$program" "$@") < "$input" > out 2> err
         status=$?
@@ -100,8 +120,20 @@ lines='37p;$='
 limit 'plat' 'township total 23037.57
 37' plat n.csv
 lines=p
+sed '/^W,6,7,/d' n.csv > lacking.csv
+printf 'sec. 14, NE1/4 and N1/2.' > overlap
+printf 'name,description\nA,"sec. 14, NE1/4 and N1/2."\n' > refused-tract.csv
+printf 'name,description\nA,"sec. 14, NE1/4."\nB,"sec. 14, N1/2."\n' > shared-land.csv
+limit_refused 'plat' 'refused 11 at 53' plat lacking.csv
+limit_refused 'acres' 'refused 67 at 19' acres n.csv overlap
+limit_refused 'normal' 'refused 67 at 19' normal n.csv overlap
+limit_refused 'report' 'refused 83 at 2
+refused 67 at 19' report n.csv refused-tract.csv
+limit_refused 'report of land of two tracts' 'refused 84 at 3' report n.csv shared-land.csv
 input=joined
 limit 'joined input' '40.45 acres'
+printf 'sec. 14, NE1/4 and N1/2.\n' | cat - n.csv > joined
+limit_refused 'joined input' 'refused 67 at 19'
 
 echo "$passed passed, $failed failed"
 [ "$failed" = 0 ]

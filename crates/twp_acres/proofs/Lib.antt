@@ -13,6 +13,7 @@ pub mod FirstTractFaults
 pub mod TractAreas
 pub mod TractSums
 pub mod OneReport
+pub mod OnPlatFacts
 pub mod OneNormal
 pub mod OwnText
 pub mod FinerPlaces

@@ -9,6 +9,9 @@ pub mod TractLaws
 pub mod AccountAnswers
 pub mod NormalAnswers
 pub mod NormalLaws
+pub mod PlatReading
+pub mod OnPlats
+pub mod OnPlatLaws
 pub mod Laws
 pub mod FinerPlaces
 pub mod steps

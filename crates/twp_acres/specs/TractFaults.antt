@@ -1,7 +1,7 @@
 -- What may be wrong with a list of tracts, each fault as a statement about the whole list, and
 -- which fault is answered.
 use Rattle.std.specs.Prelude.{◌≡◌, ◌≢◌, ◌⊎◌, ℕ, ◌+◌, ◌≤◌, ◌<◌, List, length, Option, Some, None}
-use Rattle.std.specs.Prelude.{option_map}
+use Rattle.std.specs.Prelude.{option_map, IfSome}
 use Rattle.twp_grid.specs.Townships.{Designation}
 use Rattle.twp_grid.specs.declared.refusal.Refusal.{Refusal}
 use Rattle.twp_notes.specs.Records.{Fields, record_at, record_numbered, records_of}
@@ -104,3 +104,8 @@ pub record IsFirstTractFault (township : Designation) (bytes : List ℕ) (tract_
   pub is : HasTractFault township bytes tract_fault
   pub first : (other : TractFault) → HasTractFault township bytes other
       → IsFrom (record_of tract_fault) (turn_of tract_fault) other
+
+-- the fault is the first one of the list, or no fault of a list
+abbrev pub AnswersFault : Designation → List ℕ → TractFault → Type 0
+AnswersFault township bytes tract_fault =
+    IfSome (verdict_of tract_fault) (λ _. IsFirstTractFault township bytes tract_fault)

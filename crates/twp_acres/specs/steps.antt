@@ -1,6 +1,6 @@
 pub mod Names
 pub mod Stops
 pub mod Stages
+pub mod OnPlatSteps
 pub mod TractTaking
 pub mod PassedFaults
-pub mod ListFaults

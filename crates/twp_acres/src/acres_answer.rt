@@ -6,14 +6,16 @@ ghost use Rattle.twp_acres.specs.AcresAnswers.{acres_line};
 ghost use Rattle.twp_acres.specs.AccountAnswers.{IsAcresAnswerBy};
 ghost use Rattle.twp_acres.specs.Runs.{ReadsTwo, used};
 ghost use Rattle.twp_acres.specs.steps.Stages.{ReadsOnPlat, same_fault};
+ghost use Rattle.twp_acres.specs.steps.OnPlatSteps.{IsAcresAnswerOn};
 
 use crate::answer::{Answer, answer_stop, write_acres_line};
-use crate::stages::read_land_on_plat;
+use crate::on_plat::acres_on;
+use crate::stages::read_texts;
 use crate::verdict::{RunFault, Verdict};
 use std::alloc::Global;
-use twp_area::{Account, area_by};
+use twp_area::Account;
 use twp_grid::Source;
-use twp_land::{Land, Lanes};
+use twp_plat::Plat;
 
 /// The answer of field notes and a description. The description is read only where the notes make a
 /// plat.
@@ -35,9 +37,25 @@ pub fn answer_of<N: Source, D: Source>(
         (λ n d. IfOk result (λ answer.
         IsAcresAnswerBy account n d answer.text.items answer.verdict)) }
 {
-    let mut land = Lanes::empty();
-    match read_land_on_plat(alloc, notes, description, &mut land) {
-        Ok(plat) => accept(alloc, area_by(account, &plat, &land).hundredths()),
+    match read_texts(alloc, notes, description) {
+        Ok(read) => answer_on(alloc, &read.plat, read.description.as_slice(), account),
+        Err(stop) => answer_stop(alloc, stop),
+    }
+}
+
+/// The answer of a description on a plat.
+fn answer_on(
+    alloc: Global,
+    plat: &Plat,
+    description: &[u8],
+    account: Account,
+) -> Result<Answer, RunFault>
+    ensures answer { IfOk result (λ answer.
+        IsAcresAnswerOn account plat.now description.now answer.text.items answer.verdict) }
+    ensures memory { IfErr result (λ fault. fault ≡ RunFault.Memory) }
+{
+    match acres_on(alloc, plat, description, account) {
+        Ok(hundredths) => accept(alloc, hundredths),
         Err(stop) => answer_stop(alloc, stop),
     }
 }

@@ -3,6 +3,9 @@
 ghost use Rattle.twp_acres.specs.TractLaws.{RestAddsUp, TractsAddUp, OneReportAnswer};
 ghost use Rattle.twp_acres.specs.Laws.{OneAnswer, OneAnswerOfLand, OnePlatAnswer, OneNormalAnswer};
 ghost use Rattle.twp_acres.specs.Laws.{OneAnswerBy};
+ghost use Rattle.twp_acres.specs.OnPlatLaws.{AcresOnAreOfNotes, NormalOnIsOfNotes, OneAreaOn};
+ghost use Rattle.twp_acres.specs.OnPlatLaws.{TextOfPlatIsOfNotes, RefusalOnIsOfNotes};
+ghost use Rattle.twp_acres.specs.OnPlatLaws.{AnsweredOrRefusedOn};
 ghost use Rattle.twp_acres.specs.NormalLaws.{NormalTextIsItsOwn, LongNormalTextIsRefused};
 ghost use Rattle.twp_acres.specs.FinerPlaces.{FinerPlacesKeepAll, FinerPlacesKeepPlatAreas};
 ghost use Rattle.twp_acres.specs.FinerPlaces.{ThirtySecondsKeepAll};
@@ -52,6 +55,36 @@ pub fn normal_text_is_its_own()
 /// given back.
 pub fn long_normal_text_is_refused()
     ensures { LongNormalTextIsRefused }
+{}
+
+/// Of any notes that make a plat, the acres on it are those of the notes and the description.
+pub fn acres_on_are_of_notes()
+    ensures { AcresOnAreOfNotes }
+{}
+
+/// So is the canonical text on it.
+pub fn normal_on_is_of_notes()
+    ensures { NormalOnIsOfNotes }
+{}
+
+/// And the text of the plat.
+pub fn text_of_plat_is_of_notes()
+    ensures { TextOfPlatIsOfNotes }
+{}
+
+/// What is refused on it is refused of the notes and the description.
+pub fn refusal_on_is_of_notes()
+    ensures { RefusalOnIsOfNotes }
+{}
+
+/// What has an area on a plat isn't refused there.
+pub fn answered_or_refused_on()
+    ensures { AnsweredOrRefusedOn }
+{}
+
+/// A description has one area on a plat, by each account.
+pub fn one_area_on()
+    ensures { OneAreaOn }
 {}
 
 /// Field notes and a list of tracts have one account and one verdict.

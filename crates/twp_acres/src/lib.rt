@@ -1,5 +1,5 @@
-//! The runs: each reads field notes and what goes with them, and writes one answer. The areas of
-//! lands, which they answer, come from `twp_area`.
+//! The answers on a plat, and the runs: each reads field notes and what goes with them, has one of
+//! these answers, and writes it. The areas of lands come from `twp_area`.
 #![tactic(auto)]
 
 mod acres_answer;
@@ -7,6 +7,7 @@ mod answer;
 pub mod laws;
 mod names;
 mod normal_answer;
+mod on_plat;
 mod plat_answer;
 mod report_answer;
 mod running;
@@ -20,7 +21,12 @@ mod tracts;
 mod verdict;
 mod writing;
 
+pub use on_plat::{account_on, acres_on, area_on, normal_on};
+pub use plat_answer::print_plat;
 pub use running::{run_acres, run_acres_as, run_normal, run_plat, run_report};
-pub use tract_fault::TractFault;
+pub use stages::read_plat;
+pub use stop::Stop;
+pub use tract_fault::{TRACTS_LIMIT, TRACTS_MOST, TractFault};
+pub use tracts::account_of as account_of_tracts;
 pub use twp_area::{Account, area_of, plat_area_of};
 pub use verdict::{RunFault, Verdict};

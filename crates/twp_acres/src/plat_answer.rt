@@ -6,7 +6,7 @@ ghost use Rattle.twp_notes.specs.FieldNotes.{NOTES_MOST};
 ghost use Rattle.twp_area.specs.PlatFigures.{PlatFigures, AreFigures};
 ghost use Rattle.twp_acres.specs.PlatAnswers.{IsPlatAnswer};
 ghost use Rattle.twp_acres.specs.PlatAnswers.{lot_text, total_text, section_name, section_line};
-ghost use Rattle.twp_acres.specs.PlatAnswers.{plat_text};
+ghost use Rattle.twp_acres.specs.OnPlats.{IsTextOfPlat};
 ghost use Rattle.twp_acres.specs.Runs.{Reads, used};
 ghost use Rattle.twp_acres.specs.steps.Stages.{ReadsUpTo, same_fault};
 
@@ -29,17 +29,27 @@ pub fn answer_of<N: Source>(alloc: Global, notes: &mut N) -> Result<Answer, RunF
         IfOk result (λ answer. IsPlatAnswer n answer.text.items answer.verdict)) }
 {
     match read_plat(alloc, notes) {
-        Ok(plat) => print(alloc, &plat),
+        Ok(plat) => accept(alloc, &plat),
         Err(stop) => answer_stop(alloc, stop),
     }
 }
 
 /// The answer of a plat: its text.
-fn print(alloc: Global, plat: &Plat) -> Result<Answer, RunFault>
+fn accept(alloc: Global, plat: &Plat) -> Result<Answer, RunFault>
     ensures answer { IfOk result (λ answer. (answer.verdict ≡ Verdict.Accepted)
-        × ((figures : PlatFigures) × AreFigures plat.now figures
-        × (answer.text.items ≡ plat_text figures))) }
+        × IsTextOfPlat plat.now answer.text.items) }
     ensures memory { IfErr result (λ fault. fault ≡ RunFault.Memory) }
+{
+    let text = print_plat(alloc, plat)?;
+    Ok(Answer {
+        text,
+        verdict: Verdict::Accepted,
+    })
+}
+
+/// The text of a plat: of each section its lots' acres and its own, and then the township's.
+pub fn print_plat(alloc: Global, plat: &Plat) -> Result<Vec<u8>, AllocError>
+    ensures { IfOk result (λ text. IsTextOfPlat plat.now text.items) }
 {
     let mut text = Vec::new(alloc);
     for number in 1..SECTIONS + 1 {
@@ -48,10 +58,7 @@ fn print(alloc: Global, plat: &Plat) -> Result<Answer, RunFault>
     }
     text.extend_from_slice(b"township ")?;
     write_total(township_figure(plat), &mut text)?;
-    Ok(Answer {
-        text,
-        verdict: Verdict::Accepted,
-    })
+    Ok(text)
 }
 
 /// Appends the line of a section.

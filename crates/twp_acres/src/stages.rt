@@ -1,4 +1,5 @@
-//! The stages of a run: the plat of the field notes, and the land of a description on it.
+//! The stages of a run: the plat of the field notes, the bytes of a description, and its land on
+//! the plat.
 ghost use Rattle.std.specs.Prelude.{◌≡◌, false, IfOk, OnOk, IfErr};
 ghost use Rattle.twp_grid.specs.Places.{PLACE_DIGITS};
 ghost use Rattle.twp_notes.specs.FieldNotes.{NOTES_MOST};
@@ -6,8 +7,10 @@ ghost use Rattle.twp_land.specs.WholeLots.{HasWholeLots};
 ghost use Rattle.twp_text.specs.TextFaults.{TEXT_LIMIT};
 ghost use Rattle.twp_acres.specs.Answers.{MakePlat};
 ghost use Rattle.twp_acres.specs.Runs.{Reads, ReadsTwo, used};
-ghost use Rattle.twp_acres.specs.steps.Stages.{ReadsUpTo, ReadsOnPlat};
-ghost use Rattle.twp_acres.specs.steps.Stops.{IfFailed, IsPlatted, IsDescribed, IsRead};
+ghost use Rattle.twp_acres.specs.PlatReading.{IsPlatted, ReadsUpTo};
+ghost use Rattle.twp_acres.specs.steps.Stages.{ReadsOnPlat};
+ghost use Rattle.twp_acres.specs.steps.Stops.{IfFailed, IsDescribed};
+ghost use Rattle.twp_acres.specs.steps.OnPlatSteps.{AreRead, IsTextRead};
 ghost use Rattle.twp_acres.specs.declared.stop.Stop.TheVariants.{Failed};
 ghost use Rattle.twp_acres.specs.declared.verdict.RunFault.{RunFault};
 
@@ -19,7 +22,15 @@ use twp_notes::{Notes, read_whole};
 use twp_plat::Plat;
 use twp_text::{Description, TEXT_LIMIT, TextFault, resolve_into};
 
-/// The plat of the notes that a source gives.
+/// What the runs of a description read: the plat of the notes, and the description's bytes.
+#[derive(Drop)]
+pub(crate) struct Texts {
+    pub(crate) plat: Plat,
+    pub(crate) description: Vec<u8>,
+}
+
+/// The plat of the notes that a source gives, or the first fault of the notes or of their lines.
+/// `Stop::Failed` is that the source failed, or that memory ran out.
 pub fn read_plat<N: Source>(alloc: Global, notes: &mut N) -> Result<Plat, Stop>
     requires { N.has_failed notes.old ≡ false }
     ensures reads { ReadsUpTo Failed NOTES_MOST
@@ -31,25 +42,19 @@ pub fn read_plat<N: Source>(alloc: Global, notes: &mut N) -> Result<Plat, Stop>
     Ok(Plat::protract(&notes)?)
 }
 
-/// Sets a land to that of the description that a source gives, on the plat of a township.
-fn read_land<D: Source, L: Land>(
-    alloc: Global,
-    township: Township,
-    description: &mut D,
-    land: &mut L,
-) -> Result<(), Stop>
+/// The bytes of the description that a source gives, or its refusal where there are too many.
+fn read_description<D: Source>(alloc: Global, description: &mut D) -> Result<Vec<u8>, Stop>
     requires { D.has_failed description.old ≡ false }
     ensures reads { ReadsUpTo Failed TEXT_LIMIT
         (used (D.remaining description.old) (D.remaining description.new)
         (D.has_failed description.new)) result }
-    ensures land { Reads (D.remaining description.old) (λ d.
-        IsDescribed (λ _. L.places land.new) township d result) }
-    ensures whole_lots { OnOk result (HasWholeLots PLACE_DIGITS (L.places land.new)) }
+    ensures text { Reads (D.remaining description.old) (λ d.
+        IsTextRead (λ text. text.items) d result) }
 {
     let Some(text) = read_whole(alloc, description, TEXT_LIMIT)? else {
         return Err(Stop::from(TextFault::TooLarge));
     };
-    describe_into(alloc, land, township, text.as_slice())
+    Ok(text)
 }
 
 /// Sets a land to that of a description, on the plat of a township. What it held before is gone.
@@ -67,15 +72,13 @@ pub fn describe_into<L: Land>(
     Ok(resolve_into(land, &description, township)?)
 }
 
-/// The plat of the notes that a source gives; and sets a land to that of the description, on this
-/// plat, that another source gives. It is read only where the notes make a plat. The land is set in
-/// place, since it is too large to be handed from one call to the next.
-pub fn read_land_on_plat<N: Source, D: Source, L: Land>(
+/// The plat of the notes that a source gives, and the bytes of the description that another source
+/// gives, which is read only where the notes make a plat.
+pub(crate) fn read_texts<N: Source, D: Source>(
     alloc: Global,
     notes: &mut N,
     description: &mut D,
-    land: &mut L,
-) -> Result<Plat, Stop>
+) -> Result<Texts, Stop>
     requires notes { N.has_failed notes.old ≡ false }
     requires description { D.has_failed description.old ≡ false }
     ensures reads { ReadsOnPlat Failed TEXT_LIMIT
@@ -83,12 +86,10 @@ pub fn read_land_on_plat<N: Source, D: Source, L: Land>(
         (used (D.remaining description.old) (D.remaining description.new)
         (D.has_failed description.new))
         (description.new ≡ description.old) result }
-    ensures land { ReadsTwo (N.remaining notes.old) (D.remaining description.old)
-        MakePlat (description.new ≡ description.old)
-        (λ n d. IsRead (λ plat. plat) (λ _. L.places land.new) n d result) }
-    ensures whole_lots { OnOk result (HasWholeLots PLACE_DIGITS (L.places land.new)) }
+    ensures texts { ReadsTwo (N.remaining notes.old) (D.remaining description.old)
+        MakePlat (description.new ≡ description.old) (λ n d. AreRead n d result) }
 {
     let plat = read_plat(alloc, notes)?;
-    read_land(alloc, plat.township(), description, land)?;
-    Ok(plat)
+    let description = read_description(alloc, description)?;
+    Ok(Texts { plat, description })
 }

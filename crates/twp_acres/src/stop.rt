@@ -1,16 +1,32 @@
 use crate::verdict::RunFault;
+use std::alloc::AllocError;
+use thiserror::Error;
 use twp_grid::Refusal;
 use twp_notes::{NotesFault, ReadFault};
 use twp_plat::PlatFault;
 use twp_text::{PlaceFault, TextFault};
 
-/// Why a run stops before its last stage.
-#[derive(Clone, Copy, Debug, PartialEq, Eq, Hash)]
+/// Why there is no answer.
+#[derive(Clone, Copy, Debug, PartialEq, Eq, Hash, Error)]
 pub enum Stop {
-    /// The input is refused, which is the run's answer.
+    /// The input is refused, for its first fault.
+    #[error("refused {} at {}", .0.number, .0.at)]
     Refused(Refusal),
-    /// The run has no answer.
+    /// Memory ran out, or a reader failed.
+    #[error("{0}")]
     Failed(RunFault),
+}
+
+impl From<AllocError> for Stop {
+    ghost use Rattle.std.specs.Prelude.{◌≡◌};
+    ghost use Rattle.twp_acres.specs.declared.stop.Stop.TheVariants.{Failed};
+    ghost use Rattle.twp_acres.specs.declared.verdict.RunFault.TheVariants.{Memory};
+
+    ghost from_gives = { λ _ stop. stop ≡ Failed Memory };
+
+    fn from(_fault: AllocError) -> Stop {
+        Stop::Failed(RunFault::Memory)
+    }
 }
 
 impl From<NotesFault> for Stop {

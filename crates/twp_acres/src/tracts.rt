@@ -3,7 +3,7 @@ ghost use Rattle.std.specs.Prelude.{◌≤◌, length, OnOk, IfOk, IfErr};
 ghost use Rattle.twp_notes.specs.Records.{records_left, IsReading};
 ghost use Rattle.twp_acres.specs.Tracts.{TRACTS_LIMIT, TRACTS_MOST};
 ghost use Rattle.twp_acres.specs.ReportAnswers.{IsAccountOf};
-ghost use Rattle.twp_acres.specs.steps.ListFaults.{AnswersFault};
+ghost use Rattle.twp_acres.specs.TractFaults.{AnswersFault};
 ghost use Rattle.twp_acres.specs.steps.TractTaking.{tally_of, IsTallyOf, AreTractsRefused};
 
 use crate::running_account::RunningAccount;
@@ -18,11 +18,12 @@ use twp_plat::Plat;
 /// The number of the record after the heading, the first one of a tract.
 const FIRST_TRACT: u32 = 2;
 
-/// The text of a list's account. The list is within its limit of bytes.
-pub(crate) fn account_of(alloc: Global, plat: &Plat, bytes: &[u8]) -> Result<Vec<u8>, TractFault>
+/// The text of the account of a list of tracts on a plat, or the list's first fault. The list is
+/// within its limit of bytes.
+pub fn account_of(alloc: Global, plat: &Plat, bytes: &[u8]) -> Result<Vec<u8>, TractFault>
     requires { length bytes.now ≤ TRACTS_LIMIT }
     ensures account { IfOk result (λ text. IsAccountOf plat.now bytes.now text.items) }
-    ensures fault { IfErr result (AnswersFault plat.now bytes.now) }
+    ensures fault { IfErr result (AnswersFault plat.now.township bytes.now) }
 {
     let mut records = Records::new(alloc, bytes);
     let mut row = ByteRecord::new(alloc);

@@ -12,13 +12,13 @@ use Rattle.twp_cmd.specs.Endings.{AnswerTo, EndsAs, EndsRun, FailsOn, IsJoinedVe
 use Rattle.twp_cmd.specs.Endings.{IsVerdictOf, RunsOnNotes}
 use Rattle.twp_cmd.specs.Joined.{joined_description, joined_notes}
 use Rattle.twp_cmd.specs.Statuses.{ending_of, ending_of_fault, failing}
-use Rattle.twp_cmd.specs.Tasks.{IsFaultOf, IsTaskOf}
+use Rattle.twp_command.specs.Tasks.{IsFaultOf, IsTaskOf}
 use Rattle.twp_cmd.specs.declared.ending.Failure.{Failure}
 use Rattle.twp_cmd.specs.declared.ending.Failure.TheVariants.{Open, Run}
-use Rattle.twp_cmd.specs.declared.task.Task.{Task}
-use Rattle.twp_cmd.specs.declared.task.Task.TheVariants.{Plat}
-use Rattle.twp_cmd.specs.declared.task.TaskFault.{TaskFault}
-use Rattle.twp_cmd.specs.declared.task.TaskFault.TheVariants as fault
+use Rattle.twp_command.specs.declared.task.Task.{Task}
+use Rattle.twp_command.specs.declared.task.Task.TheVariants.{Plat}
+use Rattle.twp_command.specs.declared.task.TaskFault.{TaskFault}
+use Rattle.twp_command.specs.declared.task.TaskFault.TheVariants as fault
 
 -- what the run of a task gave is how the program ends by the words that ask for it
 pub ends_as : (words : List Text) (task : Task) (r : Result Verdict Failure) → IsTaskOf words task

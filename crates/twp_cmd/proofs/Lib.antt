@@ -1,7 +1,2 @@
-pub mod HelpWords
-pub mod CommandWalk
-pub mod CommandDefaults
-pub mod TaskFacts
-pub mod TownshipWords
 pub mod JoinedFacts
 pub mod EndingFacts

@@ -17,14 +17,14 @@ use Rattle.twp_acres.specs.declared.verdict.RunFault.{RunFault}
 use Rattle.twp_acres.specs.declared.verdict.RunFault.TheVariants.{Read, Write, Memory}
 use Rattle.twp_cmd.specs.Joined.{joined_description, joined_notes}
 use Rattle.twp_cmd.specs.Statuses.{IsStatusOf, failing}
-use Rattle.twp_cmd.specs.Tasks.{HasKindAt, IsFaultOf, IsTaskOf}
+use Rattle.twp_command.specs.Tasks.{HasKindAt, IsFaultOf, IsTaskOf}
 use Rattle.twp_cmd.specs.declared.ending.Ending.{Ending}
 use Rattle.twp_cmd.specs.declared.ending.Ending.TheVariants.{Answered, Helps, Misused, Failed}
 use Rattle.twp_cmd.specs.declared.ending.Failure.{Failure}
 use Rattle.twp_cmd.specs.declared.ending.Failure.TheVariants.{Open, Run}
-use Rattle.twp_cmd.specs.declared.task.Task.{Task}
-use Rattle.twp_cmd.specs.declared.task.Task.TheVariants.{Plat, Acres, Normal, Report}
-use Rattle.twp_cmd.specs.declared.task.TaskFault.TheVariants.{Usage}
+use Rattle.twp_command.specs.declared.task.Task.{Task}
+use Rattle.twp_command.specs.declared.task.Task.TheVariants.{Plat, Acres, Normal, Report}
+use Rattle.twp_command.specs.declared.task.TaskFault.TheVariants.{Usage}
 
 -- the task is given this file
 abbrev pub IsFileOf : Task → Text → Type 0

@@ -1,59 +1,95 @@
 //! The files that a task names, opened.
-ghost use Rattle.std.specs.Prelude.{◌≡◌, IfErr, IfOk, false};
+ghost use Rattle.std.specs.Prelude.{◌≡◌, Some, IfErr, IfOk, IfSome, false};
 ghost use Rattle.twp_grid.specs.Devices.{device_failed};
+ghost use Rattle.twp_cmd.specs.KeptBytes.{copy_of, inner_source};
 
 use crate::ending::Failure;
-use crate::name::Name;
+use crate::kept::Kept;
 use std::fs;
 use std::rt::Files;
+use twp_command::Name;
+use twp_explain::Given;
 use twp_grid::Device;
 
 /// Field notes, opened. The two files of a task have types of their own, so that no call takes one
 /// for the other.
 #[derive(Drop)]
 pub(crate) struct OpenedNotes<S> {
+    pub(crate) name: Name,
     pub(crate) source: S,
 }
 
 /// The second file of a task, a description or a list of tracts, opened.
 #[derive(Drop)]
 pub(crate) struct OpenedText<S> {
+    pub(crate) name: Name,
     pub(crate) source: S,
 }
 
 /// Opens the file of the notes.
-pub(crate) fn open_notes<R: Files>(
+pub(crate) fn open_notes<R: Files + AllocGlobal>(
     rt: &R,
     name: Name,
-) -> Result<OpenedNotes<Device<R::File>>, Failure>
-    ensures open { IfOk result (λ notes. device_failed notes.source ≡ false) }
+) -> Result<OpenedNotes<Kept<Device<R::File>>>, Failure>
+    ensures open { IfOk result (λ notes. device_failed (inner_source notes.source) ≡ false) }
     ensures names { IfErr result (λ failure. failure ≡ Failure.Open name) }
 {
-    Ok(OpenedNotes {
-        source: open(rt, name)?,
-    })
+    match open(rt, &name) {
+        Some(source) => Ok(OpenedNotes { name, source }),
+        None => Err(Failure::Open { name }),
+    }
 }
 
 /// Opens the file of a description or of a list of tracts.
-pub(crate) fn open_text<R: Files>(
+pub(crate) fn open_text<R: Files + AllocGlobal>(
     rt: &R,
     name: Name,
-) -> Result<OpenedText<Device<R::File>>, Failure>
-    ensures open { IfOk result (λ text. device_failed text.source ≡ false) }
+) -> Result<OpenedText<Kept<Device<R::File>>>, Failure>
+    ensures open { IfOk result (λ text. device_failed (inner_source text.source) ≡ false) }
     ensures names { IfErr result (λ failure. failure ≡ Failure.Open name) }
 {
-    Ok(OpenedText {
-        source: open(rt, name)?,
-    })
+    match open(rt, &name) {
+        Some(source) => Ok(OpenedText { name, source }),
+        None => Err(Failure::Open { name }),
+    }
 }
 
-/// Opens a file to read it.
-fn open<R: Files>(rt: &R, name: Name) -> Result<Device<R::File>, Failure>
-    ensures open { IfOk result (λ file. device_failed file ≡ false) }
-    ensures names { IfErr result (λ failure. failure ≡ Failure.Open name) }
+/// Opens a file to read it, and to keep what is read. None where it can't be opened.
+fn open<R: Files + AllocGlobal>(rt: &R, name: &Name) -> Option<Kept<Device<R::File>>>
+    ensures { IfSome result (λ file. device_failed (inner_source file) ≡ false) }
 {
     match fs::open(rt, name.text()) {
-        Ok(file) => Ok(Device::new(file)),
-        Err(_) => Err(Failure::Open { name }),
+        Ok(file) => Some(Kept::new(rt.alloc(), Device::new(file))),
+        Err(_) => None,
     }
+}
+
+impl<S> OpenedNotes<Kept<S>> {
+    /// What was read of the notes, unless no memory was there to keep it.
+    pub(crate) fn given(&self) -> Option<Given<'_>>
+        ensures { IfSome result (λ given. copy_of self.now.source ≡ Some given.bytes.now) }
+    {
+        given(&self.name, &self.source)
+    }
+}
+
+impl<S> OpenedText<Kept<S>> {
+    /// What was read of the text, unless no memory was there to keep it.
+    pub(crate) fn given(&self) -> Option<Given<'_>>
+        ensures { IfSome result (λ given. copy_of self.now.source ≡ Some given.bytes.now) }
+    {
+        given(&self.name, &self.source)
+    }
+}
+
+/// What was read of a file, which begins with its first line.
+fn given<'a, S>(name: &'a Name, source: &'a Kept<S>) -> Option<Given<'a>>
+    ensures { IfSome result (λ given. copy_of source.now ≡ Some given.bytes.now) }
+{
+    let bytes = source.kept()?;
+    Some(Given {
+        name: name.text(),
+        bytes,
+        first_line: 1,
+    })
 }

@@ -23,6 +23,7 @@ const LINE_FEED: u8 = b'\n';
 /// Reads a description and field notes from one source, and answers as `run_acres` does on both:
 /// the description is what comes before the first line feed, and the notes are what comes after it.
 /// No more than the first 131,074 bytes are read.
+#[inline(never)]
 pub fn run_joined<R: Source, W: Sink>(
     alloc: Global,
     input: &mut R,
@@ -67,7 +68,7 @@ pub fn run_joined<R: Source, W: Sink>(
 
 /// What comes before the first line feed and what comes after it: all and nothing where there is
 /// none.
-fn split_at_line_feed(bytes: &[u8]) -> (&[u8], &[u8])
+pub(crate) fn split_at_line_feed(bytes: &[u8]) -> (&[u8], &[u8])
     ensures before { result.0.now ≡ before_first (λ byte. byte == 10) bytes.now }
     ensures behind { result.1.now ≡ after_first (λ byte. byte == 10) bytes.now }
 {

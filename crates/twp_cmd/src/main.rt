@@ -6,18 +6,16 @@
 
 use std::process::ExitCode;
 
-mod command;
 mod ending;
 mod files;
 mod joined;
-mod name;
+mod kept;
 mod program;
 mod subcommand;
-mod task;
+mod telling;
 
 pub use joined::run_joined;
-pub use name::Name;
-pub use task::{Task, TaskFault, read_task};
+pub use kept::Kept;
 
 fn main(rt: HostRuntime) -> ExitCode {
     ExitCode::from(program::run(&rt))

@@ -6,13 +6,15 @@ ghost use Rattle.twp_cmd.specs.Statuses.{IsStatusOf, words_fault};
 
 use crate::ending::{Ending, Failure, NO_ANSWER, outcome_of};
 use crate::joined::run_joined;
+use crate::kept::Kept;
 use crate::subcommand::run_task;
-use crate::task::read_task;
+use crate::telling::tell_joined;
 use std::env::Env;
 use std::io::ErrorKind;
 use std::rt::Files;
 use std::{env, io};
 use twp_acres::{RunFault, Verdict};
+use twp_command::read_task;
 use twp_grid::Device;
 
 /// Runs the program, reports on standard error why there is no answer, and gives the status.
@@ -23,7 +25,7 @@ pub fn run<R: Env + Files + Input + Print + Eprint + AllocGlobal>(rt: &R) -> u8
 }
 
 /// Does what the words of the command line ask for, or answers standard input where there are none.
-fn carry_out<R: Env + Files + Input + Print + AllocGlobal>(rt: &R) -> Ending
+fn carry_out<R: Env + Files + Input + Print + Eprint + AllocGlobal>(rt: &R) -> Ending
     ensures { EndsProgram result }
 {
     match words_of(rt) {
@@ -63,18 +65,20 @@ fn fault_of_words(kind: ErrorKind) -> RunFault
 
 /// Answers the joined input on standard input.
 #[inline(never)]
-fn run_standard_input<R: Input + Print + AllocGlobal>(rt: &R) -> Result<Verdict, Failure>
+fn run_standard_input<R: Input + Print + Eprint + AllocGlobal>(rt: &R) -> Result<Verdict, Failure>
     ensures answers { IfOk result IsJoinedVerdict }
     ensures fails { IfErr result IsRunFailure }
 {
-    let mut input = Device::new(rt.reader());
+    let mut input = Kept::new(rt.alloc(), Device::new(rt.reader()));
     let mut out = Device::new(io::writer(rt));
-    outcome_of(run_joined(rt.alloc(), &mut input, &mut out))
+    let outcome = outcome_of(run_joined(rt.alloc(), &mut input, &mut out));
+    tell_joined(rt, &outcome, &input);
+    outcome
 }
 
 /// Does what the words of a command line ask for.
 #[inline(never)]
-fn run_words<R: Files + Print + AllocGlobal>(rt: &R, words: Vec<String>) -> Ending
+fn run_words<R: Files + Print + Eprint + AllocGlobal>(rt: &R, words: Vec<String>) -> Ending
     ensures { EndsAs (map string_bytes words.items) result }
 {
     match read_task(rt.alloc(), words) {

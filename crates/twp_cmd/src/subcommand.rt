@@ -12,16 +12,16 @@ ghost use Rattle.twp_cmd.specs.Endings.{EndsRun, FailsOn, IsVerdictOf, RunsOnNot
 
 use crate::ending::{Failure, outcome_of};
 use crate::files::{OpenedNotes, OpenedText, open_notes, open_text};
-use crate::name::Name;
-use crate::task::Task;
+use crate::telling::{tell_land, tell_list, tell_plat};
 use std::alloc::Global;
 use std::io;
 use std::rt::Files;
 use twp_acres::{Account, Verdict, run_acres_as, run_normal, run_plat, run_report};
+use twp_command::{Name, Task};
 use twp_grid::{Device, Sink, Source};
 
 /// Opens the files of a task, in their order, and runs it.
-pub(crate) fn run_task<R: Files + Print + AllocGlobal>(
+pub(crate) fn run_task<R: Files + Print + Eprint + AllocGlobal>(
     rt: &R,
     task: Task,
 ) -> Result<Verdict, Failure>
@@ -42,18 +42,23 @@ pub(crate) fn run_task<R: Files + Print + AllocGlobal>(
 
 /// `plat NOTES`
 #[inline(never)]
-fn open_plat<R: Files + Print + AllocGlobal>(rt: &R, notes: Name) -> Result<Verdict, Failure>
+fn open_plat<R: Files + Print + Eprint + AllocGlobal>(
+    rt: &R,
+    notes: Name,
+) -> Result<Verdict, Failure>
     ensures answers { IfOk result (IsVerdictOf (Task.Plat notes)) }
     ensures fails { IfErr result (FailsOn (Task.Plat notes)) }
 {
     let mut notes = open_notes(rt, notes)?;
     let mut out = Device::new(io::writer(rt));
-    plat(rt.alloc(), &mut notes, &mut out)
+    let outcome = plat(rt.alloc(), &mut notes, &mut out);
+    tell_plat(rt, &outcome, &notes);
+    outcome
 }
 
 /// `acres [--account ACCOUNT] NOTES DESCRIPTION`
 #[inline(never)]
-fn open_acres<R: Files + Print + AllocGlobal>(
+fn open_acres<R: Files + Print + Eprint + AllocGlobal>(
     rt: &R,
     notes: Name,
     description: Name,
@@ -65,12 +70,14 @@ fn open_acres<R: Files + Print + AllocGlobal>(
     let mut notes = open_notes(rt, notes)?;
     let mut description = open_text(rt, description)?;
     let mut out = Device::new(io::writer(rt));
-    acres(rt.alloc(), &mut notes, &mut description, &mut out, account)
+    let outcome = acres(rt.alloc(), &mut notes, &mut description, &mut out, account);
+    tell_land(rt, &outcome, &notes, &description);
+    outcome
 }
 
 /// `normal NOTES DESCRIPTION`
 #[inline(never)]
-fn open_normal<R: Files + Print + AllocGlobal>(
+fn open_normal<R: Files + Print + Eprint + AllocGlobal>(
     rt: &R,
     notes: Name,
     description: Name,
@@ -81,12 +88,14 @@ fn open_normal<R: Files + Print + AllocGlobal>(
     let mut notes = open_notes(rt, notes)?;
     let mut description = open_text(rt, description)?;
     let mut out = Device::new(io::writer(rt));
-    normal(rt.alloc(), &mut notes, &mut description, &mut out)
+    let outcome = normal(rt.alloc(), &mut notes, &mut description, &mut out);
+    tell_land(rt, &outcome, &notes, &description);
+    outcome
 }
 
 /// `report NOTES TRACTS`
 #[inline(never)]
-fn open_report<R: Files + Print + AllocGlobal>(
+fn open_report<R: Files + Print + Eprint + AllocGlobal>(
     rt: &R,
     notes: Name,
     tracts: Name,
@@ -97,10 +106,13 @@ fn open_report<R: Files + Print + AllocGlobal>(
     let mut notes = open_notes(rt, notes)?;
     let mut tracts = open_text(rt, tracts)?;
     let mut out = Device::new(io::writer(rt));
-    report(rt.alloc(), &mut notes, &mut tracts, &mut out)
+    let outcome = report(rt.alloc(), &mut notes, &mut tracts, &mut out);
+    tell_list(rt, &outcome, &notes, &tracts);
+    outcome
 }
 
 /// Writes the plat of opened notes.
+#[inline(never)]
 fn plat<N: Source, W: Sink>(
     alloc: Global,
     notes: &mut OpenedNotes<N>,
@@ -117,6 +129,7 @@ fn plat<N: Source, W: Sink>(
 }
 
 /// Writes the acres of an opened description on the plat of opened notes, by an account.
+#[inline(never)]
 fn acres<N: Source, D: Source, W: Sink>(
     alloc: Global,
     notes: &mut OpenedNotes<N>,
@@ -145,6 +158,7 @@ fn acres<N: Source, D: Source, W: Sink>(
 }
 
 /// Writes the canonical spelling of an opened description on the plat of opened notes.
+#[inline(never)]
 fn normal<N: Source, D: Source, W: Sink>(
     alloc: Global,
     notes: &mut OpenedNotes<N>,
@@ -166,6 +180,7 @@ fn normal<N: Source, D: Source, W: Sink>(
 }
 
 /// Writes the account of an opened list of tracts on the plat of opened notes.
+#[inline(never)]
 fn report<N: Source, T: Source, W: Sink>(
     alloc: Global,
     notes: &mut OpenedNotes<N>,

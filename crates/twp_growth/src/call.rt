@@ -33,6 +33,9 @@ pub enum Call<'a> {
         description: &'a str,
     },
     SpellNothing,
+    HeldLots {
+        description: &'a str,
+    },
     RunPlat {
         notes: &'a str,
     },
@@ -70,6 +73,7 @@ impl<'a> Call<'a> {
             "read-notes" => Some(Call::ReadNotes { notes: input }),
             "read-description" => Some(Call::ReadDescription { description: input }),
             "spell" => Some(Call::Spell { description: input }),
+            "held-lots" => Some(Call::HeldLots { description: input }),
             "run-plat" => Some(Call::RunPlat { notes: input }),
             _ => None,
         }

@@ -29,6 +29,7 @@ fn make<R: Files + Print + AllocGlobal>(rt: &R, call: Call<'_>) -> Result<(), Fa
         Call::ReadDescription { description } => reading::read_description(rt, description),
         Call::Spell { description } => reading::spell_land(rt, description),
         Call::SpellNothing => reading::spell_nothing(rt),
+        Call::HeldLots { description } => reading::list_lots(rt, description),
         Call::RunPlat { notes } => running::plat(rt, notes),
         Call::Run { run, notes, second } => running::two(rt, run, notes, second),
     }

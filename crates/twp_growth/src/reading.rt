@@ -5,10 +5,10 @@ use crate::telling::{ANSWERED, OUT_OF_MEMORY, start, tell};
 use std::io::Write;
 use std::rt::Files;
 use std::{fs, io};
-use twp_grid::{Bytes, EastWest, NorthSouth, Township};
+use twp_grid::{Bytes, EastWest, NorthSouth, Section, Township};
 use twp_land::{Land, Lanes};
 use twp_notes::Notes;
-use twp_text::{Description, resolve, spell};
+use twp_text::{Description, held_lots, resolve, spell};
 
 /// The township whose land is described, T. 2 N., R. 3 W.
 fn township() -> Township {
@@ -65,6 +65,25 @@ fn spell_told<R: Print + AllocGlobal>(rt: &R, land: &Lanes) -> Result<(), Fault>
     match spell(rt.alloc(), land, township()) {
         Ok(text) => tell(rt, ANSWERED, text.as_slice())?,
         Err(_) => tell(rt, OUT_OF_MEMORY, b"")?,
+    }
+    Ok(())
+}
+
+/// Lists the lots of section 7 that a description names.
+pub fn list_lots<R: Files + Print + AllocGlobal>(rt: &R, file: &str) -> Result<(), Fault> {
+    let text = fs::read(rt, file)?;
+    let description = Description::read(rt.alloc(), text.as_slice())?;
+    let land = resolve::<Lanes>(&description, township())?;
+    let section = Section::new(7).unwrap();
+    start(rt)?;
+    match held_lots(rt.alloc(), &land, section) {
+        Ok(lots) => {
+            rt.println(ANSWERED)?;
+            for lot in lots.as_slice() {
+                rt.println(*lot)?;
+            }
+        }
+        Err(_) => rt.println(OUT_OF_MEMORY)?,
     }
     Ok(())
 }

@@ -1,5 +1,6 @@
 -- What two sets of one section's places share, and hold together, as they are kept.
-use Rattle.std.proofs.Common.{◌≡◌, ◌↔◌, IsTrue, ◌≢◌, ◌==◌, ℕ, zero, suc, ◌^◌, ◌<◌, ◌≤◌, ◌||◌, Bool, true}
+use Rattle.std.proofs.Common.{◌≡◌, ◌↔◌, IsTrue, ◌≢◌, ◌==◌, ℕ, zero, suc, ◌^◌, ◌<◌, ◌≤◌, ◌||◌, ◌&&◌, Bool}
+use Rattle.std.proofs.Common.{true}
 use Rattle.std.proofs.Common.{false, not, List, [], length, get_or, nat_lt, ap, refl, sym, ◌∙◌, inl, inr}
 use Rattle.std.proofs.Common.{arith, min, max}
 use Rattle.std.proofs.Math.Path.{fun_ext}
@@ -12,8 +13,8 @@ use Rattle.std.proofs.lemmas.Nat.Bits.{bit_at_and, bit_at_or, bit_at-lt, bit_at-
 use Rattle.std.proofs.lemmas.Bool.{cases_Bool, and_parts, eqb-true, eq-eqb, ne_eqb, not-false}
 use Rattle.std.proofs.lemmas.Bool.Decides.{nat_tests}
 use Rattle.twp_grid.specs.Places.{PLACE_DIGITS, places_across, is_place}
-use Rattle.twp_land.specs.Storage.{held_by_row, held_by_lane, held_by_either, ShareHeld}
-use Rattle.twp_land.specs.steps.RowTests.{ShareInRow, IsJoined}
+use Rattle.twp_land.specs.Storage.{held_by_row, held_by_lane, held_by_either, held_by_both, ShareHeld}
+use Rattle.twp_land.specs.steps.RowTests.{ShareInRow, IsJoined, IsCommon}
 use Rattle.twp_land.specs.steps.BitLanes.{AreLanes}
 use Rattle.twp_land.proofs.BitFacts.{or_of_zeros, zeros_of_or, some_or_none}
 
@@ -44,6 +45,13 @@ pub record AreJoined (rows others : List (List Bool)) (count : ℕ) (joined : Li
   pub below : (row : ℕ) → row < count
       → IsJoined (get_or rows row []) (get_or others row []) (get_or joined row [])
   pub from : (row : ℕ) → count ≤ row → get_or joined row [] ≡ get_or rows row []
+
+-- the rows below a number hold what both do, and the others are as they were
+pub record AreCommon (rows others : List (List Bool)) (count : ℕ) (common : List (List Bool)) : Type 0 where
+  pub all : length common ≡ places_across PLACE_DIGITS
+  pub below : (row : ℕ) → row < count
+      → IsCommon (get_or rows row []) (get_or others row []) (get_or common row [])
+  pub from : (row : ℕ) → count ≤ row → get_or common row [] ≡ get_or rows row []
 
 -- The lanes of two sets, of the same length.
 module _ (lanes others : List ℕ) (count : length lanes ≡ places_across PLACE_DIGITS)
@@ -183,3 +191,26 @@ module _ (lanes others : List ℕ) (count : length lanes ≡ places_across PLACE
       either (suc (suc bit)) other small small' = absurd (omega arith)
       either zero (suc (suc other)) small small' = absurd (omega arith)
       either (suc zero) (suc (suc other)) small small' = absurd (omega arith)
+
+  pub lanes_common : held_by_lane (put_chunk 0 lanes (zip2 bit_and lanes others))
+      ≡ held_by_both (held_by_lane lanes) (held_by_lane others)
+  lanes_common =
+      ap held_by_lane
+      (put_chunk_whole lanes (zip2 bit_and lanes others)
+      (sym (length-zip2 bit_and lanes others (count ∙ sym same))))
+      ∙ fun_ext (λ column. fun_ext (λ row. elim (cases_Bool (is_place PLACE_DIGITS column row)) [
+        | inl place ↦
+            rw (place, bit_of_both column row (of_place column row place).1)
+            (of_two (bit_at (get_or lanes row 0) column) (bit_at (get_or others row 0) column)
+            (bit_at-lt (get_or lanes row 0) column) (bit_at-lt (get_or others row 0) column))
+        | inr outside ↦ rw outside refl
+      ]))
+    where
+      of_two : (bit other : ℕ) → bit < 2 → other < 2 → (min bit other == 1) ≡ ((bit == 1) && (other == 1))
+      of_two zero zero small small' = refl
+      of_two zero (suc zero) small small' = refl
+      of_two (suc zero) zero small small' = refl
+      of_two (suc zero) (suc zero) small small' = refl
+      of_two (suc (suc bit)) other small small' = absurd (omega arith)
+      of_two zero (suc (suc other)) small small' = absurd (omega arith)
+      of_two (suc zero) (suc (suc other)) small small' = absurd (omega arith)

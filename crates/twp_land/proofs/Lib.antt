@@ -3,6 +3,7 @@ pub mod BlockFacts
 pub mod BlockLaneFacts
 pub mod LandFacts
 pub mod LandRanges
+pub mod CommonLands
 pub mod JoinedLands
 pub mod JoinFacts
 pub mod LaneFacts

@@ -16,6 +16,11 @@ block_places section block other column row = (section == other) && in_rectangle
 abbrev pub union : (ℕ → ℕ → ℕ → Bool) → (ℕ → ℕ → ℕ → Bool) → ℕ → ℕ → ℕ → Bool
 union places more section column row = places section column row || more section column row
 
+-- the places that are in both sets
+abbrev pub intersection : (ℕ → ℕ → ℕ → Bool) → (ℕ → ℕ → ℕ → Bool) → ℕ → ℕ → ℕ → Bool
+intersection places more section column row =
+    places section column row && more section column row
+
 -- the places of the first set without those of the second
 abbrev pub difference : (ℕ → ℕ → ℕ → Bool) → (ℕ → ℕ → ℕ → Bool) → ℕ → ℕ → ℕ → Bool
 difference places less section column row =

@@ -55,3 +55,7 @@ SameHeld held more = (column row : ℕ) → held column row ≡ more column row
 -- the places of two sets of one section
 abbrev pub held_by_either : (ℕ → ℕ → Bool) → (ℕ → ℕ → Bool) → ℕ → ℕ → Bool
 held_by_either held more column row = held column row || more column row
+
+-- the places that are in both sets of one section
+abbrev pub held_by_both : (ℕ → ℕ → Bool) → (ℕ → ℕ → Bool) → ℕ → ℕ → Bool
+held_by_both held more column row = held column row && more column row

@@ -1,8 +1,8 @@
 ghost use Rattle.std.specs.Prelude.{◌≡◌, ◌<◌, ◌≤◌, ◌↔◌, ℕ, Bool, true, IsTrue, MatchOption};
 ghost use Rattle.twp_grid.specs.Winding.{IsSection};
 ghost use Rattle.twp_grid.specs.Places.{PLACE_DIGITS, places_across, IsPlace};
-ghost use Rattle.twp_land.specs.Lands.{no_places, union, difference, block_places, count_held};
-ghost use Rattle.twp_land.specs.Lands.{Meets, HoldsAll, SharePlace, SamePlaces, LieWithin};
+ghost use Rattle.twp_land.specs.Lands.{no_places, union, difference, intersection, block_places};
+ghost use Rattle.twp_land.specs.Lands.{count_held, Meets, HoldsAll, SharePlace, SamePlaces, LieWithin};
 
 use twp_grid::{Block, SECTIONS, Section};
 
@@ -71,6 +71,10 @@ pub trait Land: Drop {
     /// Adds the places that another set holds.
     fn add_land(&mut self, other: &Self)
         ensures { places self.new ≡ union (places self.old) (places other.now) };
+
+    /// Keeps only the places that another set holds too.
+    fn keep_common(&mut self, other: &Self)
+        ensures { places self.new ≡ intersection (places self.old) (places other.now) };
 
     /// What is held is a place of a township.
     ghost within: { (land : Self) (section column row : ℕ) → places land section column row ≡ true

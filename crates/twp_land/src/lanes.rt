@@ -113,4 +113,10 @@ impl Plot for LaneRows {
         let held = vector(&self.lanes) | vector(&other.lanes);
         held.copy_to_slice(&mut self.lanes);
     }
+
+    #[inline]
+    fn keep_common_plot(&mut self, other: &Self) {
+        let held = vector(&self.lanes) & vector(&other.lanes);
+        held.copy_to_slice(&mut self.lanes);
+    }
 }

@@ -2,7 +2,7 @@ ghost use Rattle.std.specs.Prelude.{◌≡◌, ◌<◌, ◌↔◌, ℕ, Bool, tr
 ghost use Rattle.twp_grid.specs.Places.{PLACE_DIGITS, places_across, IsPlace};
 ghost use Rattle.twp_land.specs.Lands.{Meets, HoldsAll, count_held};
 ghost use Rattle.twp_land.specs.Storage.{nothing_held, with_block, without_block, held_by_either};
-ghost use Rattle.twp_land.specs.Storage.{ShareHeld, SameHeld};
+ghost use Rattle.twp_land.specs.Storage.{held_by_both, ShareHeld, SameHeld};
 
 use twp_grid::Block;
 
@@ -52,6 +52,10 @@ pub trait Plot: Copy + Drop {
     /// Adds the places that another set holds.
     fn add_plot(&mut self, other: &Self)
         ensures { held self.new ≡ held_by_either (held self.old) (held other.now) };
+
+    /// Keeps only the places that another set holds too.
+    fn keep_common_plot(&mut self, other: &Self)
+        ensures { held self.new ≡ held_by_both (held self.old) (held other.now) };
 
     /// What is held is a place.
     ghost within: { (plot : Self) (column row : ℕ) → held plot column row ≡ true

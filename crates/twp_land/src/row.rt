@@ -2,7 +2,7 @@ ghost use Rattle.std.specs.Prelude.{◌≡◌, ◌+◌, ◌≤◌, ◌↔◌, Is
 ghost use Rattle.twp_grid.specs.Places.{PLACE_DIGITS, places_across};
 ghost use Rattle.twp_land.specs.steps.RowTests.{SomeHeld, EachHeld, count_in_row, IsFilled};
 ghost use Rattle.twp_land.specs.steps.RowTests.{IsCleared};
-ghost use Rattle.twp_land.specs.steps.RowTests.{AreAlike, ShareInRow, IsJoined};
+ghost use Rattle.twp_land.specs.steps.RowTests.{AreAlike, ShareInRow, IsJoined, IsCommon};
 
 use twp_grid::PLACES_ACROSS;
 
@@ -107,4 +107,15 @@ pub(crate) fn joined(row: &Row, other: &Row) -> Row
         joined[column] = row[column] || other[column];
     }
     joined
+}
+
+/// The row with only the places held that another holds too.
+pub(crate) fn common(row: &Row, other: &Row) -> Row
+    ensures { IsCommon row.now other.now result }
+{
+    let mut common = *row;
+    for column in 0..PLACES_ACROSS {
+        common[column] = row[column] && other[column];
+    }
+    common
 }

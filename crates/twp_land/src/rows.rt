@@ -1,7 +1,9 @@
 ghost use Rattle.twp_land.specs.Storage.{held_by_row};
 
 use crate::plot::Plot;
-use crate::row::{Row, alike, cleared, count_held, each_held, filled, joined, share, some_held};
+use crate::row::{
+    Row, alike, cleared, common, count_held, each_held, filled, joined, share, some_held,
+};
 use crate::sections::Sections;
 use crate::window::Window;
 use twp_grid::{Block, PLACES_ACROSS};
@@ -104,6 +106,12 @@ impl Plot for Rows {
     fn add_plot(&mut self, other: &Self) {
         for row in 0..PLACES_ACROSS {
             self.rows[row] = joined(&self.rows[row], &other.rows[row]);
+        }
+    }
+
+    fn keep_common_plot(&mut self, other: &Self) {
+        for row in 0..PLACES_ACROSS {
+            self.rows[row] = common(&self.rows[row], &other.rows[row]);
         }
     }
 }

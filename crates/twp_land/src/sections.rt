@@ -117,4 +117,10 @@ impl<P: Plot> Land for Sections<P> {
             self.plots[index].add_plot(&other.plots[index]);
         }
     }
+
+    fn keep_common(&mut self, other: &Self) {
+        for index in self.reach.first..self.reach.end {
+            self.plots[index].keep_common_plot(&other.plots[index]);
+        }
+    }
 }

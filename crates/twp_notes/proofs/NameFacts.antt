@@ -7,6 +7,9 @@ use Rattle.twp_grid.proofs.LineFacts.{one_line}
 use Rattle.twp_notes.specs.Records.{Fields, field}
 use Rattle.twp_notes.specs.FieldNotes.{run_text, IsSectionText, IsNeighborText, NamesLine}
 use Rattle.twp_notes.specs.NotesFaults.{HasNoRun, HasNoSection}
+use Rattle.twp_notes.specs.declared.fault.NotesFault.{NotesFault}
+use Rattle.twp_notes.specs.declared.fault.NotesFault.TheVariants as fault
+use Rattle.twp_notes.specs.steps.LineFaults.{IsUnnamed}
 
 -- N is not W
 other_letter : (n w : ℕ) → n ≡ 78 → w ≡ 87 → n ≡ w → ⊥
@@ -50,3 +53,20 @@ has_run fields line names none = none names.run names.run_is
 pub has_section : (fields : Fields) (line : ℕ) → NamesLine fields line → HasNoSection fields → ⊥
 has_section fields line names (inl none) = none names.section names.section_is
 has_section fields line names (inr none) = none names.other names.other_is
+
+-- a record with a fault of a name names no line
+pub names_none : (fields : Fields) (number : ℕ) (why : NotesFault) → IsUnnamed fields number why
+    → (line : ℕ) → NamesLine fields line → ⊥
+names_none fields number (fault.Run at) is line names = has_run fields line names is.1
+names_none fields number (fault.Section at) is line names = has_section fields line names is.1
+names_none fields number (fault.NoLine at) is line names = is.1 line names
+names_none fields number fault.TooLarge is line names = is
+names_none fields number fault.Empty is line names = is
+names_none fields number fault.Heading is line names = is
+names_none fields number (fault.Columns at) is line names = is
+names_none fields number fault.Township is line names = is
+names_none fields number (fault.Length at) is line names = is
+names_none fields number (fault.Repeated at) is line names = is
+names_none fields number (fault.Missing at) is line names = is
+names_none fields number fault.Read is line names = is
+names_none fields number fault.Memory is line names = is

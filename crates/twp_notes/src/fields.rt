@@ -77,6 +77,19 @@ pub fn line_of(row: &ByteRecord, number: u32) -> Result<Line, NotesFault>
     }
 }
 
+/// The line that a record of field notes names. None where it names none, or hasn't five fields.
+pub fn named_line(row: &ByteRecord) -> Option<Line>
+    ensures { Finds result (NamesLine (fields_of row.now)) }
+{
+    if row.len() != FIELDS {
+        return None;
+    }
+    match line_of(row, 0) {
+        Ok(line) => Some(line),
+        Err(_) => None,
+    }
+}
+
 /// The distances that a record returns.
 pub fn returned_in(row: &ByteRecord) -> Option<Returned>
     requires { length (fields_of row.now) ≡ FIELDS }

@@ -17,7 +17,9 @@ mod table;
 mod writing;
 
 pub use fault::NotesFault;
+pub use fields::{FIELDS, named_line};
 pub use notes::Notes;
 pub use reading::{ReadFault, read_up_to, read_whole};
 pub use records::{Records, field};
 pub use returned::Returned;
+pub use writing::{LineNames, names_of};

@@ -43,11 +43,14 @@ impl Field {
 }
 
 /// How a line is named in writing: by its run and the sections beside it, first the one on its east
-/// or on its north.
-#[derive(Clone, Copy)]
-pub struct Names {
+/// or on its north (this project's order).
+#[derive(Clone, Copy, Debug, PartialEq, Eq, Hash)]
+pub struct LineNames {
+    /// Which way it is run.
     pub run: Run,
+    /// The section on its east or on its north; on the township's boundary the only one.
     pub section: Section,
+    /// The section on its west or on its south. None on the township's boundary.
     pub other: Option<Section>,
 }
 
@@ -132,8 +135,8 @@ fn neighbor_field(other: Option<Section>) -> Field
     }
 }
 
-/// How a line is named.
-fn names_of(line: Line) -> Names
+/// How a line is named in its record.
+pub fn names_of(line: Line) -> LineNames
     ensures { AreNames line result.run result.section result.other }
 {
     let index = line.index();
@@ -145,23 +148,23 @@ fn names_of(line: Line) -> Names
 }
 
 /// How a north-run line is named, by its row and its meridian.
-fn names_of_north_run(row: u8, meridian: u8) -> Names
+fn names_of_north_run(row: u8, meridian: u8) -> LineNames
     requires row { row < SECTIONS_ACROSS }
     requires meridian { meridian < LINES_ACROSS }
     ensures { AreNames (north_run row meridian) result.run result.section result.other }
 {
     match meridian {
-        0 => Names {
+        0 => LineNames {
             run: Run::North,
             section: Section::at(row, 0),
             other: None,
         },
-        6 => Names {
+        6 => LineNames {
             run: Run::North,
             section: Section::at(row, 5),
             other: None,
         },
-        _ => Names {
+        _ => LineNames {
             run: Run::North,
             section: Section::at(row, meridian - 1),
             other: Some(Section::at(row, meridian)),
@@ -170,23 +173,23 @@ fn names_of_north_run(row: u8, meridian: u8) -> Names
 }
 
 /// How a west-run line is named, by its tier and its column.
-fn names_of_west_run(tier: u8, column: u8) -> Names
+fn names_of_west_run(tier: u8, column: u8) -> LineNames
     requires tier { tier < LINES_ACROSS }
     requires column { column < SECTIONS_ACROSS }
     ensures { AreNames (west_run tier column) result.run result.section result.other }
 {
     match tier {
-        0 => Names {
+        0 => LineNames {
             run: Run::West,
             section: Section::at(0, column),
             other: None,
         },
-        6 => Names {
+        6 => LineNames {
             run: Run::West,
             section: Section::at(5, column),
             other: None,
         },
-        _ => Names {
+        _ => LineNames {
             run: Run::West,
             section: Section::at(tier - 1, column),
             other: Some(Section::at(tier, column)),

@@ -15,6 +15,11 @@ pub record TownshipPlat : Type 0 where
 abbrev pub closing_quarter_of : TownshipPlat → ℕ → ℕ
 closing_quarter_of plat line = slice_index_or plat.closing_quarters line 0
 
+-- the plat with these parts
+abbrev pub plat_of_parts : Designation → List ℕ → TownshipPlat
+plat_of_parts township closing_quarters =
+    record { township = township; closing_quarters = closing_quarters }
+
 -- the plat of the notes
 pub record IsPlatOf (notes : FieldNotes) (plat : TownshipPlat) : Type 0 where
   pub makes : MakesPlat notes
@@ -28,6 +33,11 @@ pub record IsQuarterOnPlat (line quarter : ℕ) : Type 0 where
   pub least : CLOSING_LEAST ≤ quarter
   pub most : quarter ≤ CLOSING_MOST
   pub regular : ¬ IsClosing line → quarter ≡ QUARTER_MILE
+
+-- closing quarters of some plat, by the lines' indexes
+abbrev pub AreQuartersOnPlat : List ℕ → Type 0
+AreQuartersOnPlat closing_quarters = (line : ℕ) → IsLine line
+    → IsQuarterOnPlat line (slice_index_or closing_quarters line 0)
 
 -- what holds of every plat, whatever its notes
 pub record IsPlat (plat : TownshipPlat) : Type 0 where

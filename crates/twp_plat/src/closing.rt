@@ -9,15 +9,18 @@ use twp_notes::Returned;
 /// A quarter mile, in thousandths of a chain.
 pub const QUARTER_MILE: u32 = 20_000;
 
-/// The least and the most of a half mile of 40 chains.
-const HALF_LEAST: u32 = 39_750;
+/// The least of a half mile of 40 chains, in thousandths of a chain (this project's rule, as the
+/// limits below).
+pub const HALF_LEAST: u32 = 39_750;
 
-const HALF_MOST: u32 = 40_250;
+/// The most of a half mile of 40 chains, in thousandths of a chain.
+pub const HALF_MOST: u32 = 40_250;
 
-/// The least and the most of a closing quarter.
-const CLOSING_LEAST: u32 = 5_000;
+/// The least of a closing quarter, in thousandths of a chain.
+pub const CLOSING_LEAST: u32 = 5_000;
 
-const CLOSING_MOST: u32 = 25_000;
+/// The most of a closing quarter, in thousandths of a chain.
+pub const CLOSING_MOST: u32 = 25_000;
 
 /// The closing quarter of a line in thousandths of a chain, or what is out of its limits: the first
 /// half mile is looked at before the second.

@@ -9,7 +9,8 @@ pub mod laws;
 mod lot_figure;
 mod piece;
 mod plat;
+mod quarters;
 
-pub use closing::QUARTER_MILE;
+pub use closing::{CLOSING_LEAST, CLOSING_MOST, HALF_LEAST, HALF_MOST, QUARTER_MILE};
 pub use fault::{HalfMile, PlatFault};
 pub use plat::Plat;

@@ -1,14 +1,16 @@
 ghost use Rattle.std.specs.Prelude.{◌≡◌, ◌*◌, ◌≤◌, ◌<◌, pos};
+ghost use Rattle.std.specs.Option.{SomeIff};
 ghost use Rattle.twp_grid.specs.Lots.{POSITIONS_ACROSS};
 ghost use Rattle.twp_plat.specs.Closing.{CLOSING_MOST};
 ghost use Rattle.twp_plat.specs.Plats.{IsPlat, AreClosingQuarters, closing_quarter_of};
-ghost use Rattle.twp_plat.specs.Plats.{IsQuarterOnPlat};
+ghost use Rattle.twp_plat.specs.Plats.{IsQuarterOnPlat, plat_of_parts};
 ghost use Rattle.twp_plat.specs.PlatFaults.{AnswersPlat};
 ghost use Rattle.twp_plat.specs.Pieces.{IsPieceArea, over_of, OVER_MOST};
 
 use crate::closing::closing_quarter;
 use crate::fault::PlatFault;
 use crate::piece::SideQuarters;
+use crate::quarters::are_on_plat;
 use std::marker::Model;
 use twp_grid::{LINES, Line, Section, Township, sides};
 use twp_measure::Area;
@@ -58,6 +60,30 @@ impl Plat {
             township: notes.township(),
             closing_quarters,
         })
+    }
+
+    /// The plat of a township with these closing quarters, which stand at their lines' indexes, in
+    /// thousandths of a chain. None where no notes make such a plat: where a closing line's isn't
+    /// from 5 to 25 chains, or another line's isn't 20 chains (this project's rule).
+    pub fn of_parts(township: Township, closing_quarters: &[u32; LINES]) -> Option<Plat>
+        ensures { SomeIff result (IsPlat (plat_of_parts township closing_quarters.now))
+            (plat_of_parts township closing_quarters.now) }
+    {
+        if !are_on_plat(closing_quarters) {
+            return None;
+        }
+        Some(Plat {
+            township,
+            closing_quarters: *closing_quarters,
+        })
+    }
+
+    /// The closing quarters of the lines, which stand at their indexes, in thousandths of a chain.
+    pub fn closing_quarters(&self) -> &[u32; LINES]
+        ensures value { result.now ≡ self.now.closing_quarters }
+        ensures plat { IsPlat self.now }
+    {
+        &self.closing_quarters
     }
 
     /// The area of a section's position, by its column from the east and its row from the south:

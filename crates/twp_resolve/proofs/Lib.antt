@@ -5,5 +5,6 @@ pub mod RangeFaults
 pub mod ItemFaults
 pub mod PlaceAnswers
 pub mod ResolvingFacts
+pub mod SharedFacts
 pub mod LandLots
 pub mod DescribedLand

@@ -44,13 +44,13 @@ none_of_item g township earlier section it (fault.Overlap at) lies apart has = a
 none_of_item g township earlier section it other lies apart has = has
 
 -- some of the first elements pass a test
-record IsFound {X : Type 0} (test : X → Bool) (xs : List X) (n : ℕ) (d : X) : Type 0 where
-  at : ℕ
-  before : at < n
-  within : at < length xs
-  passes : test (get_or xs at d) ≡ true
+pub record IsFound {X : Type 0} (test : X → Bool) (xs : List X) (n : ℕ) (d : X) : Type 0 where
+  pub at : ℕ
+  pub before : at < n
+  pub within : at < length xs
+  pub passes : test (get_or xs at d) ≡ true
 
-found : {X : Type 0} (test : X → Bool) (xs : List X) (n : ℕ) (d : X) → list_any test (take n xs) ≡ true
+pub found : {X : Type 0} (test : X → Bool) (xs : List X) (n : ℕ) (d : X) → list_any test (take n xs) ≡ true
     → IsFound test xs n d
 found test xs zero d any = cc any
 found test [] (suc n) d any = cc any
@@ -175,7 +175,7 @@ some_inside : {X : Type 0} (a b : X) → Some a ≡ Some b → a ≡ b
 some_inside a b e = cc e
 
 -- one first fault
-one_fault : (g : ℕ) (township : Designation) (items : List Item) (one other : PlaceFault)
+pub one_fault : (g : ℕ) (township : Designation) (items : List Item) (one other : PlaceFault)
     → IsFirstPlaceFault g township items one → IsFirstPlaceFault g township items other → one ≡ other
 one_fault g township items one other a b =
     let same = same_index a.index b.index one other (a.first b.index other b.is) (b.first a.index one a.is) in

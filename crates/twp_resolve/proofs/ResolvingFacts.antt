@@ -50,16 +50,16 @@ parts_count section [] = refl
 parts_count section (it ∷ items) = ap suc (parts_count (section_behind section it) items)
 
 -- the item at an index, with its section
-record IsNext (items : List Item) (index section : ℕ) (it : Item) : Type 0 where
-  within : index < length (parts_of items)
-  here : (d : ItemOfSection) → get_or (parts_of items) index d ≡ item_of section it
-  behind : drop (index + 1) (parts_of items)
+pub record IsNext (items : List Item) (index section : ℕ) (it : Item) : Type 0 where
+  pub within : index < length (parts_of items)
+  pub here : (d : ItemOfSection) → get_or (parts_of items) index d ≡ item_of section it
+  pub behind : drop (index + 1) (parts_of items)
       ≡ with_sections (section_behind section it) (drop (index + 1) items)
 
 first_of : {X : Type 0} (x y : X) (xs ys : List X) → (x ∷ xs) ≡ (y ∷ ys) → (x ≡ y) × (xs ≡ ys)
 first_of x y xs ys e = (cc e, cc e)
 
-next_is : (items : List Item) (index section : ℕ) (it : Item) → index < length items
+pub next_is : (items : List Item) (index section : ℕ) (it : Item) → index < length items
     → get_or items index it ≡ it
     → drop index (parts_of items) ≡ with_sections section (drop index items) → IsNext items index section it
 next_is items index section it inside at left = record {
@@ -122,30 +122,34 @@ taken_next g township items index section it places new inside at so_far taken =
           ∙ sym (list_any_more (λ p. item_places g p s c r) (parts_of items) index d next.within))));
     }
 
--- the first fault of the item at an index, of which those before have none, is the first of all
-pub refused_here : (g : ℕ) (township : Designation) (items : List Item) (index section : ℕ) (it : Item)
+-- the item at an index, as a part of the description
+pub part_is : (items : List Item) (index section : ℕ) (it : Item) → IsNext items index section it
+    → slice_get (parts_of items) index ≡ Some (item_of section it)
+part_is items index section it next =
+    let part : ItemOfSection = item_of section it in
+    slice_get-get_or (parts_of items) index part next.within ∙ ap (λ p. Some p) (next.here part)
+
+-- a fault of the item at an index is a fault there
+pub fault_here : (g : ℕ) (township : Designation) (items : List Item) (index section : ℕ) (it : Item)
     (places : ℕ → ℕ → ℕ → Bool) (fault : PlaceFault)
     → index < length items → get_or items index it ≡ it
     → AreTaken g township items index section places → IsItemsFirstFault g township section it places fault
-    → IsFirstPlaceFault g township items fault
-refused_here g township items index section it places fault inside at so_far refused =
-    let next : IsNext items index section it = next_is items index section it inside at so_far.left in
-    let part : ItemOfSection = item_of section it in
-    let there : slice_get (parts_of items) index ≡ Some part =
-    slice_get-get_or (parts_of items) index part next.within ∙ ap (λ p. Some p) (next.here part) in
-    let has = subst (λ land. HasFault g township land section it fault) so_far.land refused.is in
-    record {
-      index = index;
-      is = record { part = part; part_is = there; has = has };
-      first = first;
-    }
-  where
-    some_part : (a b : ItemOfSection) → Some a ≡ Some b → a ≡ b
-    some_part a b e = cc e
+    → HasFaultAt g township items index fault
+fault_here g township items index section it places fault inside at so_far refused = record {
+  part = item_of section it;
+  part_is = part_is items index section it (next_is items index section it inside at so_far.left);
+  has = subst (λ land. HasFault g township land section it fault) so_far.land refused.is;
+}
 
-    first : (index' : ℕ) (fault' : PlaceFault) → HasFaultAt g township items index' fault'
-        → IsFrom index fault index' fault'
-    first index' fault' other = elim (cases_lt index' index) [
+-- the first fault of the item at an index comes before all others, where the items before have none
+pub first_here : (g : ℕ) (township : Designation) (items : List Item) (index section : ℕ) (it : Item)
+    (places : ℕ → ℕ → ℕ → Bool) (fault : PlaceFault)
+    → index < length items → get_or items index it ≡ it
+    → AreTaken g township items index section places → IsItemsFirstFault g township section it places fault
+    → (index' : ℕ) (fault' : PlaceFault) → HasFaultAt g township items index' fault'
+    → IsFrom index fault index' fault'
+first_here g township items index section it places fault inside at so_far refused index' fault' other =
+    elim (cases_lt index' index) [
       | inl earlier ↦
           let p = other.part in
           let count = parts_count 0 items in
@@ -170,11 +174,11 @@ refused_here g township items index section it places fault inside at so_far ref
             let same : index' ≡ index = omega arith in
             let next : IsNext items index section it = next_is items index section it inside at so_far.left in
             let part : ItemOfSection = item_of section it in
-            let there : slice_get (parts_of items) index ≡ Some part =
-            slice_get-get_or (parts_of items) index part next.within ∙ ap (λ p. Some p) (next.here part) in
             let p = other.part in
             let it_is : p ≡ part =
-            some_part p part (sym other.part_is ∙ ap (λ n. slice_get (parts_of items) n) same ∙ there) in
+            some_part p part
+            (sym other.part_is ∙ ap (λ n. slice_get (parts_of items) n) same
+            ∙ part_is items index section it next) in
             let land_is : land_of g (take index' (parts_of items)) ≡ places =
             ap (λ n. land_of g (take n (parts_of items))) same ∙ sym so_far.land in
             let has : HasFault g township places part.section part.item fault' =
@@ -183,6 +187,21 @@ refused_here g township items index section it places fault inside at so_far ref
             inr (sym same, refused.first fault' has)
       ]
     ]
+  where
+    some_part : (a b : ItemOfSection) → Some a ≡ Some b → a ≡ b
+    some_part a b e = cc e
+
+-- the first fault of the item at an index, of which those before have none, is the first of all
+pub refused_here : (g : ℕ) (township : Designation) (items : List Item) (index section : ℕ) (it : Item)
+    (places : ℕ → ℕ → ℕ → Bool) (fault : PlaceFault)
+    → index < length items → get_or items index it ≡ it
+    → AreTaken g township items index section places → IsItemsFirstFault g township section it places fault
+    → IsFirstPlaceFault g township items fault
+refused_here g township items index section it places fault inside at so_far refused = record {
+  index = index;
+  is = fault_here g township items index section it places fault inside at so_far refused;
+  first = first_here g township items index section it places fault inside at so_far refused;
+}
 
 -- all items are taken
 pub taken_all : (g : ℕ) (township : Designation) (items : List Item) (index section : ℕ)

@@ -1,4 +1,5 @@
 pub mod PlaceFaults
+pub mod SharedLand
 pub mod Laws
 pub mod DescribedLand
 pub mod steps

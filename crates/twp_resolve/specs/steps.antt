@@ -1,1 +1,2 @@
 pub mod ResolvingSteps
+pub mod SharingSteps

@@ -36,7 +36,7 @@ pub(crate) fn resolve_chain<L: Land>(
     if let Some(square) = small_square_of(steps) {
         return resolve_block(land, section, square, at);
     }
-    let Some(block) = block_of(steps) else {
+    let Some(block) = chain_block(steps) else {
         return Err(PlaceFault::TooFine { at });
     };
     resolve_block(land, section, block, at)
@@ -66,7 +66,7 @@ fn resolve_block<L: Land>(
 
 /// The block that an aliquot part's steps leave of a section, from the last step to the first. None
 /// where one of them would halve a side of one place.
-fn block_of(steps: &Steps) -> Option<Block>
+pub fn chain_block(steps: &Steps) -> Option<Block>
     ensures { SomeIff result (AreWithin PLACE_DIGITS (cuts_of steps.now))
         (reached PLACE_DIGITS (cuts_of steps.now)) }
 {

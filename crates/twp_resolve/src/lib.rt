@@ -8,6 +8,9 @@ pub mod laws;
 mod place_fault;
 mod ranges;
 mod resolving;
+mod shared;
 
+pub use chain::chain_block;
 pub use place_fault::PlaceFault;
 pub use resolving::{resolve, resolve_into};
+pub use shared::{SharingItems, shared_into};

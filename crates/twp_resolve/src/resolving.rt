@@ -57,7 +57,7 @@ pub fn resolve_into<L: Land>(
 }
 
 /// Takes an item into the land of the items before it, and gives the section of what follows.
-fn resolve_item<L: Land>(
+pub(crate) fn resolve_item<L: Land>(
     land: &mut L,
     section: Option<Section>,
     item: &Item,

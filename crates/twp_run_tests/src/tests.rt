@@ -10,6 +10,7 @@ mod failing_readers;
 mod failing_writers;
 mod limits;
 mod normal;
+mod on_plat;
 mod pieces;
 mod plat;
 mod refusals;

@@ -11,4 +11,4 @@ mod path;
 mod spelling;
 mod written_parts;
 
-pub use spelling::spell;
+pub use spelling::{held_lots, spell};

@@ -153,7 +153,7 @@ fn write_held_lots<L: Land>(
 }
 
 /// The lots of a section of which some place is held, by rising number.
-fn held_lots<L: Land>(alloc: Global, land: &L, section: Section) -> Result<Vec<u8>, AllocError>
+pub fn held_lots<L: Land>(alloc: Global, land: &L, section: Section) -> Result<Vec<u8>, AllocError>
     ensures { IfOk result (λ lots.
         AreListed (IsLotHeld PLACE_DIGITS section (L.places land.now section)) ◌<◌ lots.items) }
 {

@@ -10,5 +10,5 @@ mod tests;
 
 pub use twp_grammar::{Expected, Item, Kind, Numeral, Step, Steps, Token};
 pub use twp_read::{Description, TEXT_LIMIT, TextFault, Tokens};
-pub use twp_resolve::{PlaceFault, resolve, resolve_into};
-pub use twp_spell::spell;
+pub use twp_resolve::{PlaceFault, SharingItems, chain_block, resolve, resolve_into, shared_into};
+pub use twp_spell::{held_lots, spell};

@@ -5,6 +5,7 @@ use Rattle.twp_grid.specs.Devices.{TakesAtMost}
 use Rattle.twp_notes.specs.FieldNotes.{NOTES_MOST}
 use Rattle.twp_notes.specs.ReadBytes.{TakesFirst}
 use Rattle.twp_acres.specs.Answers.{MakePlat}
+pub use Rattle.twp_acres.specs.PlatReading.{ReadsUpTo}
 use Rattle.twp_acres.specs.Runs.{AnyFailed, Use}
 use Rattle.twp_acres.specs.declared.verdict.RunFault.{RunFault}
 use Rattle.twp_acres.specs.declared.verdict.RunFault.TheVariants.{Read, Write, Memory}
@@ -12,19 +13,6 @@ use Rattle.twp_acres.specs.declared.verdict.RunFault.TheVariants.{Read, Write, M
 -- a fault of a run, where it stays that fault
 abbrev pub same_fault : RunFault → RunFault
 same_fault fault = fault
-
--- What each stage promises that reads one source, of which it takes at most so many bytes; the
--- fault of a run is passed on as the stage has it.
-pub record ReadsUpTo {T E : Type 0} (passed_on : RunFault → E) (most : ℕ) (source : Use)
-    (result : Result T E) : Type 0 where
-  -- It can't read exactly where the source failed in this call, and writes nothing.
-  pub read : IsErrOf result (passed_on Read) ↔ (source.has_failed ≡ true)
-  pub no_write : IfErr result (λ fault. fault ≢ passed_on Write)
-  -- Reading ends one byte past the limit, if not before; just there or at the end of the input
-  -- where the source doesn't fail and no memory is refused.
-  pub most_is : TakesAtMost source.old source.new (most + 1)
-  pub exact : source.has_failed ≡ false → result ≢ Err (passed_on Memory)
-      → TakesFirst source.old source.new (most + 1)
 
 -- What each stage promises that reads field notes, and a second text of at most so many bytes only
 -- where the notes make a plat; the fault of a run is passed on as the stage has it.

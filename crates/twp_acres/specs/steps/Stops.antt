@@ -1,10 +1,9 @@
 -- What the stages of a run come to, and how a stop is answered. No public promise speaks of it.
 use Rattle.std.specs.Prelude.{◌≡◌, ℕ, Bool, List, Result, Ok, Err, ⊤}
 use Rattle.twp_grid.specs.Townships.{Designation}
-use Rattle.twp_grid.specs.declared.refusal.Refusal.{Refusal}
-use Rattle.twp_plat.specs.Plats.{TownshipPlat}
-use Rattle.twp_acres.specs.Answers.{ArePlatted, IsNoPlat, Describe, IsNoDescription, IsLandOnPlat}
-use Rattle.twp_acres.specs.Answers.{IsRefusal, refusal_line}
+use Rattle.twp_acres.specs.Answers.{Describe, IsNoDescription}
+use Rattle.twp_acres.specs.Answers.{refusal_line}
+pub use Rattle.twp_acres.specs.PlatReading.{IfRefused, IsPlatted}
 use Rattle.twp_acres.specs.declared.answer.Answer.{Answer}
 use Rattle.twp_acres.specs.declared.verdict.Verdict.TheVariants as verdict
 use Rattle.twp_acres.specs.declared.verdict.RunFault.{RunFault}
@@ -12,20 +11,10 @@ use Rattle.twp_acres.specs.declared.verdict.RunFault.TheVariants as run
 use Rattle.twp_acres.specs.declared.stop.Stop.{Stop}
 use Rattle.twp_acres.specs.declared.stop.Stop.TheVariants as stop
 
--- the stop is no refusal, or this holds of its refusal
-abbrev pub IfRefused : Stop → (Refusal → Type 0) → Type 0
-IfRefused (stop.Refused refusal) Holds = Holds refusal
-IfRefused (stop.Failed fault) Holds = ⊤
-
 -- the stop is a refusal, or this holds of its fault
 abbrev pub IfFailed : Stop → (RunFault → Type 0) → Type 0
 IfFailed (stop.Refused refusal) Holds = ⊤
 IfFailed (stop.Failed fault) Holds = Holds fault
-
--- the plat that the bytes make as notes, or their refusal
-abbrev pub IsPlatted : List ℕ → Result TownshipPlat Stop → Type 0
-IsPlatted notes (Ok plat) = ArePlatted notes plat
-IsPlatted notes (Err stopped) = IfRefused stopped (IsNoPlat notes)
 
 -- the land that the bytes describe, or their refusal
 abbrev pub IsDescribed : {L : Type 0} → (L → ℕ → ℕ → ℕ → Bool) → Designation → List ℕ
@@ -33,14 +22,6 @@ abbrev pub IsDescribed : {L : Type 0} → (L → ℕ → ℕ → ℕ → Bool) �
 IsDescribed places township description (Ok land) = Describe township description (places land)
 IsDescribed places township description (Err stopped) =
     IfRefused stopped (IsNoDescription township description)
-
--- the plat of the notes and the land described on it, or the refusal of the two texts
-abbrev pub IsRead : {D : Type 0} → (D → TownshipPlat) → (D → ℕ → ℕ → ℕ → Bool) → List ℕ → List ℕ
-    → Result D Stop → Type 0
-IsRead plat places notes description (Ok read) =
-    IsLandOnPlat notes description (plat read) (places read)
-IsRead plat places notes description (Err stopped) =
-    IfRefused stopped (IsRefusal notes description)
 
 -- a stop is answered by its refusal, unless memory runs out, or by its fault
 abbrev pub AnswersStop : Stop → Result Answer RunFault → Type 0

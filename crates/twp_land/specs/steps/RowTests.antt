@@ -59,6 +59,12 @@ IsJoined row other joined = (column : ℕ) → column < places_across PLACE_DIGI
     → slice_index_or joined column false
     ≡ (slice_index_or row column false || slice_index_or other column false)
 
+-- each test holds where it does in both rows
+abbrev pub IsCommon : List Bool → List Bool → List Bool → Type 0
+IsCommon row other common = (column : ℕ) → column < places_across PLACE_DIGITS
+    → slice_index_or common column false
+    ≡ (slice_index_or row column false && slice_index_or other column false)
+
 -- each test is the same in both rows
 abbrev pub AreAlike : List Bool → List Bool → Type 0
 AreAlike row other = (column : ℕ) → column < places_across PLACE_DIGITS

@@ -194,6 +194,44 @@ fn check_joined<L: Land>(rt: &impl Abort) -> Result<(), Fail> {
 }
 
 #[test]
+fn grids_keep_what_is_common(rt: HostRuntime) -> Result<(), Fail> {
+    check_common::<Grid>(&rt)
+}
+
+#[test]
+fn lanes_keep_what_is_common(rt: HostRuntime) -> Result<(), Fail> {
+    check_common::<Lanes>(&rt)
+}
+
+// The north half of section 14 and its east half share the north-east quarter, of 16 by 16 places.
+// Sections 1, 2 and 36 are each in one of the two lands alone.
+fn check_common<L: Land>(rt: &impl Abort) -> Result<(), Fail> {
+    let section = Section::new(14).ok_or("a section")?;
+    let whole = Block::whole();
+    let mut north = L::empty();
+    north.add(Section::new(2).ok_or("a section")?, whole);
+    north.add(section, whole.half(Side::N).ok_or("a half")?);
+    north.add(Section::new(36).ok_or("a section")?, whole);
+    let mut east = L::empty();
+    east.add(Section::new(1).ok_or("a section")?, whole);
+    east.add(section, whole.half(Side::E).ok_or("a half")?);
+    let mut corner = L::empty();
+    corner.add(section, whole.quarter(Corner::NE).ok_or("a quarter")?);
+    let mut common = L::empty();
+    common.add_land(&north);
+    common.keep_common(&east);
+    assert!(rt; common.same(&corner));
+    assert_eq!(rt; common.count(section, whole), 256);
+    east.keep_common(&north);
+    assert!(rt; east.same(&corner));
+
+    // Nothing is in common with no land.
+    north.keep_common(&L::empty());
+    assert!(rt; north.same(&L::empty()));
+    Ok(())
+}
+
+#[test]
 fn grids_lose_what_is_removed(rt: HostRuntime) -> Result<(), Fail> {
     check_removed::<Grid>(&rt)
 }

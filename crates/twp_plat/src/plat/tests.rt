@@ -1,7 +1,7 @@
 use super::*;
 use crate::fault::HalfMile;
 use std::test::Fail;
-use twp_grid::Refusal;
+use twp_grid::{EastWest, NorthSouth, Refusal};
 use twp_samples::{UNEVEN, notes_of, section};
 
 #[test]
@@ -115,6 +115,41 @@ fn numbers_and_tells_faults(rt: HostRuntime) -> Result<(), Fail> {
 fn has_the_notes_township(rt: HostRuntime) -> Result<(), Fail> {
     let notes = notes_of(&[])?;
     assert_eq!(rt; Plat::protract(&notes)?.township(), notes.township());
+    Ok(())
+}
+
+#[test]
+fn is_made_again_of_its_parts(rt: HostRuntime) -> Result<(), Fail> {
+    let plat = Plat::protract(&notes_of(&UNEVEN)?)?;
+    // 80.20 - 40 - 20 = 20.20 chains in the east of section 5, 79.20 - 60 = 19.20 in the north of 6.
+    assert_eq!(rt; plat.closing_quarters()[4], 20_200);
+    assert_eq!(rt; plat.closing_quarters()[47], 19_200);
+    assert_eq!(rt; plat.closing_quarters()[58], 20_000);
+    assert_eq!(rt;
+        Plat::of_parts(plat.township(), plat.closing_quarters()),
+        Some(plat)
+    );
+    Ok(())
+}
+
+#[test]
+fn is_made_of_closing_quarters_within_their_limits(rt: HostRuntime) -> Result<(), Fail> {
+    let township = Township::new(2, NorthSouth::N, 3, EastWest::W).ok_or("in range")?;
+    // Lines 4 and 83 close, and have 5 to 25 chains; lines 7 and 58 don't, and have 20.
+    for (index, quarter, is_made) in [
+        (4, 5_000, true),
+        (4, 4_999, false),
+        (83, 25_000, true),
+        (83, 25_001, false),
+        (7, 20_000, true),
+        (7, 19_999, false),
+        (58, 20_001, false),
+    ] {
+        let mut quarters = [20_000; LINES];
+        quarters[index] = quarter;
+        let plat = Plat::of_parts(township, &quarters);
+        assert_eq!(rt; plat.is_some(), is_made, "line {index}: {quarter}");
+    }
     Ok(())
 }
 

@@ -10,7 +10,7 @@ use Rattle.twp_grid.specs.Cuts.Cut.{half, quarter}
 use Rattle.twp_grid.specs.Places.{is_place}
 use Rattle.twp_grid.specs.Spans.{Rectangle}
 use Rattle.twp_grid.specs.Townships.{Designation}
-use Rattle.twp_land.specs.Lands.{union, SharePlace}
+use Rattle.twp_land.specs.Lands.{no_places, union, SharePlace}
 use Rattle.twp_land.specs.WholeLots.{lot_of_place}
 use Rattle.twp_grammar.specs.declared.item.Item.{Item}
 use Rattle.twp_grammar.specs.declared.item.Item.TheVariants as item
@@ -55,6 +55,11 @@ pub record IsItemsFirstFault (g : ℕ) (township : Designation) (section : ℕ) 
   pub is : HasFault g township earlier section some fault
   pub first : (other : PlaceFault) → HasFault g township earlier section some other
       → number_of fault ≤ number_of other
+
+-- the item by itself has a fault
+pub record HasSomeFault (g : ℕ) (township : Designation) (section : ℕ) (some : Item) : Type 0 where
+  pub fault : PlaceFault
+  pub is : HasFault g township no_places section some fault
 
 -- the number of the section named last, or 0
 abbrev pub number_of_section : Option ℕ → ℕ

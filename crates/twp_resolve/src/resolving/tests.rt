@@ -1,8 +1,9 @@
 use super::*;
+use crate::chain::chain_block;
 use std::alloc::Global;
 use std::process::Abort;
 use std::test::Fail;
-use twp_grid::{EastWest, NorthSouth};
+use twp_grid::{Corner, EastWest, NorthSouth, Side};
 use twp_land::{Grid, Lanes};
 
 /// What a text names in township 2 north, range 3 west, as a land of one kind.
@@ -276,4 +277,24 @@ fn check_corners<L: Land>(alloc: Global, rt: &impl Abort) -> Result<(), Fail> {
 fn names_the_place_in_each_corner(rt: HostRuntime) -> Result<(), Fail> {
     check_corners::<Grid>(rt.alloc(), &rt)?;
     check_corners::<Lanes>(rt.alloc(), &rt)
+}
+
+/// The south half of the north-east quarter has the eastern 16 columns and the rows 16 to 23. What
+/// holds land of a lot leaves a block too; a part that is too fine leaves none.
+#[test]
+fn leaves_the_block_of_steps(rt: HostRuntime) -> Result<(), Fail> {
+    let text = b"sec. 5, S1/2NE1/4, N1/2, N1/2NE1/4NE1/4NE1/4NE1/4NE1/4.";
+    let description = Description::read(rt.alloc(), text)?;
+    let mut blocks = Vec::new(rt.alloc());
+    for item in description.items() {
+        if let Item::Chain { steps, .. } = item {
+            blocks.push(chain_block(steps))?;
+        }
+    }
+    let quarter = Block::whole().quarter(Corner::NE).ok_or("a quarter")?;
+    let south = quarter.half(Side::S).ok_or("a half")?;
+    let north = Block::whole().half(Side::N).ok_or("a half")?;
+    let wanted = [Some(south), Some(north), None];
+    assert!(&rt; blocks.as_slice() == wanted.as_slice());
+    Ok(())
 }

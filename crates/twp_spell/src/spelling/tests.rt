@@ -104,3 +104,31 @@ fn spells_each_section(rt: HostRuntime) -> Result<(), Fail> {
     check_each_section::<Grid>(rt.alloc(), &rt)?;
     check_each_section::<Lanes>(rt.alloc(), &rt)
 }
+
+/// Section 6 has lots 1 to 4 along its north, from the east, and lots 5 to 7 below lot 4, down its
+/// west: its north-west quarter has lots 3, 4 and 5.
+fn check_lots_listed<L: Land>(alloc: Global, rt: &impl Abort) -> Result<(), Fail> {
+    let section = Section::new(6).ok_or("a section")?;
+    let whole = Block::whole();
+    let mut land = L::empty();
+    land.add(section, whole.quarter(Corner::SE).ok_or("a quarter")?);
+    assert!(rt; held_lots(alloc, &land, section)?.is_empty());
+    // The place in the north-east corner is of lot 1.
+    let mut place = whole;
+    for _ in 0..5u8 {
+        place = place.quarter(Corner::NE).ok_or("a place")?;
+    }
+    land.add(section, place);
+    assert_eq!(rt; held_lots(alloc, &land, section)?[..], [1][..]);
+    land.add(section, whole.quarter(Corner::NW).ok_or("a quarter")?);
+    assert_eq!(rt; held_lots(alloc, &land, section)?[..], [1, 3, 4, 5][..]);
+    let other = Section::new(7).ok_or("a section")?;
+    assert!(rt; held_lots(alloc, &land, other)?.is_empty());
+    Ok(())
+}
+
+#[test]
+fn lists_lots_of_which_some_place_is_held(rt: HostRuntime) -> Result<(), Fail> {
+    check_lots_listed::<Grid>(rt.alloc(), &rt)?;
+    check_lots_listed::<Lanes>(rt.alloc(), &rt)
+}

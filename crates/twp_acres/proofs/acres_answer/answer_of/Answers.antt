@@ -3,13 +3,22 @@ use Rattle.std.proofs.Common.{refl}
 use Rattle.twp_text.specs.TextFaults.{TEXT_LIMIT}
 use Rattle.twp_acres.specs.Answers.{IsRefusal}
 use Rattle.twp_acres.specs.AccountAnswers.{IsAcresAnswerBy}
+use Rattle.twp_acres.specs.steps.OnPlatSteps.{IsAcresAnswerOn}
+use Rattle.twp_acres.proofs.OnPlatFacts.{acres_answered, answered_of_two}
 use Rattle.twp_acres.proofs.StopFacts.{accepted_on_plat, refused_of_two, stopped_on_plat}
 use Rattle.twp_acres.proofs.acres_answer.answer_of.Goals as goal
 
 pub returns-in-Ok-clause-reads : goal.returns-in-Ok-clause-reads
 returns-in-Ok-clause-reads g c =
-    accepted_on_plat TEXT_LIMIT _ _ _ c.in-Ok.plat c.accept.result c.in-Ok.ensures.reads
-    c.accept.ensures.memory
+    accepted_on_plat TEXT_LIMIT _ _ _ c.in-Ok.read c.answer_on.result c.in-Ok.ensures.reads
+    c.answer_on.ensures.memory
+
+pub returns-in-Ok-clause-answer : goal.returns-in-Ok-clause-answer
+returns-in-Ok-clause-answer g c =
+    answered_of_two _ _ _ _ (IsAcresAnswerOn c.args.account) (IsAcresAnswerBy c.args.account)
+    c.in-Ok.read.plat c.in-Ok.read.description.items c.answer_on.result
+    (λ n d a v platted is. acres_answered c.args.account n d c.in-Ok.read.plat a v platted is)
+    c.in-Ok.ensures.texts (rw c.as_slice.ensures.value at c.answer_on.ensures.answer)
 
 pub returns-in-Err-clause-reads : goal.returns-in-Err-clause-reads
 returns-in-Err-clause-reads g c =
@@ -19,4 +28,4 @@ returns-in-Err-clause-reads g c =
 pub returns-in-Err-clause-answer : goal.returns-in-Err-clause-answer
 returns-in-Err-clause-answer g c =
     refused_of_two _ _ _ _ IsRefusal (IsAcresAnswerBy c.args.account) c.in-Err.stop c.answer_stop.result
-    c.in-Err.ensures.land c.answer_stop.ensures.answer (λ n d refusal is. (is, refl))
+    c.in-Err.ensures.texts c.answer_stop.ensures.answer (λ n d refusal is. (is, refl))

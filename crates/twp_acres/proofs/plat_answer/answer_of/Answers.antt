@@ -9,8 +9,8 @@ use Rattle.twp_acres.proofs.plat_answer.answer_of.Goals as goal
 
 pub returns-in-Ok-clause-reads : goal.returns-in-Ok-clause-reads
 returns-in-Ok-clause-reads g c =
-    accepted_up_to {T = TownshipPlat} NOTES_MOST _ c.in-Ok.plat c.print.result c.in-Ok.ensures.reads
-    c.print.ensures.memory
+    accepted_up_to {T = TownshipPlat} NOTES_MOST _ c.in-Ok.plat c.accept.result c.in-Ok.ensures.reads
+    c.accept.ensures.memory
 
 pub returns-in-Err-clause-reads : goal.returns-in-Err-clause-reads
 returns-in-Err-clause-reads g c =

@@ -4,7 +4,7 @@ use Rattle.twp_cmd.proofs.program.run_standard_input.Goals as goal
 
 pub returns-clause-answers : goal.returns-clause-answers
 returns-clause-answers g c =
-    rw c.outcome_of.ensures (joined_answers _ _ _ c.run_joined.result c.run_joined.ensures.ran)
+    rw c.outcome_of-outcome.ensures (joined_answers _ _ _ c.run_joined.result c.run_joined.ensures.ran)
 
 pub returns-clause-fails : goal.returns-clause-fails
-returns-clause-fails g c = rw c.outcome_of.ensures (joined_fails c.run_joined.result)
+returns-clause-fails g c = rw c.outcome_of-outcome.ensures (joined_fails c.run_joined.result)

@@ -1,12 +1,12 @@
 -- The run's verdict is that of its answer to the bytes that it read.
 use Rattle.twp_cmd.proofs.EndingFacts.{task_answers, task_fails}
-use Rattle.twp_cmd.specs.declared.task.Task.TheVariants.{Acres}
+use Rattle.twp_command.specs.declared.task.Task.TheVariants.{Acres}
 use Rattle.twp_cmd.proofs.subcommand.open_acres.Goals as goal
 
 pub returns-clause-answers : goal.returns-clause-answers
 returns-clause-answers g c =
-    task_answers (Acres c.args.notes c.args.description c.args.account) _ _ _ _ _ _ c.acres.ensures
+    task_answers (Acres c.args.notes c.args.description c.args.account) _ _ _ _ _ _ c.acres-outcome.ensures
 
 pub returns-clause-fails : goal.returns-clause-fails
 returns-clause-fails g c =
-    task_fails (Acres c.args.notes c.args.description c.args.account) _ _ c.acres.ensures
+    task_fails (Acres c.args.notes c.args.description c.args.account) _ _ c.acres-outcome.ensures

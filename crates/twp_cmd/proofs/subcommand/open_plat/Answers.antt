@@ -1,10 +1,10 @@
 -- The run's verdict is that of its answer to the bytes that it read.
 use Rattle.twp_cmd.proofs.EndingFacts.{plat_answers, task_fails}
-use Rattle.twp_cmd.specs.declared.task.Task.TheVariants.{Plat}
+use Rattle.twp_command.specs.declared.task.Task.TheVariants.{Plat}
 use Rattle.twp_cmd.proofs.subcommand.open_plat.Goals as goal
 
 pub returns-clause-answers : goal.returns-clause-answers
-returns-clause-answers g c = plat_answers c.args.notes _ _ _ c.plat.ensures
+returns-clause-answers g c = plat_answers c.args.notes _ _ _ c.plat-outcome.ensures
 
 pub returns-clause-fails : goal.returns-clause-fails
-returns-clause-fails g c = task_fails (Plat c.args.notes) _ _ c.plat.ensures
+returns-clause-fails g c = task_fails (Plat c.args.notes) _ _ c.plat-outcome.ensures

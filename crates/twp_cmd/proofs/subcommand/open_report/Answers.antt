@@ -1,11 +1,11 @@
 -- The run's verdict is that of its answer to the bytes that it read.
 use Rattle.twp_cmd.proofs.EndingFacts.{task_answers, task_fails}
-use Rattle.twp_cmd.specs.declared.task.Task.TheVariants.{Report}
+use Rattle.twp_command.specs.declared.task.Task.TheVariants.{Report}
 use Rattle.twp_cmd.proofs.subcommand.open_report.Goals as goal
 
 pub returns-clause-answers : goal.returns-clause-answers
 returns-clause-answers g c =
-    task_answers (Report c.args.notes c.args.tracts) _ _ _ _ _ _ c.report.ensures
+    task_answers (Report c.args.notes c.args.tracts) _ _ _ _ _ _ c.report-outcome.ensures
 
 pub returns-clause-fails : goal.returns-clause-fails
-returns-clause-fails g c = task_fails (Report c.args.notes c.args.tracts) _ _ c.report.ensures
+returns-clause-fails g c = task_fails (Report c.args.notes c.args.tracts) _ _ c.report-outcome.ensures

@@ -1,0 +1,41 @@
+-- What the runs are made of: what they read, and their answers on the plat of the notes. No public
+-- promise speaks of it.
+use Rattle.std.specs.Prelude.{◌≡◌, ℕ, List, Result, Ok, Err}
+use Rattle.twp_plat.specs.Plats.{TownshipPlat}
+use Rattle.twp_area.specs.declared.account.Account.{Account}
+use Rattle.twp_acres.specs.Answers.{AnswersRefusal, ArePlatted, IsNoDescription, IsNoText}
+use Rattle.twp_acres.specs.Answers.{IsRefusal}
+use Rattle.twp_acres.specs.AcresAnswers.{acres_line}
+use Rattle.twp_acres.specs.OnPlats.{HasAcresOn, HasNormalOn}
+use Rattle.twp_acres.specs.Runs.{AnswerRelation}
+use Rattle.twp_acres.specs.steps.Stops.{IfRefused}
+use Rattle.twp_acres.specs.declared.stages.Texts.{Texts}
+use Rattle.twp_acres.specs.declared.stop.Stop.{Stop}
+use Rattle.twp_acres.specs.declared.verdict.Verdict.TheVariants.{Accepted, Refused, TractRefused}
+
+-- the bytes that were read, or their refusal
+abbrev pub IsTextRead : {V : Type 0} → (V → List ℕ) → List ℕ → Result V Stop → Type 0
+IsTextRead items description (Ok text) = items text ≡ description
+IsTextRead items description (Err stopped) = IfRefused stopped (IsNoText description)
+
+-- the plat of the notes, and the bytes of the description; or the refusal of the two
+abbrev pub AreRead : List ℕ → List ℕ → Result Texts Stop → Type 0
+AreRead notes description (Ok read) =
+    ArePlatted notes read.plat × (read.description.items ≡ description)
+AreRead notes description (Err stopped) = IfRefused stopped (IsRefusal notes description)
+
+-- the acres of the land described on the plat, or the refusal
+abbrev pub IsAcresAnswerOn : Account → TownshipPlat → List ℕ → AnswerRelation
+IsAcresAnswerOn account plat description answer Accepted =
+    (hundredths : ℕ) × HasAcresOn plat description account hundredths
+    × (answer ≡ acres_line hundredths)
+IsAcresAnswerOn account plat description answer (Refused refusal) =
+    AnswersRefusal (IsNoDescription plat.township description) refusal answer
+IsAcresAnswerOn account plat description answer (TractRefused at inner) = ⊥
+
+-- the canonical text of the land described on the plat, or the refusal
+abbrev pub IsNormalAnswerOn : TownshipPlat → List ℕ → AnswerRelation
+IsNormalAnswerOn plat description answer Accepted = HasNormalOn plat description answer
+IsNormalAnswerOn plat description answer (Refused refusal) =
+    AnswersRefusal (IsNoDescription plat.township description) refusal answer
+IsNormalAnswerOn plat description answer (TractRefused at inner) = ⊥

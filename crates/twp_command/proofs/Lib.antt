@@ -1,0 +1,5 @@
+pub mod HelpWords
+pub mod CommandWalk
+pub mod CommandDefaults
+pub mod TaskFacts
+pub mod TownshipWords

@@ -1,0 +1,2 @@
+pub mod SpotFacts
+pub mod ShownFacts

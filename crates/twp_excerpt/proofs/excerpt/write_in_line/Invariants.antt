@@ -1,0 +1,12 @@
+use Rattle.std.proofs.Common.{string_bytes, length, ◌-◌, ◌≤◌}
+use Rattle.twp_excerpt.specs.Shown.{AddsShown}
+use Rattle.twp_excerpt.proofs.excerpt.write_in_line.Given as goal
+
+abbrev pub invariant-loop-at : goal.invariant-loop-at
+invariant-loop-at l = record {
+  within : l.at ≤ length l.bytes;
+  safe : AddsShown (string_bytes l.initial.out) (string_bytes l.out);
+}
+
+abbrev pub decreases-loop-at : goal.decreases-loop-at
+decreases-loop-at l = length l.bytes - l.at

@@ -1,0 +1,108 @@
+//! Places in a text: lines, columns, and where the text ends but for white space.
+ghost use Rattle.std.specs.Prelude.{◌≡◌, ◌+◌, ◌<◌, ◌≤◌, ◌^◌, length, count_by, take};
+ghost use Rattle.twp_excerpt.specs.Spots.{columns, column_of, end_of, first_size};
+ghost use Rattle.twp_excerpt.specs.Spots.{is_feed, is_white, line_of, line_start};
+
+use bstr::decode_utf8;
+
+/// Where a byte of a text stands. Both numbers count from 1.
+#[derive(Clone, Copy, Debug, PartialEq, Eq)]
+pub struct Spot {
+    pub line: u32,
+    pub column: u32,
+}
+
+/// Bytes of a text, from an offset up to another.
+#[derive(Clone, Copy, Debug, PartialEq, Eq)]
+pub struct Span {
+    pub start: usize,
+    pub end: usize,
+}
+
+/// Where the byte at an offset stands, or the end of the text. A line feed ends its line, and a
+/// column is a character of UTF-8 or a byte that is part of none.
+pub fn spot_of(text: &[u8], at: usize) -> Spot
+    requires within { at ≤ length text.now }
+    requires short { length text.now + 1 < 2 ^ 32 }
+    ensures line { result.line ≡ line_of text.now at }
+    ensures column { result.column ≡ column_of text.now at }
+{
+    let start = start_of_line(text, at);
+    let feeds = line_feeds(&text[..at]);
+    let before = columns(&text[start..at]);
+    Spot {
+        line: 1 + feeds as u32,
+        column: 1 + before as u32,
+    }
+}
+
+/// The offset behind the last byte that is no white space (a space, a tab, a line feed, or a
+/// carriage return), or 0 where there is none.
+pub fn end_of_text(text: &[u8]) -> usize
+    ensures end { result ≡ end_of text.now }
+    ensures within { result ≤ length text.now }
+{
+    let mut end = text.len();
+    while end > 0 && is_white(text[end - 1]) {
+        end -= 1;
+    }
+    end
+}
+
+/// Where the line of a place begins.
+pub(crate) fn start_of_line(text: &[u8], at: usize) -> usize
+    requires { at ≤ length text.now }
+    ensures value { result ≡ line_start text.now at }
+    ensures within { result ≤ at }
+{
+    let mut start = at;
+    while start > 0 && text[start - 1] != b'\n' {
+        start -= 1;
+    }
+    start
+}
+
+/// How many line feeds there are.
+fn line_feeds(text: &[u8]) -> usize
+    ensures value { result ≡ count_by is_feed text.now }
+    ensures within { result ≤ length text.now }
+{
+    text.iter().filter(|byte| **byte == b'\n').count()
+}
+
+/// How many columns the bytes take.
+fn columns(bytes: &[u8]) -> usize
+    ensures value { result ≡ columns bytes.now }
+    ensures within { result ≤ length bytes.now }
+{
+    let mut at = 0;
+    let mut count = 0;
+    while at < bytes.len() {
+        at += first_size(&bytes[at..]);
+        count += 1;
+    }
+    count
+}
+
+/// How many bytes the first character takes, or 1 where no character begins the bytes.
+fn first_size(bytes: &[u8]) -> usize
+    requires { 0 < length bytes.now }
+    ensures value { result ≡ first_size bytes.now }
+    ensures some { 0 < result }
+    ensures within { result ≤ length bytes.now }
+{
+    match decode_utf8(bytes) {
+        (Some(_), size) => size,
+        (None, _) => 1,
+    }
+}
+
+/// Whether a byte is a space, a tab, a line feed, or a carriage return.
+fn is_white(byte: u8) -> bool
+    ensures { result ≡ is_white byte }
+{
+    matches!(byte, b' ' | b'\t' | b'\n' | b'\r')
+}
+
+#[cfg(test)]
+mod tests;

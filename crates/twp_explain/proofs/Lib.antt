@@ -1,0 +1,3 @@
+pub mod FindingFacts
+pub mod SharingFacts
+pub mod ListFacts

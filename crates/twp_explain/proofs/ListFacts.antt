@@ -1,0 +1,74 @@
+-- What is told of a refused list is its first fault; over plain values.
+use Rattle.std.proofs.Common.{◌≡◌, ◌≢◌, ℕ, List, Option, Some, None, refl, inl, inr, subst}
+use Rattle.twp_grid.specs.Townships.{Designation}
+use Rattle.twp_grid.specs.declared.refusal.Refusal.{Refusal}
+use Rattle.twp_plat.specs.Plats.{TownshipPlat}
+use Rattle.twp_acres.specs.Answers.{ArePlatted, IsNoPlat}
+use Rattle.twp_acres.specs.TractFaults.{AnswersFault, IsFirstTractFault, refusal_of, verdict_of}
+use Rattle.twp_acres.specs.declared.tract_fault.TractFault.{TractFault}
+use Rattle.twp_acres.specs.declared.tract_fault.TractFault.TheVariants as fault
+use Rattle.twp_acres.specs.declared.verdict.Verdict.{Verdict}
+use Rattle.twp_acres.specs.declared.verdict.Verdict.TheVariants.{Refused, TractRefused}
+use Rattle.twp_explain.specs.Refusals.{first_refusal, IsListRefusal}
+use Rattle.twp_findings.specs.Findings.{IfFound, IsOf}
+use Rattle.twp_findings.specs.declared.finding.Stop.{Stop}
+use Rattle.twp_findings.specs.declared.finding.Stop.TheVariants as stop
+
+-- a fault of a list is its first one
+pub is_first : (township : Designation) (bytes : List ℕ) (is : TractFault) → is ≢ fault.Memory
+    → AnswersFault township bytes is → IsFirstTractFault township bytes is
+is_first township bytes fault.TractsTooLarge some first = first
+is_first township bytes (fault.TractRow number) some first = first
+is_first township bytes (fault.NameRepeated number) some first = first
+is_first township bytes (fault.TractRefused number inner) some first = first
+is_first township bytes (fault.TractsOverlap number) some first = first
+is_first township bytes fault.TooManyTracts some first = first
+is_first township bytes fault.Memory some first = absurd (some refl)
+
+-- the verdict on a fault has its refusal
+pub same_refusal : (is : TractFault) (verdict : Verdict) (refusal : Refusal)
+    → verdict_of is ≡ Some verdict → refusal_of is ≡ Some refusal
+    → first_refusal verdict ≡ Some refusal
+same_refusal (fault.TractRefused number inner) verdict refusal judged refused =
+    let same : TractRefused number inner ≡ verdict = cc judged in
+    subst (λ v. first_refusal v ≡ Some refusal) same refused
+same_refusal fault.TractsTooLarge verdict refusal judged refused =
+    let same : Refused refusal ≡ verdict = cc (judged, refused) in
+    subst (λ v. first_refusal v ≡ Some refusal) same refl
+same_refusal (fault.TractRow number) verdict refusal judged refused =
+    let same : Refused refusal ≡ verdict = cc (judged, refused) in
+    subst (λ v. first_refusal v ≡ Some refusal) same refl
+same_refusal (fault.NameRepeated number) verdict refusal judged refused =
+    let same : Refused refusal ≡ verdict = cc (judged, refused) in
+    subst (λ v. first_refusal v ≡ Some refusal) same refl
+same_refusal (fault.TractsOverlap number) verdict refusal judged refused =
+    let same : Refused refusal ≡ verdict = cc (judged, refused) in
+    subst (λ v. first_refusal v ≡ Some refusal) same refl
+same_refusal fault.TooManyTracts verdict refusal judged refused =
+    let same : Refused refusal ≡ verdict = cc (judged, refused) in
+    subst (λ v. first_refusal v ≡ Some refusal) same refl
+same_refusal fault.Memory verdict refusal judged refused = absurd (cc refused)
+
+-- notes that make no plat are what is told of
+pub told_of_notes : (stopped : Stop) (notes tracts : List ℕ) (verdict : Verdict) (refusal : Refusal)
+    → IfFound stopped (IsNoPlat notes) → IsOf stopped refusal → verdict ≡ Refused refusal
+    → IsListRefusal notes tracts verdict refusal
+told_of_notes (stop.Found finding) notes tracts verdict refusal none is judged =
+    inl (subst (IsNoPlat notes) is none, judged)
+told_of_notes stop.Memory notes tracts verdict refusal none is judged = absurd is
+
+-- a list's first fault is what is told of
+pub told_of_list : (notes tracts : List ℕ) (plat : TownshipPlat) (is : TractFault) (verdict : Verdict)
+    (refusal : Refusal)
+    → ArePlatted notes plat → IsFirstTractFault plat.township tracts is
+    → verdict_of is ≡ Some verdict → refusal_of is ≡ Some refusal
+    → IsListRefusal notes tracts verdict refusal
+told_of_list notes tracts plat is verdict refusal platted first judged refused =
+    inr (record {
+      plat = plat;
+      platted = platted;
+      fault = is;
+      first = first;
+      verdict_is = judged;
+      refusal_is = refused;
+    })

@@ -1,0 +1,179 @@
+//! Explanations, by what was asked of a run. Each stage of the run is gone through again on the
+//! bytes that it read, up to its refusal.
+ghost use Rattle.std.specs.Prelude.{◌≡◌, Some, IfOk, IfSome, IfErr};
+ghost use Rattle.twp_notes.specs.NotesFaults.{refusal_of as refusal_of_notes};
+ghost use Rattle.twp_plat.specs.PlatFaults.{refusal_of as refusal_of_plat};
+ghost use Rattle.twp_read.specs.TextFaults.{refusal_of as refusal_of_text};
+ghost use Rattle.twp_resolve.specs.PlaceFaults.{refusal_of as refusal_of_places};
+ghost use Rattle.twp_acres.specs.Answers.{ArePlatted, IsNoPlat, IsNoDescription, IsRefusal};
+ghost use Rattle.twp_findings.specs.Findings.{IfFound, IsOf};
+ghost use Rattle.twp_acres.specs.declared.verdict.Verdict.TheVariants.{Refused};
+
+use std::alloc::{AllocError, Global};
+use twp_acres::Verdict;
+use twp_findings::{Explanation, Given, Origin, Stop, notes, places, plat, text};
+use twp_grid::{Bytes, Township};
+use twp_land::Lanes;
+use twp_notes::{Notes, NotesFault};
+use twp_plat::{Plat, PlatFault};
+use twp_read::{Description, TextFault};
+use twp_resolve::{PlaceFault, resolve};
+
+/// What is told of field notes that a run of them alone refused. None where they don't have the
+/// verdict's fault.
+pub fn explain_plat(
+    alloc: Global,
+    notes: &Given<'_>,
+    verdict: Verdict,
+) -> Result<Option<Explanation>, AllocError>
+    ensures refusal { IfOk result (λ told. IfSome told (λ explanation.
+        IsNoPlat notes.now.bytes.now explanation.refusal)) }
+    ensures verdict { IfOk result (λ told. IfSome told (λ explanation.
+        verdict ≡ Refused explanation.refusal)) }
+{
+    match plat_of(alloc, notes) {
+        Ok(_) => Ok(None),
+        Err(stop) => tell(alloc, notes, stop, verdict),
+    }
+}
+
+/// What is told of field notes and a description that a run refused. None where they don't have the
+/// verdict's fault.
+pub fn explain_land(
+    alloc: Global,
+    notes: &Given<'_>,
+    description: &Given<'_>,
+    verdict: Verdict,
+) -> Result<Option<Explanation>, AllocError>
+    ensures refusal { IfOk result (λ told. IfSome told (λ explanation.
+        IsRefusal notes.now.bytes.now description.now.bytes.now explanation.refusal)) }
+    ensures verdict { IfOk result (λ told. IfSome told (λ explanation.
+        verdict ≡ Refused explanation.refusal)) }
+{
+    let plat = match plat_of(alloc, notes) {
+        Ok(plat) => plat,
+        Err(stop) => return tell(alloc, notes, stop, verdict),
+    };
+    let origin = Origin::of_file(*description);
+    match describe(alloc, &origin, description.bytes, plat.township()) {
+        Ok(()) => Ok(None),
+        Err(stop) => tell(alloc, description, stop, verdict),
+    }
+}
+
+/// The message of a stop, where it is for the verdict's refusal.
+pub(crate) fn tell(
+    alloc: Global,
+    file: &Given<'_>,
+    stop: Stop,
+    verdict: Verdict,
+) -> Result<Option<Explanation>, AllocError>
+    ensures found { IfOk result (λ told. IfSome told (λ explanation.
+        IsOf stop explanation.refusal)) }
+    ensures verdict { IfOk result (λ told. IfSome told (λ explanation.
+        verdict ≡ Refused explanation.refusal)) }
+{
+    let Stop::Found(finding) = stop else {
+        return Err(AllocError);
+    };
+    if verdict != Verdict::Refused(finding.refusal) {
+        return Ok(None);
+    }
+    Ok(Some(finding.tell(alloc, file)?))
+}
+
+/// The plat of field notes, or what is wrong with them.
+#[tactic(auto, using(crate::proofs::FindingFacts::notes_refused, crate::proofs::FindingFacts::lines_refused))]
+#[inline(never)]
+pub(crate) fn plat_of(alloc: Global, file: &Given<'_>) -> Result<Plat, Stop>
+    ensures plat { IfOk result (λ plat. ArePlatted file.now.bytes.now plat) }
+    ensures found { IfErr result (λ stop. IfFound stop (IsNoPlat file.now.bytes.now)) }
+{
+    let notes = match Notes::read(alloc, &mut Bytes::new(file.bytes)) {
+        Ok(notes) => notes,
+        Err(fault) => return Err(stop_of_notes(alloc, file, fault)),
+    };
+    match Plat::protract(&notes) {
+        Ok(plat) => Ok(plat),
+        Err(fault) => Err(stop_of_plat(alloc, file, &notes, fault)),
+    }
+}
+
+/// What is wrong with notes that have a fault.
+#[tactic(auto, using(crate::proofs::FindingFacts::of_fault))]
+#[inline(never)]
+fn stop_of_notes(alloc: Global, file: &Given<'_>, fault: NotesFault) -> Stop
+    ensures { IfFound result (λ refusal. refusal_of_notes fault ≡ Some refusal) }
+{
+    let Some(refusal) = fault.refusal() else {
+        return Stop::Memory;
+    };
+    Stop::of(refusal, notes::find(alloc, file, fault, refusal))
+}
+
+/// What is wrong with notes that make no plat.
+#[tactic(auto, using(crate::proofs::FindingFacts::of_fault))]
+#[inline(never)]
+fn stop_of_plat(alloc: Global, file: &Given<'_>, notes: &Notes, fault: PlatFault) -> Stop
+    ensures { IfFound result (λ refusal. refusal_of_plat fault ≡ Some refusal) }
+{
+    let Some(refusal) = fault.refusal() else {
+        return Stop::Memory;
+    };
+    Stop::of(refusal, plat::find(alloc, file, notes, fault, refusal))
+}
+
+/// Goes through a text that describes land of a township, or gives what is wrong with it.
+#[tactic(auto, using(crate::proofs::FindingFacts::text_refused, crate::proofs::FindingFacts::items_refused))]
+#[inline(never)]
+pub(crate) fn describe(
+    alloc: Global,
+    origin: &Origin<'_>,
+    bytes: &[u8],
+    township: Township,
+) -> Result<(), Stop>
+    ensures found { IfErr result (λ stop. IfFound stop (IsNoDescription township bytes.now)) }
+{
+    let description = match Description::read(alloc, bytes) {
+        Ok(description) => description,
+        Err(fault) => return Err(stop_of_text(alloc, origin, bytes, fault)),
+    };
+    match resolve::<Lanes>(&description, township) {
+        Ok(_) => Ok(()),
+        Err(fault) => Err(stop_of_places(alloc, origin, bytes, &description, township, fault)),
+    }
+}
+
+/// What is wrong with a text that isn't read.
+#[tactic(auto, using(crate::proofs::FindingFacts::of_fault))]
+#[inline(never)]
+fn stop_of_text(alloc: Global, origin: &Origin<'_>, bytes: &[u8], fault: TextFault) -> Stop
+    ensures { IfFound result (λ refusal. refusal_of_text fault ≡ Some refusal) }
+{
+    let Some(refusal) = fault.refusal() else {
+        return Stop::Memory;
+    };
+    Stop::of(refusal, text::find(alloc, origin, bytes, fault, refusal))
+}
+
+/// What is wrong with a description that names no land on the plat of the township.
+#[tactic(auto, using(crate::proofs::FindingFacts::of_fault))]
+#[inline(never)]
+fn stop_of_places(
+    alloc: Global,
+    origin: &Origin<'_>,
+    bytes: &[u8],
+    description: &Description,
+    township: Township,
+    fault: PlaceFault,
+) -> Stop
+    ensures { IfFound result (λ refusal. refusal_of_places fault ≡ Some refusal) }
+{
+    let Some(refusal) = fault.refusal() else {
+        return Stop::Memory;
+    };
+    Stop::of(
+        refusal,
+        places::find(alloc, origin, bytes, description, township, fault, refusal),
+    )
+}

@@ -1,0 +1,82 @@
+//! The explanation of a refused list of tracts.
+ghost use Rattle.std.specs.Prelude.{◌≡◌, ◌<◌, ◌≤◌, Some, length, IfOk, IfSome};
+ghost use Rattle.twp_acres.specs.TractFaults.{IsFirstTractFault, refusal_of, verdict_of};
+ghost use Rattle.twp_explain.specs.Refusals.{IsListRefusal, first_refusal};
+
+use crate::explaining::{plat_of, tell};
+use crate::tracts;
+use std::alloc::{AllocError, Global};
+use twp_acres::{TRACTS_LIMIT, TractFault, Verdict, account_of_tracts};
+use twp_findings::{Explanation, Given};
+use twp_grid::{Refusal, Township};
+use twp_plat::Plat;
+
+/// What is told of field notes and a list of tracts that a run refused. None where they don't have
+/// the verdict's fault.
+#[tactic(auto, using(crate::proofs::ListFacts::same_refusal, crate::proofs::ListFacts::told_of_notes, crate::proofs::ListFacts::told_of_list))]
+pub fn explain_list(
+    alloc: Global,
+    notes: &Given<'_>,
+    tracts: &Given<'_>,
+    verdict: Verdict,
+) -> Result<Option<Explanation>, AllocError>
+    ensures refusal { IfOk result (λ told. IfSome told (λ explanation.
+        IsListRefusal notes.now.bytes.now tracts.now.bytes.now verdict explanation.refusal)) }
+    ensures verdict { IfOk result (λ told. IfSome told (λ explanation.
+        first_refusal verdict ≡ Some explanation.refusal)) }
+{
+    let plat = match plat_of(alloc, notes) {
+        Ok(plat) => plat,
+        Err(stop) => return tell(alloc, notes, stop, verdict),
+    };
+    let Some(fault) = fault_of(alloc, &plat, tracts.bytes)? else {
+        return Ok(None);
+    };
+    let Some(refusal) = refusal_by(fault, verdict) else {
+        return Ok(None);
+    };
+    let explanation = tell_fault(alloc, tracts, plat.township(), fault, refusal)?;
+    Ok(Some(explanation))
+}
+
+/// The refusal of a fault, where the verdict is on this fault.
+fn refusal_by(fault: TractFault, verdict: Verdict) -> Option<Refusal>
+    ensures { IfSome result (λ refusal.
+        (verdict_of fault ≡ Some verdict) × (refusal_of fault ≡ Some refusal)) }
+{
+    if fault.verdict() != Some(verdict) {
+        return None;
+    }
+    fault.refusal()
+}
+
+/// The message of a list's fault.
+#[inline(never)]
+fn tell_fault(
+    alloc: Global,
+    tracts: &Given<'_>,
+    township: Township,
+    fault: TractFault,
+    refusal: Refusal,
+) -> Result<Explanation, AllocError>
+    ensures { IfOk result (λ explanation. explanation.refusal ≡ refusal) }
+{
+    let finding = tracts::find(alloc, tracts, township, fault, refusal)?;
+    finding.tell(alloc, tracts)
+}
+
+/// The first fault of a list of tracts, where it has one.
+#[inline(never)]
+fn fault_of(alloc: Global, plat: &Plat, bytes: &[u8]) -> Result<Option<TractFault>, AllocError>
+    ensures { IfOk result (λ found. IfSome found
+        (IsFirstTractFault plat.now.township bytes.now)) }
+{
+    if bytes.len() > TRACTS_LIMIT as usize {
+        return Ok(Some(TractFault::TractsTooLarge));
+    }
+    match account_of_tracts(alloc, plat, bytes) {
+        Ok(_) => Ok(None),
+        Err(TractFault::Memory) => Err(AllocError),
+        Err(fault) => Ok(Some(fault)),
+    }
+}

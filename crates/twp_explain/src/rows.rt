@@ -1,0 +1,214 @@
+//! Records of a list that are no heading or no tract.
+ghost use Rattle.std.specs.Prelude.{◌≡◌};
+
+use crate::listed::Listed;
+use std::alloc::AllocError;
+use twp_excerpt::{Span, write_escaped};
+use twp_findings::{Finding, Origin, Place, write_count, write_quoted};
+
+/// The fields of the heading.
+const HEADING: [&[u8]; 2] = [b"name", b"description"];
+
+/// The most bytes of a tract's name.
+const NAME_MOST: usize = 64;
+
+/// The most bytes of a record that is shown as it should be written.
+const SHOWN_MOST: usize = 100;
+
+/// Tells of a record that isn't the heading, or isn't a tract.
+pub(crate) fn tell(listed: &Listed<'_>, finding: &mut Finding) -> Result<(), AllocError>
+    ensures refusal { finding.new.refusal ≡ finding.old.refusal }
+{
+    if listed.number() == 1 {
+        finding.place = Place::Field(listed.span(heading_place(listed)));
+        write_heading_fault(listed, &mut finding.sentence)?;
+    } else if listed.len() != HEADING.len() {
+        finding.place = Place::Field(listed.span(listed.len().min(HEADING.len())));
+        finding.sentence.push_str("this record has ")?;
+        write_count(listed.len(), &mut finding.sentence)?;
+        finding.sentence.push_str(" instead of 2")?;
+    } else {
+        finding.place = Place::Field(name_span(listed));
+        write_name_fault(listed, &mut finding.sentence)?;
+    }
+    write_help(listed, &mut finding.help)
+}
+
+/// The first field of a record that isn't the heading's.
+fn heading_place(listed: &Listed<'_>) -> usize {
+    if listed.field(0) != HEADING[0] {
+        return 0;
+    }
+    if listed.field(1) != HEADING[1] {
+        return 1;
+    }
+    2
+}
+
+/// Appends what is no heading.
+fn write_heading_fault(listed: &Listed<'_>, text: &mut String) -> Result<(), AllocError> {
+    text.push_str("this isn't the heading `name,description`: ")?;
+    if listed.len() != HEADING.len() {
+        text.push_str("it has ")?;
+        return write_count(listed.len(), text);
+    }
+    let place = heading_place(listed);
+    write!(text, "field {} is ", place.saturating_add(1))?;
+    write_quoted(listed.field(place), text)
+}
+
+/// Appends what is wrong with a tract's name.
+fn write_name_fault(listed: &Listed<'_>, text: &mut String) -> Result<(), AllocError> {
+    match listed.field(0).len() {
+        0 => text.push_str("the name of the tract is empty"),
+        1..=64 => text.push_str("the name of the tract has a character that isn't printed ASCII"),
+        length => write!(
+            text,
+            "the name of the tract has {length} bytes, and at most 64 are allowed"
+        ),
+    }
+}
+
+/// What is wrong of a tract's name: its first character that isn't printed ASCII, or all of it.
+fn name_span(listed: &Listed<'_>) -> Span {
+    let name = listed.field(0);
+    let whole = listed.span(0);
+    if name.len() > NAME_MOST {
+        return whole;
+    }
+    let Some(at) = name.iter().position(|byte| !matches!(*byte, b' '..=b'~')) else {
+        return whole;
+    };
+    let start = Origin::of_field(listed.file, whole.start).in_file(at);
+    Span {
+        start,
+        end: character_end(listed.file.bytes, start),
+    }
+}
+
+/// Where a character ends that begins at an offset of a text.
+fn character_end(text: &[u8], start: usize) -> usize {
+    for index in start..text.len() {
+        if index > start && !matches!(text[index], 0x80..=0xBF) {
+            return index;
+        }
+    }
+    text.len()
+}
+
+/// A row: what is seen of a record, and what mends it.
+struct Hint(Sign, &'static str);
+
+/// What may be seen of a record.
+#[derive(Clone, Copy, Debug, PartialEq, Eq)]
+enum Sign {
+    /// Several fields, each of them empty.
+    Empty,
+    /// One field, with this byte in it.
+    OneField(u8),
+    /// A space before the quotes of the second field.
+    SpacedQuotes,
+    /// A name and a description with commas, which isn't in quotes.
+    Unquoted,
+    /// The heading and more.
+    LongHeading,
+    /// A name, a description in quotes, and more.
+    LongRecord,
+    /// A letter with an accent in the name.
+    Accent,
+}
+
+/// The rows, of which the first that fits counts.
+const HINTS: [Hint; 8] = [
+    Hint(Sign::Empty, "delete the empty row"),
+    Hint(
+        Sign::OneField(b';'),
+        "save the file with commas between the fields",
+    ),
+    Hint(
+        Sign::OneField(b'\t'),
+        "save the file with commas between the fields",
+    ),
+    Hint(Sign::SpacedQuotes, "take out the space before the quotes"),
+    Hint(Sign::Unquoted, "put the description in quotes"),
+    Hint(
+        Sign::LongHeading,
+        "delete the columns behind the description",
+    ),
+    Hint(Sign::LongRecord, "delete what is behind the description"),
+    Hint(Sign::Accent, "write the letter without its accent"),
+];
+
+/// Appends what mends a record, where that is known.
+fn write_help(listed: &Listed<'_>, text: &mut String) -> Result<(), AllocError> {
+    for hint in &HINTS {
+        let Hint(sign, advice) = hint;
+        if sign.fits(listed) {
+            text.push_str(advice)?;
+            return write_mended(*sign, listed, text);
+        }
+    }
+    Ok(())
+}
+
+impl Sign {
+    /// Whether it is seen of a record.
+    fn fits(self, listed: &Listed<'_>) -> bool {
+        match self {
+            Sign::Empty => is_empty_row(listed),
+            Sign::OneField(byte) => listed.len() == 1 && listed.field(0).contains(&byte),
+            Sign::SpacedQuotes => has_spaced_quotes(listed.written(1)),
+            Sign::Unquoted => listed.number() > 1 && is_unquoted(listed),
+            Sign::LongHeading => listed.number() == 1 && heading_place(listed) == 2,
+            Sign::LongRecord => {
+                listed.number() > 1 && listed.len() > 2 && listed.written(1).first() == Some(&b'"')
+            }
+            Sign::Accent => listed.number() > 1 && has_accent(listed.field(0)),
+        }
+    }
+}
+
+/// Whether a record has several fields, all of them empty.
+fn is_empty_row(listed: &Listed<'_>) -> bool {
+    listed.len() > 1 && listed.written_from(0).iter().all(|byte| *byte == b',')
+}
+
+/// Whether a field begins with spaces before a quotation mark.
+fn has_spaced_quotes(field: &[u8]) -> bool {
+    match field.iter().position(|byte| *byte != b' ') {
+        Some(at) => at > 0 && field.get(at) == Some(&b'"'),
+        None => false,
+    }
+}
+
+/// Whether a record is a name and a description with commas, but without quotes.
+fn is_unquoted(listed: &Listed<'_>) -> bool {
+    let rest = listed.written_from(1);
+    let begins = rest.starts_with(b"sec") || rest.starts_with(b"Sec") || rest.starts_with(b"T");
+    listed.len() > 2 && begins && !rest.contains(&b'"')
+}
+
+/// Appends a record whose description isn't in quotes as it should be, where it is short.
+fn write_mended(sign: Sign, listed: &Listed<'_>, text: &mut String) -> Result<(), AllocError> {
+    if sign != Sign::Unquoted || listed.written_from(0).len() > SHOWN_MOST {
+        return Ok(());
+    }
+    text.push_str(": ")?;
+    write_escaped(listed.written(0), text)?;
+    text.push_str(",\"")?;
+    write_escaped(listed.written_from(1), text)?;
+    text.push_str("\"")
+}
+
+/// Whether the first character of a name that isn't printed ASCII is a letter with an accent, of
+/// those from `À` (U+00C0) to `ɏ` (U+024F), as UTF-8.
+fn has_accent(name: &[u8]) -> bool {
+    let Some(at) = name.iter().position(|byte| !matches!(*byte, b' '..=b'~')) else {
+        return false;
+    };
+    match (name.get(at), name.get(at.saturating_add(1))) {
+        (Some(0xC3), Some(0x97 | 0xB7)) => false,
+        (Some(0xC3..=0xC8), Some(0x80..=0xBF)) | (Some(0xC9), Some(0x80..=0x8F)) => true,
+        _ => false,
+    }
+}

@@ -1,0 +1,136 @@
+//! Which tracts of a list share land.
+ghost use Rattle.std.specs.Prelude.{◌≡◌, IfOk, IfSome, IsTrue};
+ghost use Rattle.csv.specs.Records.{fields_of};
+ghost use Rattle.twp_notes.specs.Records.{record_at};
+ghost use Rattle.twp_acres.specs.Answers.{Describe};
+ghost use Rattle.twp_acres.specs.Tracts.{tract_records, description_in};
+ghost use Rattle.twp_explain.specs.steps.Sharing.{IsFirstSharing};
+
+use csv::ByteRecord;
+use std::alloc::{AllocError, Global};
+use twp_grid::Township;
+use twp_land::Land;
+use twp_notes::{Records, field};
+use twp_read::{Description, TextFault};
+use twp_resolve::resolve_into;
+
+/// The first tract of a list that shares land with the one that so many come before: how many come
+/// before it. Sets a land to what the two share. None where there is no such tract.
+#[inline(never)]
+pub(crate) fn first_sharing_tract<L: Land>(
+    alloc: Global,
+    bytes: &[u8],
+    township: Township,
+    index: u32,
+    common: &mut L,
+) -> Result<Option<u32>, AllocError>
+    ensures { IfOk result (λ found. IfSome found (λ earlier. IsFirstSharing township
+        (tract_records bytes.now) index earlier (L.places common.new))) }
+{
+    let mut land = L::empty();
+    if !tract_into(alloc, bytes, township, index, &mut land)? {
+        return Ok(None);
+    }
+    first_before(alloc, bytes, township, index, &land, common)
+}
+
+/// Sets a land to that of the tract that so many others come before, and says whether there is one.
+#[inline(never)]
+fn tract_into<L: Land>(
+    alloc: Global,
+    bytes: &[u8],
+    township: Township,
+    index: u32,
+    land: &mut L,
+) -> Result<bool, AllocError>
+    ensures { IfOk result (λ found. IsTrue found → Describe township
+        (description_in (record_at (tract_records bytes.now) index)) (L.places land.new)) }
+{
+    let Some(row) = tract_at(alloc, bytes, index)? else {
+        return Ok(false);
+    };
+    land_into(alloc, township, &row, land)
+}
+
+/// The first of so many tracts of a list that shares land with the one behind them, whose land this
+/// is.
+#[inline(never)]
+fn first_before<L: Land>(
+    alloc: Global,
+    bytes: &[u8],
+    township: Township,
+    index: u32,
+    land: &L,
+    common: &mut L,
+) -> Result<Option<u32>, AllocError>
+    requires { Describe township (description_in (record_at (tract_records bytes.now) index))
+        (L.places land.now) }
+    ensures { IfOk result (λ found. IfSome found (λ earlier. IsFirstSharing township
+        (tract_records bytes.now) index earlier (L.places common.new))) }
+{
+    let mut records = Records::new(alloc, bytes);
+    let mut row = ByteRecord::new(alloc);
+    if !records.read(&mut row)? {
+        return Ok(None);
+    }
+    'records: for earlier in 0..index {
+        if !records.read(&mut row)? {
+            return Ok(None);
+        }
+        if !land_into(alloc, township, &row, common)? {
+            return Ok(None);
+        }
+        if common.meets_land(land) {
+            common.keep_common(land);
+            return Ok(Some(earlier));
+        }
+    }
+    Ok(None)
+}
+
+/// Sets a land to that which a tract's record describes, and says whether it describes one.
+#[inline(never)]
+fn land_into<L: Land>(
+    alloc: Global,
+    township: Township,
+    row: &ByteRecord,
+    land: &mut L,
+) -> Result<bool, AllocError>
+    ensures { IfOk result (λ found. IsTrue found
+        → Describe township (description_in (fields_of row.now)) (L.places land.new)) }
+{
+    if row.len() < 2 {
+        return Ok(false);
+    }
+    let description = match Description::read(alloc, field(row, 1)) {
+        Ok(description) => description,
+        Err(TextFault::Memory) => return Err(AllocError),
+        Err(_) => return Ok(false),
+    };
+    let Ok(()) = resolve_into(land, &description, township) else {
+        return Ok(false);
+    };
+    Ok(true)
+}
+
+/// The record of the tract of a list that so many others come before, where there is one.
+#[inline(never)]
+fn tract_at(alloc: Global, bytes: &[u8], index: u32) -> Result<Option<ByteRecord>, AllocError>
+    ensures { IfOk result (λ found. IfSome found (λ row.
+        fields_of row ≡ record_at (tract_records bytes.now) index)) }
+{
+    let mut records = Records::new(alloc, bytes);
+    let mut row = ByteRecord::new(alloc);
+    if !records.read(&mut row)? {
+        return Ok(None);
+    }
+    'records: for passed in 0..index {
+        if !records.read(&mut row)? {
+            return Ok(None);
+        }
+    }
+    if !records.read(&mut row)? {
+        return Ok(None);
+    }
+    Ok(Some(row))
+}

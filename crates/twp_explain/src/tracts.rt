@@ -1,0 +1,214 @@
+//! What is wrong with lists of tracts.
+ghost use Rattle.std.specs.Prelude.{◌≡◌, IfOk};
+
+use crate::explaining::describe;
+use crate::listed::Listed;
+use crate::rows;
+use crate::sharing::first_sharing_tract;
+use csv::ByteRecord;
+use std::alloc::{AllocError, Global};
+use twp_acres::TractFault;
+use twp_excerpt::write_escaped;
+use twp_findings::{Finding, Given, Origin, Place, Stop};
+use twp_grid::{Refusal, Township};
+use twp_land::{Land, Lanes};
+use twp_notes::Records;
+use twp_spell::spell;
+
+/// The number of the record after the heading, the first one of a tract.
+const FIRST_TRACT: u32 = 2;
+
+/// How many lines of land are told at most.
+const LINES_TOLD: usize = 3;
+
+/// What is told of a list of tracts that has a fault, on the plat of a township.
+#[inline(never)]
+pub(crate) fn find(
+    alloc: Global,
+    tracts: &Given<'_>,
+    township: Township,
+    fault: TractFault,
+    refusal: Refusal,
+) -> Result<Finding, AllocError>
+    ensures refusal { IfOk result (λ finding. finding.refusal ≡ refusal) }
+{
+    let Some(listed) = Listed::numbered(alloc, *tracts, refusal.at)? else {
+        return find_none(alloc, fault, refusal);
+    };
+    let mut finding = Finding {
+        refusal,
+        place: Place::Line(listed.start()),
+        sentence: String::new(alloc),
+        help: String::new(alloc),
+    };
+    match fault {
+        TractFault::TractRow(_) => rows::tell(&listed, &mut finding)?,
+        TractFault::NameRepeated(_) => tell_name(alloc, &listed, &mut finding)?,
+        TractFault::TractRefused { .. } => {
+            tell_description(alloc, &listed, township, &mut finding)?
+        }
+        TractFault::TractsOverlap(_) => tell_overlap(alloc, &listed, township, &mut finding)?,
+        _ => tell_many(&listed, &mut finding)?,
+    }
+    Ok(finding)
+}
+
+/// What is told of a list of too many bytes, or without a heading.
+fn find_none(alloc: Global, fault: TractFault, refusal: Refusal) -> Result<Finding, AllocError>
+    ensures refusal { IfOk result (λ finding. finding.refusal ≡ refusal) }
+{
+    let mut sentence = String::new(alloc);
+    let mut help = String::new(alloc);
+    if let TractFault::TractRow(_) = fault {
+        sentence.push_str("the list has no record: it begins with `name,description`")?;
+    } else {
+        sentence.push_str("the list of tracts has more than 1,048,576 bytes")?;
+        help.push_str("split it in two")?;
+    }
+    Ok(Finding {
+        refusal,
+        place: Place::Whole,
+        sentence,
+        help,
+    })
+}
+
+/// Tells of one tract too many.
+fn tell_many(listed: &Listed<'_>, finding: &mut Finding) -> Result<(), AllocError>
+    ensures refusal { finding.new.refusal ≡ finding.old.refusal }
+{
+    write!(
+        finding.sentence,
+        "there are more than 1,000 tracts: record {} is the first too many",
+        listed.number()
+    )?;
+    finding.help.push_str("split the list in two")
+}
+
+/// Tells of a tract that has the name of an earlier one.
+#[inline(never)]
+fn tell_name(alloc: Global, listed: &Listed<'_>, finding: &mut Finding) -> Result<(), AllocError>
+    ensures refusal { finding.new.refusal ≡ finding.old.refusal }
+{
+    finding.place = Place::Field(listed.span(0));
+    write_tract(listed, &mut finding.sentence)?;
+    finding
+        .sentence
+        .push_str(" has the name of an earlier tract")?;
+    let number = first_named(alloc, listed)?;
+    let Some(earlier) = Listed::numbered(alloc, listed.file, number)? else {
+        return Ok(());
+    };
+    write!(
+        finding.sentence,
+        ", record {number} on line {}",
+        earlier.line()
+    )
+}
+
+/// The number of the first tract's record that has the name of one.
+#[inline(never)]
+fn first_named(alloc: Global, listed: &Listed<'_>) -> Result<u32, AllocError> {
+    let last = listed.number();
+    let mut records = Records::new(alloc, listed.file.bytes);
+    let mut row = ByteRecord::new(alloc);
+    'records: for number in 1..last {
+        if !records.read(&mut row)? {
+            return Ok(last);
+        }
+        if number >= FIRST_TRACT && row.get(0) == Some(listed.field(0)) {
+            return Ok(number);
+        }
+    }
+    Ok(last)
+}
+
+/// Tells of a tract whose description is refused.
+#[inline(never)]
+fn tell_description(
+    alloc: Global,
+    listed: &Listed<'_>,
+    township: Township,
+    finding: &mut Finding,
+) -> Result<(), AllocError>
+    ensures refusal { finding.new.refusal ≡ finding.old.refusal }
+{
+    write_tract(listed, &mut finding.sentence)?;
+    let origin = Origin::of_field(listed.file, listed.span(1).start);
+    let inner = match describe(alloc, &origin, listed.field(1), township) {
+        Err(Stop::Found(inner)) => inner,
+        Err(Stop::Memory) => return Err(AllocError),
+        Ok(()) => return finding
+            .sentence
+            .push_str(" has a description that is refused"),
+    };
+    finding.sentence.push_str(": ")?;
+    finding.sentence.push_str(inner.sentence.as_str())?;
+    if inner.place != Place::Whole {
+        finding.place = inner.place;
+    }
+    if inner.refusal.number == 42
+        && inner.refusal.at == 0
+        && listed.field(1).first() == Some(&b'"')
+    {
+        return finding.help.push_str(
+            "type the description without quotes; the spreadsheet adds them where they are needed",
+        );
+    }
+    finding.help.push_str(inner.help.as_str())
+}
+
+/// Tells of a tract that shares land with an earlier one.
+#[inline(never)]
+fn tell_overlap(
+    alloc: Global,
+    listed: &Listed<'_>,
+    township: Township,
+    finding: &mut Finding,
+) -> Result<(), AllocError>
+    ensures refusal { finding.new.refusal ≡ finding.old.refusal }
+{
+    write_tract(listed, &mut finding.sentence)?;
+    let index = listed.number().saturating_sub(FIRST_TRACT);
+    let mut common = Lanes::empty();
+    let found = first_sharing_tract(alloc, listed.file.bytes, township, index, &mut common)?;
+    let Some(earlier) = found else {
+        return finding.sentence.push_str(" holds land of an earlier tract");
+    };
+    let number = earlier.saturating_add(FIRST_TRACT);
+    let Some(earlier) = Listed::numbered(alloc, listed.file, number)? else {
+        return finding.sentence.push_str(" holds land of an earlier tract");
+    };
+    finding.sentence.push_str(" holds land of ")?;
+    write_tract(&earlier, &mut finding.sentence)?;
+    write!(finding.sentence, " (record {number}): both hold ")?;
+    let land = spell(alloc, &common, township)?;
+    write_land(land.as_slice(), &mut finding.sentence)
+}
+
+/// Appends the name of a tract, as in tract `A`.
+fn write_tract(listed: &Listed<'_>, text: &mut String) -> Result<(), AllocError> {
+    text.push_str("tract `")?;
+    write_escaped(listed.field(0), text)?;
+    text.push_str("`")
+}
+
+/// Appends the text of a land without its heading, on one line: all its sections, or the first ones
+/// and how many more there are.
+fn write_land(land: &[u8], text: &mut String) -> Result<(), AllocError> {
+    let Ok(land) = str::from_utf8(land) else {
+        return Ok(());
+    };
+    let count = land.lines().count().saturating_sub(1);
+    for (index, line) in land.lines().skip(1).take(LINES_TOLD).enumerate() {
+        if index > 0 {
+            text.push_str(" ")?;
+        }
+        text.push_str(line)?;
+    }
+    match count.saturating_sub(LINES_TOLD) {
+        0 => Ok(()),
+        1 => text.push_str(" and 1 section more"),
+        more => write!(text, " and {more} sections more"),
+    }
+}

@@ -1,0 +1,8 @@
+mod lands;
+mod lists;
+mod marks;
+mod notes;
+mod origins;
+mod plats;
+mod runs;
+mod texts;

@@ -1,0 +1,15 @@
+-- What an explanation was found to be of.
+use Rattle.std.specs.Prelude.{◌≡◌, ⊤}
+use Rattle.twp_grid.specs.declared.refusal.Refusal.{Refusal}
+use Rattle.twp_findings.specs.declared.finding.Stop.{Stop}
+use Rattle.twp_findings.specs.declared.finding.Stop.TheVariants.{Found, Memory}
+
+-- nothing was found, or this holds of the refusal of what was
+abbrev pub IfFound : Stop → (Refusal → Type 0) → Type 0
+IfFound (Found finding) Holds = Holds finding.refusal
+IfFound Memory Holds = ⊤
+
+-- something was found, and it is of this refusal
+abbrev pub IsOf : Stop → Refusal → Type 0
+IsOf (Found finding) refusal = finding.refusal ≡ refusal
+IsOf Memory refusal = ⊥

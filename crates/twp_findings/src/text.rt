@@ -1,0 +1,98 @@
+//! Why a text isn't read as a description.
+ghost use Rattle.std.specs.Prelude.{◌≡◌, IfOk};
+
+mod character;
+
+use crate::finding::{Finding, Place};
+use crate::origin::Origin;
+use crate::text::character::write_no_part;
+use std::alloc::{AllocError, Global};
+use twp_excerpt::{Span, write_escaped};
+use twp_grammar::Expected;
+use twp_grid::Refusal;
+use twp_hints::{Sight, hint_for};
+use twp_read::TextFault;
+
+/// The most bytes of a token that a sentence quotes.
+const QUOTED_LIMIT: usize = 20;
+
+/// What is told of a text, which is the whole of its file or a field of it, that has a fault.
+pub fn find(
+    alloc: Global,
+    origin: &Origin<'_>,
+    text: &[u8],
+    fault: TextFault,
+    refusal: Refusal,
+) -> Result<Finding, AllocError>
+    ensures refusal { IfOk result (λ finding. finding.refusal ≡ refusal) }
+{
+    let sight = Sight::of(text, refusal, expected(fault));
+    let mut sentence = String::new(alloc);
+    write_sentence(&sight, fault, &mut sentence)?;
+    Ok(Finding {
+        refusal,
+        place: place(origin, &sight, fault),
+        sentence,
+        help: hint_for(alloc, &sight)?,
+    })
+}
+
+/// What could stand where a fault of syntax is.
+fn expected(fault: TextFault) -> Option<Expected> {
+    match fault {
+        TextFault::Syntax { expected, .. } => Some(expected),
+        _ => None,
+    }
+}
+
+/// What is underlined: the refused sign, or the place where the text ends.
+fn place(origin: &Origin<'_>, sight: &Sight<'_>, fault: TextFault) -> Place {
+    if fault == TextFault::TooLarge {
+        return Place::Whole;
+    }
+    let end = sight.start.saturating_add(sight.at.bytes.len());
+    Place::Part(Span {
+        start: origin.in_file(sight.start),
+        end: origin.in_file(end),
+    })
+}
+
+/// Appends what is wrong.
+fn write_sentence(sight: &Sight<'_>, fault: TextFault, out: &mut String) -> Result<(), AllocError> {
+    match fault {
+        TextFault::TooLarge => out.push_str("the description has more than 65,536 bytes"),
+        TextFault::BadByte { .. } => write_no_part(sight.at.bytes, out),
+        TextFault::BadNumber { .. } => {
+            write_quoted(sight.at.bytes, out)?;
+            out.push_str(" has more than four digits")
+        }
+        TextFault::Syntax { expected, .. } => write_syntax(sight, expected, out),
+        TextFault::Memory => out.push_str("out of memory"),
+    }
+}
+
+/// Appends what goes wrong at a token, or where a text ends.
+fn write_syntax(sight: &Sight<'_>, expected: Expected, out: &mut String) -> Result<(), AllocError> {
+    if !sight.at.bytes.is_empty() {
+        out.push_str("`")?;
+        write_quoted(sight.at.bytes, out)?;
+        out.push_str("` can't stand here: ")?;
+    } else if sight.before.bytes.is_empty() {
+        out.push_str("the description is empty: ")?;
+    } else {
+        out.push_str("the description ends too soon: ")?;
+    }
+    if expected == Expected::Nothing {
+        return out.push_str("the period before it ends the description");
+    }
+    write!(out, "here could stand {}", expected)
+}
+
+/// Appends a token, cut where it is long.
+fn write_quoted(token: &[u8], out: &mut String) -> Result<(), AllocError> {
+    if token.len() <= QUOTED_LIMIT {
+        return write_escaped(token, out);
+    }
+    write_escaped(&token[..QUOTED_LIMIT], out)?;
+    out.push_str("..")
+}

@@ -1,0 +1,117 @@
+//! What is seen of a text where it is refused.
+ghost use Rattle.std.specs.Prelude.{◌≤◌, length};
+
+use bstr::decode_utf8;
+use twp_excerpt::end_of_text;
+use twp_grammar::{Expected, Kind, Token};
+use twp_grid::Refusal;
+use twp_read::Tokens;
+
+/// What stands somewhere in a text: a token, or a character that is no part of a description. It
+/// has no bytes where the text begins or ends.
+#[derive(Clone, Copy)]
+pub struct Sign<'a> {
+    /// Its bytes.
+    pub bytes: &'a [u8],
+    /// Whether it ends where the refused one begins.
+    pub is_joined: bool,
+}
+
+/// What stands at a refused place and around it.
+#[derive(Clone, Copy)]
+pub struct Sight<'a> {
+    /// The refusal's number.
+    pub number: u8,
+    /// What could stand at the place, for a fault of syntax.
+    pub expected: Option<Expected>,
+    /// Where the sign at the place begins in the text, or where the text ends but for white space.
+    pub start: usize,
+    /// The sign before the place.
+    pub before: Sign<'a>,
+    /// The sign at the place.
+    pub at: Sign<'a>,
+    /// The text after that sign.
+    pub rest: &'a [u8],
+}
+
+impl<'a> Sight<'a> {
+    /// What is seen of a text where it is refused.
+    pub fn of(text: &'a [u8], refusal: Refusal, expected: Option<Expected>) -> Sight<'a> {
+        let at = (refusal.at as usize).min(text.len());
+        let (ahead, behind) = text.split_at(at);
+        let (sign, rest) = behind.split_at(size_of_sign(behind));
+        Sight {
+            number: refusal.number,
+            expected,
+            start: if sign.is_empty() {
+                end_of_text(text)
+            } else {
+                at
+            },
+            before: last_sign(ahead),
+            at: Sign {
+                bytes: sign,
+                is_joined: false,
+            },
+            rest,
+        }
+    }
+
+    /// The sign this many signs after the refused one, from 0. Commas and full stops don't count.
+    pub fn after(&self, index: usize) -> Sign<'a> {
+        let mut left = index;
+        for token in Tokens::new(self.rest) {
+            if matches!(token.kind, Kind::Comma | Kind::Stop) {
+                continue;
+            }
+            if left == 0 {
+                return apart(token);
+            }
+            left -= 1;
+        }
+        NOTHING
+    }
+}
+
+/// What stands where a text begins or ends.
+const NOTHING: Sign<'static> = Sign {
+    bytes: &[],
+    is_joined: false,
+};
+
+/// How many bytes the sign takes that begins some bytes: all of its token, all of a character that
+/// begins no token, or one byte that begins no character.
+fn size_of_sign(bytes: &[u8]) -> usize
+    ensures { result ≤ length bytes.now }
+{
+    let Some(token) = Tokens::new(bytes).next() else {
+        return 0;
+    };
+    if token.kind != Kind::BadByte {
+        return token.text.len().min(bytes.len());
+    }
+    match decode_utf8(bytes) {
+        (Some(_), size) => size.min(bytes.len()),
+        (None, _) => bytes.len().min(1),
+    }
+}
+
+/// The last sign of some bytes.
+fn last_sign(bytes: &[u8]) -> Sign<'_> {
+    let mut last = NOTHING;
+    for token in Tokens::new(bytes) {
+        last = Sign {
+            bytes: token.text,
+            is_joined: bytes.len() - token.text.len().min(bytes.len()) == token.at,
+        };
+    }
+    last
+}
+
+/// The sign of a token somewhere behind the refused one.
+fn apart(token: Token<'_>) -> Sign<'_> {
+    Sign {
+        bytes: token.text,
+        is_joined: false,
+    }
+}

@@ -1,0 +1,179 @@
+//! Where a record stands in its file, and where its fields do.
+ghost use Rattle.std.specs.Prelude.{◌≡◌, IfOk, IfSome};
+ghost use Rattle.csv.specs.Records.{fields_of};
+ghost use Rattle.twp_notes.specs.FieldNotes.{NamesLine};
+
+use csv::ByteRecord;
+use std::alloc::{AllocError, Global};
+use twp_excerpt::Span;
+use twp_grid::Line;
+use twp_notes::{Records, named_line};
+
+/// A byte order mark of UTF-8.
+const MARK: &[u8] = b"\xEF\xBB\xBF";
+
+/// A record of a file.
+#[derive(Drop)]
+pub struct Record<'a> {
+    /// The file's bytes.
+    bytes: &'a [u8],
+    /// Where it begins in them.
+    start: usize,
+    /// Its number, from 1.
+    pub number: u32,
+    /// Its fields.
+    row: ByteRecord,
+}
+
+impl<'a> Record<'a> {
+    /// The record that was just read from a file.
+    fn of_row(bytes: &'a [u8], number: u32, row: ByteRecord) -> Record<'a>
+        ensures { result.row ≡ row }
+    {
+        let start = start_of(bytes, &row);
+        Record {
+            bytes,
+            start,
+            number,
+            row,
+        }
+    }
+
+    /// The record of a number, from 1.
+    #[inline(never)]
+    pub fn numbered(
+        alloc: Global,
+        bytes: &'a [u8],
+        number: u32,
+    ) -> Result<Option<Record<'a>>, AllocError> {
+        let mut records = Records::new(alloc, bytes);
+        let mut row = ByteRecord::new(alloc);
+        'records: for _ in 0..number {
+            if !records.read(&mut row)? {
+                return Ok(None);
+            }
+        }
+        Ok(Some(Record::of_row(bytes, number, row)))
+    }
+
+    /// The first record that names a line.
+    #[inline(never)]
+    pub fn of_line(
+        alloc: Global,
+        bytes: &'a [u8],
+        line: Line,
+    ) -> Result<Option<Record<'a>>, AllocError>
+        ensures { IfOk result (λ found. IfSome found (λ named.
+            NamesLine (fields_of named.row) line)) }
+    {
+        let mut records = Records::new(alloc, bytes);
+        let mut row = ByteRecord::new(alloc);
+        let mut number: u32 = 0;
+        'records: while records.read(&mut row)? {
+            number = number.saturating_add(1);
+            if named_line(&row) == Some(line) {
+                return Ok(Some(Record::of_row(bytes, number, row)));
+            }
+        }
+        Ok(None)
+    }
+
+    /// The line that it names.
+    pub fn line(&self) -> Option<Line> {
+        named_line(&self.row)
+    }
+
+    /// How many fields it has.
+    pub fn len(&self) -> usize {
+        self.row.len()
+    }
+
+    /// What a field says, from 0: nothing where there is no such field.
+    pub fn text(&self, field: usize) -> &[u8] {
+        self.row.get(field).unwrap_or(b"")
+    }
+
+    /// Where it begins.
+    pub fn start(&self) -> usize {
+        self.start
+    }
+
+    /// Where fields of it stand, from one to another, with their quotation marks. It ends with the
+    /// record where that has no such fields.
+    pub fn span(&self, first: usize, last: usize) -> Span {
+        let Span { start, .. } = self.field_span(first);
+        let Span { end, .. } = self.field_span(last);
+        Span { start, end }
+    }
+
+    /// Where a field of it stands, or the record's end.
+    fn field_span(&self, field: usize) -> Span {
+        let mut start = self.start;
+        let mut end = end_of_field(self.bytes, start);
+        for _ in 0..field {
+            if self.bytes.get(end) != Some(&b',') {
+                return Span { start: end, end };
+            }
+            start = end.saturating_add(1);
+            end = end_of_field(self.bytes, start);
+        }
+        Span { start, end }
+    }
+}
+
+/// Where a record begins: after the byte order mark and the ends of lines that come before it.
+fn start_of(bytes: &[u8], row: &ByteRecord) -> usize {
+    let Some(position) = row.position() else {
+        return 0;
+    };
+    let Ok(at) = usize::try_from(position.byte()) else {
+        return bytes.len();
+    };
+    let at = if at == 0 && bytes.starts_with(MARK) {
+        MARK.len()
+    } else {
+        at
+    };
+    let ends = bytes.get(at..).unwrap_or(b"").iter();
+    let skipped = ends.take_while(|byte| matches!(**byte, b'\r' | b'\n'));
+    at.saturating_add(skipped.count())
+}
+
+/// How far a field is read.
+#[derive(Clone, Copy)]
+enum Quoting {
+    /// Its first byte comes next.
+    Start,
+    /// It isn't quoted.
+    Plain,
+    /// In quotation marks.
+    Quoted,
+    /// After a quotation mark in quotation marks, which ends them or is the first of two.
+    Ended,
+}
+
+impl Quoting {
+    /// How far it is after one more byte. None where the byte ends the field.
+    fn after(self, byte: u8) -> Option<Quoting> {
+        match (self, byte) {
+            (Quoting::Quoted, b'"') => Some(Quoting::Ended),
+            (Quoting::Quoted, _) => Some(Quoting::Quoted),
+            (_, b',' | b'\r' | b'\n') => None,
+            (Quoting::Start | Quoting::Ended, b'"') => Some(Quoting::Quoted),
+            _ => Some(Quoting::Plain),
+        }
+    }
+}
+
+/// Where the field that begins at an offset ends: at a comma, or at the end of a line or of the
+/// bytes.
+fn end_of_field(bytes: &[u8], start: usize) -> usize {
+    let mut quoting = Quoting::Start;
+    for (offset, byte) in bytes.get(start..).unwrap_or(b"").iter().enumerate() {
+        let Some(next) = quoting.after(*byte) else {
+            return start.saturating_add(offset);
+        };
+        quoting = next;
+    }
+    bytes.len()
+}

@@ -1,0 +1,3 @@
+pub mod MarkFacts
+pub mod JoinedFacts
+pub mod PartFacts

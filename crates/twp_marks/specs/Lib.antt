@@ -1,0 +1,5 @@
+pub mod Marks
+pub mod PartOfLots
+pub mod SharedText
+pub mod JoinedSteps
+pub mod steps

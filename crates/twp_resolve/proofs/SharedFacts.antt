@@ -1,0 +1,288 @@
+-- The first item that shares land with the one for which a description is refused.
+use Rattle.std.proofs.Common.{◌≡◌, ℕ, ◌+◌, ◌<◌, ◌≤◌, ◌⊎◌, Bool, true, false, List, Option, Some, None, length}
+use Rattle.std.proofs.Common.{IsSome, IfSome, MatchOption, take, drop, slice_get, refl, sym, ap, subst, ◌∙◌}
+use Rattle.std.proofs.Common.{inl, inr, arith}
+use Rattle.std.specs.Option.{option_map_or}
+use Rattle.std.proofs.Math.Path.{fun_ext}
+use Rattle.std.proofs.Math.ListN.{get_or}
+use Rattle.std.proofs.lemmas.Bool.{cases_lt}
+use Rattle.std.proofs.lemmas.Option.{slice_get-get_or, get_or_from_slice_get}
+use Rattle.twp_grid.specs.Townships.{Designation}
+use Rattle.twp_land.specs.Lands.{no_places, intersection, union, SharePlace}
+use Rattle.twp_grammar.specs.declared.item.Item.{Item}
+use Rattle.twp_grammar.specs.declared.item.Item.TheVariants as item
+use Rattle.twp_grammar.specs.ItemPlaces.{ItemOfSection, item_places, item_of, parts_of, land_of}
+use Rattle.twp_grammar.specs.ItemPlaces.{section_behind, with_sections}
+use Rattle.twp_grammar.specs.OnPlat.{AreOnPlat, LiesOnPlat}
+use Rattle.twp_resolve.specs.declared.place_fault.PlaceFault.{PlaceFault}
+use Rattle.twp_resolve.specs.declared.place_fault.PlaceFault.TheVariants as fault
+use Rattle.twp_resolve.specs.PlaceFaults.{HasFault, HasFaultAt, IsFrom, IsFirstPlaceFault, number_of}
+use Rattle.twp_resolve.specs.SharedLand.{places_at, AreRefusedForOverlap}
+use Rattle.twp_resolve.specs.steps.ResolvingSteps.{IsTaken, IsItemsFirstFault, HasSomeFault, IsBeforeParts}
+use Rattle.twp_resolve.specs.steps.ResolvingSteps.{number_of_section}
+use Rattle.twp_resolve.specs.declared.shared.RefusedItem.{RefusedItem}
+use Rattle.twp_resolve.specs.steps.SharingSteps.{IsOverlap, IsRefusedItem, IsRefusedLand, IsFirstSharing}
+use Rattle.twp_resolve.proofs.PlaceAnswers.{IsFound, found, one_fault, no_fault}
+use Rattle.twp_resolve.proofs.ResolvingFacts.{AreTaken, IsNext, next_is, part_is, fault_here, first_here}
+use Rattle.twp_resolve.proofs.ResolvingFacts.{refused_here, may_be_taken, SectionKnown}
+
+-- the places of the item at an index
+places_of_part : (g : ℕ) (items : List Item) (index section : ℕ) (it : Item)
+    → slice_get (parts_of items) index ≡ Some (item_of section it)
+    → places_at g items index ≡ item_places g (item_of section it)
+places_of_part g items index section it part =
+    fun_ext (λ s. fun_ext (λ c. fun_ext (λ r.
+    ap (λ part. option_map_or (λ (p : ItemOfSection). item_places g p s c r) part false) part)))
+
+places_here : (g : ℕ) (items : List Item) (index section : ℕ) (it : Item)
+    → IsNext items index section it
+    → places_at g items index ≡ item_places g (item_of section it)
+places_here g items index section it next =
+    places_of_part g items index section it (part_is items index section it next)
+
+-- an item that has a fault by itself has it after any land, and it comes before an overlap
+alone : (g : ℕ) (township : Designation) (earlier : ℕ → ℕ → ℕ → Bool) (section : ℕ) (it : Item)
+    (is : PlaceFault)
+    → HasFault g township no_places section it is
+    → HasFault g township earlier section it is × (number_of is < 67)
+alone g township earlier section (item.Heading number north_south range east_west start)
+    (fault.OtherTownship at) has = (has, omega arith)
+alone g township earlier section (item.Sections first last whole) (fault.NoSection at) has =
+    (has, omega arith)
+alone g township earlier section (item.Sections first last whole) (fault.Backward at) has =
+    (has, omega arith)
+alone g township earlier section (item.Lots first last) (fault.Backward at) has = (has, omega arith)
+alone g township earlier section (item.Lots first last) (fault.NoLot at) has = (has, omega arith)
+alone g township earlier section (item.Chain steps start) (fault.TooFine at) has = (has, omega arith)
+alone g township earlier section (item.Chain steps start) (fault.OnLot at) has = (has, omega arith)
+alone g township earlier section it (fault.Overlap at) has = absurd (cc has.1.in_first)
+alone g township earlier section it other has = absurd has
+
+-- neither the item for which a description is refused nor one before it has a fault by itself
+pub no_fault_alone : (g : ℕ) (township : Designation) (items : List Item) (index section : ℕ) (it : Item)
+    (refused : AreRefusedForOverlap g township items)
+    → index ≤ refused.fault_is.index
+    → slice_get (parts_of items) index ≡ Some (item_of section it)
+    → HasSomeFault g township section it → ⊥
+no_fault_alone g township items index section it refused before part some =
+    let land = land_of g (take index (parts_of items)) in
+    let both = alone g township land section it some.fault some.is in
+    let from : IsFrom refused.fault_is.index (fault.Overlap refused.at) index some.fault =
+    refused.fault_is.first index some.fault (record {
+      part = item_of section it;
+      part_is = part;
+      has = both.0;
+    }) in
+    elim from [
+      | inl later ↦ omega (arith, before, later)
+      | inr same ↦ omega (arith, same.1, both.1)
+    ]
+
+-- the places of an item by itself
+pub only_places : (g : ℕ) (township : Designation) (section : ℕ) (it : Item) (new : ℕ → ℕ → ℕ → Bool)
+    → IsTaken g township section it no_places new → new ≡ item_places g (item_of section it)
+only_places g township section it new taken = taken.added
+
+-- another first fault is no overlap
+pub refused_otherwise : (g : ℕ) (township : Designation) (items : List Item) (is : PlaceFault)
+    → IsFirstPlaceFault g township items is → ¬ IsOverlap is → ¬ AreRefusedForOverlap g township items
+refused_otherwise g township items is first unlike refused =
+    unlike (refused.at, one_fault g township items is (fault.Overlap refused.at) first refused.fault_is)
+
+-- items on the plat aren't refused
+pub not_refused : (g : ℕ) (township : Designation) (items : List Item) → AreOnPlat g township items
+    → ¬ AreRefusedForOverlap g township items
+not_refused g township items on refused =
+    no_fault g township items (fault.Overlap refused.at) on refused.fault_is
+
+-- the item at an index is refused for an overlap
+pub refused_item_here : (g : ℕ) (township : Designation) (items : List Item) (index section : ℕ) (it : Item)
+    (places : ℕ → ℕ → ℕ → Bool) (is : PlaceFault)
+    → index < length items → get_or items index it ≡ it
+    → AreTaken g township items index section places
+    → IsItemsFirstFault g township section it places is → IsOverlap is
+    → IsRefusedItem g township items index section
+refused_item_here g township items index section it places is inside there so_far first overlap = record {
+  refused = record {
+    at = overlap.0;
+    fault_is = record {
+      index = index;
+      is =
+          fault_here g township items index section it places (fault.Overlap overlap.0) inside there so_far
+          fault_is;
+      first =
+          first_here g township items index section it places (fault.Overlap overlap.0) inside there so_far
+          fault_is;
+    };
+  };
+  index_is = refl;
+  part_is = λ some is.
+      part_is items index section some
+      (next_is items index section some inside (get_or_from_slice_get items index some some is) so_far.left);
+}
+  where
+    fault_is : IsItemsFirstFault g township section it places (fault.Overlap overlap.0)
+    fault_is = subst (λ f. IsItemsFirstFault g township section it places f) overlap.1 first
+
+-- the land of the refused item
+pub refused_land : (g : ℕ) (township : Designation) (items : List Item) (index section : ℕ) (it : Item)
+    (new : ℕ → ℕ → ℕ → Bool)
+    → slice_get items index ≡ Some it
+    → IsRefusedItem g township items index section → IsTaken g township section it no_places new
+    → IsRefusedLand g township items index new
+refused_land g township items index section it new there refused taken = record {
+  refused = refused.refused;
+  index_is = refused.index_is;
+  places_are =
+      only_places g township section it new taken
+      ∙ sym (places_of_part g items index section it (refused.part_is it there));
+}
+
+-- and it has no fault by itself
+pub refused_not_alone : (g : ℕ) (township : Designation) (items : List Item) (index section : ℕ) (it : Item)
+    → slice_get items index ≡ Some it
+    → IsRefusedItem g township items index section → HasSomeFault g township section it → ⊥
+refused_not_alone g township items index section it there refused some =
+    no_fault_alone g township items index section it refused.refused (omega (arith, refused.index_is))
+    (refused.part_is it there) some
+
+-- the items before an index share no place with a later one, and parts of a section come after it
+pub record AreApart (g : ℕ) (items : List Item) (index section later : ℕ) : Type 0 where
+  pub left : drop index (parts_of items) ≡ with_sections section (drop index items)
+  pub apart : (i : ℕ) → i < index → ¬ SharePlace (places_at g items i) (places_at g items later)
+
+pub apart_none : (g : ℕ) (items : List Item) (later : ℕ) → AreApart g items 0 0 later
+apart_none g items later = record { left = refl; apart = λ i before. absurd (omega arith) }
+
+-- one more item, of which this is all land
+pub apart_next : (g : ℕ) (township : Designation) (items : List Item) (index section later : ℕ) (it : Item)
+    (new named : ℕ → ℕ → ℕ → Bool)
+    → index < length items → get_or items index it ≡ it
+    → AreApart g items index section later
+    → IsTaken g township section it no_places new → named ≡ places_at g items later
+    → ¬ SharePlace new named
+    → AreApart g items (index + 1) (section_behind section it) later
+apart_next g township items index section later it new named inside there so_far taken are free =
+    let next : IsNext items index section it = next_is items index section it inside there so_far.left in
+    record {
+      left = next.behind;
+      apart = λ i before. elim (cases_lt i index) [
+        | inl earlier ↦ so_far.apart i earlier
+        | inr here ↦
+            let same : index ≡ i = omega arith in
+            let places : new ≡ places_at g items index =
+            only_places g township section it new taken ∙ sym (places_here g items index section it next) in
+            subst (λ n. ¬ SharePlace (places_at g items n) (places_at g items later)) same
+            (subst (λ p. ¬ SharePlace (places_at g items index) p) are
+            (subst (λ p. ¬ SharePlace p named) places free))
+      ];
+    }
+
+-- the first item that shares land with the later one
+pub sharing_here : (g : ℕ) (township : Designation) (items : List Item) (index section later : ℕ) (it : Item)
+    (new named common : ℕ → ℕ → ℕ → Bool)
+    → index < length items → get_or items index it ≡ it → index < later
+    → AreApart g items index section later
+    → IsTaken g township section it no_places new → named ≡ places_at g items later
+    → SharePlace new named → common ≡ intersection new named
+    → IsFirstSharing g items index later common
+sharing_here g township items index section later it new named common inside there before so_far taken are
+    shared is =
+    let next : IsNext items index section it = next_is items index section it inside there so_far.left in
+    let places : new ≡ places_at g items index =
+    only_places g township section it new taken ∙ sym (places_here g items index section it next) in
+    record {
+      in_turn = before;
+      share =
+          subst (λ p. SharePlace (places_at g items index) p) are
+          (subst (λ p. SharePlace p named) places shared);
+      first = so_far.apart;
+      places_are =
+          is ∙ ap (λ p. intersection p named) places ∙ ap (λ p. intersection (places_at g items index) p) are;
+    }
+
+-- some item before the one for which a description is refused shares land with it
+pub some_share : (g : ℕ) (township : Designation) (items : List Item) (index section later : ℕ)
+    (named : ℕ → ℕ → ℕ → Bool)
+    → IsRefusedLand g township items later named → later ≤ index
+    → ¬ AreApart g items index section later
+some_share g township items index section later named refused all so_far =
+    let fault = refused.refused.fault_is in
+    let part : ItemOfSection = fault.is.part in
+    let shared =
+    overlap (land_of g (take fault.index (parts_of items))) part.section refused.refused.at part.item
+    fault.is.has in
+    let
+    at : IsFound (λ p. item_places g p shared.section shared.column shared.row) (parts_of items) fault.index
+    part =
+    found (λ p. item_places g p shared.section shared.column shared.row) (parts_of items) fault.index part
+    shared.in_first in
+    so_far.apart at.at (omega (arith, at.before, refused.index_is)) (record {
+      section = shared.section;
+      column = shared.column;
+      row = shared.row;
+      in_first =
+          ap (λ p. option_map_or
+          (λ (p : ItemOfSection). item_places g p shared.section shared.column shared.row) p false)
+          (slice_get-get_or (parts_of items) at.at part at.within)
+          ∙ at.passes;
+      in_second =
+          ap (λ n. places_at g items n shared.section shared.column shared.row) (sym refused.index_is)
+          ∙ ap (λ p. option_map_or
+          (λ (p : ItemOfSection). item_places g p shared.section shared.column shared.row) p false)
+          fault.is.part_is
+          ∙ shared.in_second;
+    })
+  where
+    overlap : (earlier : ℕ → ℕ → ℕ → Bool) (section at : ℕ) (it : Item)
+        → HasFault g township earlier section it (fault.Overlap at)
+        → SharePlace earlier (item_places g (item_of section it))
+    overlap earlier section at (item.Heading number north_south range east_west start) has = has.1
+    overlap earlier section at (item.Sections first last whole) has = has.1
+    overlap earlier section at (item.Lots first last) has = has.1
+    overlap earlier section at (item.Chain steps start) has = has.1
+    overlap earlier section at (item.All start) has = has.1
+
+-- an item before the refused one has no fault by itself
+pub before_not_alone : (g : ℕ) (township : Designation) (items : List Item) (index section later : ℕ)
+    (it : Item) (named : ℕ → ℕ → ℕ → Bool)
+    → index < length items → get_or items index it ≡ it → index < later
+    → AreApart g items index section later
+    → IsRefusedLand g township items later named → HasSomeFault g township section it → ⊥
+before_not_alone g township items index section later it named inside there before so_far refused some =
+    no_fault_alone g township items index section it refused.refused (omega (arith, refused.index_is))
+    (part_is items index section it (next_is items index section it inside there so_far.left)) some
+
+-- the refused item, where it is refused for an overlap
+pub found_refused : (g : ℕ) (township : Designation) (items : List Item) (index : ℕ) (section : Option ℕ)
+    (it : Item) (places : ℕ → ℕ → ℕ → Bool) (is : PlaceFault) (found : Option RefusedItem)
+    → index < length items → get_or items index it ≡ it
+    → AreTaken g township items index (number_of_section section) places
+    → IsItemsFirstFault g township (number_of_section section) it places is
+    → MatchOption found (¬ IsOverlap is)
+    (λ r. (r.index ≡ index) × (r.section ≡ section) × IsOverlap is)
+    → MatchOption found (¬ AreRefusedForOverlap g township items)
+    (λ r. IsRefusedItem g township items r.index (number_of_section r.section))
+found_refused g township items index section it places is None inside there so_far first unlike =
+    refused_otherwise g township items is
+    (refused_here g township items index (number_of_section section) it places is inside there so_far first)
+    unlike
+found_refused g township items index section it places is (Some r) inside there so_far first found =
+    subst (λ i. IsRefusedItem g township items i (number_of_section r.section)) (sym found.0)
+    (subst (λ s. IsRefusedItem g township items index (number_of_section s)) (sym found.1)
+    (refused_item_here g township items index (number_of_section section) it places is inside there so_far
+    first found.2))
+
+-- and a part of a section comes after it
+pub found_section : (items : List Item) (index : ℕ) (section : Option ℕ) (is : PlaceFault)
+    (found : Option RefusedItem)
+    → index < length items → SectionKnown section (drop index items)
+    → MatchOption found (¬ IsOverlap is)
+    (λ r. (r.index ≡ index) × (r.section ≡ section) × IsOverlap is)
+    → IfSome found (λ r. (it : Item) → slice_get items r.index ≡ Some it
+    → IsSome r.section ⊎ IsBeforeParts it)
+found_section items index section is None inside known found = tt
+found_section items index section is (Some r) inside known found = λ it there.
+    subst (λ s. IsSome s ⊎ IsBeforeParts it) (sym found.1)
+    (may_be_taken section items index it inside
+    (get_or_from_slice_get items index it it (ap (λ i. slice_get items i) (sym found.0) ∙ there)) known)

@@ -1,0 +1,155 @@
+ghost use Rattle.std.specs.Prelude.{◌≡◌, ◌↔◌, ◌⊎◌, ◌<◌, length, slice_get, IsTrue, IsSome, IfSome};
+ghost use Rattle.std.specs.Prelude.{Some, MatchOption};
+ghost use Rattle.twp_grammar.specs.declared.item.Item.{Item as NamedItem};
+ghost use Rattle.twp_grid.specs.Places.{PLACE_DIGITS};
+ghost use Rattle.twp_land.specs.Lands.{no_places};
+ghost use Rattle.twp_grammar.specs.Items.{BeginWithSections};
+ghost use Rattle.twp_grammar.specs.ItemPlaces.{section_behind};
+ghost use Rattle.twp_resolve.specs.SharedLand.{AreRefusedForOverlap, AreFirstSharing};
+ghost use Rattle.twp_resolve.specs.steps.ResolvingSteps.{IsTaken, IsBeforeParts, HasSomeFault};
+ghost use Rattle.twp_resolve.specs.steps.ResolvingSteps.{number_of_section};
+ghost use Rattle.twp_resolve.specs.steps.SharingSteps.{IsOverlap, IsRefusedItem, IsRefusedLand};
+ghost use Rattle.twp_resolve.specs.steps.SharingSteps.{IsFirstSharing};
+
+use crate::place_fault::PlaceFault;
+use crate::resolving::resolve_item;
+use twp_grammar::Item;
+use twp_grid::{Section, Township};
+use twp_land::Land;
+use twp_read::Description;
+
+/// Two items of a description that name the same land: their indexes.
+#[derive(Clone, Copy, Debug, PartialEq, Eq)]
+pub struct SharingItems {
+    /// The first item that names some of the later one's land.
+    pub earlier: usize,
+    /// The item for which the description is refused.
+    pub later: usize,
+}
+
+/// The item for which a description is refused: its index, and the section named last before it.
+#[derive(Clone, Copy)]
+struct RefusedItem {
+    index: usize,
+    section: Option<Section>,
+}
+
+impl RefusedItem {
+    /// The item, where its fault is that it names land again.
+    fn if_overlap(self, fault: PlaceFault) -> Option<RefusedItem>
+        ensures { MatchOption result (¬ IsOverlap fault)
+            (λ refused. (refused.index ≡ self.index) × (refused.section ≡ self.section)
+            × IsOverlap fault) }
+    {
+        match fault {
+            PlaceFault::Overlap { .. } => Some(self),
+            _ => None,
+        }
+    }
+}
+
+/// Of a description that is refused because land is named twice: the item for which it is refused,
+/// and the first item before it that names some of its land. Sets a land to what the two share.
+/// None where a description isn't refused for that; the land has no meaning then.
+pub fn shared_into<L: Land>(
+    land: &mut L,
+    description: &Description,
+    township: Township,
+) -> Option<SharingItems>
+    ensures { MatchOption result
+        (¬ AreRefusedForOverlap PLACE_DIGITS township description.now)
+        (λ pair. AreFirstSharing PLACE_DIGITS township description.now pair (L.places land.new)) }
+{
+    let items = description.items();
+    let mut named = L::empty();
+    let later = place_refused(&mut named, items, township)?;
+    let earlier = first_sharing(land, &named, items, later, township)?;
+    Some(SharingItems { earlier, later })
+}
+
+/// Sets a land to the places of the item for which a description is refused because it names land
+/// again, and gives the item's index.
+fn place_refused<L: Land>(land: &mut L, items: &[Item], township: Township) -> Option<usize>
+    requires { BeginWithSections items.now }
+    ensures within { IfSome result (λ index. index < length items.now) }
+    ensures refused { MatchOption result (¬ AreRefusedForOverlap PLACE_DIGITS township items.now)
+        (λ index. IsRefusedLand PLACE_DIGITS township items.now index (L.places land.new)) }
+{
+    let refused = refused_item(land, items, township)?;
+    place_item(land, refused.section, &items[refused.index], township)?;
+    Some(refused.index)
+}
+
+/// The item for which a description is refused because it names land again.
+fn refused_item<L: Land>(land: &mut L, items: &[Item], township: Township) -> Option<RefusedItem>
+    requires { BeginWithSections items.now }
+    ensures within { IfSome result (λ refused. refused.index < length items.now) }
+    ensures section { IfSome result (λ refused. (it : NamedItem) → slice_get items.now refused.index ≡ Some it
+        → IsSome refused.section ⊎ IsBeforeParts it) }
+    ensures refused { MatchOption result (¬ AreRefusedForOverlap PLACE_DIGITS township items.now)
+        (λ refused. IsRefusedItem PLACE_DIGITS township items.now refused.index
+        (number_of_section refused.section)) }
+{
+    let mut section = None;
+    land.clear();
+    for index in 0..items.len() {
+        let here = RefusedItem { index, section };
+        match resolve_item(land, here.section, &items[index], township) {
+            Ok(behind) => section = behind,
+            Err(fault) => return here.if_overlap(fault),
+        }
+    }
+    None
+}
+
+/// The first of the items before the refused one that names some of its land. Sets a land to what
+/// the two share.
+fn first_sharing<L: Land>(
+    land: &mut L,
+    named: &L,
+    items: &[Item],
+    later: usize,
+    township: Township,
+) -> Option<usize>
+    requires sections_first { BeginWithSections items.now }
+    requires within { later < length items.now }
+    requires refused { IsRefusedLand PLACE_DIGITS township items.now later (L.places named.now) }
+    ensures { MatchOption result ⊥
+        (λ earlier. IsFirstSharing PLACE_DIGITS items.now earlier later (L.places land.new)) }
+{
+    let mut section = None;
+    for index in 0..later {
+        section = place_item(land, section, &items[index], township)?;
+        if land.meets_land(named) {
+            land.keep_common(named);
+            return Some(index);
+        }
+    }
+    // What the refused item names again was named by an item before it, so this isn't reached.
+    None
+}
+
+/// Sets a land to the places of one item, and gives the section of what follows. None where the
+/// item doesn't lie on the plat.
+fn place_item<L: Land>(
+    land: &mut L,
+    section: Option<Section>,
+    item: &Item,
+    township: Township,
+) -> Option<Option<Section>>
+    requires { IsSome section ⊎ IsBeforeParts item.now }
+    ensures { MatchOption result
+        (HasSomeFault PLACE_DIGITS township (number_of_section section) item.now)
+        (λ behind. IsTaken PLACE_DIGITS township (number_of_section section) item.now no_places
+        (L.places land.new)
+        × (number_of_section behind ≡ section_behind (number_of_section section) item.now)) }
+{
+    land.clear();
+    let Ok(behind) = resolve_item(land, section, item, township) else {
+        return None;
+    };
+    Some(behind)
+}
+
+#[cfg(test)]
+mod tests;

@@ -1,0 +1,174 @@
+#!/bin/sh
+# Runs ./township, or the program that is named, on input that it refuses, and compares how it explains each
+# refusal on standard error, byte by byte. Each run is repeated on pipes, with its files as FIFOs of the same
+# names; and with standard error closed, full, and a pipe that nobody reads: there the answer and the status
+# are the same. At the end it runs damaged.sh. The last line is 'N passed, 0 failed'.
+#
+# The rows stand in the folder `explained`: each is a refused file, and a call of one of the functions below
+# that begin with `explained`, with the explanation in a here-document.
+set -u
+ulimit -f 4000
+ulimit -t 20
+root=$(readlink -f "$(dirname "$0")/..")
+program=$(readlink -f "${1:-./township}")
+work=$(mktemp -d)
+trap 'rm -rf "$work"' EXIT
+cd "$work" || exit 1
+mkdir pipes
+mkfifo unread
+passed=0
+failed=0
+
+# Good files, and where standard input comes from.
+good() {
+    cp "$root/samples/b0.csv" notes.csv
+    printf 'sec. 14.' > land.txt
+    cp "$root/samples/tracts.csv" list.csv
+    input=/dev/null
+}
+
+# The notes with another record of a number, the heading's being 1.
+record() {
+    good
+    awk -v number="$1" -v text="$2" 'NR == number { $0 = text } { print }' "$root/samples/b0.csv" > notes.csv
+}
+
+# The notes with one more record.
+added() {
+    good
+    echo "$1" >> notes.csv
+}
+
+# A description, and a list of these records behind its heading: as printf writes them.
+land() {
+    good
+    printf "$1" > land.txt
+}
+list() {
+    good
+    printf "name,description\n$1" > list.csv
+}
+
+# Counts a run: how it was made, its status, and whether its answer, and what it explains, are those wanted.
+pass_if_same() {
+    if [ "$2" = 1 ] && cmp -s wanted out && { [ "$3" = lost ] || cmp -s wanted_err err; }; then
+        passed=$((passed + 1))
+        return
+    fi
+    failed=$((failed + 1))
+    echo "FAILED: $what, $1: status $2; standard output, standard error:"
+    head -c 2000 out
+    [ "$3" = lost ] || head -c 2000 err
+}
+
+# Makes FIFOs of the names of files, and writes the files into them as soon as they are opened.
+feed() {
+    rm -f pipes/*
+    feeders=
+    for name; do
+        [ -f "$name" ] || continue
+        mkfifo "pipes/$name"
+        cat "$name" > "pipes/$name" 2> lost &
+        feeders="$feeders $!"
+    done
+}
+
+# What is shown, the answer, and the words; what is explained is on standard input.
+explained() {
+    what=$1
+    printf '%s\n' "$2" > wanted
+    shift 2
+    cat > wanted_err
+    "$program" "$@" < "$input" > out 2> err
+    pass_if_same 'on files' $? kept
+    "$program" "$@" < "$input" > out 2>&-
+    pass_if_same 'standard error closed' $? lost
+    "$program" "$@" < "$input" > out 2> /dev/full
+    pass_if_same 'standard error full' $? lost
+    (exec 3<> unread 4> unread 3>&-; exec "$program" "$@" < "$input" > out 2>&4)
+    pass_if_same 'standard error unread' $? lost
+    on_pipes "$@"
+    pass_if_same 'on pipes' $? kept
+}
+
+# Runs the program in a folder of FIFOs, and then ends who still waits to write.
+on_pipes() {
+    feed "$@"
+    cat "$input" | (cd pipes && exec timeout 10 "$program" "$@") > out 2> err
+    status=$?
+    for feeder in $feeders; do kill "$feeder" 2> lost; done
+    wait
+    return $status
+}
+
+# Refused notes, by each subcommand; and on standard input, behind the line of a description.
+explained_notes() {
+    cat > explanation
+    explained "plat: $1" "$2" plat notes.csv < explanation
+    explained "acres: $1" "$2" acres notes.csv land.txt < explanation
+    explained "by the plat: $1" "$2" acres --account plat notes.csv land.txt < explanation
+    explained "normal: $1" "$2" normal notes.csv land.txt < explanation
+    explained "report: $1" "$2" report notes.csv list.csv < explanation
+    (cat land.txt; echo; cat notes.csv) > joined
+    input=joined
+    moved_down < explanation > explanation_of_joined
+    explained "joined: $1" "$2" < explanation_of_joined
+    input=/dev/null
+}
+
+# The explanation of notes, as it is where they begin on line 2 of standard input.
+moved_down() {
+    awk '
+        match($0, /^township: notes.csv:[0-9]+/) {
+            $0 = "township: standard input:" (substr($0, 21, RLENGTH - 20) + 1) substr($0, RLENGTH + 1)
+        }
+        match($0, /^ +[0-9]+ [|]/) { $0 = "  " ($1 + 1) substr($0, RLENGTH - 1) }
+        match($0, / at line [0-9]+/) {
+            line = substr($0, RSTART + 9, RLENGTH - 9) + 1
+            $0 = substr($0, 1, RSTART + 8) line substr($0, RSTART + RLENGTH)
+        }
+        { sub(/^township: notes.csv:/, "township: standard input:"); print }
+    '
+}
+
+# A refused description of one line, by each subcommand that reads one; and on standard input.
+explained_land() {
+    cat > explanation
+    explained_lines "$1" "$2" < explanation
+    (cat land.txt; echo; cat notes.csv) > joined
+    input=joined
+    sed '1s/^township: land.txt:/township: standard input:/' explanation > explanation_of_joined
+    explained "joined: $1" "$2" < explanation_of_joined
+    input=/dev/null
+}
+
+# The same of a description of some lines, which standard input can't have.
+explained_lines() {
+    cat > explanation_of_lines
+    explained "acres: $1" "$2" acres notes.csv land.txt < explanation_of_lines
+    explained "by the plat: $1" "$2" acres --account plat notes.csv land.txt < explanation_of_lines
+    explained "normal: $1" "$2" normal notes.csv land.txt < explanation_of_lines
+}
+
+# A refused list.
+explained_list() {
+    explained "report: $1" "$2" report notes.csv list.csv
+}
+
+. "$root/scripts/explained/notes.sh"
+. "$root/scripts/explained/lands.sh"
+. "$root/scripts/explained/lists.sh"
+
+# Counts what damaged.sh tries.
+sh "$root/scripts/damaged.sh" "$program" > counted
+sed '$d' counted
+if tail -n 1 counted | grep -x '[0-9]* passed, [0-9]* failed' > last; then
+    read -r more _ wrong _ < last
+    passed=$((passed + more)) failed=$((failed + wrong))
+else
+    failed=$((failed + 1))
+    echo 'FAILED: no count by damaged.sh'
+fi
+
+echo "$passed passed, $failed failed"
+[ "$failed" = 0 ]

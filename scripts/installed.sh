@@ -1,0 +1,130 @@
+#!/bin/sh
+# Installs ./township, or the program that is named, into a folder of its own, and looks at what came there:
+# the files, and that the completions of the shells complete what they should. The last line is
+# 'N passed, 0 failed'.
+set -u
+ulimit -f 2000
+ulimit -t 20
+root=$(readlink -f "$(dirname "$0")/..")
+program=$(readlink -f "${1:-./township}")
+work=$(mktemp -d)
+trap 'rm -rf "$work"' EXIT
+cd "$work" || exit 1
+passed=0
+failed=0
+
+# Compares the files `wanted` and `found`, and shows them where they differ.
+same() {
+    if cmp -s wanted found; then
+        passed=$((passed + 1))
+        return
+    fi
+    failed=$((failed + 1))
+    echo "FAILED: $1: wanted, and found:"
+    head -c 2000 wanted
+    head -c 2000 found
+}
+
+# A make that calls this script passes it no words.
+unset MAKEFLAGS MFLAGS MAKELEVEL
+make -C "$root" --no-print-directory install-built PROGRAM="$program" DESTDIR="$work/there" PREFIX=/usr > lost
+there=$work/there/usr
+(cd there && find . -type f -printf '%p %m\n' | sort) > found
+cat > wanted << 'END'
+./usr/bin/township 755
+./usr/share/bash-completion/completions/township 644
+./usr/share/man/man1/township.1 644
+./usr/share/zsh/site-functions/_township 644
+END
+same 'what is installed'
+for file in man/township.1:man/man1/township.1 \
+    completions/township.bash:bash-completion/completions/township \
+    completions/_township:zsh/site-functions/_township; do
+    cp "$root/${file%:*}" wanted
+    cp "$there/share/${file#*:}" found
+    same "what is installed of ${file%:*}"
+done
+echo '40.45 acres' > wanted
+"$there/bin/township" acres "$root/samples/b1.csv" "$root/samples/description.txt" > found 2>&1
+same 'the installed program'
+
+# A folder to complete names in.
+mkdir names names/deeds
+touch names/notes.csv names/tracts.csv names/land.txt 'names/my notes.csv'
+
+# What bash completes the last of these words with, in any order.
+cat > complete.bash << 'END'
+. "$1"
+shift
+complete -p township
+COMP_WORDS=("$@")
+COMP_CWORD=$(($# - 1))
+_township township "${COMP_WORDS[COMP_CWORD]}" "${COMP_WORDS[COMP_CWORD - 1]}"
+[ ${#COMPREPLY[@]} = 0 ] || printf '%s\n' "${COMPREPLY[@]}" | sort
+END
+completed() {
+    echo 'complete -F _township township' > wanted
+    [ -z "$1" ] || printf '%s\n' "$1" | tr '|' '\n' | sort >> wanted
+    shift
+    (cd names && bash ../complete.bash "$there/share/bash-completion/completions/township" "$@") > found 2>&1
+    same "bash completes: $*"
+}
+subcommands='plat|acres|normal|report'
+lists='deeds|my notes.csv|notes.csv|tracts.csv'
+any="$lists|land.txt"
+if command -v bash > lost; then
+    completed "$subcommands|help|--help" township ''
+    completed 'plat' township p
+    completed 'help' township h
+    completed '--help' township -
+    completed '' township deeds
+    completed "$lists" township plat ''
+    completed '' township plat notes.csv ''
+    completed '--help' township plat -
+    completed '--help' township plat notes.csv --
+    completed "$lists" township acres ''
+    completed 'my notes.csv' township acres my
+    completed "$any" township acres notes.csv ''
+    completed 'land.txt' township acres notes.csv l
+    completed '' township acres notes.csv land.txt ''
+    completed '--account|--help' township acres --
+    completed '--account' township acres notes.csv --a
+    completed 'exact|plat' township acres --account ''
+    completed 'plat' township acres --account p
+    completed 'exact|plat' township acres --account =
+    completed 'exact' township acres --account = e
+    completed "$lists" township acres --account plat ''
+    completed "$any" township acres --account = plat notes.csv ''
+    completed "$any" township acres notes.csv --account plat ''
+    completed "$lists" township acres -- ''
+    completed '' township acres -- -
+    completed "$any" township acres -- notes.csv ''
+    completed "$lists" township normal ''
+    completed "$any" township normal notes.csv ''
+    completed '--help' township normal --
+    completed "$lists" township report ''
+    completed "$lists" township report notes.csv ''
+    completed '' township report notes.csv tracts.csv ''
+    completed "$subcommands" township help ''
+    completed '' township help acres ''
+else
+    echo 'skipped: the completion of bash, since there is no bash here'
+fi
+if command -v zsh > lost; then
+    zsh -n "$there/share/zsh/site-functions/_township" > found 2>&1
+    : > wanted
+    same 'the completion of zsh is well formed'
+else
+    echo 'skipped: the completion of zsh, since there is no zsh here'
+fi
+
+# The completions have each subcommand that help lists, and the options of `acres`.
+"$program" --help | sed -n '/^Commands:/,/^$/s/^  \([a-z]*\) .*/\1/p' | sort > wanted
+sed -n "s/^ *_township_words .* '\(.*\) --help'$/\1/p" "$root/completions/township.bash" |
+    tr ' ' '\n' | sort > found
+same 'the subcommands that bash completes'
+sed -n "s/^.*'\([a-z]*\):print .*/\1/p" "$root/completions/_township" | sort > found
+same 'the subcommands that zsh completes'
+
+echo "$passed passed, $failed failed"
+[ "$failed" = 0 ]
