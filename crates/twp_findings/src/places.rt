@@ -9,7 +9,8 @@ use twp_excerpt::{Span, write_escaped};
 use twp_grammar::{Item, Numeral, Steps};
 use twp_grid::{EastWest, NorthSouth, Refusal, Section, Township, lot_count};
 use twp_marks::{
-    PartOfLots, Shared, chain_span, heading_span, part_of_lots, range_span, shared_land_text, token_span,
+    PartOfLots, Shared, chain_span, heading_span, part_of_lots, range_span, shared_land_text,
+    token_span,
 };
 use twp_read::Description;
 use twp_resolve::PlaceFault;
