@@ -25,7 +25,8 @@ pub fn account_of(alloc: Global, plat: &Plat, bytes: &[u8]) -> Result<Vec<u8>, T
     ensures account { IfOk result (λ text. IsAccountOf plat.now bytes.now text.items) }
     ensures fault { IfErr result (AnswersFault plat.now.township bytes.now) }
 {
-    let mut records = Records::new(alloc, bytes);
+    // Borrowed where it is made: to move it would copy its buffers.
+    let records = &mut Records::new(alloc, bytes);
     let mut row = ByteRecord::new(alloc);
     if !records.read(&mut row)? {
         return Err(TractFault::TractRow(1));
@@ -34,7 +35,7 @@ pub fn account_of(alloc: Global, plat: &Plat, bytes: &[u8]) -> Result<Vec<u8>, T
         return Err(TractFault::TractRow(1));
     }
     let mut account: RunningAccount<Lanes> = RunningAccount::new(alloc, plat);
-    take_tracts(alloc, plat, &mut records, &mut row, &mut account)?;
+    take_tracts(alloc, plat, records, &mut row, &mut account)?;
     account.totals.write(&mut account.text)?;
     Ok(account.text)
 }

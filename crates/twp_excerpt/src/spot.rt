@@ -91,6 +91,10 @@ fn first_size(bytes: &[u8]) -> usize
     ensures some { 0 < result }
     ensures within { result ≤ length bytes.now }
 {
+    // Most text is ASCII, of which nothing has to be decoded.
+    if bytes[0] < 0x80 {
+        return 1;
+    }
     match decode_utf8(bytes) {
         (Some(_), size) => size,
         (None, _) => 1,

@@ -43,6 +43,11 @@ impl<'a> Listed<'a> {
         self.record.len()
     }
 
+    /// Whether each of its fields is empty.
+    pub(crate) fn has_no_text(&self) -> bool {
+        self.record.has_no_text()
+    }
+
     /// What a field says, from 0: nothing where there is no such field.
     pub(crate) fn field(&self, place: usize) -> &[u8] {
         self.record.text(place)

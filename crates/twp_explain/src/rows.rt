@@ -170,7 +170,7 @@ impl Sign {
 
 /// Whether a record has several fields, all of them empty.
 fn is_empty_row(listed: &Listed<'_>) -> bool {
-    listed.len() > 1 && listed.written_from(0).iter().all(|byte| *byte == b',')
+    listed.len() > 1 && listed.has_no_text()
 }
 
 /// Whether a field begins with spaces before a quotation mark.

@@ -88,6 +88,11 @@ impl<'a> Record<'a> {
         self.row.len()
     }
 
+    /// Whether each of its fields is empty.
+    pub fn has_no_text(&self) -> bool {
+        self.row.as_slice().is_empty()
+    }
+
     /// What a field says, from 0: nothing where there is no such field.
     pub fn text(&self, field: usize) -> &[u8] {
         self.row.get(field).unwrap_or(b"")

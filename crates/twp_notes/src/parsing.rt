@@ -23,7 +23,8 @@ pub fn parse(alloc: Global, bytes: &[u8]) -> Result<Notes, NotesFault>
     ensures answer { AnswersNotes bytes.now result }
     ensures no_read { IfErr result (λ fault. fault ≢ NotesFault.Read) }
 {
-    let mut records = Records::new(alloc, bytes);
+    // Borrowed where it is made: to move it would copy its buffers.
+    let records = &mut Records::new(alloc, bytes);
     let mut row = ByteRecord::new(alloc);
     if !records.read(&mut row)? {
         return Err(NotesFault::Empty);
@@ -40,7 +41,7 @@ pub fn parse(alloc: Global, bytes: &[u8]) -> Result<Notes, NotesFault>
     let Some(township) = township_of(&row) else {
         return Err(NotesFault::Township);
     };
-    let table = take_lines(&mut records, &mut row)?;
+    let table = take_lines(records, &mut row)?;
     match table.complete() {
         Ok(lines) => Ok(Notes::new(township, lines)),
         Err(line) => Err(NotesFault::Missing(line)),

@@ -10,7 +10,7 @@ use Rattle.twp_acres.proofs.tracts.account_of.Goals as goal
 pub returns-in_err-take_tracts-clause-fault : goal.returns-in_err-take_tracts-clause-fault
 returns-in_err-take_tracts-clause-fault c =
     let one = rw c.if-not-branch.false at c.in_ok-read.ensures in
-    let behind = behind_of c.args.bytes.now _ _ (sym c.new-records.ensures.all ∙ one.0) in
+    let behind = behind_of c.args.bytes.now _ _ (sym c.new.ensures.all ∙ one.0) in
     let heading_is = behind.first ∙ c.is_heading.ensures.0 c.if-not-is_heading.false in
     let gone =
     err_from_is_err_and c.from_residual-in_err-take_tracts.result
@@ -22,7 +22,7 @@ returns-in_err-take_tracts-clause-fault c =
 pub returns-clause-account : goal.returns-clause-account
 returns-clause-account c =
     let one = rw c.if-not-branch.false at c.in_ok-read.ensures in
-    let behind = behind_of c.args.bytes.now _ _ (sym c.new-records.ensures.all ∙ one.0) in
+    let behind = behind_of c.args.bytes.now _ _ (sym c.new.ensures.all ∙ one.0) in
     let heading_is = behind.first ∙ c.is_heading.ensures.0 c.if-not-is_heading.false in
     accepted c.args.plat.now c.args.bytes.now _ _ _ c.requires heading_is behind.behind
     c.in_ok-take_tracts.ensures.few c.in_ok-take_tracts.ensures.taken

@@ -14,7 +14,7 @@ take_lines-requires-clause-few c =
     let one = rw c.if-not-branch.false at c.in_ok-read.ensures in
     let two = rw c.if-not-branch-2.false at c.in_ok-read-2.ensures in
     let behind =
-    behind_of c.args.bytes.now _ _ _ _ _ c.in-Some.township c.requires c.new-records.ensures.all one.0
+    behind_of c.args.bytes.now _ _ _ _ _ c.in-Some.township c.requires c.new.ensures.all one.0
     two.0 (c.is_heading.ensures.0 c.if-not-is_heading.false) c.in-Some.ensures.0 in
     let all : length (records_of c.args.bytes.now)
     ≡ length (fields_of c.read.new.row ∷ fields_of c.read-2.new.row ∷ records_left c.read-2.new.self) =
@@ -29,7 +29,7 @@ returns-in_err-table-clause-answer c =
     let one = rw c.if-not-branch.false at c.in_ok-read.ensures in
     let two = rw c.if-not-branch-2.false at c.in_ok-read-2.ensures in
     let behind =
-    behind_of c.args.bytes.now _ _ _ _ _ c.in-Some.township c.requires c.new-records.ensures.all one.0
+    behind_of c.args.bytes.now _ _ _ _ _ c.in-Some.township c.requires c.new.ensures.all one.0
     two.0 (c.is_heading.ensures.0 c.if-not-is_heading.false) c.in-Some.ensures.0 in
     let gone =
     err_from_is_err_and c.from_residual-in_err-table.result c.from_residual-in_err-table.ensures.1 in
@@ -49,9 +49,9 @@ returns-in-Ok-clause-answer c =
     let one = rw c.if-not-branch.false at c.in_ok-read.ensures in
     let two = rw c.if-not-branch-2.false at c.in_ok-read-2.ensures in
     let behind =
-    behind_of c.args.bytes.now _ _ _ _ _ c.in-Some.township c.requires c.new-records.ensures.all one.0
+    behind_of c.args.bytes.now _ _ _ _ _ c.in-Some.township c.requires c.new.ensures.all one.0
     two.0 (c.is_heading.ensures.0 c.if-not-is_heading.false) c.in-Some.ensures.0 in
-    rw c.new.ensures
+    rw c.new-in-Ok.ensures
     (notes_of_table c.args.bytes.now _ _ _ behind c.in_ok-table.ensures.taken c.in-Ok.ensures.lines)
 
 pub returns-clause-answer : goal.returns-clause-answer
@@ -59,6 +59,6 @@ returns-clause-answer c =
     let one = rw c.if-not-branch.false at c.in_ok-read.ensures in
     let two = rw c.if-not-branch-2.false at c.in_ok-read-2.ensures in
     let behind =
-    behind_of c.args.bytes.now _ _ _ _ _ c.in-Some.township c.requires c.new-records.ensures.all one.0
+    behind_of c.args.bytes.now _ _ _ _ _ c.in-Some.township c.requires c.new.ensures.all one.0
     two.0 (c.is_heading.ensures.0 c.if-not-is_heading.false) c.in-Some.ensures.0 in
     missing_is_first c.args.bytes.now _ _ _ behind c.in_ok-table.ensures.taken c.in-Err.ensures.missing
