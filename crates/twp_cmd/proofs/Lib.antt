@@ -1,2 +1,3 @@
 pub mod JoinedFacts
 pub mod EndingFacts
+pub mod KeptFacts

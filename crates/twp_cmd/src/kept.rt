@@ -1,11 +1,15 @@
-ghost use Rattle.std.specs.Prelude.{◌≡◌};
+ghost use Rattle.std.specs.Prelude.{◌≡◌, ◌++◌, IfOk};
 
-use std::alloc::Global;
+use std::alloc::{AllocError, Global};
 use twp_grid::{DeviceFault, Source};
 
 /// How many bytes of a copy there is room for from the start: growing copies them once more. It is
 /// so many that the host maps them beside the heap, where they grow without being copied.
 const ROOM: usize = 131_072;
+
+/// How many bytes of a copy are added at once. Memory moves so few by wide loads, and many more a
+/// byte at a time.
+const PIECE: usize = 1_024;
 
 /// A source that keeps a copy of the bytes that it gives, since a file may be read but once. Where
 /// memory for the copy is refused, it is given up, and the source gives its bytes as before.
@@ -46,10 +50,23 @@ impl<S> Kept<S> {
         ensures copy { GrowsOrIsLost (copy_of self.old) (copy_of self.new) bytes.now }
     {
         let Some(copy) = &mut self.copy else { return };
-        if copy.extend_from_slice(bytes).is_err() {
+        if add(copy, bytes).is_err() {
             self.copy = None;
         }
     }
+}
+
+/// Adds bytes to a copy, piece by piece.
+fn add(copy: &mut Vec<u8>, bytes: &[u8]) -> Result<(), AllocError>
+    ensures { IfOk result (λ _. copy.new.items ≡ copy.old.items ++ bytes.now) }
+{
+    let mut at = 0;
+    'pieces: while at < bytes.len() {
+        let end = bytes.len().min(at.saturating_add(PIECE));
+        copy.extend_from_slice(&bytes[at..end])?;
+        at = end;
+    }
+    Ok(())
 }
 
 impl<S: Source> Source for Kept<S> {

@@ -1,3 +1,4 @@
 pub mod MarkFacts
+pub mod NearFacts
 pub mod JoinedFacts
 pub mod PartFacts

@@ -1,9 +1,9 @@
 -- What is underlined of a text: tokens taken one by one, and the longest aliquot part that they begin with.
-use Rattle.std.proofs.Common.{◌≡◌, ◌==◌, ℕ, ◌+◌, ◌<◌, ◌≤◌, Bool, true, false, cond, List, [], ◌∷◌, ◌++◌}
+use Rattle.std.proofs.Common.{◌≡◌, ◌==◌, ℕ, ◌+◌, ◌≤◌, true, false, List, [], ◌∷◌, ◌++◌}
 use Rattle.std.proofs.Common.{Option}
 use Rattle.std.proofs.Common.{Some, None, length, refl, sym, ap, subst, ◌∙◌, inl, inr, append_assoc, arith}
-use Rattle.std.proofs.Common.{length-append, map}
-use Rattle.std.specs.List.{AllPass, flat_map}
+use Rattle.std.proofs.Common.{length-append}
+use Rattle.std.specs.List.{AllPass}
 use Rattle.std.proofs.lemmas.Bool.{cases_Bool}
 use Rattle.std.proofs.lemmas.List.{append-nil}
 use Rattle.twp_grammar.specs.declared.kind.Kind.{Kind}
@@ -14,9 +14,9 @@ use Rattle.twp_grammar.specs.declared.token.Token.{Token as Piece}
 use Rattle.twp_grammar.specs.Grammar.{Ebnf, step, chain, maybe, one, of, the, ◌⨾◌}
 use Rattle.twp_grammar.specs.Items.{Tree, tokens, ◌&◌}
 use Rattle.twp_grammar.proofs.TokenFacts.{one_token_list, has_token_list}
-use Rattle.twp_marks.specs.Marks.{tokens_from, span, span_of, first_of, end_of, ArePart, AreLongestPart}
+use Rattle.twp_marks.specs.Marks.{tokens_from, span, span_of, first_of, end_of, AreLongestPart}
 use Rattle.twp_marks.specs.Marks.{BeginWithPart, AreMarked, a_part, a_token, IsTokenSpan, IsChainSpan}
-use Rattle.twp_marks.specs.steps.Marking.{AreLeft, GivesFirstOf, end_of_left, is_step, is_of, is_the}
+use Rattle.twp_marks.specs.steps.Marking.{AreLeft, HaveSameFrom, GivesFirstOf, end_of_left, is_step, is_of, is_the}
 use Rattle.twp_marks.specs.steps.Marking.{behind_second, behind_step, behind_of, behind_the, behind_link}
 use Rattle.twp_marks.specs.steps.Marking.{link, IsSecond, TakesSecond, IsLink, TakesLink, tokens_of_links}
 use Rattle.twp_marks.specs.steps.Marking.{EndsLinks, EndsPart}
@@ -464,6 +464,15 @@ first_or other (token ∷ more) = token
 
 abbrev whole : List ℕ → Left
 whole text = record { at = 0; bytes = text }
+
+-- tokens that are near a place are as good for it as all
+pub found_near : (text : List ℕ) (at : ℕ) (left : Left) (o : Option Piece) (after : Left)
+    → HaveSameFrom at text left
+    → ((list : List Token) → AreLeft left list → GivesFirstOf (tokens_from at list) o after)
+    → (list : List Token) → AreLeft (whole text) list → GivesFirstOf (tokens_from at list) o after
+found_near text at left o after same found list has =
+    let near = has_token_list left.at left.bytes in
+    subst (λ (l : List Token). GivesFirstOf l o after) (sym (same list near.0 has near.1)) (found near.0 near.1)
 
 pub token_found : (text : List ℕ) (at : ℕ) (after : Left) (token : Piece)
     → ((list : List Token) → AreLeft (whole text) list

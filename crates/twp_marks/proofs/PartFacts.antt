@@ -1,7 +1,7 @@
 -- An aliquot part without its section's lots.
-use Rattle.std.proofs.Common.{◌≡◌, ◌==◌, ℕ, ◌+◌, ◌-◌, ◌<◌, ◌≤◌, ◌&&◌, ◌||◌, not, Bool, true, false, List}
+use Rattle.std.proofs.Common.{◌≡◌, ◌==◌, ℕ, ◌-◌, ◌<◌, ◌≤◌, ◌&&◌, ◌||◌, not, Bool, true, false, List}
 use Rattle.std.proofs.Common.{Option}
-use Rattle.std.proofs.Common.{Some, None, refl, sym, ap, subst, ◌∙◌, arith, nat_le, is_none}
+use Rattle.std.proofs.Common.{Some, None, refl, sym, ap, subst, ◌∙◌, arith, nat_le}
 use Rattle.std.proofs.Math.Path.{fun_ext}
 use Rattle.std.proofs.lemmas.Bool.{eq-eqb}
 use Rattle.std.proofs.lemmas.Bool.Decides.{nat_tests}
@@ -10,10 +10,9 @@ use Rattle.twp_grid.specs.Lots.{number_of_lots, position_of_lot}
 use Rattle.twp_grid.specs.Places.{PLACE_DIGITS, is_place, position_along}
 use Rattle.twp_grid.specs.Spans.{Rectangle, in_rectangle}
 use Rattle.twp_land.specs.Lands.{no_places, union, difference, block_places}
-use Rattle.twp_land.specs.WholeLots.{lot_of_place, off_lots}
+use Rattle.twp_land.specs.WholeLots.{lot_of_place}
 use Rattle.twp_land.proofs.LotFacts.{fills, block_of}
 use Rattle.twp_land.proofs.LotBlocks.{lot_is_place}
-use Rattle.twp_grammar.specs.ItemPlaces.{is_lot_from}
 use Rattle.twp_resolve.specs.steps.ResolvingSteps.{lots_from}
 use Rattle.twp_resolve.proofs.RangeFacts.{no_lots, next_lot}
 use Rattle.twp_grid.specs.Cuts.{AreWithin, reached}

@@ -1,8 +1,8 @@
 //! What is underlined of a text: a token, or an aliquot part.
 ghost use Rattle.std.specs.Prelude.{◌≡◌, ◌<◌, ◌≤◌, List, [], ◌∷◌, length, IfSome};
-ghost use Rattle.twp_grammar.specs.Tokens.{Token as SeenToken, seen};
+ghost use Rattle.twp_grammar.specs.Tokens.{Token as SeenToken, is_white, seen};
 ghost use Rattle.twp_marks.specs.Marks.{tokens_from, span_of, IsTokenSpan, IsChainSpan};
-ghost use Rattle.twp_marks.specs.steps.Marking.{AreLeft, GivesFirstOf, TakesSecond, TakesLink};
+ghost use Rattle.twp_marks.specs.steps.Marking.{AreLeft, HaveSameFrom, GivesFirstOf, TakesSecond, TakesLink};
 ghost use Rattle.twp_marks.specs.steps.Marking.{EndsLinks, EndsPart, end_of_left, end_of_token};
 ghost use Rattle.twp_marks.specs.steps.Marking.{behind_of, behind_the, is_of, is_the, is_step};
 
@@ -15,7 +15,7 @@ use twp_read::Tokens;
 pub fn token_span(text: &[u8], at: usize) -> Span
     ensures { IsTokenSpan text.now at result }
 {
-    let mut tokens = Tokens::new(text);
+    let mut tokens = tokens_near(text, at);
     let Some(token) = seek(&mut tokens, at) else {
         return no_bytes(text, at);
     };
@@ -32,7 +32,7 @@ pub fn token_span(text: &[u8], at: usize) -> Span
 pub fn chain_span(text: &[u8], at: usize) -> Span
     ensures { IsChainSpan text.now at result }
 {
-    let mut tokens = Tokens::new(text);
+    let mut tokens = tokens_near(text, at);
     let Some(first) = seek(&mut tokens, at) else {
         return no_bytes(text, at);
     };
@@ -44,7 +44,7 @@ pub fn chain_span(text: &[u8], at: usize) -> Span
 
 /// The bytes of a heading whose first token stands at a place of a text, up to its range's side.
 pub fn heading_span(text: &[u8], at: usize) -> Span {
-    let mut tokens = Tokens::new(text);
+    let mut tokens = tokens_near(text, at);
     let Some(first) = seek(&mut tokens, at) else {
         return no_bytes(text, at);
     };
@@ -67,6 +67,25 @@ pub fn range_span(text: &[u8], first: usize, last: usize) -> Span {
         start: token_span(text, first).start,
         end: token_span(text, last).end,
     }
+}
+
+/// The tokens of a text, from one on that isn't behind a place. Where white space stands before the
+/// place, those before it are left out: it parts them from the others.
+fn tokens_near<'a>(text: &'a [u8], at: usize) -> Tokens<'a>
+    ensures same { HaveSameFrom at text.now result }
+    ensures end { end_of_left result ≡ length text.now }
+{
+    if 0 < at && at <= text.len() && is_white(text[at - 1]) {
+        return Tokens::behind(text, at);
+    }
+    Tokens::new(text)
+}
+
+/// Whether a byte is a space, a tab, a line feed, or a carriage return.
+fn is_white(byte: u8) -> bool
+    ensures { result ≡ is_white byte }
+{
+    matches!(byte, b' ' | b'\t' | b'\n' | b'\r')
 }
 
 /// No bytes, at a place of a text or at its end.

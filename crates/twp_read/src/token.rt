@@ -55,7 +55,7 @@ impl<'a> Tokens<'a> {
     }
 
     /// The tokens of a text that stand at a place or after it.
-    pub(crate) fn behind(text: &'a [u8], at: usize) -> Tokens<'a>
+    pub fn behind(text: &'a [u8], at: usize) -> Tokens<'a>
         requires { at ≤ length text.now }
         ensures { result ≡ record { at = at; bytes = drop at text.now } }
     {

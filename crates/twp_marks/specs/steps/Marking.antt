@@ -9,11 +9,17 @@ use Rattle.twp_grammar.specs.declared.token.Token.{Token as Piece}
 use Rattle.twp_grammar.specs.Tokens.{Token, Left, HasTokens, seen}
 use Rattle.twp_grammar.specs.Grammar.{Ebnf, step, of, the, maybe, one, ◌⨾◌}
 use Rattle.twp_grammar.specs.Items.{Tree, tokens}
-use Rattle.twp_marks.specs.Marks.{AreMarked, end_of}
+use Rattle.twp_marks.specs.Marks.{AreMarked, end_of, tokens_from}
 
 -- these tokens are left
 abbrev pub AreLeft : Left → List Token → Type 0
 AreLeft left tokens = HasTokens left.at left.bytes tokens
+
+-- what is left of a text has the tokens from a place on that the whole text has
+abbrev pub HaveSameFrom : ℕ → List ℕ → Left → Type 0
+HaveSameFrom at text left =
+    (all some : List Token) → HasTokens 0 text all → AreLeft left some
+    → tokens_from at all ≡ tokens_from at some
 
 -- where what is left ends
 abbrev pub end_of_left : Left → ℕ
