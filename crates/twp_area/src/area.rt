@@ -98,6 +98,3 @@ fn regular_units(places: u32, over: u64) -> u128
 {
     REGULAR_PLACE * (u128::from(over) * u128::from(places))
 }
-
-#[cfg(test)]
-mod tests;

@@ -9,7 +9,7 @@ const ROOM: usize = 131_072;
 
 /// How many bytes of a copy are added at once. Memory moves so few by wide loads, and many more a
 /// byte at a time.
-const PIECE: usize = 1_024;
+const PIECE: usize = 4_000;
 
 /// A source that keeps a copy of the bytes that it gives, since a file may be read but once. Where
 /// memory for the copy is refused, it is given up, and the source gives its bytes as before.

@@ -1,7 +1,7 @@
 -- Text that is shown: what is added to a text in steps, and printable ASCII.
 use Rattle.std.proofs.Common.{◌≡◌, ℕ, ◌+◌, ◌-◌, ◌<◌, ◌≤◌, Bool, true, false, cond, not, ◌&&◌, ◌||◌, ◌==◌}
 use Rattle.std.proofs.Common.{List, []}
-use Rattle.std.proofs.Common.{◌∷◌, ◌++◌, Option, Some, None, length, take, drop, refl, sym, ap, ap₂, ◌∙◌}
+use Rattle.std.proofs.Common.{◌∷◌, ◌++◌, Some, length, take, drop, refl, sym, ap, ap₂, ◌∙◌}
 use Rattle.std.proofs.Common.{nat_le}
 use Rattle.std.proofs.Common.{arith, append_assoc, subst, encode_utf8}
 use Rattle.std.specs.Prelude.{encode_utf8_all}
@@ -22,7 +22,7 @@ use Rattle.std.specs.Str.{all_ascii_digits}
 use Rattle.std.specs.Str.Parse.{digits_value}
 use Rattle.std.proofs.lemmas.Str.Parse.{IsNumeralModel, numerals_by_value, tells_all_ascii_digits}
 use Rattle.std.proofs.lemmas.Fmt.{decimal_is_IsNumeral}
-use Rattle.std.specs.Prelude.{decimal, ◌^◌, ◌%◌}
+use Rattle.std.specs.Prelude.{decimal, ◌^◌}
 use Rattle.std.specs.Int.{is_in_range}
 use Rattle.twp_excerpt.specs.Shown.{is_shown, IsTextOf, IsShownText, Adds, AddsShown, AddsLines, AddsTwoLines}
 use Rattle.twp_excerpt.specs.Shown.{is_control, is_odd_mark, is_blank_letter, is_beyond_text}

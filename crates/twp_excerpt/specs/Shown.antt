@@ -1,6 +1,6 @@
 -- Which characters a terminal may be given: those that can be seen, and that neither move, turn, nor
 -- hide what stands beside them.
-use Rattle.std.specs.Prelude.{◌≡◌, ◌==◌, ℕ, ◌+◌, ◌%◌, ◌<◌, Bool, true, false, not, nat_le, ◌&&◌, ◌||◌, Option}
+use Rattle.std.specs.Prelude.{◌≡◌, ◌==◌, ℕ, ◌%◌, Bool, true, false, not, nat_le, ◌&&◌, ◌||◌, Option}
 use Rattle.std.specs.Prelude.{Some, None, List, [], ◌∷◌, ◌++◌}
 use Rattle.std.specs.Int.{is_in_range}
 use Rattle.std.specs.List.{list_all}

@@ -2,7 +2,7 @@
 use Rattle.std.specs.Prelude.{ℕ, zero, suc, ◌+◌, ◌-◌, ◌==◌, ◌||◌, Bool, not, Option, Some, None, List, []}
 use Rattle.std.specs.Prelude.{◌∷◌, length, take, drop, reverse, count_by}
 use Rattle.std.specs.List.{prefix_len}
-use Rattle.bstr.specs.Utf8.{Decoded, decoded}
+use Rattle.bstr.specs.Utf8.{decoded}
 
 -- the byte is a line feed
 abbrev pub is_feed : ℕ → Bool

@@ -1,9 +1,10 @@
 //! Places in a text: lines, columns, and where the text ends but for white space.
-ghost use Rattle.std.specs.Prelude.{◌≡◌, ◌+◌, ◌<◌, ◌≤◌, ◌^◌, length, count_by, take};
+ghost use Rattle.std.specs.Prelude.{◌≡◌, ◌+◌, ◌<◌, ◌≤◌, ◌^◌, length, count_by, drop, take};
 ghost use Rattle.twp_excerpt.specs.Spots.{columns, column_of, end_of, first_size};
 ghost use Rattle.twp_excerpt.specs.Spots.{is_feed, is_white, line_of, line_start};
 
 use bstr::decode_utf8;
+use memchr::memrchr;
 
 /// Where a byte of a text stands. Both numbers count from 1.
 #[derive(Clone, Copy, Debug, PartialEq, Eq)]
@@ -55,11 +56,10 @@ pub(crate) fn start_of_line(text: &[u8], at: usize) -> usize
     ensures value { result ≡ line_start text.now at }
     ensures within { result ≤ at }
 {
-    let mut start = at;
-    while start > 0 && text[start - 1] != b'\n' {
-        start -= 1;
+    match memrchr(b'\n', &text[..at]) {
+        Some(feed) => feed + 1,
+        None => 0,
     }
-    start
 }
 
 /// How many line feeds there are.
@@ -70,18 +70,38 @@ fn line_feeds(text: &[u8]) -> usize
     text.iter().filter(|byte| **byte == b'\n').count()
 }
 
-/// How many columns the bytes take.
+/// How many columns the bytes take. Most lines are ASCII, of which each byte takes one.
+#[tactic(auto, using(crate::proofs::SpotFacts::ascii_columns))]
 fn columns(bytes: &[u8]) -> usize
     ensures value { result ≡ columns bytes.now }
     ensures within { result ≤ length bytes.now }
 {
+    if bytes.is_ascii() {
+        return bytes.len();
+    }
     let mut at = 0;
     let mut count = 0;
     while at < bytes.len() {
-        at += first_size(&bytes[at..]);
+        at += size_at(bytes, at);
         count += 1;
     }
     count
+}
+
+/// How many bytes the character at a place takes, or 1 where none begins there. Nothing of ASCII has to
+/// be decoded.
+#[tactic(auto, using(crate::proofs::SpotFacts::ascii_takes_one))]
+#[inline(always)]
+fn size_at(bytes: &[u8], at: usize) -> usize
+    requires { at < length bytes.now }
+    ensures value { result ≡ first_size (drop at bytes.now) }
+    ensures some { 0 < result }
+    ensures within { at + result ≤ length bytes.now }
+{
+    if bytes[at] < 0x80 {
+        return 1;
+    }
+    first_size(&bytes[at..])
 }
 
 /// How many bytes the first character takes, or 1 where no character begins the bytes.
@@ -91,10 +111,6 @@ fn first_size(bytes: &[u8]) -> usize
     ensures some { 0 < result }
     ensures within { result ≤ length bytes.now }
 {
-    // Most text is ASCII, of which nothing has to be decoded.
-    if bytes[0] < 0x80 {
-        return 1;
-    }
     match decode_utf8(bytes) {
         (Some(_), size) => size,
         (None, _) => 1,

@@ -80,6 +80,3 @@ pub trait Land: Drop {
     ghost within: { (land : Self) (section column row : ℕ) → places land section column row ≡ true
         → IsSection section × IsPlace PLACE_DIGITS column row };
 }
-
-#[cfg(test)]
-mod tests;

@@ -32,6 +32,3 @@ fn has_whole_lots<L: Land>(land: &L, section: Section) -> bool
     }
     true
 }
-
-#[cfg(test)]
-mod tests;

@@ -1,9 +1,10 @@
 //! Steps of an aliquot part that are read as one part although a line ends between them.
-ghost use Rattle.std.specs.Prelude.{◌≡◌, ◌≤◌, ◌&&◌, length, IfSome, MatchOption};
+ghost use Rattle.std.specs.Prelude.{◌≡◌, ◌≤◌, ◌<◌, ◌&&◌, length, IfSome, MatchOption};
 ghost use Rattle.twp_marks.specs.JoinedSteps.{begins_step, ends_step, has_line_feed};
 ghost use Rattle.twp_marks.specs.JoinedSteps.{HasNoJoinedStep, IsFirstJoinedStep};
 
 use memchr::memchr;
+use std::simd::prelude::*;
 use twp_grammar::Kind;
 use twp_read::Tokens;
 
@@ -62,15 +63,39 @@ fn has_line_feed(bytes: &[u8]) -> bool
 /// which no step is joined to another, by their line ends alone.
 pub fn may_join_steps(text: &[u8]) -> bool {
     let mut from = 0;
-    while let Some(found) = memchr(b'\n', &text[from..]) {
-        let line_end = from + found;
-        let (line, left) = text[from..].split_at(found);
-        if ends_like_step(line) && begins_like_step(left) {
+    while let Some(line_end) = next_line_feed(text, from) {
+        if ends_like_step(&text[from..line_end]) && begins_like_step(&text[line_end..]) {
             return true;
         }
         from = line_end + 1;
     }
     false
+}
+
+/// How many bytes are looked at together for line feeds, which are few.
+const BLOCK: usize = 64;
+
+/// Where the next line feed stands, from a place on.
+fn next_line_feed(text: &[u8], from: usize) -> Option<usize>
+    requires { from ≤ length text.now }
+    ensures { IfSome result (λ at. (from ≤ at) × (at < length text.now)) }
+{
+    let mut at = from;
+    while text.len() - at >= BLOCK {
+        if is_line_feed_in(&text[at..at + BLOCK]) {
+            break;
+        }
+        at += BLOCK;
+    }
+    let found = memchr(b'\n', &text[at..])?;
+    Some(at + found)
+}
+
+/// Whether a line feed is in a block.
+fn is_line_feed_in(block: &[u8]) -> bool
+    requires { BLOCK ≤ length block.now }
+{
+    u8x64::from_slice(block).simd_eq(u8x64::splat(b'\n')).any()
 }
 
 /// Whether a line's last byte that isn't white space is one that a step can end with.

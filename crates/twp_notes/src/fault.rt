@@ -103,6 +103,3 @@ impl From<AllocError> for NotesFault {
         NotesFault::Memory
     }
 }
-
-#[cfg(test)]
-mod tests;

@@ -11,8 +11,6 @@ mod parsing;
 mod reading;
 mod records;
 mod returned;
-#[cfg(test)]
-mod sample;
 mod table;
 mod writing;
 

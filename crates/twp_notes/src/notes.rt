@@ -96,6 +96,3 @@ impl Notes {
         self.township
     }
 }
-
-#[cfg(test)]
-mod tests;

@@ -105,6 +105,3 @@ pub fn read_up_to<S: Source>(
     }
     Ok(read)
 }
-
-#[cfg(test)]
-mod tests;

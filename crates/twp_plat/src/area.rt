@@ -51,6 +51,3 @@ impl Plat {
         area
     }
 }
-
-#[cfg(test)]
-mod tests;

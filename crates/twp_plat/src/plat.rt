@@ -154,6 +154,3 @@ impl Plat {
         self.closing_quarters[usize::from(line.index())]
     }
 }
-
-#[cfg(test)]
-mod tests;

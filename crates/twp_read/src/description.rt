@@ -145,6 +145,3 @@ fn fault_of_bad(kind: Kind, at: u32) -> Option<TextFault>
         _ => None,
     }
 }
-
-#[cfg(test)]
-mod tests;

@@ -113,6 +113,3 @@ fn resolve_heading(
         Err(PlaceFault::OtherTownship { at })
     }
 }
-
-#[cfg(test)]
-mod tests;

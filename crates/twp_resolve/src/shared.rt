@@ -150,6 +150,3 @@ fn place_item<L: Land>(
     };
     Some(behind)
 }
-
-#[cfg(test)]
-mod tests;

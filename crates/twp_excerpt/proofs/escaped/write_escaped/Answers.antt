@@ -1,7 +1,7 @@
 -- Another sign is written, and at the end none is left.
-use Rattle.std.proofs.Common.{◌<◌, length, arith, length-drop}
+use Rattle.std.proofs.Common.{arith, length-drop}
 use Rattle.twp_excerpt.specs.Shown.{is_shown}
-use Rattle.twp_excerpt.proofs.ShownFacts.{adds_trans, leaves_all, leaves_on, leaves_none}
+use Rattle.twp_excerpt.proofs.ShownFacts.{adds_trans, leaves_on, leaves_none}
 use Rattle.twp_excerpt.proofs.escaped.write_escaped.Goals as goal
 
 pub loop-at-preserved : goal.loop-at-preserved

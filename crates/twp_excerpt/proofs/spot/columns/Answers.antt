@@ -1,18 +1,16 @@
 -- One more character is counted, and at the end none is left.
-use Rattle.std.proofs.Common.{ap, ◌∙◌, arith, length-drop}
-use Rattle.std.proofs.lemmas.List.{take_rest}
-use Rattle.twp_excerpt.specs.Spots.{first_size}
+use Rattle.std.proofs.Common.{arith}
 use Rattle.twp_excerpt.proofs.SpotFacts.{columns_next, columns_end}
 use Rattle.twp_excerpt.proofs.spot.columns.Goals as goal
 
 pub loop-at-preserved : goal.loop-at-preserved
 loop-at-preserved c =
-    let size = c.first_size-at in
+    let size = c.size_at-at in
     record {
-      within = omega (arith, size.ensures.within, length-drop c.loop-at.at c.args.bytes.now);
+      within = omega (arith, size.ensures.within);
       counted =
           columns_next c.args.bytes.now c.loop-at.at c.loop-at.count size.result c.loop-at-test.true
-          (size.ensures.value ∙ ap first_size (take_rest c.args.bytes.now c.loop-at.at))
+          size.ensures.value
           c.loop-at.invariant.counted;
       few = omega (arith, size.ensures.some);
     }

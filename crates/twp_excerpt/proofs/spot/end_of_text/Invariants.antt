@@ -1,4 +1,4 @@
-use Rattle.std.proofs.Common.{◌≡◌, ◌-◌, ◌≤◌, ◌+◌, length}
+use Rattle.std.proofs.Common.{◌≡◌, ◌-◌, ◌≤◌, length}
 use Rattle.twp_excerpt.specs.Spots.{is_white, end_of}
 use Rattle.twp_excerpt.proofs.SpotFacts.{passed_before}
 use Rattle.twp_excerpt.proofs.spot.end_of_text.Given as goal

@@ -1,8 +1,8 @@
 use Rattle.std.proofs.Common.{◌-◌, ◌≤◌, length}
 use Rattle.twp_marks.proofs.joined_steps.may_join_steps.Given as goal
 
-abbrev pub invariant-loop-found : goal.invariant-loop-found
-invariant-loop-found l = l.from ≤ length l.text
+abbrev pub invariant-loop-line_end : goal.invariant-loop-line_end
+invariant-loop-line_end l = l.from ≤ length l.text
 
-abbrev pub decreases-loop-found : goal.decreases-loop-found
-decreases-loop-found l = length l.text - l.from
+abbrev pub decreases-loop-line_end : goal.decreases-loop-line_end
+decreases-loop-line_end l = length l.text - l.from

@@ -1,0 +1,2 @@
+mod land;
+mod lots;

@@ -1,0 +1,4 @@
+mod fault;
+mod notes;
+mod reading;
+mod sample;

@@ -1,0 +1,4 @@
+mod areas;
+mod lands;
+mod lot_figures;
+mod plat;

@@ -1,0 +1,3 @@
+mod description;
+mod fault;
+mod tokens;

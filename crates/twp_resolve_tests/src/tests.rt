@@ -1,0 +1,3 @@
+mod place_fault;
+mod resolving;
+mod shared;
