@@ -1,8 +1,8 @@
 # What each command does, and when to use it, is said in CONTRIBUTING.md.
-.PHONY: run township try test e2e check bench install install-built man clean
+.PHONY: run township try test e2e check bench lib install install-built install-lib man clean
 
-# Where `make install` puts the program, its man page, and the completions: in the folders bin and share. With
-# DESTDIR they are put below another root.
+# Where `make install` puts the program, its man page, the completions, and the library with its header: in the
+# folders bin, share, lib and include. With DESTDIR they are put below another root.
 PREFIX = /usr/local
 SHARE = $(DESTDIR)$(PREFIX)/share
 PROGRAM = township
@@ -29,13 +29,16 @@ e2e: township
 check:
 	rt all check
 
+lib:
+	@sh scripts/library.sh $(PREFIX)
+
 bench:
 	@sh bench/lands.sh
 	@sh bench/descriptions.sh
 	@sh bench/instructions.sh
 
-install: township
-	@$(MAKE) --no-print-directory install-built
+install: township lib
+	@$(MAKE) --no-print-directory install-built install-lib
 
 install-built:
 	install -d $(DESTDIR)$(PREFIX)/bin $(SHARE)/man/man1
@@ -45,8 +48,15 @@ install-built:
 	install -m 644 completions/township.bash $(SHARE)/bash-completion/completions/township
 	install -m 644 completions/_township $(SHARE)/zsh/site-functions/_township
 
+install-lib:
+	install -d $(DESTDIR)$(PREFIX)/lib/pkgconfig $(DESTDIR)$(PREFIX)/include
+	install -m 644 include/township.h $(DESTDIR)$(PREFIX)/include/township.h
+	install -m 644 lib/libtownship.a $(DESTDIR)$(PREFIX)/lib/libtownship.a
+	cp -P lib/libtownship.so* $(DESTDIR)$(PREFIX)/lib/
+	install -m 644 lib/township.pc $(DESTDIR)$(PREFIX)/lib/pkgconfig/township.pc
+
 man:
 	@sh scripts/man_page.sh
 
 clean:
-	rm -rf crates/*/out township
+	rm -rf crates/*/out lib township

@@ -52,7 +52,7 @@ fn refusal_by(fault: TractFault, verdict: Verdict) -> Option<Refusal>
 
 /// The message of a list's fault.
 #[inline(never)]
-fn tell_fault(
+pub(crate) fn tell_fault(
     alloc: Global,
     tracts: &Given<'_>,
     township: Township,
@@ -67,7 +67,11 @@ fn tell_fault(
 
 /// The first fault of a list of tracts, where it has one.
 #[inline(never)]
-fn fault_of(alloc: Global, plat: &Plat, bytes: &[u8]) -> Result<Option<TractFault>, AllocError>
+pub(crate) fn fault_of(
+    alloc: Global,
+    plat: &Plat,
+    bytes: &[u8],
+) -> Result<Option<TractFault>, AllocError>
     ensures { IfOk result (λ found. IfSome found
         (IsFirstTractFault plat.now.township bytes.now)) }
 {

@@ -1,0 +1,7 @@
+"""`python -m township`: see `python -m township --help`."""
+import sys
+
+from ._command import main
+
+if __name__ == "__main__":
+    sys.exit(main())

@@ -1,0 +1,118 @@
+"""The shared library: its structs and calls, as `include/township.h` declares them, and how it is found."""
+from __future__ import annotations
+
+import ctypes
+import os
+from ctypes import POINTER, c_char, c_char_p, c_size_t, c_uint8, c_uint32, c_uint64
+from typing import Callable, Tuple
+
+#: How many section lines a township has.
+LINES = 84
+
+# Verdicts.
+ACCEPTED = 0
+REFUSED = 1
+TRACT_REFUSED = 2
+NO_PLAT = 3
+NO_ACCOUNT = 4
+NO_ROOM = 5
+NO_MEMORY = 6
+
+#: The environment variable that names the library's file.
+VARIABLE = "TOWNSHIP_LIBRARY"
+
+#: Where the library is if no variable names it: in the package's own folder.
+BESIDE = os.path.join(os.path.dirname(os.path.abspath(__file__)), "libtownship.so")
+
+#: Units of an area in an acre: square thousandths of a chain.
+UNITS_IN_ACRE = 10_000_000
+
+
+class Plat(ctypes.Structure):
+    """`township_plat`: 340 bytes."""
+
+    _fields_ = [
+        ("closing_quarters", c_uint32 * LINES),
+        ("number", c_uint8),
+        ("north_south", c_uint8),
+        ("range", c_uint8),
+        ("east_west", c_uint8),
+    ]
+
+
+class Answer(ctypes.Structure):
+    """`township_answer`: 48 bytes."""
+
+    _fields_ = [
+        ("verdict", c_uint32),
+        ("number", c_uint32),
+        ("at", c_uint32),
+        ("inner_number", c_uint32),
+        ("inner_at", c_uint32),
+        ("line", c_uint32),
+        ("column", c_uint32),
+        ("reserved", c_uint32),
+        ("hundredths", c_uint64),
+        ("length", c_uint64),
+    ]
+
+
+class Area(ctypes.Structure):
+    """`township_fraction`: 24 bytes."""
+
+    _fields_ = [("units_low", c_uint64), ("units_high", c_uint64), ("over", c_uint64)]
+
+
+def _load() -> ctypes.CDLL:
+    """Loads the library that the environment names, or else the one beside the package."""
+    path = os.environ.get(VARIABLE) or BESIDE
+    try:
+        return ctypes.CDLL(path)
+    except OSError as error:
+        raise ImportError(f"cannot load the township library: {error} ({VARIABLE} can name its file)") from error
+
+
+_LIBRARY = _load()
+
+# `c_char_p` passes the memory of a `bytes` object as it is, with no copy; its length goes beside it, so that
+# bytes of zero are bytes like any others.
+_PLAT = POINTER(Plat)
+_BYTES = (c_char_p, c_size_t)
+_ROOM = (POINTER(c_char), c_size_t)
+
+
+def _call(name: str, *types: type) -> Callable[..., Answer]:
+    """A call of the library that takes arguments of these types."""
+    call = getattr(_LIBRARY, name)
+    call.argtypes = types
+    call.restype = Answer
+    return call
+
+
+read = _call("township_read", *_BYTES, _PLAT)
+acres = _call("township_acres", _PLAT, *_BYTES, c_uint32)
+area = _call("township_area", _PLAT, *_BYTES, c_uint32, POINTER(Area))
+normal = _call("township_normal", _PLAT, *_BYTES, *_ROOM)
+print_plat = _call("township_print", _PLAT, *_ROOM)
+report = _call("township_report", _PLAT, *_BYTES, *_ROOM)
+explain_notes = _call("township_explain_notes", *_BYTES, *_BYTES, *_ROOM)
+explain_description = _call("township_explain_description", _PLAT, *_BYTES, *_BYTES, *_ROOM)
+explain_list = _call("township_explain_list", _PLAT, *_BYTES, *_BYTES, *_ROOM)
+version = _call("township_version", *_ROOM)
+
+#: What a first call has room for, in bytes: most texts, but for long canonical ones and long reports.
+USUAL_ROOM = 4096
+
+
+def text_by(call: Callable[..., Answer], *arguments: object) -> Tuple[Answer, str]:
+    """The answer of a call that writes a text, and the text, which is empty where there is none.
+
+    Where there is too little room for it the library says how much it takes, and is called once more.
+    """
+    room = USUAL_ROOM
+    while True:
+        buffer = ctypes.create_string_buffer(room)
+        answer = call(*arguments, buffer, room)
+        if answer.verdict != NO_ROOM:
+            return answer, ctypes.string_at(buffer, answer.length).decode("utf-8", "replace")
+        room = answer.length

@@ -1,0 +1,111 @@
+"""The shared library: how it is found, and what is made of each of its verdicts."""
+import ctypes
+import os
+import re
+import subprocess
+import sys
+import unittest
+from pathlib import Path
+from unittest import mock
+
+import township
+from samples import TOP, uneven
+from township import _library
+
+
+class Found(unittest.TestCase):
+    def importing(self, named):
+        """What comes of an import with this name of the library, or none."""
+        environment = {key: value for key, value in os.environ.items() if key != "TOWNSHIP_LIBRARY"}
+        if named is not None:
+            environment["TOWNSHIP_LIBRARY"] = named
+        command = [sys.executable, "-c", "import township; print(township.version())"]
+        return subprocess.run(command, env=environment, capture_output=True, text=True)
+
+    def test_named_by_the_environment(self):
+        self.assertEqual(self.importing(_library._LIBRARY._name).stdout, township.version() + "\n")
+
+    def test_named_one_that_is_not_there(self):
+        run = self.importing("/nowhere/libtownship.so")
+        self.assertNotEqual(run.returncode, 0)
+        self.assertIn("ImportError: cannot load the township library: /nowhere/libtownship.so", run.stderr)
+
+    @unittest.skipIf(os.path.exists(_library.BESIDE), "the package has its own library")
+    def test_neither_named_nor_beside_the_package(self):
+        for named in (None, ""):
+            run = self.importing(named)
+            self.assertNotEqual(run.returncode, 0)
+            self.assertIn("TOWNSHIP_LIBRARY", run.stderr)
+
+    def test_beside_the_package(self):
+        self.assertEqual(Path(_library.BESIDE), Path(township.__file__).resolve().parent / "libtownship.so")
+
+    def test_version(self):
+        self.assertRegex(township.version(), r"\A[0-9]+\.[0-9]+\.[0-9]+\Z")
+
+
+class Declared(unittest.TestCase):
+    def test_sizes(self):
+        sizes = [ctypes.sizeof(struct) for struct in (_library.Plat, _library.Answer, _library.Area)]
+        self.assertEqual(sizes, [340, 48, 24])
+
+    def test_fields_are_those_of_the_header(self):
+        header = (TOP / "include" / "township.h").read_text()
+        for struct, name in ((_library.Plat, "plat"), (_library.Answer, "answer"), (_library.Area, "fraction")):
+            body = header.partition(f"typedef struct township_{name} {{")[2].partition("}")[0]
+            declared = re.findall(r"^ +uint\d+_t (\w+)", body, re.MULTILINE)
+            self.assertEqual(declared, [field for field, _ in struct._fields_])
+
+    def test_verdicts_are_those_of_the_header(self):
+        header = (TOP / "include" / "township.h").read_text()
+        for name in ("ACCEPTED", "REFUSED", "TRACT_REFUSED", "NO_PLAT", "NO_ACCOUNT", "NO_ROOM", "NO_MEMORY"):
+            self.assertIn(f"#define TOWNSHIP_{name} {getattr(_library, name)}u ", header)
+
+
+class Verdicts(unittest.TestCase):
+    # The library answers some of these too seldom to be waited for.
+
+    EXCEPTIONS = (
+        (_library.NO_MEMORY, MemoryError),
+        (_library.NO_PLAT, ValueError),
+        (_library.NO_ACCOUNT, ValueError),
+        (99, RuntimeError),
+    )
+
+    CALLS = {
+        "read": lambda: township.Plat.read(b""),
+        "acres": lambda: uneven().acres("sec. 14."),
+        "area": lambda: uneven().area("sec. 14."),
+        "normal": lambda: uneven().normal("sec. 14."),
+        "report": lambda: uneven().report([]),
+        "print_plat": lambda: uneven()._print(),
+        "version": township.version,
+        "explain_notes": lambda: township.Plat.read(b""),
+        "explain_description": lambda: uneven().acres(""),
+        "explain_list": lambda: uneven().report_csv(b""),
+    }
+
+    def test_each_call(self):
+        for name, call in self.CALLS.items():
+            for verdict, exception in self.EXCEPTIONS:
+                answer = _library.Answer(verdict=verdict)
+                with self.subTest(name=name, verdict=verdict):
+                    with mock.patch.object(_library, name, lambda *_: answer), self.assertRaises(exception) as caught:
+                        call()
+                    self.assertNotIsInstance(caught.exception, township.Refused)
+
+    def test_many_stop_for_want_of_memory(self):
+        answer = _library.Answer(verdict=_library.NO_MEMORY)
+        with mock.patch.object(_library, "acres", lambda *_: answer), self.assertRaises(MemoryError):
+            list(uneven().acres_of(["sec. 14."]))
+
+    def test_plat_that_is_none(self):
+        # A plat can't be made so; the library finds it out all the same.
+        none = township.Plat._of_struct(_library.Plat())
+        for call in (none.acres, none.area, none.normal, none.report_csv):
+            with self.subTest(call=call.__name__), self.assertRaises(ValueError):
+                call("sec. 14.")
+
+    def test_account_that_is_none(self):
+        answer = _library.acres(ctypes.byref(uneven()._parts), b"sec. 14.", 8, 2)
+        self.assertEqual(answer.verdict, _library.NO_ACCOUNT)

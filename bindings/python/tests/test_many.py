@@ -1,0 +1,97 @@
+"""Many descriptions at once, and calls from many threads."""
+import itertools
+import threading
+import unittest
+from concurrent.futures import ThreadPoolExecutor
+from decimal import Decimal
+from importlib.util import find_spec
+
+import township
+from samples import even, uneven
+
+ACCEPTED = "sec. 5, lots 1 and 2, S1/2NE1/4."
+REFUSED = "sec. 14, NE1/4 and N1/2."
+
+
+def numbers(answers):
+    """Answers by what can be compared: acres, or the number and place of a refusal."""
+    return [answer if isinstance(answer, Decimal) else (answer.number, answer.at) for answer in answers]
+
+
+class Many(unittest.TestCase):
+    def test_in_order(self):
+        answers = uneven().acres_of([ACCEPTED, REFUSED, b"sec. 36.", "", "sec. 5, lot 1."])
+        self.assertEqual(numbers(answers), [Decimal("161.00"), (67, 19), 640, (44, 0), Decimal("40.45")])
+
+    def test_refusals_are_those_that_are_raised(self):
+        [answer] = uneven().acres_of([REFUSED])
+        self.assertEqual((answer.line, answer.column), (1, 20))
+        self.assertEqual(answer.sentence, "this land was named before")
+
+    def test_by_the_plat(self):
+        self.assertEqual(list(uneven().acres_of(["sec. 7, lots 1 to 4."], account="plat")), [Decimal("156.42")])
+
+    def test_nothing(self):
+        self.assertEqual(list(uneven().acres_of([])), [])
+
+    def test_descriptions_are_taken_one_at_a_time(self):
+        taken = uneven().acres_of(f"sec. {k}." for k in itertools.count(8))
+        self.assertEqual(list(itertools.islice(taken, 3)), [640, 640, 640])
+
+    def test_no_account_is_found_out_at_once(self):
+        with self.assertRaises(ValueError):
+            uneven().acres_of([], account="printed")
+
+    def test_one_description_is_not_many(self):
+        for description in ("sec. 14.", b"sec. 14."):
+            with self.assertRaises(TypeError):
+                uneven().acres_of(description)
+
+    def test_what_is_no_text(self):
+        answers = uneven().acres_of(["sec. 14.", float("nan")])
+        self.assertEqual(next(answers), 640)
+        with self.assertRaises(TypeError):
+            next(answers)
+
+    @unittest.skipUnless(find_spec("pandas"), "pandas isn't installed")
+    def test_column_of_a_data_frame(self):
+        import pandas
+
+        frame = pandas.DataFrame({"description": [ACCEPTED, REFUSED, None]}, index=[7, 8, 9])
+        described = frame["description"].fillna("")
+        frame["acres"] = pandas.Series(list(uneven().acres_of(described)), index=frame.index)
+        self.assertEqual(numbers(frame["acres"]), [Decimal("161.00"), (67, 19), (44, 0)])
+
+
+class Threads(unittest.TestCase):
+    THREADS = 8
+    ROUNDS = 5
+
+    def test_one_plat_in_many_threads(self):
+        wanted = numbers([Decimal("161.00"), township.Refused(67, 19)]) * self.ROUNDS
+        together = threading.Barrier(self.THREADS)
+
+        def run(_):
+            together.wait()
+            return numbers(uneven().acres_of([ACCEPTED, REFUSED] * self.ROUNDS))
+
+        with ThreadPoolExecutor(self.THREADS) as pool:
+            self.assertEqual(list(pool.map(run, range(self.THREADS))), [wanted] * self.THREADS)
+
+    def test_texts_in_many_threads(self):
+        together = threading.Barrier(self.THREADS)
+
+        def run(number):
+            together.wait()
+            plat = township.Plat.of_parts((number, "N", 3, "W"), [20_000] * 84)
+            return plat.normal(f"sec. {number}."), plat.sections[36].total
+
+        with ThreadPoolExecutor(self.THREADS) as pool:
+            answers = list(pool.map(run, range(8, 8 + self.THREADS)))
+        wanted = [(f"T. {n} N., R. 3 W.,\nsec. {n}, all.\n", Decimal("640.00")) for n in range(8, 8 + self.THREADS)]
+        self.assertEqual(answers, wanted)
+
+    def test_a_plat_of_another_thread(self):
+        with ThreadPoolExecutor(1) as pool:
+            plat = pool.submit(township.Plat.of_parts, even().township, even().closing_quarters).result()
+        self.assertEqual(plat.acres("sec. 14."), 640)

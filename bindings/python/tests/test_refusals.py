@@ -1,0 +1,152 @@
+"""Refusals: their numbers, places and explanations."""
+import pickle
+import traceback
+import unittest
+
+import township
+from samples import NOTES, TRACTS, RefusalCase, even, uneven
+
+
+class OfDescriptions(RefusalCase):
+    # As docs/REFUSALS.md has them.
+    REFUSED = (
+        (41, 65536, " " * 65537),
+        (42, 8, "secs. 14-15."),
+        (43, 5, "sec. 10000."),
+        (44, 8, "sec. 14,"),
+        (61, 0, "T. 2 N., R. 3 E., sec. 14."),
+        (62, 5, "sec. 37."),
+        (63, 11, "secs. 9 to 4."),
+        (64, 12, "sec. 5, lot 5."),
+        (65, 9, "sec. 14, N1/2NE1/4NE1/4NE1/4NE1/4NE1/4."),
+        (66, 8, "sec. 5, N1/2."),
+        (67, 19, "sec. 14, NE1/4 and N1/2."),
+    )
+
+    def test_numbers_and_places(self):
+        for call in (uneven().acres, uneven().area, uneven().normal):
+            for number, at, description in self.REFUSED:
+                with self.subTest(call=call.__name__, number=number):
+                    refused = self.refused(call, description)
+                    self.assertEqual((refused.number, refused.at, refused.inner), (number, at, None))
+
+    def test_by_the_plat(self):
+        for number, at, description in self.REFUSED:
+            with self.subTest(number=number):
+                refused = self.refused(uneven().acres, description, account="plat")
+                self.assertEqual((refused.number, refused.at), (number, at))
+
+    def test_line_and_column(self):
+        refused = self.refused(even().acres, "sec. 14, NE1/4;\nsec. 15, N1/2, NW1/4.\n")
+        self.assertEqual((refused.at, refused.line, refused.column), (31, 2, 16))
+
+    def test_places_count_bytes_and_columns_characters(self):
+        # Each half is two bytes, and one character.
+        refused = self.refused(even().acres, "sec. 14, N½, N½.")
+        self.assertEqual((refused.number, refused.at, refused.column), (67, 14, 14))
+
+    def test_explanation(self):
+        refused = self.refused(even().acres, "sec. 14, NE1/4 and N1/2.")
+        self.assertEqual(str(refused), "description:1:20: this land was named before")
+        self.assertEqual(refused.sentence, "this land was named before")
+        lines = refused.explanation.splitlines()
+        self.assertEqual(lines[0], "township: " + str(refused))
+        self.assertEqual(lines[1:3], ["  1 | sec. 14, NE1/4 and N1/2.", "    |" + " " * 20 + "^^^^"])
+
+    def test_odd_bytes(self):
+        for description in (b"sec. 14\xff", b"sec. 14\xff".decode("utf-8", "surrogateescape"), "sec. 14\ud800"):
+            with self.subTest(description=description):
+                refused = self.refused(even().acres, description)
+                self.assertEqual((refused.number, refused.at), (42, 7))
+
+    def test_bytes_of_zero(self):
+        self.assertEqual(self.refused(even().acres, b"sec. 14.\0").at, 8)
+        self.assertEqual(self.refused(even().acres, "\0sec. 14.").at, 0)
+
+    def test_nothing(self):
+        for nothing in ("", b""):
+            refused = self.refused(even().acres, nothing)
+            self.assertEqual((refused.number, refused.at), (44, 0))
+
+    def test_the_most_bytes(self):
+        most = "sec. 14." + " " * (65536 - 8)
+        self.assertEqual(even().acres(most), 640)
+        self.assertEqual(self.refused(even().acres, most + " ").number, 41)
+
+
+class OfNotes(RefusalCase):
+    def test_line_that_is_missing(self):
+        lines = [line for line in NOTES.splitlines(True) if not line.startswith(b"W,6,7,")]
+        refused = self.refused(township.Plat.read, b"".join(lines))
+        self.assertEqual((refused.number, refused.at), (11, 53))
+        self.assertEqual((refused.line, refused.column), (None, None))
+        self.assertEqual(refused.sentence, "no record of W,6,7 (section line 53)")
+
+    def test_record_that_is_no_line(self):
+        refused = self.refused(township.Plat.read, NOTES.replace(b"N,1,,", b"N,40,,"))
+        self.assertEqual((refused.number, refused.line), (7, 3))
+
+    def test_no_plat(self):
+        refused = self.refused(township.Plat.read, NOTES.replace(b"N,1,,40.00,80.00", b"N,1,,80.00,40.00"))
+        self.assertEqual((refused.number, refused.at), (21, 0))
+
+    def test_nothing(self):
+        refused = self.refused(township.Plat.read, b"")
+        self.assertEqual((refused.number, refused.at), (2, 1))
+
+    def test_too_large(self):
+        refused = self.refused(township.Plat.read, b"\n" * 65537)
+        self.assertEqual((refused.number, refused.at), (1, 65536))
+
+    def test_text(self):
+        self.assertEqual(township.Plat.read(NOTES.decode()), uneven())
+
+
+class OfLists(RefusalCase):
+    def test_tract_with_its_own_refusal(self):
+        refused = self.refused(uneven().report, [("A", "sec. 14, NE1/4 and N1/2.")])
+        self.assertEqual((refused.number, refused.at, refused.inner), (83, 2, (67, 19)))
+        self.assertEqual((refused.inner.number, refused.inner.at), (67, 19))
+        self.assertEqual(refused.line, 2)
+        self.assertEqual(refused.sentence, "tract `A`: this land was named before")
+
+    def test_others(self):
+        lot = "sec. 7, lot 1."
+        for number, at, tracts in (
+            (81, 2, [("", lot)]),
+            (81, 3, [("A", lot), ("Peña", lot)]),
+            (82, 3, [("A", lot), ("A", lot)]),
+            (84, 3, [("A", lot), ("B", "sec. 7, lots 1 and 4.")]),
+            (80, 1048576, [("A", lot), ("B", " " * 1048576)]),
+        ):
+            with self.subTest(number=number):
+                refused = self.refused(uneven().report, tracts)
+                self.assertEqual((refused.number, refused.at, refused.inner), (number, at, None))
+
+    def test_csv(self):
+        refused = self.refused(uneven().report_csv, TRACTS.replace(b"name,", b"name;"))
+        self.assertEqual((refused.number, refused.at), (81, 1))
+
+
+class AsExceptions(RefusalCase):
+    def test_pickled(self):
+        refused = self.refused(uneven().report, [("A", "sec. 7, lot 9.")])
+        again = pickle.loads(pickle.dumps(refused))
+        self.assertIs(type(again), township.Refused)
+        self.assertEqual(vars(again), vars(refused))
+        self.assertEqual(str(again), str(refused))
+
+    def test_in_a_traceback(self):
+        refused = self.refused(uneven().acres, "sec. 14, NE1/4 and N1/2.")
+        last = traceback.format_exception_only(type(refused), refused)[-1]
+        self.assertEqual(last, "township.Refused: description:1:20: this land was named before\n")
+
+    def test_without_an_explanation(self):
+        bare = township.Refused(67, 19)
+        self.assertEqual(str(bare), "refused 67 at 19")
+        self.assertEqual(bare.sentence, "refused 67 at 19")
+        self.assertEqual((bare.line, bare.column, bare.inner), (None, None, None))
+
+
+if __name__ == "__main__":
+    unittest.main()

@@ -1,0 +1,148 @@
+//! What the library's answers say.
+
+use crate::ffi::{self, Answer};
+use crate::refused::Refusal;
+
+/// How a call went.
+#[derive(Clone, Copy, Debug, PartialEq, Eq)]
+pub(crate) enum Verdict {
+    Accepted,
+    Refused,
+    /// A tract's description has a refusal of its own.
+    TractRefused,
+    NoPlat,
+    NoAccount,
+    NoRoom,
+    NoMemory,
+}
+
+/// Why an input is refused, before it is explained.
+#[derive(Clone, Copy, Debug, PartialEq, Eq)]
+pub(crate) struct Fault {
+    pub(crate) refusal: Refusal,
+    /// The refusal of a tract's description.
+    pub(crate) inner: Option<Refusal>,
+}
+
+impl Answer {
+    pub(crate) fn verdict(&self) -> Verdict {
+        match self.verdict {
+            ffi::ACCEPTED => Verdict::Accepted,
+            ffi::REFUSED => Verdict::Refused,
+            ffi::TRACT_REFUSED => Verdict::TractRefused,
+            ffi::NO_PLAT => Verdict::NoPlat,
+            ffi::NO_ACCOUNT => Verdict::NoAccount,
+            ffi::NO_ROOM => Verdict::NoRoom,
+            ffi::NO_MEMORY => Verdict::NoMemory,
+            unknown => panic!("the library answered with verdict {unknown}, which is unknown here"),
+        }
+    }
+
+    /// This answer where it accepts the input, or the fault for which it refuses it.
+    ///
+    /// Panics where memory ran out. What the other verdicts speak of can't be: the types of plats
+    /// and of accounts have no other values, and a text gets the room that it takes.
+    pub(crate) fn accepted(self) -> Result<Answer, Fault> {
+        match self.verdict() {
+            Verdict::Accepted => Ok(self),
+            Verdict::Refused => Err(self.fault(None)),
+            Verdict::TractRefused => Err(self.fault(Some(self.inner_refusal()))),
+            Verdict::NoMemory => out_of_memory(),
+            verdict @ (Verdict::NoPlat | Verdict::NoAccount | Verdict::NoRoom) => {
+                unreachable!("the library was given what it takes, and answered {verdict:?}")
+            }
+        }
+    }
+
+    /// How many bytes the text of this answer has.
+    pub(crate) fn text_length(&self) -> usize {
+        usize::try_from(self.length).expect("a text that was in memory fits there")
+    }
+
+    fn fault(&self, inner: Option<Refusal>) -> Fault {
+        let refusal = Refusal {
+            number: self.number,
+            at: self.at,
+        };
+        Fault { refusal, inner }
+    }
+
+    fn inner_refusal(&self) -> Refusal {
+        Refusal {
+            number: self.inner_number,
+            at: self.inner_at,
+        }
+    }
+}
+
+/// Ends a call for which there is too little memory.
+pub(crate) fn out_of_memory() -> ! {
+    panic!("township: out of memory")
+}
+
+#[cfg(test)]
+mod tests {
+    use super::*;
+
+    // The library answers some of these too seldom to be waited for.
+
+    fn with(verdict: u32) -> Answer {
+        Answer {
+            verdict,
+            number: 83,
+            at: 2,
+            inner_number: 67,
+            inner_at: 19,
+            ..Answer::default()
+        }
+    }
+
+    const REFUSAL: Refusal = Refusal { number: 83, at: 2 };
+    const INNER: Refusal = Refusal { number: 67, at: 19 };
+
+    #[test]
+    fn accepted_is_the_answer() {
+        let answer = with(ffi::ACCEPTED);
+        assert_eq!(answer.accepted(), Ok(answer));
+    }
+
+    #[test]
+    fn only_a_tract_has_an_inner_refusal() {
+        let fault = |inner| Fault {
+            refusal: REFUSAL,
+            inner,
+        };
+        assert_eq!(with(ffi::REFUSED).accepted(), Err(fault(None)));
+        assert_eq!(with(ffi::TRACT_REFUSED).accepted(), Err(fault(Some(INNER))));
+    }
+
+    #[test]
+    #[should_panic(expected = "township: out of memory")]
+    fn memory_that_ran_out() {
+        let _ = with(ffi::NO_MEMORY).accepted();
+    }
+
+    #[test]
+    #[should_panic(expected = "answered NoPlat")]
+    fn plat_that_is_none() {
+        let _ = with(ffi::NO_PLAT).accepted();
+    }
+
+    #[test]
+    #[should_panic(expected = "answered NoAccount")]
+    fn account_that_is_none() {
+        let _ = with(ffi::NO_ACCOUNT).accepted();
+    }
+
+    #[test]
+    #[should_panic(expected = "answered NoRoom")]
+    fn room_that_is_too_small() {
+        let _ = with(ffi::NO_ROOM).accepted();
+    }
+
+    #[test]
+    #[should_panic(expected = "verdict 99, which is unknown here")]
+    fn unknown_verdict() {
+        let _ = with(99).accepted();
+    }
+}

@@ -1,0 +1,99 @@
+use super::*;
+
+const HEADER: &str = include_str!(concat!(
+    env!("CARGO_MANIFEST_DIR"),
+    "/../../include/township.h"
+));
+
+/// The even township.
+const EVEN: Parts = Parts {
+    closing_quarters: [20_000; LINES],
+    number: 2,
+    north_south: NORTH,
+    range: 3,
+    east_west: WEST,
+};
+
+fn bare(verdict: u32) -> Answer {
+    Answer {
+        verdict,
+        ..Answer::default()
+    }
+}
+
+#[test]
+fn numbers_are_those_of_the_header() {
+    for (name, number) in [
+        ("ACCEPTED", ACCEPTED),
+        ("REFUSED", REFUSED),
+        ("TRACT_REFUSED", TRACT_REFUSED),
+        ("NO_PLAT", NO_PLAT),
+        ("NO_ACCOUNT", NO_ACCOUNT),
+        ("NO_ROOM", NO_ROOM),
+        ("NO_MEMORY", NO_MEMORY),
+        ("EXACT", EXACT),
+        ("BY_PLAT", BY_PLAT),
+        ("NORTH", u32::from(NORTH)),
+        ("SOUTH", u32::from(SOUTH)),
+        ("EAST", u32::from(EAST)),
+        ("WEST", u32::from(WEST)),
+    ] {
+        let line = format!("#define TOWNSHIP_{name} {number}u");
+        assert!(HEADER.contains(&line), "the header has no line {line}");
+    }
+    assert!(HEADER.contains(&format!("#define TOWNSHIP_LINES {LINES}\n")));
+}
+
+#[test]
+fn parts_of_no_plat_are_found_out_by_each_call() {
+    let none = Parts::BLANK;
+    let no_plat = bare(NO_PLAT);
+    let mut room = [0; 64];
+    assert_eq!(acres(&none, b"sec. 14.", EXACT), no_plat);
+    assert_eq!(area(&none, b"sec. 14.", EXACT).0, no_plat);
+    assert_eq!(normal(&none, b"sec. 14.", &mut room), no_plat);
+    assert_eq!(print_plat(&none, &mut room), no_plat);
+    assert_eq!(report(&none, b"name,description\n", &mut room), no_plat);
+    assert_eq!(
+        explain_description(&none, b"sec. 37.", "land", &mut room),
+        no_plat
+    );
+    assert_eq!(explain_list(&none, b"", "tracts", &mut room), no_plat);
+    assert_eq!(room, [0; 64]);
+}
+
+#[test]
+fn account_that_is_none() {
+    assert_eq!(acres(&EVEN, b"sec. 14.", 2), bare(NO_ACCOUNT));
+    let (answer, kept) = area(&EVEN, b"sec. 14.", 2);
+    assert_eq!((answer, kept), (bare(NO_ACCOUNT), Fraction::default()));
+}
+
+#[test]
+fn text_needs_its_whole_room() {
+    let text = b"T. 2 N., R. 3 W.,\nsec. 14, all.\n";
+    let length = text.len();
+    let mut room = [0; 64];
+
+    let short = normal(&EVEN, b"sec. 14.", &mut room[..length - 1]);
+    assert_eq!((short.verdict, short.length), (NO_ROOM, length as u64));
+    assert_eq!(room, [0; 64]);
+
+    let none = normal(&EVEN, b"sec. 14.", &mut []);
+    assert_eq!((none.verdict, none.length), (NO_ROOM, length as u64));
+
+    let enough = normal(&EVEN, b"sec. 14.", &mut room[..length]);
+    assert_eq!((enough.verdict, enough.length), (ACCEPTED, length as u64));
+    assert_eq!(&room[..length], text);
+}
+
+#[test]
+fn refused_notes_make_no_parts() {
+    let (answer, parts) = read(b"");
+    let refused = Answer {
+        number: 2,
+        at: 1,
+        ..bare(REFUSED)
+    };
+    assert_eq!((answer, parts), (refused, Parts::BLANK));
+}

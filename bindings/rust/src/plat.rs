@@ -1,0 +1,129 @@
+//! Plats.
+
+use crate::answer::{out_of_memory, Verdict};
+use crate::ffi::{self, Parts};
+use crate::refused::{Refused, NOTES};
+use crate::township::Township;
+use std::error::Error;
+use std::fmt;
+
+mod answers;
+
+/// How many section lines a township has.
+pub const LINES: usize = 84;
+
+/// The plat of a township: what its field notes come to, and all that acres are computed from.
+///
+/// A plat is made by [`Plat::read`] from field notes, or by [`Plat::of_parts`]. It doesn't change,
+/// two plats of the same parts are equal, and several threads can use one at a time.
+///
+/// A description is a string or bytes; a string is taken as its UTF-8, and bytes may be any. Where
+/// a description is refused, a method gives [`Refused`].
+///
+/// # Panics
+///
+/// Where memory runs out, these functions panic with the message `township: out of memory`.
+#[derive(Clone, PartialEq, Eq, Hash)]
+pub struct Plat {
+    parts: Parts,
+}
+
+/// No plat has these closing quarters: see [`Plat::of_parts`].
+#[derive(Clone, Copy, Debug, PartialEq, Eq, Hash)]
+pub struct NoPlat;
+
+impl Plat {
+    /// Makes the plat of field notes (CSV, at most 65,536 bytes, as `docs/NOTES-FORMAT.md` has
+    /// them).
+    ///
+    /// # Errors
+    ///
+    /// [`Refused`], with a number from 1 to 23, for notes that make no plat.
+    ///
+    /// ```
+    /// use township::Plat;
+    ///
+    /// let notes = include_bytes!(concat!(env!("CARGO_MANIFEST_DIR"), "/../../samples/b1.csv"));
+    /// let plat = Plat::read(notes)?;
+    /// assert_eq!(plat.township().to_string(), "T. 2 N., R. 3 W.");
+    ///
+    /// let refused = Plat::read(b"").unwrap_err();
+    /// assert_eq!((refused.number, refused.at), (2, 1));
+    /// # Ok::<(), township::Refused>(())
+    /// ```
+    pub fn read(notes: &[u8]) -> Result<Plat, Refused> {
+        let (answer, parts) = ffi::read(notes);
+        match answer.accepted() {
+            Ok(_) => Ok(Plat { parts }),
+            Err(fault) => Err(Refused::explained(fault, |room| {
+                ffi::explain_notes(notes, NOTES, room)
+            })),
+        }
+    }
+
+    /// Makes a plat of its parts: the township, and the last quarter mile of each section line, by
+    /// the line's index (`docs/NOTES-FORMAT.md` has the drawing), in thousandths of a chain.
+    ///
+    /// # Errors
+    ///
+    /// [`NoPlat`] unless the lines that close, 0 to 6 and 47, 53, 59, 65, 71, 77, and 83, have
+    /// 5,000 to 25,000, and all others 20,000.
+    ///
+    /// ```
+    /// use township::{EastWest, NorthSouth, Plat, Township, LINES};
+    ///
+    /// let township = Township::new(2, NorthSouth::North, 3, EastWest::West).unwrap();
+    /// let even = Plat::of_parts(township, [20_000; LINES])?;
+    /// assert!(even.print().ends_with("township total 23040.00\n"));
+    /// # Ok::<(), township::NoPlat>(())
+    /// ```
+    pub fn of_parts(township: Township, closing_quarters: [u32; LINES]) -> Result<Plat, NoPlat> {
+        let parts = Parts {
+            closing_quarters,
+            number: township.number(),
+            north_south: township.north_south().code(),
+            range: township.range(),
+            east_west: township.east_west().code(),
+        };
+        // Each call that takes a plat finds out whether it is one. This has little to do besides.
+        match ffi::acres(&parts, b"", ffi::EXACT).verdict() {
+            Verdict::NoPlat => Err(NoPlat),
+            Verdict::NoMemory => out_of_memory(),
+            _ => Ok(Plat { parts }),
+        }
+    }
+
+    /// Where the township lies.
+    pub fn township(&self) -> Township {
+        Township::of_parts(&self.parts).expect("a plat has a township")
+    }
+
+    /// The last quarter mile of each section line, by its index, in thousandths of a chain.
+    ///
+    /// ```
+    /// # let notes = include_bytes!(concat!(env!("CARGO_MANIFEST_DIR"), "/../../samples/b1.csv"));
+    /// # let plat = township::Plat::read(notes)?;
+    /// assert_eq!(plat.closing_quarters()[3..7], [20_000, 20_200, 20_400, 20_800]);
+    /// # Ok::<(), township::Refused>(())
+    /// ```
+    pub fn closing_quarters(&self) -> &[u32; LINES] {
+        &self.parts.closing_quarters
+    }
+}
+
+impl fmt::Debug for Plat {
+    fn fmt(&self, f: &mut fmt::Formatter<'_>) -> fmt::Result {
+        f.debug_struct("Plat")
+            .field("township", &self.township())
+            .field("closing_quarters", self.closing_quarters())
+            .finish()
+    }
+}
+
+impl fmt::Display for NoPlat {
+    fn fmt(&self, f: &mut fmt::Formatter<'_>) -> fmt::Result {
+        f.pad("no plat has these closing quarters")
+    }
+}
+
+impl Error for NoPlat {}

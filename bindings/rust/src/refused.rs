@@ -1,0 +1,204 @@
+//! Refusals.
+
+use crate::answer::Fault;
+use crate::ffi::Answer;
+use crate::text::text_by;
+use std::error::Error;
+use std::fmt;
+
+// What the library calls each text where it explains a refusal.
+pub(crate) const DESCRIPTION: &str = "description";
+pub(crate) const NOTES: &str = "notes";
+pub(crate) const LIST: &str = "tracts";
+
+/// What the library begins an explanation with.
+const PROGRAM: &str = "township: ";
+
+/// The number of a refusal and its place. It is written as `refused 67 at 19`.
+#[derive(Clone, Copy, Debug, PartialEq, Eq, Hash)]
+pub struct Refusal {
+    /// What is wrong.
+    pub number: u32,
+    /// Where.
+    pub at: u32,
+}
+
+/// The numbered refusal of field notes, of a description, or of a list of tracts.
+///
+/// `docs/REFUSALS.md` says what each number means and what to do about it. It is written as the
+/// first line of its explanation.
+///
+/// ```
+/// # let notes = include_bytes!(concat!(env!("CARGO_MANIFEST_DIR"), "/../../samples/b1.csv"));
+/// # let plat = township::Plat::read(notes)?;
+/// let refused = plat.acres("sec. 14, NE1/4 and N1/2.").unwrap_err();
+/// assert_eq!((refused.number, refused.at), (67, 19));
+/// assert_eq!((refused.line, refused.column), (Some(1), Some(20)));
+/// assert_eq!(refused.to_string(), "description:1:20: this land was named before");
+/// assert_eq!(refused.explanation, "\
+/// township: description:1:20: this land was named before
+///   1 | sec. 14, NE1/4 and N1/2.
+///     |                    ^^^^
+///   `NE1/4` at 1:10 names it too: both hold sec. 14, NE1/4.
+/// ");
+/// # Ok::<(), township::Refused>(())
+/// ```
+#[derive(Clone, Debug, PartialEq, Eq, Hash)]
+#[non_exhaustive]
+pub struct Refused {
+    /// What is wrong: 1 to 11 and 21 to 23 for field notes, 41 to 44 and 61 to 67 for a
+    /// description, 80 to 85 for a list of tracts.
+    pub number: u32,
+    /// Where: a record counted from 1, the index of a section line, or a byte counted from 0. What
+    /// it counts depends on the number.
+    pub at: u32,
+    /// Of refusal 83 the tract's own: its place is a byte of that tract's description. Otherwise
+    /// `None`.
+    pub inner: Option<Refusal>,
+    /// The line, counted from 1. `None` for a fault that stands on no line, such as a record that
+    /// is missing.
+    pub line: Option<u32>,
+    /// And the column, counted from 1 in characters.
+    pub column: Option<u32>,
+    /// Some lines of text, as the program `township` shows them.
+    pub explanation: String,
+}
+
+impl Refused {
+    /// The refusal for a fault, as a call of the library explains it. Panics where memory ran out.
+    pub(crate) fn explained(fault: Fault, explain: impl Fn(&mut [u8]) -> Answer) -> Refused {
+        let (told, explanation) = text_by(explain);
+        assert_eq!(
+            told.accepted(),
+            Err(fault),
+            "the library explains what it refused"
+        );
+        Refused {
+            number: fault.refusal.number,
+            at: fault.refusal.at,
+            inner: fault.inner,
+            line: counted(told.line),
+            column: counted(told.column),
+            explanation,
+        }
+    }
+
+    /// What is wrong, without its place.
+    ///
+    /// ```
+    /// # let notes = include_bytes!(concat!(env!("CARGO_MANIFEST_DIR"), "/../../samples/b1.csv"));
+    /// # let plat = township::Plat::read(notes)?;
+    /// let refused = plat.acres("sec. 5, lot 5.").unwrap_err();
+    /// assert_eq!(refused.to_string(), "description:1:13: section 5 has lots 1 to 4");
+    /// assert_eq!(refused.sentence(), "section 5 has lots 1 to 4");
+    /// # Ok::<(), township::Refused>(())
+    /// ```
+    pub fn sentence(&self) -> String {
+        let message = self.to_string();
+        // No place has a space in it, so the first colon with one behind it ends the place.
+        match message.split_once(": ") {
+            Some((_, sentence)) => sentence.to_owned(),
+            None => message,
+        }
+    }
+
+    /// The first line of the explanation, without the program's name, where there is one.
+    fn first_line(&self) -> Option<&str> {
+        let line = self.explanation.lines().next()?;
+        Some(line.strip_prefix(PROGRAM).unwrap_or(line)).filter(|line| !line.is_empty())
+    }
+}
+
+/// A line or a column: the library says 0 where there is none.
+fn counted(from_one: u32) -> Option<u32> {
+    (from_one > 0).then_some(from_one)
+}
+
+impl fmt::Display for Refusal {
+    fn fmt(&self, f: &mut fmt::Formatter<'_>) -> fmt::Result {
+        write!(f, "refused {} at {}", self.number, self.at)
+    }
+}
+
+impl fmt::Display for Refused {
+    fn fmt(&self, f: &mut fmt::Formatter<'_>) -> fmt::Result {
+        match self.first_line() {
+            Some(line) => f.write_str(line),
+            None => write!(f, "refused {} at {}", self.number, self.at),
+        }
+    }
+}
+
+impl Error for Refused {}
+
+#[cfg(test)]
+mod tests {
+    use super::*;
+    use crate::ffi::{ACCEPTED, NO_MEMORY, REFUSED};
+
+    const OVERLAP: Refusal = Refusal { number: 67, at: 19 };
+
+    fn explained(explanation: &str) -> Refused {
+        Refused {
+            number: OVERLAP.number,
+            at: OVERLAP.at,
+            inner: None,
+            line: None,
+            column: None,
+            explanation: explanation.to_owned(),
+        }
+    }
+
+    /// What comes of an answer to the question why `OVERLAP` was refused.
+    fn told(verdict: u32, number: u32, at: u32) -> Refused {
+        let fault = Fault {
+            refusal: OVERLAP,
+            inner: None,
+        };
+        Refused::explained(fault, |_| Answer {
+            verdict,
+            number,
+            at,
+            ..Answer::default()
+        })
+    }
+
+    #[test]
+    fn without_an_explanation() {
+        for nothing in ["", "\n", "township: \n"] {
+            let refused = explained(nothing);
+            assert_eq!(refused.to_string(), "refused 67 at 19");
+            assert_eq!(refused.sentence(), "refused 67 at 19");
+        }
+    }
+
+    #[test]
+    fn sentence_comes_after_the_place() {
+        for (line, sentence) in [
+            ("description:1:20: this land: twice", "this land: twice"),
+            ("notes: no record of W,6,7", "no record of W,6,7"),
+            ("tracts:2:23: tract `A`: twice", "tract `A`: twice"),
+        ] {
+            let refused = explained(&format!("township: {line}\n  1 | more: text\n"));
+            assert_eq!(refused.to_string(), line);
+            assert_eq!(refused.sentence(), sentence);
+        }
+    }
+
+    #[test]
+    fn fault_on_no_line() {
+        assert_eq!(told(REFUSED, 67, 19), explained(""));
+    }
+
+    #[test]
+    #[should_panic(expected = "township: out of memory")]
+    fn memory_that_ran_out() {
+        told(NO_MEMORY, 0, 0);
+    }
+
+    #[test]
+    #[should_panic(expected = "the library explains what it refused")]
+    fn refused_and_then_accepted() {
+        told(ACCEPTED, 0, 0);
+    }
+}

@@ -1,0 +1,179 @@
+//! Reports of tracts, as data.
+
+use crate::acres::Acres;
+use std::fmt;
+
+/// A tract of a report, with its acres. It is written as `tract A: 39.18 acres`.
+#[derive(Clone, Debug, PartialEq, Eq, Hash)]
+pub struct Tract {
+    /// Its name: 1 to 64 printable ASCII characters.
+    pub name: String,
+    /// Its acres.
+    pub acres: Acres,
+}
+
+/// The account of a list of tracts. Each figure is an exact area, rounded by itself.
+///
+/// It is written as the text that [`Plat::report`](crate::Plat::report) gives.
+///
+/// ```
+/// # let notes = include_bytes!(concat!(env!("CARGO_MANIFEST_DIR"), "/../../samples/b1.csv"));
+/// # let plat = township::Plat::read(notes)?;
+/// let report = plat.report_of([("A", "sec. 7, lot 1."), ("B", "sec. 7, lot 4.")])?;
+/// assert_eq!(report.to_string(), "\
+/// tract A: 39.18 acres
+/// tract B: 39.03 acres
+/// total: 78.20 acres
+/// remaining: 22959.37 acres
+/// ");
+/// # Ok::<(), township::Refused>(())
+/// ```
+#[derive(Clone, Debug, PartialEq, Eq, Hash)]
+pub struct Report {
+    /// The tracts, in the order of the list.
+    pub tracts: Vec<Tract>,
+    /// The acres of all land that is in a tract.
+    pub total: Acres,
+    /// And of all other land in the township.
+    pub remaining: Acres,
+}
+
+impl Report {
+    /// The report that a text writes, or `None` where it is no report's.
+    ///
+    /// ```
+    /// # let notes = include_bytes!(concat!(env!("CARGO_MANIFEST_DIR"), "/../../samples/b1.csv"));
+    /// # let plat = township::Plat::read(notes)?;
+    /// let text = plat.report("name,description\nA,sec. 14\n")?;
+    /// let report = township::Report::of_text(&text).unwrap();
+    /// assert_eq!(report.total.to_string(), "640.00");
+    /// assert_eq!(township::Report::of_text("refused 81 at 1\n"), None);
+    /// # Ok::<(), township::Refused>(())
+    /// ```
+    pub fn of_text(text: &str) -> Option<Report> {
+        let lines: Vec<&str> = text.strip_suffix('\n')?.split('\n').collect();
+        // A name can have any printable character, so these two are known by their place.
+        let (remaining, lines) = lines.split_last()?;
+        let (total, tracts) = lines.split_last()?;
+        Some(Report {
+            tracts: tracts
+                .iter()
+                .map(|line| tract_of(line))
+                .collect::<Option<_>>()?,
+            total: figure_of(total.strip_prefix("total: ")?)?,
+            remaining: figure_of(remaining.strip_prefix("remaining: ")?)?,
+        })
+    }
+}
+
+/// The tract of a line. Its name can have a colon, and ends at the last one.
+fn tract_of(line: &str) -> Option<Tract> {
+    let (name, figure) = line.strip_prefix("tract ")?.rsplit_once(": ")?;
+    Some(Tract {
+        name: name.to_owned(),
+        acres: figure_of(figure)?,
+    })
+}
+
+/// The acres of a text such as `39.18 acres`.
+fn figure_of(text: &str) -> Option<Acres> {
+    Acres::of_text(text.strip_suffix(" acres")?)
+}
+
+/// The list of tracts (CSV) with these names and descriptions; each field is quoted, as any may be.
+pub(crate) fn list_of<N, D>(tracts: impl IntoIterator<Item = (N, D)>) -> Vec<u8>
+where
+    N: AsRef<[u8]>,
+    D: AsRef<[u8]>,
+{
+    let mut list = b"name,description\n".to_vec();
+    for (name, description) in tracts {
+        put_quoted(&mut list, name.as_ref());
+        list.push(b',');
+        put_quoted(&mut list, description.as_ref());
+        list.push(b'\n');
+    }
+    list
+}
+
+/// Puts a field in quotes, with each quote inside it doubled.
+fn put_quoted(list: &mut Vec<u8>, field: &[u8]) {
+    list.push(b'"');
+    for &byte in field {
+        if byte == b'"' {
+            list.push(b'"');
+        }
+        list.push(byte);
+    }
+    list.push(b'"');
+}
+
+impl fmt::Display for Tract {
+    fn fmt(&self, f: &mut fmt::Formatter<'_>) -> fmt::Result {
+        write!(f, "tract {}: {} acres", self.name, self.acres)
+    }
+}
+
+impl fmt::Display for Report {
+    fn fmt(&self, f: &mut fmt::Formatter<'_>) -> fmt::Result {
+        for tract in &self.tracts {
+            writeln!(f, "{tract}")?;
+        }
+        writeln!(f, "total: {} acres", self.total)?;
+        writeln!(f, "remaining: {} acres", self.remaining)
+    }
+}
+
+#[cfg(test)]
+mod tests {
+    use super::*;
+
+    #[test]
+    fn texts_of_reports() {
+        let nothing = "total: 0.00 acres\nremaining: 23040.00 acres\n";
+        let odd_names = "\
+tract a: 1.00 acres: 40.00 acres
+tract total: 40.00 acres
+tract remaining: 0.00 acres: 40.00 acres
+tract  : 40.00 acres
+total: 160.00 acres
+remaining: 22880.00 acres
+";
+        for text in [nothing, odd_names] {
+            assert_eq!(Report::of_text(text).unwrap().to_string(), text);
+        }
+        let report = Report::of_text(odd_names).unwrap();
+        let names: Vec<_> = report.tracts.iter().map(|tract| &tract.name[..]).collect();
+        assert_eq!(
+            names,
+            ["a: 1.00 acres", "total", "remaining: 0.00 acres", " "]
+        );
+    }
+
+    #[test]
+    fn texts_of_no_report() {
+        for text in [
+            "",
+            "\n",
+            "total: 0.00 acres\n",
+            "total: 0.00 acres\nremaining: 1.00 acres",
+            "total: 0.00 acres\nremaining: 1.00\n",
+            "total: 0 acres\nremaining: 1.00 acres\n",
+            "remaining: 1.00 acres\ntotal: 0.00 acres\n",
+            "A: 0.00 acres\ntotal: 0.00 acres\nremaining: 1.00 acres\n",
+            "tract A\ntotal: 0.00 acres\nremaining: 1.00 acres\n",
+            "tract A: 1.00\ntotal: 0.00 acres\nremaining: 1.00 acres\n",
+            "refused 83 at 2\nrefused 67 at 19\n",
+        ] {
+            assert_eq!(Report::of_text(text), None, "{text:?}");
+        }
+    }
+
+    #[test]
+    fn lists_are_quoted() {
+        let list = list_of([("A", "sec. 7, lot 1."), ("the \"old\" place", "")]);
+        let wanted = "name,description\n\"A\",\"sec. 7, lot 1.\"\n\"the \"\"old\"\" place\",\"\"\n";
+        assert_eq!(String::from_utf8(list).unwrap(), wanted);
+        assert_eq!(list_of::<&str, &str>([]), b"name,description\n");
+    }
+}

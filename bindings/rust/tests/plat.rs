@@ -1,0 +1,280 @@
+//! Plats: how they are made, what they answer, and that they are values.
+
+mod samples;
+
+use samples::{even, rounded, uneven, NOTES};
+use std::collections::HashSet;
+use township::{Account, Acres, EastWest, NoPlat, NorthSouth, Plat, Township, LINES};
+
+// The figures are those of the documents, worked out there by hand.
+
+/// All section lines of the even township.
+const QUARTERS: [u32; LINES] = [20_000; LINES];
+
+/// T. 2 N., R. 3 W.
+fn sample_township() -> Township {
+    Township::new(2, NorthSouth::North, 3, EastWest::West).unwrap()
+}
+
+fn acres(hundredths: u64) -> Acres {
+    Acres::of_hundredths(hundredths)
+}
+
+#[test]
+fn acres_of_lots_and_of_parts() {
+    assert_eq!(
+        uneven().acres("sec. 5, lots 1 and 2, S1/2NE1/4."),
+        Ok(acres(16_100))
+    );
+    assert_eq!(uneven().acres("sec. 5, lot 1."), Ok(acres(4_045)));
+    // 5/8 of an acre.
+    assert_eq!(
+        even().acres("sec. 14, NE1/4NE1/4NE1/4NE1/4NE1/4."),
+        Ok(acres(63))
+    );
+    assert_eq!(even().acres("secs. 1 thru 36, all."), Ok(acres(2_304_000)));
+}
+
+#[test]
+fn accounts() {
+    let lots = "sec. 7, lots 1 to 4, inclusive.";
+    assert_eq!(uneven().acres(lots), Ok(acres(15_640)));
+    for (account, hundredths) in [(Account::Exact, 15_640), (Account::Plat, 15_642)] {
+        assert_eq!(uneven().acres_by(lots, account), Ok(acres(hundredths)));
+    }
+    assert_eq!(Account::default(), Account::Exact);
+}
+
+#[test]
+fn area() {
+    let parts = |description| {
+        let area = uneven().area(description).unwrap();
+        (area.numerator(), area.denominator())
+    };
+    // 20 chains by the mean of 20.2 and 20.25, over 10.
+    assert_eq!(parts("sec. 5, lot 1."), (809, 20));
+    assert_eq!(parts("sec. 36."), (640, 1));
+    assert_eq!(parts("sec. 14, NE1/4NE1/4NE1/4NE1/4NE1/4."), (5, 8));
+}
+
+#[test]
+fn area_by_the_plat() {
+    let lots = "sec. 7, lots 1 to 4.";
+    let area = uneven().area_by(lots, Account::Plat).unwrap();
+    assert_eq!((area.numerator(), area.denominator()), (15_642 / 2, 50));
+    let exact = uneven().area_by(lots, Account::Exact).unwrap();
+    assert_eq!(exact, uneven().area(lots).unwrap());
+    assert!(exact < area);
+}
+
+#[test]
+fn normal() {
+    assert_eq!(
+        uneven().normal("sec. 14, SE1/4, NE1/4, NW1/4.").unwrap(),
+        "T. 2 N., R. 3 W.,\nsec. 14, N1/2, SE1/4.\n"
+    );
+}
+
+/// 16 squares of 2.5 acres in each of twenty sections, of which no two make up a larger part.
+fn land_with_a_long_text() -> String {
+    let mut squares = vec![String::new()];
+    for _ in 0..4 {
+        let finer =
+            |square: &String| ["NE1/4", "SW1/4"].map(|quarter| format!("{square}{quarter}"));
+        squares = squares.iter().flat_map(finer).collect();
+    }
+    let squares = squares.join(", ");
+    let sections = (8..18).chain(20..30);
+    let items: Vec<String> = sections
+        .map(|section| format!("sec. {section}, {squares}"))
+        .collect();
+    items.join("; ")
+}
+
+#[test]
+fn normal_longer_than_its_first_room() {
+    let normal = uneven().normal(land_with_a_long_text()).unwrap();
+    assert!(normal.len() > 4096);
+    assert_eq!(uneven().normal(&normal).unwrap(), normal);
+    // Twenty sections of 16 squares of 2.5 acres.
+    assert_eq!(uneven().acres(&normal), Ok(acres(80_000)));
+}
+
+#[test]
+fn strings_and_bytes() {
+    let half = String::from("sec. 14, S½NE¼.");
+    assert_eq!(even().acres(&half), Ok(acres(8_000)));
+    assert_eq!(even().acres(half.as_bytes()), Ok(acres(8_000)));
+    assert_eq!(even().acres(half.into_bytes()), Ok(acres(8_000)));
+    assert_eq!(even().acres(b"sec. 14, S1/2NE1/4."), Ok(acres(8_000)));
+}
+
+#[test]
+fn printed() {
+    let text = uneven().print();
+    assert!(text.starts_with("sec. 1: lot 1 40.00, lot 2 40.00, "));
+    assert!(text.ends_with("sec. 36: total 640.00\ntownship total 23037.57\n"));
+    assert_eq!(
+        text.lines().nth(6),
+        Some("sec. 7: lot 1 39.18, lot 2 39.13, lot 3 39.08, lot 4 39.03, total 636.40")
+    );
+    assert_eq!(text.lines().count(), 37);
+}
+
+/// The lands of a printed line, such as `sec. 7: lot 1 39.18, total 636.40`, with their figures.
+fn printed_lands(line: &str) -> Vec<(String, &str)> {
+    let (section, figures) = line.split_once(": ").unwrap();
+    let land = |name: &str| match name {
+        "total" => format!("{section}."),
+        lot => format!("{section}, {lot}."),
+    };
+    figures
+        .split(", ")
+        .map(|figure| figure.rsplit_once(' ').unwrap())
+        .map(|(name, acres)| (land(name), acres))
+        .collect()
+}
+
+#[test]
+fn each_printed_figure_is_that_of_its_land() {
+    let plat = uneven();
+    let text = plat.print();
+    let lands: Vec<_> = text.lines().take(36).flat_map(printed_lands).collect();
+    // 36 totals, four lots in each of ten sections, and the seven of section 6.
+    assert_eq!(lands.len(), 36 + 4 * 10 + 7);
+    for (land, figure) in lands {
+        assert_eq!(plat.acres(&land).unwrap().to_string(), figure, "{land}");
+    }
+}
+
+#[test]
+fn acres_are_the_area_rounded() {
+    let plat = uneven();
+    let text = plat.print();
+    for (land, _) in text.lines().take(36).flat_map(printed_lands) {
+        for account in [Account::Exact, Account::Plat] {
+            let area = plat.area_by(&land, account).unwrap();
+            let acres = plat.acres_by(&land, account).unwrap();
+            assert_eq!(acres.hundredths(), rounded(area), "{land}");
+        }
+    }
+}
+
+#[test]
+fn parts_of_a_plat_make_it() {
+    let plat = uneven();
+    assert_eq!(plat.township(), sample_township());
+    let made = Plat::of_parts(plat.township(), *plat.closing_quarters());
+    assert_eq!(made, Ok(plat));
+    assert_eq!(Plat::of_parts(sample_township(), QUARTERS), Ok(even()));
+}
+
+#[test]
+fn each_side() {
+    for north_south in [NorthSouth::North, NorthSouth::South] {
+        for east_west in [EastWest::East, EastWest::West] {
+            let township = Township::new(99, north_south, 1, east_west).unwrap();
+            assert_eq!(
+                township.to_string(),
+                format!("T. 99 {north_south}., R. 1 {east_west}.")
+            );
+            let plat = Plat::of_parts(township, QUARTERS).unwrap();
+            assert_eq!(plat.township(), township);
+            let normal = plat.normal("sec. 14.").unwrap();
+            assert_eq!(normal, format!("{township},\nsec. 14, all.\n"));
+        }
+    }
+}
+
+#[test]
+fn parts_of_a_township() {
+    let township = uneven().township();
+    assert_eq!((township.number(), township.range()), (2, 3));
+    assert_eq!(township.north_south(), NorthSouth::North);
+    assert_eq!(township.east_west(), EastWest::West);
+}
+
+#[test]
+fn numbers_of_no_township() {
+    for (number, range) in [(0, 3), (100, 3), (2, 0), (2, 100), (255, 255)] {
+        let township = Township::new(number, NorthSouth::North, range, EastWest::West);
+        assert_eq!(township, None, "{number} and {range}");
+    }
+}
+
+#[test]
+fn quarters_that_are_no_plats() {
+    // Lines 0 and 83 close, and so have 5 to 25 chains; lines 7 and 58 don't.
+    for (line, quarter) in [
+        (0, 0),
+        (0, 4_999),
+        (83, 25_001),
+        (7, 19_999),
+        (58, 20_001),
+        (0, u32::MAX),
+    ] {
+        let mut quarters = QUARTERS;
+        quarters[line] = quarter;
+        let made = Plat::of_parts(sample_township(), quarters);
+        assert_eq!(made, Err(NoPlat), "line {line} of {quarter}");
+    }
+    assert_eq!(NoPlat.to_string(), "no plat has these closing quarters");
+}
+
+#[test]
+fn quarters_at_their_limits() {
+    for quarter in [5_000, 25_000] {
+        let mut quarters = QUARTERS;
+        quarters[0] = quarter;
+        let made = Plat::of_parts(sample_township(), quarters).unwrap();
+        assert_eq!(made.closing_quarters(), &quarters);
+    }
+}
+
+#[test]
+fn equal_plats_are_one_value() {
+    let again = Plat::read(NOTES).unwrap();
+    assert_eq!(again, uneven());
+    assert_eq!(again.clone(), again);
+    assert_ne!(again, even());
+    assert_eq!(HashSet::from([again, uneven(), even()]).len(), 2);
+}
+
+#[test]
+fn version() {
+    let version = township::version();
+    let numbers: Vec<_> = version.split('.').map(str::parse::<u32>).collect();
+    assert_eq!(numbers.len(), 3);
+    assert!(numbers.iter().all(Result::is_ok), "{version}");
+}
+
+#[test]
+fn many_in_order() {
+    let plat = uneven();
+    let descriptions = ["sec. 36.", "sec. 14, NE1/4 and N1/2.", "", "sec. 5, lot 1."];
+    let answers: Vec<_> = plat
+        .acres_of(descriptions)
+        .map(|answer| answer.map_err(|refused| (refused.number, refused.at)))
+        .collect();
+    assert_eq!(
+        answers,
+        [
+            Ok(acres(64_000)),
+            Err((67, 19)),
+            Err((44, 0)),
+            Ok(acres(4_045))
+        ]
+    );
+    assert_eq!(plat.acres_of([""; 0]).count(), 0);
+}
+
+#[test]
+fn many_are_taken_one_at_a_time() {
+    let plat = uneven();
+    let endless = (8..).map(|section| format!("sec. {section}."));
+    let answers: Vec<_> = plat.acres_of(endless).take(3).collect();
+    assert_eq!(
+        answers,
+        [Ok(acres(64_000)), Ok(acres(64_000)), Ok(acres(64_000))]
+    );
+}

@@ -1,0 +1,102 @@
+//! Calls from several threads at a time.
+
+mod samples;
+
+use samples::{uneven, NOTES, TRACTS};
+use std::sync::Barrier;
+use std::thread;
+use township::{Account, Acres, Area, Plat, Refused, Report, Township};
+
+const THREADS: usize = 4;
+const ROUNDS: usize = 200;
+
+/// The stack that the library asks for, and room for the thread's own calls.
+const STACK: usize = (256 + 64) * 1024;
+
+/// One answer of each kind.
+#[derive(Debug, PartialEq)]
+struct Answers {
+    read: Plat,
+    acres: Result<Acres, Refused>,
+    by_plat: Result<Acres, Refused>,
+    area: Result<Area, Refused>,
+    normal: Result<String, Refused>,
+    printed: String,
+    report: Result<String, Refused>,
+    refused: Result<Acres, Refused>,
+    refused_notes: Result<Plat, Refused>,
+    refused_list: Result<String, Refused>,
+}
+
+fn answers_on(plat: &Plat) -> Answers {
+    Answers {
+        read: Plat::read(NOTES).unwrap(),
+        acres: plat.acres("sec. 5, lots 1 and 2, S1/2NE1/4."),
+        by_plat: plat.acres_by("sec. 7, lots 1 to 4.", Account::Plat),
+        area: plat.area("sec. 6, lot 1."),
+        normal: plat.normal("sec. 14, SE1/4, NE1/4, NW1/4."),
+        printed: plat.print(),
+        report: plat.report(TRACTS),
+        refused: plat.acres("sec. 14, NE1/4 and N1/2."),
+        refused_notes: Plat::read(b"line,between\n"),
+        refused_list: plat.report("name,description\nA,sec. 37.\n"),
+    }
+}
+
+#[test]
+fn one_plat_in_four_threads() {
+    let plat = uneven();
+    let wanted = answers_on(&plat);
+    assert_eq!(wanted.acres, Ok(Acres::of_hundredths(16_100)));
+    assert_eq!(wanted.refused.as_ref().unwrap_err().number, 67);
+    let together = Barrier::new(THREADS);
+    thread::scope(|scope| {
+        for _ in 0..THREADS {
+            let thread = thread::Builder::new().stack_size(STACK);
+            let run = || {
+                together.wait();
+                for _ in 0..ROUNDS {
+                    assert_eq!(answers_on(&plat), wanted);
+                }
+            };
+            thread.spawn_scoped(scope, run).unwrap();
+        }
+    });
+}
+
+#[test]
+fn plats_of_their_own() {
+    // The even township, but with another number in each thread.
+    let plat_of = |number| {
+        let sample = uneven().township();
+        let township = Township::new(number, sample.north_south(), 3, sample.east_west());
+        Plat::of_parts(township.unwrap(), [20_000; township::LINES]).unwrap()
+    };
+    let together = Barrier::new(THREADS);
+    let run = |number: u8| {
+        together.wait();
+        let normal = plat_of(number).normal(format!("sec. {number}.")).unwrap();
+        assert_eq!(
+            normal,
+            format!("T. {number} N., R. 3 W.,\nsec. {number}, all.\n")
+        );
+    };
+    thread::scope(|scope| {
+        for number in (8..).take(THREADS) {
+            let run = &run;
+            scope.spawn(move || run(number));
+        }
+    });
+}
+
+#[test]
+fn values_go_to_other_threads() {
+    fn goes<T: Send + Sync + 'static>() {}
+    goes::<Plat>();
+    goes::<Acres>();
+    goes::<Area>();
+    goes::<Report>();
+    goes::<Refused>();
+    let plat = thread::spawn(uneven).join().unwrap();
+    assert_eq!(plat, uneven());
+}

@@ -1,0 +1,51 @@
+-- Nothing is explained of what has an account; the fault that is explained is the list's first; or memory ran
+-- out.
+use Rattle.std.proofs.Common.{sym, ◌∙◌}
+use Rattle.twp_c.specs.Calls.{accepted, no_memory, on_plat}
+use Rattle.twp_c.proofs.CallFacts.{explained_list, kept_list}
+use Rattle.twp_c.proofs.explaining.township_explain_list.Goals as goal
+
+pub returns-in-Ok-clause-answer : goal.returns-in-Ok-clause-answer
+returns-in-Ok-clause-answer c =
+    on_plat c.in-Some.plat c.in-Some.ensures
+    (accepted (record {
+      text = c.in-Ok.field-0.items;
+      has = c.in-Ok.ensures.account;
+      answer_is = c.bare-in-Ok.ensures;
+    }))
+
+pub returns-in_default-refusal-clause-answer : goal.returns-in_default-refusal-clause-answer
+returns-in_default-refusal-clause-answer c =
+    on_plat c.in-Some.plat c.in-Some.ensures (no_memory c.bare-in_default-refusal.ensures)
+
+pub returns-in-Ok-Some-clause-answer : goal.returns-in-Ok-Some-clause-answer
+returns-in-Ok-Some-clause-answer c =
+    on_plat c.in-Some.plat c.in-Some.ensures
+    (explained_list c.in-Some.plat c.args.list.now c.args.text.now c.put_explanation.new.text
+    c.of_fault-refused.result c.put_explanation.result c.in-Err.fault _
+    (sym c.refusal.ensures ∙ c.in-Some-refusal.is) c.in-Err.ensures.fault c.of_fault-refused.ensures
+    c.put_explanation.ensures.told)
+
+pub returns-in-Ok-Some-clause-kept : goal.returns-in-Ok-Some-clause-kept
+returns-in-Ok-Some-clause-kept c =
+    kept_list c.args.text.now c.put_explanation.new.text c.of_fault-refused.result c.put_explanation.result
+    c.in-Err.fault _ (sym c.refusal.ensures ∙ c.in-Some-refusal.is) c.of_fault-refused.ensures
+    c.put_explanation.ensures.kept
+
+pub returns-in-Ok-None-clause-answer : goal.returns-in-Ok-None-clause-answer
+returns-in-Ok-None-clause-answer c =
+    on_plat c.in-Some.plat c.in-Some.ensures
+    (explained_list c.in-Some.plat c.args.list.now c.args.text.now c.put_explanation-in-Ok-None.new.text
+    c.of_fault-refused.result c.put_explanation-in-Ok-None.result c.in-Err.fault _
+    (sym c.refusal.ensures ∙ c.in-Some-refusal.is) c.in-Err.ensures.fault c.of_fault-refused.ensures
+    c.put_explanation-in-Ok-None.ensures.told)
+
+pub returns-in-Ok-None-clause-kept : goal.returns-in-Ok-None-clause-kept
+returns-in-Ok-None-clause-kept c =
+    kept_list c.args.text.now c.put_explanation-in-Ok-None.new.text c.of_fault-refused.result
+    c.put_explanation-in-Ok-None.result c.in-Err.fault _ (sym c.refusal.ensures ∙ c.in-Some-refusal.is)
+    c.of_fault-refused.ensures c.put_explanation-in-Ok-None.ensures.kept
+
+pub returns-in-Err-explain_tracts-clause-answer : goal.returns-in-Err-explain_tracts-clause-answer
+returns-in-Err-explain_tracts-clause-answer c =
+    on_plat c.in-Some.plat c.in-Some.ensures (no_memory c.bare-in-Err-explain_tracts.ensures)

@@ -1,0 +1,4 @@
+pub mod Answers
+pub mod GivenPlats
+pub mod Calls
+pub mod Explanations

@@ -1,0 +1,19 @@
+//! The numbers that cross to C.
+
+/// Here is the answer.
+pub const ACCEPTED: u32 = 0;
+/// The input has a fault.
+pub const REFUSED: u32 = 1;
+/// A tract's description has a fault of its own.
+pub const TRACT_REFUSED: u32 = 2;
+/// The plat that was given is none.
+pub const NO_PLAT: u32 = 3;
+/// The account that was given is none.
+pub const NO_ACCOUNT: u32 = 4;
+/// There is less room than the text has bytes.
+pub const NO_ROOM: u32 = 5;
+/// Memory ran out.
+pub const NO_MEMORY: u32 = 6;
+
+/// The refusal of a tract whose description is refused itself.
+pub const TRACT_NUMBER: u32 = 83;

@@ -1,0 +1,2 @@
+/// The version of the library.
+pub(crate) const VERSION: &str = "1.0.0";

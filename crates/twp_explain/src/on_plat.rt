@@ -1,0 +1,81 @@
+//! Explanations without a run: of field notes, and on a plat that is kept of a description and of a
+//! list of tracts. What is told of is the first fault, and nothing is told of what has none.
+ghost use Rattle.std.specs.Prelude.{◌≡◌, Some, IfOk, IfSome};
+ghost use Rattle.twp_acres.specs.Answers.{IsNoPlat, IsNoDescription};
+ghost use Rattle.twp_acres.specs.TractFaults.{IsFirstTractFault, refusal_of};
+ghost use Rattle.twp_findings.specs.Findings.{IsOf};
+
+use crate::explaining::{describe, plat_of};
+use crate::list::{fault_of, tell_fault};
+use std::alloc::{AllocError, Global};
+use twp_acres::TractFault;
+use twp_findings::{Explanation, Given, Origin, Stop};
+use twp_grid::Township;
+use twp_plat::Plat;
+
+/// What is told of field notes that make no plat.
+pub fn explain_notes(alloc: Global, notes: &Given<'_>) -> Result<Option<Explanation>, AllocError>
+    ensures { IfOk result (λ told. IfSome told (λ explanation.
+        IsNoPlat notes.now.bytes.now explanation.refusal)) }
+{
+    match plat_of(alloc, notes) {
+        Ok(_) => Ok(None),
+        Err(stop) => Ok(Some(tell_stop(alloc, notes, stop)?)),
+    }
+}
+
+/// What is told of the bytes of a description that describe no land on the plat of a township.
+pub fn explain_description(
+    alloc: Global,
+    township: Township,
+    description: &Given<'_>,
+) -> Result<Option<Explanation>, AllocError>
+    ensures { IfOk result (λ told. IfSome told (λ explanation.
+        IsNoDescription township description.now.bytes.now explanation.refusal)) }
+{
+    let origin = Origin::of_file(*description);
+    match describe(alloc, &origin, description.bytes, township) {
+        Ok(()) => Ok(None),
+        Err(stop) => Ok(Some(tell_stop(alloc, description, stop)?)),
+    }
+}
+
+/// The fault of a list of tracts, and what is told of it.
+#[derive(Debug, Drop)]
+pub struct ToldFault {
+    /// The list's first fault.
+    pub fault: TractFault,
+    /// What is told of it.
+    pub explanation: Explanation,
+}
+
+/// What is told of a list of tracts that has no account on a plat.
+pub fn explain_tracts(
+    alloc: Global,
+    plat: &Plat,
+    tracts: &Given<'_>,
+) -> Result<Option<ToldFault>, AllocError>
+    ensures first { IfOk result (λ told. IfSome told (λ it.
+        IsFirstTractFault plat.now.township tracts.now.bytes.now it.fault)) }
+    ensures refusal { IfOk result (λ told. IfSome told (λ it.
+        refusal_of it.fault ≡ Some it.explanation.refusal)) }
+{
+    let Some(fault) = fault_of(alloc, plat, tracts.bytes)? else {
+        return Ok(None);
+    };
+    let Some(refusal) = fault.refusal() else {
+        return Err(AllocError);
+    };
+    let explanation = tell_fault(alloc, tracts, plat.township(), fault, refusal)?;
+    Ok(Some(ToldFault { fault, explanation }))
+}
+
+/// The message of a stop, where memory didn't run out.
+fn tell_stop(alloc: Global, file: &Given<'_>, stop: Stop) -> Result<Explanation, AllocError>
+    ensures { IfOk result (λ explanation. IsOf stop explanation.refusal) }
+{
+    let Stop::Found(finding) = stop else {
+        return Err(AllocError);
+    };
+    finding.tell(alloc, file)
+}

@@ -1,0 +1,39 @@
+"""Answers many descriptions on all cores of one machine, by processes that each keep the plats.
+
+    python3 examples/all_cores.py [--descriptions 1000000] [--workers CORES] [--seed 1]
+
+The descriptions are made up from the seed, over 36 townships, and the answers are compared with those of one
+process. The last line says how many there were a second.
+"""
+
+from __future__ import annotations
+
+import argparse
+import multiprocessing
+import os
+import time
+
+import many
+
+TOWNSHIPS = 36
+CHUNK = 5_000
+
+
+def main() -> None:
+    words = argparse.ArgumentParser(description="Answers many descriptions on all cores.")
+    words.add_argument("--descriptions", type=int, default=1_000_000)
+    words.add_argument("--workers", type=int, default=os.cpu_count())
+    words.add_argument("--seed", type=int, default=1)
+    asked = words.parse_args()
+    chunks = many.chunks(asked.seed, asked.descriptions, TOWNSHIPS, CHUNK)
+    with multiprocessing.get_context("spawn").Pool(asked.workers) as pool:
+        pool.map(many.answers, chunks[: asked.workers])
+        begun = time.perf_counter()
+        answered = pool.map(many.answers, chunks, chunksize=1)
+        taken = time.perf_counter() - begun
+    many.compare(chunks, answered)
+    print(f"{asked.descriptions} descriptions, {asked.workers} workers: {asked.descriptions / taken:,.0f} a second")
+
+
+if __name__ == "__main__":
+    main()

@@ -1,0 +1,45 @@
+"""Answers many descriptions on many machines, by Dask.
+
+    python3 examples/dask_batch.py [--scheduler HOST:PORT] [--descriptions 1000000] [--workers 2] [--seed 1]
+
+Without a scheduler it starts a cluster on this machine, of so many workers. Each worker needs the package
+`township` and the folder of this file on its path. The descriptions are made up from the seed, over 36
+townships, and the answers are compared with those of one process.
+"""
+
+from __future__ import annotations
+
+import argparse
+import time
+
+import many
+from distributed import Client, LocalCluster
+
+TOWNSHIPS = 36
+CHUNK = 5_000
+
+
+def main() -> None:
+    words = argparse.ArgumentParser(description="Answers many descriptions by Dask.")
+    words.add_argument("--scheduler", help="the address of a scheduler that runs already")
+    words.add_argument("--descriptions", type=int, default=1_000_000)
+    words.add_argument("--workers", type=int, default=2)
+    words.add_argument("--seed", type=int, default=1)
+    asked = words.parse_args()
+    chunks = many.chunks(asked.seed, asked.descriptions, TOWNSHIPS, CHUNK)
+    with cluster_of(asked) as client:
+        begun = time.perf_counter()
+        answered = client.gather(client.map(many.answers, chunks, pure=False))
+        taken = time.perf_counter() - begun
+    many.compare(chunks, answered)
+    print(f"{asked.descriptions} descriptions by Dask: {asked.descriptions / taken:,.0f} a second")
+
+
+def cluster_of(asked: argparse.Namespace) -> Client:
+    if asked.scheduler:
+        return Client(asked.scheduler)
+    return Client(LocalCluster(n_workers=asked.workers, threads_per_worker=1, dashboard_address=None))
+
+
+if __name__ == "__main__":
+    main()

@@ -1,0 +1,44 @@
+"""What the examples of many descriptions share: chunks of work, and their answers."""
+
+from __future__ import annotations
+
+from typing import NamedTuple
+
+import made_up
+import township
+
+
+class Chunk(NamedTuple):
+    """Descriptions on one plat. Both are plain data, which a process can hand to another."""
+
+    plat: township.Plat
+    descriptions: list[str]
+
+
+def chunks(seed: int, count: int, townships: int, size: int) -> list[Chunk]:
+    """`count` descriptions in chunks of at most `size`, by turns on the plats of so many townships."""
+    plats = made_up.plats(seed, townships)
+    texts = made_up.descriptions(seed, count)
+    made = []
+    for begin in range(0, count, size):
+        texts_of_chunk = [next(texts) for _ in range(min(size, count - begin))]
+        made.append(Chunk(plats[len(made) % townships], texts_of_chunk))
+    return made
+
+
+def answers(chunk: Chunk) -> list[str]:
+    """Of each description the acres, or its refusal as the program writes it."""
+    return [written(answer) for answer in chunk.plat.acres_of(chunk.descriptions)]
+
+
+def written(answer: object) -> str:
+    if isinstance(answer, township.Refused):
+        return f"refused {answer.number} at {answer.at}"
+    return str(answer)
+
+
+def compare(given: list[Chunk], answered: list[list[str]]) -> None:
+    """Ends the program where an answer differs from that of this process."""
+    for chunk, found in zip(given, answered, strict=True):
+        if found != answers(chunk):
+            raise SystemExit("an answer differs from that of one process")

@@ -1,0 +1,160 @@
+#!/bin/sh
+# Builds the library for C, and tries it and what is built on it: from C and from C++, under memcheck, from four
+# threads, with memory refused, as it is installed, by the packages for Python and for Rust, and by the ways of
+# docs/BATCH.md. TOWNSHIP_CASES can name a zip of worked cases for each of them. What this machine has no tools for is left
+# out, and named before the last line, which is 'N passed, 0 failed'.
+set -u
+root=$(readlink -f "$(dirname "$0")/..")
+cd "$root" || exit 1
+work=$(mktemp -d)
+trap 'rm -rf "$work"' EXIT
+passed=0
+failed=0
+skipped=
+
+pass() { passed=$((passed + 1)); }
+fail() {
+    failed=$((failed + 1))
+    echo "FAILED: $1"
+    head -c 4000 "$work/out"
+}
+skip() { skipped="${skipped:+$skipped, }$1"; }
+has() { command -v "$1" > "$work/lost" 2>&1; }
+
+# A command that has to succeed.
+try() {
+    what=$1
+    shift
+    if "$@" > "$work/out" 2>&1; then pass; else fail "$what"; fi
+}
+
+# One that counts what it tries: its last line is 'N passed', and maybe ', M failed' and ', M skipped (NAMES)'.
+count() {
+    what=$1
+    shift
+    "$@" > "$work/out" 2>&1
+    status=$?
+    last=$(tail -n 1 "$work/out")
+    case $last in
+        [0-9]*' passed'*) passed=$((passed + ${last%% *})) ;;
+        *) status=1 ;;
+    esac
+    [ $status = 0 ] || fail "$what"
+    case $last in *' skipped ('*) skip "$what: $(echo "$last" | sed 's/.* skipped (\(.*\))/\1/')" ;; esac
+}
+
+# Compares two files.
+same() {
+    if cmp -s "$work/wanted" "$work/found"; then
+        pass
+    else
+        cat "$work/wanted" "$work/found" > "$work/out"
+        fail "$1: wanted, and found"
+    fi
+}
+
+if ! sh scripts/library.sh > "$work/out" 2>&1; then
+    fail 'make lib'
+    echo "$passed passed, $failed failed"
+    exit 1
+fi
+version=$(sed -n 's/^Version: //p' lib/township.pc)
+
+# What can be seen of the library from outside.
+sed -n 's/^township_answer \(township_[a-z_]*\)(.*/\1/p' include/township.h | sort > "$work/wanted"
+nm -D --defined-only lib/libtownship.so | sed 's/.* //' | sort > "$work/found"
+same 'the names that libtownship.so exports'
+nm --defined-only --extern-only lib/libtownship.a | sed -n 's/.* T //p' | sort > "$work/found"
+same 'the names that libtownship.a exports'
+echo "libtownship.so.${version%%.*}" > "$work/wanted"
+readelf -d lib/libtownship.so | sed -n 's/.*(SONAME).*\[\(.*\)\]/\1/p' > "$work/found"
+same 'the soname'
+
+# From C and C++.
+compiler=${CC:-cc}
+if has "$compiler"; then
+    flags='-Wall -Wextra -Werror -pedantic -O1 -g -Iinclude'
+    tests="tests/c/check.c tests/c/given.c tests/c/area.c tests/c/threads.c"
+    try 'the C test compiles' "$compiler" -std=c11 $flags -o "$work/static" tests/c/township_test.c $tests \
+        lib/libtownship.a -pthread
+    try 'the C test compiles for the shared library' "$compiler" -std=c11 $flags -o "$work/shared" \
+        tests/c/township_test.c $tests -Llib -ltownship -Wl,-rpath,"$root/lib" -pthread
+    count 'the C test' "$work/static" samples "$version" 50
+    count 'the C test of the shared library' "$work/shared" samples "$version" 50
+    try 'the test of refused growths compiles' "$compiler" -std=c11 $flags -o "$work/growth" tests/c/growth_test.c \
+        tests/c/check.c tests/c/given.c lib/libtownship.a -ldl
+    count 'refused growths' "$work/growth" samples
+    if has valgrind; then
+        try 'memcheck' valgrind -q --error-exitcode=9 --leak-check=full --errors-for-leak-kinds=all \
+            "$work/static" samples "$version" 1
+    else
+        skip 'memcheck: no valgrind'
+    fi
+    if [ -n "${TOWNSHIP_CASES:-}" ] && has python3; then
+        try 'the test of cases compiles' "$compiler" -std=c11 $flags -o "$work/cases" tests/c/cases.c \
+            tests/c/check.c tests/c/area.c lib/libtownship.a
+        python3 tests/c/case_records.py "$TOWNSHIP_CASES" > "$work/records" 2> "$work/lost"
+        count 'worked cases from C' sh -c '"$1" < "$2"' sh "$work/cases" "$work/records"
+    else
+        skip 'worked cases from C: TOWNSHIP_CASES names no zip'
+    fi
+else
+    skip "the library from C: no C compiler ($compiler)"
+fi
+if has "${CXX:-c++}"; then
+    try 'the C++ test compiles' "${CXX:-c++}" -std=c++11 -Wall -Wextra -Werror -pedantic -Iinclude -o "$work/cpp" \
+        tests/c/township_test.cc lib/libtownship.a
+    try 'the C++ test' "$work/cpp" samples/b1.csv
+else
+    skip 'the library from C++: no C++ compiler'
+fi
+
+# As it is installed.
+make --no-print-directory install-lib DESTDIR="$work/there" PREFIX=/usr > "$work/lost" 2>&1
+(cd "$work/there/usr" && find . ! -type d | sort) > "$work/found"
+cat > "$work/wanted" << END
+./include/township.h
+./lib/libtownship.a
+./lib/libtownship.so
+./lib/libtownship.so.${version%%.*}
+./lib/libtownship.so.$version
+./lib/pkgconfig/township.pc
+END
+same 'what is installed'
+
+# From Python.
+if has python3; then
+    count 'the tests of the Python package' sh scripts/python_tests.sh
+    if python3 -c 'import setuptools, wheel, pip' 2> "$work/lost"; then
+        try 'pip installs the package' python3 -m pip install -q --no-build-isolation --no-deps --no-index \
+            --target "$work/site" ./bindings/python
+        echo 161.00 > "$work/wanted"
+        env -u TOWNSHIP_LIBRARY PYTHONPATH="$work/site" python3 -c '
+import township
+plat = township.Plat.read(open("samples/b1.csv", "rb").read())
+print(plat.acres("sec. 5, lots 1 and 2, S1/2NE1/4."))' > "$work/found" 2>&1
+        same 'the installed package'
+    else
+        skip 'the wheel: no setuptools, wheel, or pip'
+    fi
+    here="env TOWNSHIP_LIBRARY=$root/lib/libtownship.so PYTHONPATH=$root/bindings/python/src PYTHONDONTWRITEBYTECODE=1"
+    try '20,000 descriptions on two processes' $here python3 examples/all_cores.py --descriptions 20000 --workers 2
+    if python3 -c 'import distributed' 2> "$work/lost"; then
+        try '20,000 descriptions by Dask' $here python3 examples/dask_batch.py --descriptions 20000 --workers 2
+    else
+        skip 'Dask: no distributed'
+    fi
+else
+    skip 'the Python package: no python3'
+fi
+
+# From Rust.
+if has cargo; then
+    count 'the tests of the Rust crate' sh scripts/rust_tests.sh
+else
+    skip 'the Rust crate: no cargo'
+fi
+
+[ -z "$skipped" ] || echo "skipped: $skipped"
+echo "$passed passed, $failed failed"
+[ "$failed" = 0 ]

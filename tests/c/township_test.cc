@@ -1,0 +1,34 @@
+// The header is C++ too: reads the field notes that are named, and asks for the acres of a lot.
+#include <fstream>
+#include <iostream>
+#include <iterator>
+#include <string>
+
+#include "township.h"
+
+static_assert(sizeof(township_plat) == 340, "a plat has 340 bytes");
+static_assert(sizeof(township_answer) == 48, "an answer has 48 bytes");
+static_assert(sizeof(township_fraction) == 24, "a fraction has 24 bytes");
+
+static const std::uint8_t *bytes(const std::string &text) {
+    return reinterpret_cast<const std::uint8_t *>(text.data());
+}
+
+static std::uint64_t hundredths(const std::string &notes, const std::string &description) {
+    township_plat plat{};
+    township_answer answer = township_read(bytes(notes), notes.size(), &plat);
+
+    if (answer.verdict == TOWNSHIP_ACCEPTED) {
+        answer = township_acres(&plat, bytes(description), description.size(), TOWNSHIP_EXACT);
+    }
+    return answer.verdict == TOWNSHIP_ACCEPTED ? answer.hundredths : 0;
+}
+
+int main(int count, char **words) {
+    std::ifstream file(count > 1 ? words[1] : "samples/b1.csv", std::ios::binary);
+    const std::string notes((std::istreambuf_iterator<char>(file)), std::istreambuf_iterator<char>());
+    const bool holds = hundredths(notes, "sec. 5, lot 1.") == 4045;
+
+    std::cout << holds << " passed, " << !holds << " failed\n";
+    return !holds;
+}
