@@ -1,8 +1,8 @@
 #!/bin/sh
 # Builds the library for C, and tries it and what is built on it: from C and from C++, under memcheck, from four
-# threads, with memory refused, as it is installed, by the packages for Python and for Rust, and by the ways of
-# docs/BATCH.md. TOWNSHIP_CASES can name a zip of worked cases for each of them. What this machine has no tools for is left
-# out, and named before the last line, which is 'N passed, 0 failed'.
+# threads, with memory refused, as it is installed, by the packages for Python and for Rust, and by the examples
+# of many descriptions. TOWNSHIP_CASES can name a zip of worked cases for each of them. What this machine has no
+# tools for is left out, and named before the last line, which is 'N passed, 0 failed'.
 set -u
 root=$(readlink -f "$(dirname "$0")/..")
 cd "$root" || exit 1
