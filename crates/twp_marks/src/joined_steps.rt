@@ -1,9 +1,8 @@
 //! Steps of an aliquot part that are read as one part although a line ends between them.
-ghost use Rattle.std.specs.Prelude.{◌≡◌, ◌≤◌, ◌<◌, ◌&&◌, length, IfSome, MatchOption};
+ghost use Rattle.std.specs.Prelude.{◌≡◌, ◌≤◌, ◌<◌, ◌+◌, ◌&&◌, length, IfSome, MatchOption};
 ghost use Rattle.twp_marks.specs.JoinedSteps.{begins_step, ends_step, has_line_feed};
 ghost use Rattle.twp_marks.specs.JoinedSteps.{HasNoJoinedStep, IsFirstJoinedStep};
 
-use memchr::memchr;
 use std::simd::prelude::*;
 use twp_grammar::Kind;
 use twp_read::Tokens;
@@ -59,48 +58,70 @@ fn has_line_feed(bytes: &[u8]) -> bool
     bytes.iter().any(|byte| *byte == b'\n')
 }
 
+/// How many bytes are looked at together for line feeds, which are few.
+const BLOCK: usize = 64;
+
 /// Whether a line ends between two bytes that could be of two steps. It is told at once of texts in
 /// which no step is joined to another, by their line ends alone.
 pub fn may_join_steps(text: &[u8]) -> bool {
-    let mut from = 0;
-    while let Some(line_end) = next_line_feed(text, from) {
-        if ends_like_step(&text[from..line_end]) && begins_like_step(&text[line_end..]) {
+    let mut at = 0;
+    while text.len() - at >= BLOCK {
+        let line_feeds = line_feeds_in(&text[at..at + BLOCK]);
+        if line_feeds != 0 && is_one_between_steps(text, at, line_feeds) {
             return true;
         }
-        from = line_end + 1;
+        at += BLOCK;
+    }
+    is_any_between_steps(text, at)
+}
+
+/// Whether a line feed from a place on stands between two steps.
+fn is_any_between_steps(text: &[u8], from: usize) -> bool {
+    for place in from..text.len() {
+        if text[place] == b'\n' && stands_between_steps(text, place) {
+            return true;
+        }
     }
     false
 }
 
-/// How many bytes are looked at together for line feeds, which are few.
-const BLOCK: usize = 64;
-
-/// Where the next line feed stands, from a place on.
-fn next_line_feed(text: &[u8], from: usize) -> Option<usize>
-    requires { from ≤ length text.now }
-    ensures { IfSome result (λ at. (from ≤ at) × (at < length text.now)) }
-{
-    let mut at = from;
-    while text.len() - at >= BLOCK {
-        if is_line_feed_in(&text[at..at + BLOCK]) {
-            break;
-        }
-        at += BLOCK;
-    }
-    let found = memchr(b'\n', &text[at..])?;
-    Some(at + found)
-}
-
-/// Whether a line feed is in a block.
-fn is_line_feed_in(block: &[u8]) -> bool
+/// The line feeds in a block, a bit each, the first byte's lowest.
+fn line_feeds_in(block: &[u8]) -> u64
     requires { BLOCK ≤ length block.now }
 {
-    u8x64::from_slice(block).simd_eq(u8x64::splat(b'\n')).any()
+    u8x64::from_slice(block)
+        .simd_eq(u8x64::splat(b'\n'))
+        .to_bitmask()
 }
 
-/// Whether a line's last byte that isn't white space is one that a step can end with.
-fn ends_like_step(line: &[u8]) -> bool {
-    let last = line.iter().rev().find(|byte| !is_white(**byte));
+/// Whether one of the line feeds in a block stands between two steps.
+fn is_one_between_steps(text: &[u8], block: usize, line_feeds: u64) -> bool
+    requires { block + BLOCK ≤ length text.now }
+{
+    let mut left = line_feeds;
+    for _ in 0..line_feeds.count_ones() {
+        let place = block + (left.trailing_zeros() as usize % BLOCK);
+        if stands_between_steps(text, place) {
+            return true;
+        }
+        left &= left.wrapping_sub(1);
+    }
+    false
+}
+
+/// Whether what stands before a line feed could end a step, and what stands behind it begin one.
+fn stands_between_steps(text: &[u8], place: usize) -> bool
+    requires { place ≤ length text.now }
+{
+    ends_like_step(&text[..place]) && begins_like_step(&text[place..])
+}
+
+/// Whether the last byte of a line that isn't white space is one that a step can end with.
+fn ends_like_step(text: &[u8]) -> bool {
+    let last = text
+        .iter()
+        .rev()
+        .find(|byte| !matches!(**byte, b' ' | b'\t' | b'\r'));
     matches!(last, Some(b'2' | b'4' | 0xBC | 0xBD))
 }
 
