@@ -63,6 +63,7 @@ commands() {
     mkdir folder shown
     ln -s "$program" folder/township
     ln -s "$root/samples" folder/samples
+    ln -s "$root/examples" folder/examples
     [ -z "${3:-}" ] || cp "$3" folder/notes.csv
     awk '
         /^    [$] / { n++; command = "shown/" n; output = command ".out"; printf "" > output }
@@ -80,7 +81,7 @@ commands() {
     done
     all_read "the commands of $1" "$(grep -c '^    [$] ' "$2")" "$n"
 }
-for document in README.md docs/DESCRIPTIONS.md docs/NOTES-FORMAT.md docs/REFUSALS.md docs/TRACTS-FORMAT.md; do
+for document in README.md docs/BATCH.md docs/DESCRIPTIONS.md docs/NOTES-FORMAT.md docs/REFUSALS.md docs/TRACTS-FORMAT.md; do
     commands "$document" "$root/$document"
 done
 

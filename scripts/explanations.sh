@@ -158,6 +158,7 @@ explained_list() {
 . "$root/scripts/explained/notes.sh"
 . "$root/scripts/explained/lands.sh"
 . "$root/scripts/explained/lists.sh"
+. "$root/scripts/explained/noted.sh"
 
 # Counts what damaged.sh tries.
 sh "$root/scripts/damaged.sh" "$program" > counted
