@@ -384,6 +384,7 @@ $report_usage"
 run -v; ended 'an unknown option' $? 2 '' "error: unexpected argument '-v' found
 
 $usage"
+. "$root/scripts/misused.sh"
 
 # Files that can't be opened: both are opened before the run, the first before the second.
 run acres missing d.txt; ended 'missing notes' $? 3 '' 'township: cannot open missing'

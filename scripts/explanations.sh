@@ -155,10 +155,41 @@ explained_list() {
     explained "report: $1" "$2" report notes.csv list.csv
 }
 
+# One run on files: what is shown, the answer, and the words; what is told is on standard input.
+told() {
+    what=$1
+    printf '%s\n' "$2" > wanted
+    shift 2
+    cat > wanted_err
+    "$program" "$@" < "$input" > out 2> err
+    pass_if_same 'told' $? kept
+}
+
+# One run on a description, on notes with another record of a number, and on a list, all as printf writes them.
+told_land() {
+    land "$1"
+    told "$1" "$2" acres notes.csv land.txt
+}
+told_record() {
+    good
+    printf "$2" > another
+    awk -v number="$1" 'NR != number { print; next } { while ((getline line < "another") > 0) print line }' \
+        "$root/samples/b0.csv" > notes.csv
+    told "record $1: $2" "$3" plat notes.csv
+}
+told_list() {
+    good
+    printf "$1" > list.csv
+    told "$1" "$2" report notes.csv list.csv
+}
+
 . "$root/scripts/explained/notes.sh"
 . "$root/scripts/explained/lands.sh"
 . "$root/scripts/explained/lists.sh"
 . "$root/scripts/explained/noted.sh"
+. "$root/scripts/explained/told_lands.sh"
+. "$root/scripts/explained/told_notes.sh"
+. "$root/scripts/explained/told_lists.sh"
 
 # Counts what damaged.sh tries.
 sh "$root/scripts/damaged.sh" "$program" > counted

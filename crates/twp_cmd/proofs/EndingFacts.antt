@@ -10,7 +10,7 @@ use Rattle.twp_acres.specs.declared.verdict.RunFault.{RunFault}
 use Rattle.twp_acres.specs.declared.verdict.RunFault.TheVariants.{Read, Write, Memory}
 use Rattle.twp_cmd.specs.Endings.{AnswerTo, EndsAs, EndsRun, FailsOn, IsJoinedVerdict, IsRunFailure}
 use Rattle.twp_cmd.specs.Endings.{IsVerdictOf, RunsOnNotes}
-use Rattle.twp_cmd.specs.Joined.{joined_description, joined_notes}
+use Rattle.twp_input.specs.Joined.{joined_description, joined_notes}
 use Rattle.twp_cmd.specs.Statuses.{ending_of, ending_of_fault, failing}
 use Rattle.twp_command.specs.Tasks.{IsFaultOf, IsTaskOf}
 use Rattle.twp_cmd.specs.declared.ending.Failure.{Failure}

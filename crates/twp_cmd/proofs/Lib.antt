@@ -1,3 +1,1 @@
-pub mod JoinedFacts
 pub mod EndingFacts
-pub mod KeptFacts

@@ -15,7 +15,7 @@ use Rattle.twp_acres.specs.ReportAnswers.{IsReportAnswer}
 use Rattle.twp_acres.specs.declared.verdict.Verdict.{Verdict}
 use Rattle.twp_acres.specs.declared.verdict.RunFault.{RunFault}
 use Rattle.twp_acres.specs.declared.verdict.RunFault.TheVariants.{Read, Write, Memory}
-use Rattle.twp_cmd.specs.Joined.{joined_description, joined_notes}
+use Rattle.twp_input.specs.Joined.{joined_description, joined_notes}
 use Rattle.twp_cmd.specs.Statuses.{IsStatusOf, failing}
 use Rattle.twp_command.specs.Tasks.{HasKindAt, IsFaultOf, IsTaskOf}
 use Rattle.twp_cmd.specs.declared.ending.Ending.{Ending}

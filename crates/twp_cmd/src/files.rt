@@ -1,15 +1,15 @@
 //! The files that a task names, opened.
 ghost use Rattle.std.specs.Prelude.{◌≡◌, Some, IfErr, IfOk, IfSome, false};
 ghost use Rattle.twp_grid.specs.Devices.{device_failed};
-ghost use Rattle.twp_cmd.specs.KeptBytes.{copy_of, inner_source};
+ghost use Rattle.twp_input.specs.KeptBytes.{copy_of, inner_source};
 
 use crate::ending::Failure;
-use crate::kept::Kept;
 use std::fs;
 use std::rt::Files;
 use twp_command::Name;
 use twp_explain::Given;
 use twp_grid::Device;
+use twp_input::Kept;
 
 /// Field notes, opened. The two files of a task have types of their own, so that no call takes one
 /// for the other.

@@ -8,14 +8,9 @@ use std::process::ExitCode;
 
 mod ending;
 mod files;
-mod joined;
-mod kept;
 mod program;
 mod subcommand;
 mod telling;
-
-pub use joined::run_joined;
-pub use kept::Kept;
 
 fn main(rt: HostRuntime) -> ExitCode {
     ExitCode::from(program::run(&rt))

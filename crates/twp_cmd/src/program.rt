@@ -5,8 +5,6 @@ ghost use Rattle.twp_cmd.specs.Endings.{IsRunFailure, IsWordsFault};
 ghost use Rattle.twp_cmd.specs.Statuses.{IsStatusOf, words_fault};
 
 use crate::ending::{Ending, Failure, NO_ANSWER, outcome_of};
-use crate::joined::run_joined;
-use crate::kept::Kept;
 use crate::subcommand::run_task;
 use crate::telling::tell_joined;
 use std::env::Env;
@@ -16,6 +14,7 @@ use std::{env, io};
 use twp_acres::{RunFault, Verdict};
 use twp_command::read_task;
 use twp_grid::Device;
+use twp_input::{Kept, run_joined};
 
 /// Runs the program, reports on standard error why there is no answer, and gives the status.
 pub fn run<R: Env + Files + Input + Print + Eprint + AllocGlobal>(rt: &R) -> u8

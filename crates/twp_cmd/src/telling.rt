@@ -8,13 +8,12 @@ ghost use Rattle.twp_cmd.specs.Tellings.{IsToldOf};
 
 use crate::ending::Failure;
 use crate::files::{OpenedNotes, OpenedText};
-use crate::joined::split_at_line_feed;
-use crate::kept::Kept;
 use std::alloc::Global;
 use twp_acres::Verdict;
 use twp_explain::{
     Explanation, Given, Note, explain_land, explain_list, explain_plat, note_land, note_list,
 };
+use twp_input::{Kept, split_at_line_feed};
 
 /// What standard input is called.
 const STANDARD_INPUT: &str = "standard input";

@@ -177,6 +177,3 @@ impl<T: Drop> From<AllocFailed<T>> for TaskFault {
         TaskFault::Memory
     }
 }
-
-#[cfg(test)]
-mod tests;

@@ -7,6 +7,3 @@ mod writer;
 
 pub use reader::Reader;
 pub use writer::Writer;
-
-#[cfg(test)]
-mod tests;

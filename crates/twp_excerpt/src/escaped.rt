@@ -244,6 +244,3 @@ pub(crate) fn push_printable(text: &str, out: &mut String) -> Result<(), AllocEr
 {
     out.push_str(text)
 }
-
-#[cfg(test)]
-mod tests;

@@ -299,6 +299,3 @@ fn end_line(out: &mut String) -> Result<(), AllocError>
 {
     out.push('\n')
 }
-
-#[cfg(test)]
-mod tests;

@@ -123,6 +123,3 @@ fn is_white(byte: u8) -> bool
 {
     matches!(byte, b' ' | b'\t' | b'\n' | b'\r')
 }
-
-#[cfg(test)]
-mod tests;

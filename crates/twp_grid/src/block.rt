@@ -164,6 +164,3 @@ impl Block {
         self.rows.len()
     }
 }
-
-#[cfg(test)]
-mod tests;

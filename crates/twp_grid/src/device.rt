@@ -147,6 +147,3 @@ impl<T: Write> Sink for Device<T> {
         self.has_failed()
     }
 }
-
-#[cfg(test)]
-mod tests;

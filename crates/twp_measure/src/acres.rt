@@ -19,26 +19,3 @@ pub fn write_acres(hundredths: u64, out: &mut Vec<u8>) -> Result<(), AllocError>
     let start = write_digits(hundredths / 100, &mut text, MOST_DIGITS);
     out.extend_from_slice(&text[start..])
 }
-
-#[cfg(test)]
-mod tests {
-    use super::*;
-    use std::test::Fail;
-
-    #[test]
-    fn writes_two_decimals(rt: HostRuntime) -> Result<(), Fail> {
-        for (hundredths, text) in [
-            // 39 times 100 and 5; nothing times 100 and 5; 160 times 100.
-            (3_905, "<39.05"),
-            (5, "<0.05"),
-            (0, "<0.00"),
-            (16_000, "<160.00"),
-            (u64::MAX, "<184467440737095516.15"),
-        ] {
-            let mut out = Vec::from_slice(rt.alloc(), b"<")?;
-            write_acres(hundredths, &mut out)?;
-            assert_eq!(rt; out.as_slice(), text.as_bytes());
-        }
-        Ok(())
-    }
-}

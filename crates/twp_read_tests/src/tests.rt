@@ -1,3 +1,4 @@
 mod description;
 mod fault;
+mod steps;
 mod tokens;

@@ -8,6 +8,8 @@ mod acres;
 mod example;
 mod failing_readers;
 mod failing_writers;
+mod joined;
+mod kept;
 mod limits;
 mod normal;
 mod on_plat;

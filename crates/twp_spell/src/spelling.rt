@@ -201,6 +201,3 @@ fn write_number(number: u8, text: &mut Vec<u8>) -> Result<(), AllocError>
 {
     text.extend_from_slice(Buffer::new().format(number).as_bytes())
 }
-
-#[cfg(test)]
-mod tests;

@@ -206,6 +206,3 @@ fn is_full<L: Land>(land: &L, section: Section, block: Block) -> bool
 {
     land.full(section, block) && !holds_of_lot(section, block)
 }
-
-#[cfg(test)]
-mod tests;

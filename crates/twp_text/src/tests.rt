@@ -5,6 +5,8 @@ use std::test::Fail;
 use twp_grid::{Block, EastWest, NorthSouth, Section, Township};
 use twp_land::{Grid, Land, Lanes};
 
+mod spelling;
+
 /// A township of which texts are written.
 fn township() -> Result<Township, Fail> {
     Ok(Township::new(2, NorthSouth::N, 3, EastWest::W).ok_or("a township")?)

@@ -1,0 +1,11 @@
+mod acres;
+mod area;
+mod block;
+mod bytes;
+mod device;
+mod devices;
+mod length;
+mod line;
+mod lot;
+mod section;
+mod township;

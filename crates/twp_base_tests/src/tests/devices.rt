@@ -1,0 +1,63 @@
+use std::io::ErrorKind;
+use twp_devices::{Reader, Writer};
+use twp_grid::{Device, DeviceFault, Sink, Source};
+
+#[test]
+fn a_reader_gives_few_bytes_and_counts(rt: HostRuntime) {
+    let mut reader = Device::new(Reader::new(b"lot 1").at_most(3));
+    let mut buffer = [b'-'; 8];
+    assert_eq!(rt; reader.fill(&mut buffer), Ok(3));
+    assert_eq!(rt; &buffer, b"lot-----");
+    assert_eq!(rt; reader.fill(&mut buffer), Ok(2));
+    assert_eq!(rt; &buffer, b" 1t-----");
+    assert_eq!(rt; reader.fill(&mut buffer), Ok(0));
+    assert_eq!(rt; (reader.get().calls(), reader.get().given()), (3, 5));
+    let mut endless = Device::new(Reader::endless(b'x'));
+    assert_eq!(rt; endless.fill(&mut buffer), Ok(8));
+    assert_eq!(rt; &buffer, b"xxxxxxxx");
+    assert_eq!(rt; (endless.get().calls(), endless.get().given()), (1, 8));
+}
+
+#[test]
+fn a_device_fails_where_its_reader_does(rt: HostRuntime) {
+    for kind in [ErrorKind::Interrupted, ErrorKind::BrokenPipe] {
+        let reader = Reader::new(b"township").at_most(1).failing_at(3, kind);
+        let mut device = Device::new(reader);
+        let mut buffer = [0; 5];
+        assert_eq!(rt; device.fill(&mut buffer), Ok(1));
+        assert!(rt; !device.failed());
+        assert_eq!(rt; device.fill(&mut buffer), Ok(1));
+        assert!(rt; !device.failed());
+        assert_eq!(rt; device.fill(&mut buffer), Err(DeviceFault));
+        assert!(rt; device.failed());
+        assert_eq!(rt; (device.get().calls(), device.get().given()), (3, 2));
+    }
+}
+
+#[test]
+fn a_device_fails_where_its_writer_does(rt: HostRuntime) {
+    for kind in [ErrorKind::Interrupted, ErrorKind::BrokenPipe] {
+        let short = Writer::new(rt.alloc()).with_room(5).failing(kind);
+        let mut device = Device::new(short.at_most(3));
+        assert_eq!(rt; device.put(b"acres\n"), Ok(3));
+        assert_eq!(rt; device.put(b"es\n"), Ok(2));
+        assert_eq!(rt; device.put(b""), Ok(0));
+        assert_eq!(rt; device.flush(), Ok(()));
+        assert!(rt; !device.failed());
+        assert_eq!(rt; device.put(b"\n"), Err(DeviceFault));
+        assert!(rt; device.failed());
+        assert_eq!(rt; device.get().taken(), b"acres".as_slice());
+        let mut unflushed = Device::new(Writer::new(rt.alloc()).failing_flush(kind));
+        assert_eq!(rt; unflushed.put(b"acres\n"), Ok(6));
+        assert!(rt; !unflushed.failed());
+        assert_eq!(rt; unflushed.flush(), Err(DeviceFault));
+        assert!(rt; unflushed.failed());
+        assert_eq!(rt; unflushed.get().taken(), b"acres\n".as_slice());
+    }
+    // To take no byte is no error of a writer, but it is a device's fault.
+    let mut idle = Device::new(Writer::new(rt.alloc()).with_room(0));
+    assert_eq!(rt; idle.put(b""), Ok(0));
+    assert!(rt; !idle.failed());
+    assert_eq!(rt; idle.put(b"\n"), Err(DeviceFault));
+    assert!(rt; idle.failed());
+}

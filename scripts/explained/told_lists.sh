@@ -1,0 +1,103 @@
+# Rows of explanations.sh: what is told of a refused list of tracts, in one run each.
+
+told_list 'Name,description\n' 'refused 81 at 1' <<'END'
+township: list.csv:1: this isn't the heading `name,description`: field 1 is `Name`
+  1 | Name,description
+    | ^^^^
+END
+told_list '\r\n\357\273\277name\r\n' 'refused 81 at 1' <<'END'
+township: list.csv:2: this isn't the heading `name,description`: it has 1 field
+  2 | \u{FEFF}name
+    | ^^^^^^^^^^^^
+END
+told_list '\357\273\277name\r\n' 'refused 81 at 1' <<'END'
+township: list.csv:1: this isn't the heading `name,description`: it has 1 field
+  1 | \u{FEFF}name
+    |             ^
+END
+told_list 'name,description\nA,sec. 7\n,sec. 8\n' 'refused 81 at 3' <<'END'
+township: list.csv:3: the name of the tract is empty
+  3 | ,sec. 8
+    | ^
+END
+told_list 'name,description\nA,sec. 7\n"Pe""ña",sec. 8\n' 'refused 81 at 3' <<'END'
+township: list.csv:3: the name of the tract has a character that isn't printed ASCII
+  3 | "Pe""ña",sec. 8
+    |      ^
+  write the letter without its accent
+END
+told_list 'name,description\nA,sec. 7\nA\tB,sec. 8\n' 'refused 81 at 3' <<'END'
+township: list.csv:3: the name of the tract has a character that isn't printed ASCII
+  3 | A B,sec. 8
+    |  ^
+END
+told_list 'name,description\nA,sec. 7\n12345678901234567890123456789012345678901234567890123456789012345,sec. 8\n' 'refused 81 at 3' <<'END'
+township: list.csv:3: the name of the tract has 65 bytes, and at most 64 are allowed
+  3 | 12345678901234567890123456789012345678901234567890123456789012345,sec. 8
+    | ^^^^^^^^^^^^^^^^^^^^^^^^^^^^^^^^^^^^^^^^^^^^^^^^^^^^^^^^^^^^^^^^^
+END
+told_list 'name,description\nA,sec. 7\r\n\r\nB,sec. 8\r\n"A",sec. 9\r\n' 'refused 82 at 4' <<'END'
+township: list.csv:5: tract `A` has the name of an earlier tract, record 2 on line 2
+  5 | "A",sec. 9
+    | ^^^
+END
+told_list 'name,description\nA,sec. 14\n"B, or C","sec. 5,\nlots 1, 2; sec. 15"\nD,"sec. 5, lots 2, 3; sec. 15, N1/2; sec. 16."\n' 'refused 84 at 4' <<'END'
+township: list.csv:5: tract `D` holds land of tract `B, or C` (record 3): both hold sec. 5, lot 2; sec. 15, N1/2.
+END
+told_list 'name,description\nA,secs. 1 to 4.\nB,secs. 1 to 9.\n' 'refused 84 at 3' <<'END'
+township: list.csv:3: tract `B` holds land of tract `A` (record 2): both hold sec. 1, all; sec. 2, all; sec. 3, all; and 1 section more
+END
+told_list 'name,description\nA,secs. 9 to 16.\nB,secs. 1 to 36.\n' 'refused 84 at 3' <<'END'
+township: list.csv:3: tract `B` holds land of tract `A` (record 2): both hold sec. 9, all; sec. 10, all; sec. 11, all; and 5 sections more
+END
+told_list 'name,description\nA,"sec. 14, NE1/4 and N1/2."\n' 'refused 83 at 2
+refused 67 at 19' <<'END'
+township: list.csv:2:23: tract `A`: this land was named before
+  2 | A,"sec. 14, NE1/4 and N1/2."
+    |                       ^^^^
+  `NE1/4` at 2:13 names it too: both hold sec. 14, NE1/4.
+END
+told_list 'name,description\n"B, or ""C""","sec. 14,\r\nNE1/4 and N1/2."\r\n' 'refused 83 at 2
+refused 67 at 20' <<'END'
+township: list.csv:3:11: tract `B, or "C"`: this land was named before
+  3 | NE1/4 and N1/2."
+    |           ^^^^
+  `NE1/4` at 3:1 names it too: both hold sec. 14, NE1/4.
+END
+
+# Descriptions where they stand in the file: in quotes, with doubled quotes, on a further line.
+told_list 'name,description\nA,"sec. 14, ""N1/2""."\n' 'refused 83 at 2
+refused 42 at 9' <<'END'
+township: list.csv:2:13: tract `A`: `"` is no part of a description
+  2 | A,"sec. 14, ""N1/2""."
+    |             ^^
+  leave quotation marks out
+END
+told_list 'name,description\nA,"sec. 14, &"\n' 'refused 83 at 2
+refused 42 at 9' <<'END'
+township: list.csv:2:13: tract `A`: `&` is no part of a description
+  2 | A,"sec. 14, &"
+    |             ^
+  write and
+END
+told_list 'name,description\nA,"sec. 14,\n""&"\n' 'refused 83 at 2
+refused 42 at 9' <<'END'
+township: list.csv:3:1: tract `A`: `"` is no part of a description
+  3 | ""&"
+    | ^^
+  leave quotation marks out
+END
+told_list 'name,description\nA,sec. 14 &\n' 'refused 83 at 2
+refused 42 at 8' <<'END'
+township: list.csv:2:11: tract `A`: `&` is no part of a description
+  2 | A,sec. 14 &
+    |           ^
+  write and
+END
+told_list 'name,description\nA,"sec. 14,                                                                                                    &"\n' 'refused 83 at 2
+refused 42 at 108' <<'END'
+township: list.csv:2:112: tract `A`: `&` is no part of a description
+  2 | ..                                                                                          &"
+    |                                                                                             ^
+  write and
+END
