@@ -1,7 +1,7 @@
 #!/bin/sh
 # Runs ./township, or the program that is named, as people do: on files, pipes, folders, and devices. It
 # compares the status, standard output, and standard error of each run. Then it tries what the documents
-# say, what is installed, the explanations of refusals, the program's limits, and refused growths of memory,
+# say, worked answers, what is installed, the explanations of refusals, the program's limits, and refused growths of memory,
 # each by its own script; twp_growth is found in its crate, or is named second. The last line counts all:
 # 'N passed, 0 failed'.
 set -u
@@ -480,6 +480,7 @@ count() {
     read -r more _ wrong _ < last
     passed=$((passed + more)) failed=$((failed + wrong))
 }
+count sh "$root/scripts/answers.sh" "$program"
 count sh "$root/scripts/documents.sh" "$program"
 count sh "$root/scripts/installed.sh" "$program"
 count sh "$root/scripts/explanations.sh" "$program"

@@ -551,3 +551,170 @@ township: land.txt:1:209: `&` is no part of a description
     |                                                ^
   write and
 END
+
+# A word that no description has, behind a front of each kind: what could stand there.
+told_land ' x' 'refused 44 at 1' <<'END'
+township: land.txt:1:2: `x` can't stand here: here could stand `T.` of a heading, or `sec.`
+  1 |  x
+    |  ^
+END
+told_land 't x' 'refused 44 at 2' <<'END'
+township: land.txt:1:3: `x` can't stand here: here could stand the township's number
+  1 | t x
+    |   ^
+END
+told_land 't 2 x' 'refused 44 at 4' <<'END'
+township: land.txt:1:5: `x` can't stand here: here could stand `N` or `S`
+  1 | t 2 x
+    |     ^
+END
+told_land 't 2 n x' 'refused 44 at 6' <<'END'
+township: land.txt:1:7: `x` can't stand here: here could stand `R.` of the range
+  1 | t 2 n x
+    |       ^
+END
+told_land 't 2 n r x' 'refused 44 at 8' <<'END'
+township: land.txt:1:9: `x` can't stand here: here could stand the range's number
+  1 | t 2 n r x
+    |         ^
+END
+told_land 't 2 n r 3 x' 'refused 44 at 10' <<'END'
+township: land.txt:1:11: `x` can't stand here: here could stand `E` or `W`
+  1 | t 2 n r 3 x
+    |           ^
+END
+told_land 't 2 n r 3 w x' 'refused 44 at 12' <<'END'
+township: land.txt:1:13: `x` can't stand here: here could stand `sec.`
+  1 | t 2 n r 3 w x
+    |             ^
+END
+told_land 'sec x' 'refused 44 at 4' <<'END'
+township: land.txt:1:5: `x` can't stand here: here could stand a section's number
+  1 | sec x
+    |     ^
+END
+told_land 'sec 1 x' 'refused 44 at 6' <<'END'
+township: land.txt:1:7: `x` can't stand here: here could stand parts of the section, more sections, `;`, or the end
+  1 | sec 1 x
+    |       ^
+END
+told_land 'sec 1, x' 'refused 44 at 7' <<'END'
+township: land.txt:1:8: `x` can't stand here: here could stand a part of the section, or another section's number
+  1 | sec 1, x
+    |        ^
+END
+told_land 'sec 1, 2 x' 'refused 44 at 9' <<'END'
+township: land.txt:1:10: `x` can't stand here: here could stand more sections, `all`, `;`, or the end
+  1 | sec 1, 2 x
+    |          ^
+END
+told_land 'sec 1 to 4 x' 'refused 44 at 11' <<'END'
+township: land.txt:1:12: `x` can't stand here: here could stand `inclusive` of the range, more sections, `all`, `;`, or the end
+  1 | sec 1 to 4 x
+    |            ^
+END
+told_land 'sec 1 to 4 inclusive x' 'refused 44 at 21' <<'END'
+township: land.txt:1:22: `x` can't stand here: here could stand more sections, `all`, `;`, or the end
+  1 | sec 1 to 4 inclusive x
+    |                      ^
+END
+told_land 'sec 1 to x' 'refused 44 at 9' <<'END'
+township: land.txt:1:10: `x` can't stand here: here could stand the number of the last section
+  1 | sec 1 to x
+    |          ^
+END
+told_land 'sec 1, 2, x' 'refused 44 at 10' <<'END'
+township: land.txt:1:11: `x` can't stand here: here could stand another section's number, or `all`
+  1 | sec 1, 2, x
+    |           ^
+END
+told_land 'sec 1 to 4, x' 'refused 44 at 12' <<'END'
+township: land.txt:1:13: `x` can't stand here: here could stand `inclusive` of the range, another section's number, or `all`
+  1 | sec 1 to 4, x
+    |             ^
+END
+told_land 'sec 1, 2: x' 'refused 44 at 10' <<'END'
+township: land.txt:1:11: `x` can't stand here: here could stand `all`
+  1 | sec 1, 2: x
+    |           ^
+END
+told_land 'sec 1, 2 all x' 'refused 44 at 13' <<'END'
+township: land.txt:1:14: `x` can't stand here: here could stand `;`, or the end
+  1 | sec 1, 2 all x
+    |              ^
+END
+told_land 'sec 1 lot x' 'refused 44 at 10' <<'END'
+township: land.txt:1:11: `x` can't stand here: here could stand a lot's number
+  1 | sec 1 lot x
+    |           ^
+END
+told_land 'sec 1 lot 2 x' 'refused 44 at 12' <<'END'
+township: land.txt:1:13: `x` can't stand here: here could stand more lots, another part, `;`, or the end
+  1 | sec 1 lot 2 x
+    |             ^
+END
+told_land 'sec 1 lot 2 to 3 x' 'refused 44 at 17' <<'END'
+township: land.txt:1:18: `x` can't stand here: here could stand `inclusive` of the range, more lots, another part, `;`, or the end
+  1 | sec 1 lot 2 to 3 x
+    |                  ^
+END
+told_land 'sec 1 lot 2 to 3 inclusive x' 'refused 44 at 27' <<'END'
+township: land.txt:1:28: `x` can't stand here: here could stand more lots, another part, `;`, or the end
+  1 | sec 1 lot 2 to 3 inclusive x
+    |                            ^
+END
+told_land 'sec 1 lot 2 to x' 'refused 44 at 15' <<'END'
+township: land.txt:1:16: `x` can't stand here: here could stand the number of the last lot
+  1 | sec 1 lot 2 to x
+    |                ^
+END
+told_land 'sec 1 lot 2, x' 'refused 44 at 13' <<'END'
+township: land.txt:1:14: `x` can't stand here: here could stand another lot's number, or another part
+  1 | sec 1 lot 2, x
+    |              ^
+END
+told_land 'sec 1 lot 2 to 3, x' 'refused 44 at 18' <<'END'
+township: land.txt:1:19: `x` can't stand here: here could stand `inclusive` of the range, another lot's number, or another part
+  1 | sec 1 lot 2 to 3, x
+    |                   ^
+END
+told_land 'sec 1 lot 2 and x' 'refused 44 at 16' <<'END'
+township: land.txt:1:17: `x` can't stand here: here could stand another lot's number, or another part
+  1 | sec 1 lot 2 and x
+    |                 ^
+END
+told_land 'sec 1: x' 'refused 44 at 7' <<'END'
+township: land.txt:1:8: `x` can't stand here: here could stand `lot`, an aliquot part, or `all`
+  1 | sec 1: x
+    |        ^
+END
+told_land 'sec 1 n x' 'refused 44 at 8' <<'END'
+township: land.txt:1:9: `x` can't stand here: here could stand `1/2`
+  1 | sec 1 n x
+    |         ^
+END
+told_land 'sec 1 ne x' 'refused 44 at 9' <<'END'
+township: land.txt:1:10: `x` can't stand here: here could stand `1/4`
+  1 | sec 1 ne x
+    |          ^
+END
+told_land 'sec 1 ne1/4 x' 'refused 44 at 12' <<'END'
+township: land.txt:1:13: `x` can't stand here: here could stand `of` or more steps of an aliquot part, another part, `;`, or the end
+  1 | sec 1 ne1/4 x
+    |             ^
+END
+told_land 'sec 1 all x' 'refused 44 at 10' <<'END'
+township: land.txt:1:11: `x` can't stand here: here could stand another part, `;`, or the end
+  1 | sec 1 all x
+    |           ^
+END
+told_land 'sec 1 ne1/4 of x' 'refused 44 at 15' <<'END'
+township: land.txt:1:16: `x` can't stand here: here could stand what the aliquot part is of, as `NE1/4`
+  1 | sec 1 ne1/4 of x
+    |                ^
+END
+told_land 'sec 1. x' 'refused 44 at 7' <<'END'
+township: land.txt:1:8: `x` can't stand here: the period before it ends the description
+  1 | sec 1. x
+    |        ^
+END

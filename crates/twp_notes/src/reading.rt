@@ -39,8 +39,9 @@ impl From<AllocError> for ReadFault {
     }
 }
 
-/// How many bytes are asked for at a time.
-const PIECE: usize = 1_024;
+/// How many bytes are asked for at a time. Memory clears so few by wide stores, and many more a byte at a
+/// time.
+const PIECE: usize = 2_000;
 
 /// How many bytes there is room for from the start: growing copies what was read so far.
 const ROOM: usize = 131_072;

@@ -3,8 +3,6 @@ use std::test::Fail;
 use twp_acres::{RunFault, Verdict, run_acres};
 use twp_grid::{Bytes, Device, Refusal};
 
-mod accounts;
-mod acres;
 mod example;
 mod failing_readers;
 mod failing_writers;
@@ -14,8 +12,6 @@ mod limits;
 mod normal;
 mod on_plat;
 mod pieces;
-mod plat;
-mod refusals;
 mod report;
 mod tract_faults;
 mod worst;

@@ -1,5 +1,4 @@
 use std::test::Fail;
-use twp_grid::Refusal;
 use twp_notes::NotesFault;
 
 #[test]
@@ -52,25 +51,4 @@ fn tells_what_is_wrong_and_what_would_be_right(rt: HostRuntime) -> Result<(), Fa
         assert_eq!(rt; fault.to_string(rt.alloc())?.as_str(), text);
     }
     Ok(())
-}
-
-#[test]
-fn gives_numbers_and_places(rt: HostRuntime) {
-    for (fault, number, at) in [
-        (NotesFault::TooLarge, 1, 65_536),
-        (NotesFault::Empty, 2, 1),
-        (NotesFault::Heading, 3, 1),
-        (NotesFault::Columns(86), 4, 86),
-        (NotesFault::Township, 5, 2),
-        (NotesFault::Run(3), 6, 3),
-        (NotesFault::Section(4), 7, 4),
-        (NotesFault::NoLine(5), 8, 5),
-        (NotesFault::Length(6), 9, 6),
-        (NotesFault::Repeated(87), 10, 87),
-        (NotesFault::Missing(53), 11, 53),
-    ] {
-        assert_eq!(rt; fault.refusal(), Some(Refusal { number, at }));
-    }
-    assert_eq!(rt; NotesFault::Read.refusal(), None);
-    assert_eq!(rt; NotesFault::Memory.refusal(), None);
 }

@@ -1,9 +1,5 @@
-use crate::tests::sample::{
-    edited, even_notes, joined, quoted, records_of, shuffled, swapped, text_of, township,
-    uneven_notes, with_ends,
-};
+use crate::tests::sample::{edited, even_notes, records_of, text_of, township, uneven_notes};
 use std::alloc::Global;
-use std::process::Abort;
 use std::test::Fail;
 use twp_grid::{Bytes, EastWest, Line, NorthSouth, Refusal, Township};
 use twp_notes::{Notes, NotesFault};
@@ -76,54 +72,6 @@ fn writes_each_record(rt: HostRuntime) -> Result<(), Fail> {
     Ok(())
 }
 
-// The records of lines in another order, their sections in the other order, and both.
-fn reads_mixed(alloc: Global, rt: &impl Abort, notes: Notes) -> Result<(), Fail> {
-    let text = text_of(alloc, &notes)?;
-    let mixed = shuffled(alloc, text.as_slice())?;
-    assert!(rt; mixed != text);
-    assert_eq!(rt; read(alloc, mixed.as_slice())?, notes);
-    let turned = swapped(alloc, text.as_slice())?;
-    assert!(rt; turned != text);
-    assert_eq!(rt; read(alloc, turned.as_slice())?, notes);
-    let both = swapped(alloc, mixed.as_slice())?;
-    assert_eq!(rt; read(alloc, both.as_slice())?, notes);
-    Ok(())
-}
-
-#[test]
-fn reads_records_in_any_order(rt: HostRuntime) -> Result<(), Fail> {
-    reads_mixed(rt.alloc(), &rt, even_notes()?)?;
-    reads_mixed(rt.alloc(), &rt, uneven_notes()?)
-}
-
-#[test]
-fn reads_other_forms_of_a_text(rt: HostRuntime) -> Result<(), Fail> {
-    let alloc = rt.alloc();
-    let notes = uneven_notes()?;
-    let text = text_of(alloc, &notes)?;
-    let text = text.as_slice();
-    // Other ends of records, and records separated by empty lines.
-    for end in ["\r\n", "\r", "\n\n", "\r\n\r\n\n"] {
-        let other = with_ends(alloc, text, end)?;
-        assert_eq!(rt; read(alloc, other.as_slice())?, notes, "{end:?}");
-    }
-    // Quotes, a byte order mark, an empty line before the heading, and a last record without an
-    // end.
-    let in_quotes = quoted(alloc, text)?;
-    let marked = joined(alloc, &[b"\xEF\xBB\xBF", text])?;
-    let lower = joined(alloc, &[b"\n", text])?;
-    let (open, _) = text.split_at(text.len().saturating_sub(1));
-    for other in [
-        in_quotes.as_slice(),
-        marked.as_slice(),
-        lower.as_slice(),
-        open,
-    ] {
-        assert_eq!(rt; read(alloc, other)?, notes);
-    }
-    Ok(())
-}
-
 #[test]
 fn reads_the_greatest_numbers(rt: HostRuntime) -> Result<(), Fail> {
     let alloc = rt.alloc();
@@ -135,114 +83,6 @@ fn reads_the_greatest_numbers(rt: HostRuntime) -> Result<(), Fail> {
     let first = notes.line(Line::at_index(0).ok_or("a line")?);
     assert_eq!(rt; first.quarter.thousandths(), 500);
     assert_eq!(rt; first.corner.thousandths(), 99_999);
-    Ok(())
-}
-
-// The number and the place of the refusal of B0 with one record in another form.
-#[test]
-fn refuses_each_fault(rt: HostRuntime) -> Result<(), Fail> {
-    let alloc = rt.alloc();
-    let text = text_of(alloc, &even_notes()?)?;
-    for (record, other, number, at) in [
-        (1, "Line,between,and,quarter,corner\n", 3, 1),
-        (1, "line,between,and,quarter\n", 3, 1),
-        (1, "line,between,and,quarter,corner,\n", 3, 1),
-        (1, " line,between,and,quarter,corner\n", 3, 1),
-        (2, "T,2,N,3\n", 4, 2),
-        (2, "T,2,N,3,W,\n", 4, 2),
-        (2, "T,0,N,3,W\n", 5, 2),
-        (2, "T,100,N,3,W\n", 5, 2),
-        (2, "T,2,n,3,W\n", 5, 2),
-        (2, "T,2,N,3,N\n", 5, 2),
-        (2, "t,2,N,3,W\n", 5, 2),
-        (3, "N,1,,40.00\n", 4, 3),
-        (3, "X,1,,40.00,80.00\n", 6, 3),
-        (3, "n,1,,40.00,80.00\n", 6, 3),
-        (3, "N,37,,40.00,80.00\n", 7, 3),
-        (3, "N,0,,40.00,80.00\n", 7, 3),
-        (3, "N,001,,40.00,80.00\n", 7, 3),
-        (3, "N,,1,40.00,80.00\n", 7, 3),
-        (3, "N,1,37,40.00,80.00\n", 7, 3),
-        (3, "N,1,3,40.00,80.00\n", 8, 3),
-        (3, "N,1,1,40.00,80.00\n", 8, 3),
-        (3, "N,2,,40.00,80.00\n", 8, 3),
-        (3, "N,1,12,40.00,80.00\n", 8, 3),
-        (3, "N,1,,40.0000,80.00\n", 9, 3),
-        (3, "N,1,,40.00,100.00\n", 9, 3),
-        (3, "N,1,,,80.00\n", 9, 3),
-        (4, "N,1,,40.00,80.00\n", 10, 4),
-        (4, "N,1,,41.00,81.00\n", 10, 4),
-        // The line of index 53, between sections 6 and 7, is record 53 + 3.
-        (56, "", 11, 53),
-        (86, "", 11, 83),
-        (87, "N,1,,40.00,80.00\n", 10, 87),
-    ] {
-        let edited = edited(alloc, text.as_slice(), &[(record, other)])?;
-        assert_eq!(rt;
-            refusal_in(alloc, edited.as_slice()),
-            Some(Refusal { number, at }),
-            "{other}"
-        );
-    }
-    Ok(())
-}
-
-#[test]
-fn refuses_texts_that_end_early(rt: HostRuntime) -> Result<(), Fail> {
-    let alloc = rt.alloc();
-    for (text, number, at) in [
-        ("", 2, 1),
-        ("\n\r\n\n", 2, 1),
-        ("\u{FEFF}", 2, 1),
-        ("x", 3, 1),
-        ("line,between,and,quarter,corner\n", 5, 2),
-        ("line,between,and,quarter,corner\nT,2,N,3,W", 11, 0),
-        // Records are numbered as they come, and empty lines aren't records.
-        (
-            "\nline,between,and,quarter,corner\n\n\nT,2,N,3,W\r\n\nX,1,,40,80",
-            6,
-            3,
-        ),
-    ] {
-        assert_eq!(rt;
-            refusal_in(alloc, text.as_bytes()),
-            Some(Refusal { number, at }),
-            "{text}"
-        );
-    }
-    Ok(())
-}
-
-// Of several faults the first record's is reported, and of one record's faults the one with the
-// least number.
-#[test]
-fn answers_the_first_fault(rt: HostRuntime) -> Result<(), Fail> {
-    let alloc = rt.alloc();
-    let text = text_of(alloc, &even_notes()?)?;
-    for (edits, number, at) in [
-        ([(1, "line\n"), (2, "T\n")], 3, 1),
-        ([(2, "T\n"), (3, "X\n")], 4, 2),
-        ([(5, "X,1,,40,80\n"), (4, "N,1,,40,80\n")], 10, 4),
-        ([(9, "N,6,,40,8O\n"), (10, "X,12,,40,80\n")], 9, 9),
-        // The lines 10 - 3 and 61 - 3 are missing.
-        ([(10, ""), (61, "")], 11, 7),
-        // A line is missing, and the last record, now the 85th, has a fault.
-        ([(10, ""), (86, "W,31,,40,\n")], 9, 85),
-        // Columns, run, section, line, length, repeated: each with all that come after it.
-        ([(4, "X,37,,4O\n"), (5, "")], 4, 4),
-        ([(4, "X,37,,4O,80\n"), (5, "")], 6, 4),
-        ([(4, "N,37,,4O,80\n"), (5, "")], 7, 4),
-        ([(4, "N,1,3,4O,80\n"), (5, "")], 8, 4),
-        ([(4, "N,1,,4O,80\n"), (5, "")], 9, 4),
-        ([(4, "N,1,,40,80\n"), (5, "")], 10, 4),
-    ] {
-        let edited = edited(alloc, text.as_slice(), &edits)?;
-        assert_eq!(rt;
-            refusal_in(alloc, edited.as_slice()),
-            Some(Refusal { number, at }),
-            "{edits:?}"
-        );
-    }
     Ok(())
 }
 

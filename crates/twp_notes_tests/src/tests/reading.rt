@@ -20,11 +20,11 @@ fn reads_pieces_of_any_size(rt: HostRuntime) -> Result<(), Fail> {
 #[test]
 fn reads_one_byte_past_the_limit(rt: HostRuntime) -> Result<(), Fail> {
     let alloc = rt.alloc();
-    // 64 pieces of 1,024 bytes are 65,536, and one byte more makes 65 calls.
+    // 32 pieces of 2,000 bytes are 64,000, and 1,537 bytes more make 33 calls.
     let mut endless = Device::new(Reader::endless(b' '));
     assert_eq!(rt; Notes::read(alloc, &mut endless), Err(NotesFault::TooLarge));
     let reader = endless.get();
-    assert_eq!(rt; (reader.calls(), reader.given()), (65, 65_537));
+    assert_eq!(rt; (reader.calls(), reader.given()), (33, 65_537));
     // A byte a call: as many calls as bytes.
     let mut slow = Device::new(Reader::endless(b' ').at_most(1));
     assert_eq!(rt; Notes::read(alloc, &mut slow), Err(NotesFault::TooLarge));

@@ -66,79 +66,9 @@ pub fn edited(alloc: Global, notes: &[u8], edits: &[(usize, &str)]) -> Result<Ve
             records.push(record.as_bytes())?;
         }
     }
-    joined(alloc, records.as_slice())
-}
-
-/// Records one after another.
-pub fn joined(alloc: Global, records: &[&[u8]]) -> Result<Vec<u8>, Fail> {
     let mut text = Vec::new(alloc);
-    for record in records {
+    for record in &records {
         text.extend_from_slice(record)?;
-    }
-    Ok(text)
-}
-
-/// The notes with another end of their records in place of each line feed.
-pub fn with_ends(alloc: Global, notes: &[u8], end: &str) -> Result<Vec<u8>, Fail> {
-    let mut text = Vec::new(alloc);
-    for byte in notes {
-        if *byte == b'\n' {
-            text.extend_from_slice(end.as_bytes())?;
-        } else {
-            text.push(*byte)?;
-        }
-    }
-    Ok(text)
-}
-
-/// The notes with quotes around each field.
-pub fn quoted(alloc: Global, notes: &[u8]) -> Result<Vec<u8>, Fail> {
-    let mut text = Vec::from_slice(alloc, b"\"")?;
-    for byte in notes {
-        match byte {
-            b',' => text.extend_from_slice(b"\",\"")?,
-            b'\n' => text.extend_from_slice(b"\"\n\"")?,
-            _ => text.push(*byte)?,
-        }
-    }
-    let _ = text.pop();
-    Ok(text)
-}
-
-/// The notes with the sections of each line in the other order, where there are two.
-pub fn swapped(alloc: Global, notes: &[u8]) -> Result<Vec<u8>, Fail> {
-    let records = records_of(alloc, notes)?;
-    let mut text = Vec::new(alloc);
-    for (place, record) in records.iter().enumerate() {
-        let mut fields = Vec::new(alloc);
-        for field in record.split(|byte| *byte == b',') {
-            fields.push(field)?;
-        }
-        if place >= 2 && fields.len() == 5 && !fields[2].is_empty() {
-            fields.swap(1, 2);
-        }
-        for (count, field) in fields.iter().enumerate() {
-            if count > 0 {
-                text.push(b',')?;
-            }
-            text.extend_from_slice(field)?;
-        }
-    }
-    Ok(text)
-}
-
-/// The notes with the records of lines in a fixed other order: after the heading and the township
-/// first that of line 3, then 8, and so on by fives around the 84.
-pub fn shuffled(alloc: Global, notes: &[u8]) -> Result<Vec<u8>, Fail> {
-    let records = records_of(alloc, notes)?;
-    let mut text = Vec::new(alloc);
-    for place in 0..records.len() {
-        let number = if place < 2 {
-            place
-        } else {
-            2 + (5 * (place - 2) + 3) % LINES
-        };
-        text.extend_from_slice(records.get(number).ok_or("a record")?)?;
     }
     Ok(text)
 }

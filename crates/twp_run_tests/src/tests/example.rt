@@ -1,6 +1,5 @@
 //! Worked examples of each run, for what holds of all runs.
 use super::Said;
-use super::plat::UNEVEN_PLAT;
 use super::report::{ACCOUNT, LIST};
 use std::alloc::Global;
 use std::test::Fail;
@@ -8,6 +7,52 @@ use twp_acres::{
     Account, RunFault, Verdict, run_acres, run_acres_as, run_normal, run_plat, run_report,
 };
 use twp_grid::{Device, Sink, Source};
+
+/// The uneven township. Section 4's heights at 0, 20, 40, 60 and 80 chains are 20.00, 20.05, 20.10,
+/// 20.15 and 20.20, so its lots are 20 chains by 20.025, 20.075, 20.125 and 20.175: 40.05, 40.15,
+/// 40.25 and 40.35 acres, and with 480 acres in the south 640.80. Section 18's widths from the
+/// north are 19.50, 19.625, 19.75, 19.875 and 20.00, so its lots are 39.125, 39.375, 39.625 and
+/// 39.875 acres, each a tie, and 158 in full. The others are worked out in
+/// `scripts/answered/acres`.
+pub const UNEVEN_PLAT: &str = "\
+sec. 1: lot 1 40.00, lot 2 40.00, lot 3 40.00, lot 4 40.00, total 640.00\n\
+sec. 2: lot 1 40.00, lot 2 40.00, lot 3 40.00, lot 4 40.00, total 640.00\n\
+sec. 3: lot 1 40.00, lot 2 40.00, lot 3 40.00, lot 4 40.00, total 640.00\n\
+sec. 4: lot 1 40.05, lot 2 40.15, lot 3 40.25, lot 4 40.35, total 640.80\n\
+sec. 5: lot 1 40.45, lot 2 40.55, lot 3 40.65, lot 4 40.75, total 642.40\n\
+sec. 6: lot 1 40.90, lot 2 41.10, lot 3 41.31, lot 4 39.95, lot 5 38.70, lot 6 38.90, \
+lot 7 39.10, total 639.97\n\
+sec. 7: lot 1 39.18, lot 2 39.13, lot 3 39.08, lot 4 39.03, total 636.40\n\
+sec. 8: total 640.00\n\
+sec. 9: total 640.00\n\
+sec. 10: total 640.00\n\
+sec. 11: total 640.00\n\
+sec. 12: total 640.00\n\
+sec. 13: total 640.00\n\
+sec. 14: total 640.00\n\
+sec. 15: total 640.00\n\
+sec. 16: total 640.00\n\
+sec. 17: total 640.00\n\
+sec. 18: lot 1 39.13, lot 2 39.38, lot 3 39.63, lot 4 39.88, total 638.00\n\
+sec. 19: lot 1 40.00, lot 2 40.00, lot 3 40.00, lot 4 40.00, total 640.00\n\
+sec. 20: total 640.00\n\
+sec. 21: total 640.00\n\
+sec. 22: total 640.00\n\
+sec. 23: total 640.00\n\
+sec. 24: total 640.00\n\
+sec. 25: total 640.00\n\
+sec. 26: total 640.00\n\
+sec. 27: total 640.00\n\
+sec. 28: total 640.00\n\
+sec. 29: total 640.00\n\
+sec. 30: lot 1 40.00, lot 2 40.00, lot 3 40.00, lot 4 40.00, total 640.00\n\
+sec. 31: lot 1 40.00, lot 2 40.00, lot 3 40.00, lot 4 40.00, total 640.00\n\
+sec. 32: total 640.00\n\
+sec. 33: total 640.00\n\
+sec. 34: total 640.00\n\
+sec. 35: total 640.00\n\
+sec. 36: total 640.00\n\
+township total 23037.57\n";
 
 /// Which run it is.
 #[derive(Clone, Copy, Debug, PartialEq, Eq)]

@@ -46,17 +46,18 @@ fn reads_a_description_to_its_limit(rt: HostRuntime) -> Result<(), Fail> {
     let most = many(alloc, b' ', 65_536)?;
     let more = many(alloc, b' ', 65_537)?;
     for call in [Call::Acres, Call::Normal] {
-        for (reader, said, given) in [
-            (Reader::new(&most), Refused(44, 65_536), 65_536),
-            (Reader::new(&more), Refused(41, 65_536), 65_537),
-            (Reader::endless(b' '), Refused(41, 65_536), 65_537),
+        // 32 pieces of 2,000 bytes are 64,000; a 33rd call gives the rest, with one byte too many, if
+        // there is one, and else a 34th call finds the end.
+        for (reader, said, given, calls) in [
+            (Reader::new(&most), Refused(44, 65_536), 65_536, 34),
+            (Reader::new(&more), Refused(41, 65_536), 65_537, 33),
+            (Reader::endless(b' '), Refused(41, 65_536), 65_537, 33),
         ] {
             let mut text = Device::new(reader);
             let answer = call.answer(alloc, &mut Bytes::new(&notes), &mut text)?;
             assert_eq!(rt; answer, expected(alloc, said)?, "{call:?}");
             assert_eq!(rt; text.get().given(), given);
-            // 64 pieces of 1,024 bytes are 65,536, and one call more finds the end or one byte.
-            assert_eq!(rt; text.get().calls(), 65);
+            assert_eq!(rt; text.get().calls(), calls);
         }
     }
     Ok(())
@@ -68,17 +69,22 @@ fn reads_a_list_to_its_limit(rt: HostRuntime) -> Result<(), Fail> {
     let notes = even(alloc)?;
     let most = many(alloc, b'x', 1_048_576)?;
     let more = many(alloc, b'x', 1_048_577)?;
-    for (reader, said, given) in [
-        (Reader::new(&most), Refused(81, 1), 1_048_576),
-        (Reader::new(&more), Refused(80, 1_048_576), 1_048_577),
-        (Reader::endless(b'x'), Refused(80, 1_048_576), 1_048_577),
+    // 524 pieces of 2,000 bytes are 1,048,000; a 525th call gives the rest, and a 526th finds the end.
+    for (reader, said, given, calls) in [
+        (Reader::new(&most), Refused(81, 1), 1_048_576, 526),
+        (Reader::new(&more), Refused(80, 1_048_576), 1_048_577, 525),
+        (
+            Reader::endless(b'x'),
+            Refused(80, 1_048_576),
+            1_048_577,
+            525,
+        ),
     ] {
         let mut tracts = Device::new(reader);
         let answer = Call::Report.answer(alloc, &mut Bytes::new(&notes), &mut tracts)?;
         assert_eq!(rt; answer, expected(alloc, said)?);
         assert_eq!(rt; tracts.get().given(), given);
-        // 1,024 pieces of 1,024 bytes are 1,048,576.
-        assert_eq!(rt; tracts.get().calls(), 1_025);
+        assert_eq!(rt; tracts.get().calls(), calls);
     }
     Ok(())
 }

@@ -1,5 +1,5 @@
 //! The answers on a plat that is kept.
-use super::plat::UNEVEN_PLAT;
+use super::example::UNEVEN_PLAT;
 use super::report::{ACCOUNT, LIST};
 use std::alloc::Global;
 use std::test::Fail;

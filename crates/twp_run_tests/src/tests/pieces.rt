@@ -1,16 +1,29 @@
 //! Readers that give few bytes a call: the answers are the same.
-use super::Said::{Acres, Text};
-use super::example::{Call, Example};
-use super::expected;
-use super::plat::UNEVEN_PLAT;
-use super::refusals::DAMAGED;
+use super::Said::{Acres, Refused, Text};
+use super::example::{Call, Example, UNEVEN_PLAT};
 use super::report::{ACCOUNT, LIST, REFUSED};
+use super::{Said, expected};
 use std::alloc::Global;
 use std::process::Abort;
 use std::test::Fail;
 use twp_devices::Reader;
 use twp_grid::Device;
 use twp_samples::{even, uneven, with_record};
+
+/// Records of the even township's notes, by their numbers, in another form, and what is refused.
+const DAMAGED: [(usize, &[u8], Said); 10] = [
+    (1, b"Line,between,and,quarter,corner\n", Refused(3, 1)),
+    (2, b"T,0,N,3,W\n", Refused(5, 2)),
+    (3, b"N,1,,40.00\n", Refused(4, 3)),
+    (3, b"X,1,,40.00,80.00\n", Refused(6, 3)),
+    (3, b"N,37,,40.00,80.00\n", Refused(7, 3)),
+    (3, b"N,1,3,40.00,80.00\n", Refused(8, 3)),
+    (3, b"N,1,1,40.00,80.00\n", Refused(8, 3)),
+    (3, b"N,1,,40.0000,80.00\n", Refused(9, 3)),
+    (4, b"N,1,,40.00,80.00\n", Refused(10, 4)),
+    // Without the line between sections 6 and 7.
+    (56, b"", Refused(11, 53)),
+];
 
 /// A run over readers that give at most so many bytes a call.
 fn runs_in_pieces(alloc: Global, rt: &impl Abort, example: Example) -> Result<(), Fail> {

@@ -1,11 +1,11 @@
 //! The account of tracts.
+use super::Said;
 use super::Said::{Refused, TractRefused};
-use super::{Said, expected};
 use std::alloc::Global;
 use std::test::Fail;
 use twp_acres::{Verdict, run_report};
 use twp_grid::{Bytes, Device, Refusal};
-use twp_samples::{even, uneven};
+use twp_samples::even;
 
 /// Lots of section 7 of the uneven township: 39.175 and 39.025 acres, each a tie, and 78.2
 /// together.
@@ -30,42 +30,6 @@ fn report_of(alloc: Global, notes: &[u8], list: &[u8]) -> Result<(Vec<u8>, Verdi
 /// A list that is refused by one line.
 fn refused(number: u8, at: u32) -> Verdict {
     Verdict::Refused(Refusal { number, at })
-}
-
-#[test]
-fn adds_tracts_up(rt: HostRuntime) -> Result<(), Fail> {
-    let notes = uneven(rt.alloc())?;
-    let (text, verdict) = report_of(rt.alloc(), &notes, LIST.as_bytes())?;
-    assert_eq!(&rt; str::from_utf8(&text)?, ACCOUNT);
-    assert_eq!(&rt; verdict, Verdict::Accepted);
-
-    // Lot 5 of section 6 has 38.70 acres: 23,037.56775.. less 38.70495.. are 22,998.86 and not
-    // 22,998.87.
-    let one = "name,description\nA,\"sec. 6, lot 5.\"\n";
-    let (text, _) = report_of(rt.alloc(), &notes, one.as_bytes())?;
-    assert_eq!(&rt;
-        str::from_utf8(&text)?,
-        "tract A: 38.70 acres\ntotal: 38.70 acres\nremaining: 22998.86 acres\n"
-    );
-    Ok(())
-}
-
-#[test]
-fn accepts_a_heading_alone(rt: HostRuntime) -> Result<(), Fail> {
-    let notes = even(rt.alloc())?;
-    for heading in [
-        "name,description\n",
-        "\u{feff}\"name\",description\r\n",
-        "name,description",
-    ] {
-        let (text, verdict) = report_of(rt.alloc(), &notes, heading.as_bytes())?;
-        assert_eq!(&rt;
-            str::from_utf8(&text)?,
-            "total: 0.00 acres\nremaining: 23040.00 acres\n"
-        );
-        assert_eq!(&rt; verdict, Verdict::Accepted);
-    }
-    Ok(())
 }
 
 /// Lists that are refused in the uneven township.
@@ -119,34 +83,6 @@ pub const REFUSED: [(&str, Said); 14] = [
         TractRefused(2, 42, 9),
     ),
 ];
-
-#[test]
-fn refuses_lists(rt: HostRuntime) -> Result<(), Fail> {
-    let alloc = rt.alloc();
-    let notes = uneven(alloc)?;
-    for (list, said) in REFUSED {
-        let answer = report_of(alloc, &notes, list.as_bytes())?;
-        assert_eq!(rt; answer, expected(alloc, said)?, "{list}");
-    }
-    Ok(())
-}
-
-/// Two places of 0.625 acres: each is printed as 0.63, and both as 1.25.
-#[test]
-fn adds_the_smallest_places_up(rt: HostRuntime) -> Result<(), Fail> {
-    let alloc = rt.alloc();
-    let notes = even(alloc)?;
-    let list = b"name,description\n\
-        A,\"sec. 14, NE1/4NE1/4NE1/4NE1/4NE1/4.\"\n\
-        B,\"sec. 14, NW1/4NE1/4NE1/4NE1/4NE1/4.\"\n";
-    let (text, verdict) = report_of(alloc, &notes, list)?;
-    assert_eq!(rt;
-        str::from_utf8(&text)?,
-        "tract A: 0.63 acres\ntract B: 0.63 acres\ntotal: 1.25 acres\nremaining: 23038.75 acres\n"
-    );
-    assert_eq!(rt; verdict, Verdict::Accepted);
-    Ok(())
-}
 
 /// The record of a tract that has one place alone, of section 8, and another one than those of other
 /// numbers to 1,023.

@@ -1,0 +1,130 @@
+#!/bin/sh
+# Runs ./township, or the program that is named, on the rows of the folder `answered`, and compares its answer
+# and its status: those of a text that is accepted or refused. Each row has columns with bars between; the
+# first line of each file says what they are. The last line is 'N passed, 0 failed'.
+set -u
+ulimit -f 4000
+ulimit -t 20
+root=$(readlink -f "$(dirname "$0")/..")
+program=$(readlink -f "${1:-./township}")
+rows=$root/scripts/answered
+work=$(mktemp -d)
+trap 'rm -rf "$work"' EXIT
+cd "$work" || exit 1
+cp "$root/samples/b0.csv" even
+cp "$root/samples/b1.csv" uneven
+passed=0
+failed=0
+
+# Runs the program with these words; its answer has to be in the file `wanted`.
+answers() {
+    "$program" "$@" > out 2> err
+    status=$?
+    case $(sed 1q wanted) in refused*) wanted_status=1 ;; *) wanted_status=0 ;; esac
+    if [ "$status" = "$wanted_status" ] && cmp -s wanted out; then
+        passed=$((passed + 1))
+        return
+    fi
+    failed=$((failed + 1))
+    echo "FAILED: $*, on: $text: status $status, wanted, and found:"
+    head -c 2000 wanted
+    head -c 2000 out
+}
+
+# The rows of a file without what is said of them, and a text as printf writes it, in a file.
+rows_of() { grep -v '^#' "$rows/$1"; }
+written() { printf "$1" > "$2"; }
+
+rows_of acres > these
+while IFS='|' read -r notes answer text; do
+    written "$answer\n" wanted
+    written "$text" land
+    answers acres "$notes" land
+done < these
+
+rows_of acres-by-plat > these
+while IFS='|' read -r notes answer text; do
+    written "$answer\n" wanted
+    written "$text" land
+    answers acres --account plat "$notes" land
+done < these
+
+# What is written is spelled as it is.
+rows_of normal > these
+while IFS='|' read -r answer text; do
+    written "T. 2 N., R. 3 W.,\n$answer\n" wanted
+    written "$text" land
+    answers normal even land
+    answers normal even wanted
+done < these
+
+rows_of report > these
+while IFS='|' read -r notes answer text; do
+    written "$answer\n" wanted
+    written "$text" list
+    answers report "$notes" list
+done < these
+
+# Notes with a record of a number, or with two, in another form; a number past the last one adds it.
+rows_of records > these
+while IFS='|' read -r answer first one second other; do
+    text="$first $one $second $other"
+    written "$answer\n" wanted
+    written "$one" one
+    written "$other" other
+    awk -v first="$first" -v second="${second:-0}" '
+        function put(file,    line) { while ((getline line < file) > 0) print line }
+        NR == first { put("one"); next }
+        NR == second { put("other"); next }
+        { print }
+        END { if (first > NR) put("one"); if (second > NR) put("other") }
+    ' even > notes
+    answers plat notes
+done < these
+
+# The uneven township's notes in other forms: ends of lines, empty lines, quotes, a byte order mark, no last line
+# feed, the records in another order, and the sections of a line in the other order.
+plat_of() {
+    text=$1
+    "$program" plat uneven > wanted
+    answers plat notes
+}
+for end in '\r' '\r\n' '\n\n' '\r\n\r\n\n'; do
+    awk -v ORS="$end" '{ print }' uneven > notes
+    plat_of "lines that end in $end"
+done
+sed -e 's/[^,]*/"&"/g' uneven > notes
+plat_of 'all fields in quotes'
+{ printf '\357\273\277'; cat uneven; } > notes
+plat_of 'behind a byte order mark'
+{ echo; cat uneven; } > notes
+plat_of 'behind an empty line'
+printf '%s' "$(cat uneven)" > notes
+plat_of 'without the last line feed'
+{ sed 2q uneven; sed 1,2d uneven | tac; } > notes
+plat_of 'the records from the last one'
+awk -F, -v OFS=, 'NR > 2 && $3 != "" { was = $2; $2 = $3; $3 = was } { print }' uneven > notes
+plat_of 'the sections in the other order'
+
+# A token of each class that a sentence can have, and a word of none, behind fronts of sentences: where it may
+# follow, the text goes wrong after it, if at all; otherwise it goes wrong at it.
+tokens='sec lot all and to inclusive of the t r n e ne 1/2 1/4 1 , ; : . x'
+rows_of fronts > these
+while IFS='|' read -r front follow; do
+    for token in $tokens; do
+        text="$front $token"
+        printf '%s' "$text" > land
+        at=${#front}
+        case " $follow " in *" $token "*) at=${#text} ;; *) at=$((at + 1)) ;; esac
+        found=$("$program" acres even land 2> err | sed -n 's/^refused 4[2-4] at //p')
+        if [ "${found:-${#text}}" = "$at" ]; then
+            passed=$((passed + 1))
+        else
+            failed=$((failed + 1))
+            echo "FAILED: $text: goes wrong at $found, and not at $at"
+        fi
+    done
+done < these
+
+echo "$passed passed, $failed failed"
+[ "$failed" = 0 ]
