@@ -20,7 +20,7 @@ try:
 
 test:
 	rt ci
-	@sh scripts/e2e.sh crates/twp_cmd/out/twp_cmd
+	@sh scripts/proved_tests.sh
 
 e2e: township
 	@cd crates/twp_growth && rt run -- write-acres 3905 2 > /dev/null
@@ -36,6 +36,7 @@ bench:
 	@sh bench/lands.sh
 	@sh bench/descriptions.sh
 	@sh bench/instructions.sh
+	@sh bench/library.sh
 
 install: township lib
 	@$(MAKE) --no-print-directory install-built install-lib

@@ -1,14 +1,37 @@
 #!/bin/sh
 # Proves the library for C and builds it in lib/: libtownship.a, libtownship.so with its soname and links, and
-# township.pc, whose prefix is the first word (/usr/local).
+# township.pc, whose prefix is the first word (/usr/local). With `proved` as the second word the crates below
+# twp_c are taken as `rt ci` has just proved and left them, and twp_c alone is proved once more.
 set -eu
 cd "$(dirname "$0")/.."
 prefix=${1:-/usr/local}
 kit=$(dirname "$(rt doc)")
+root=$PWD
+
+# `rt lib` proves the crates below by itself, even where `rt ci` has proved them: so rattle, which it calls.
+prove_over_proved() {
+    set -- --extern "std=$kit/rlibs/std.rlib" -L "dependency=$kit/rlibs"
+    for crate in $(sed -n 's/^twp_c staticlib: //p' crates.txt); do
+        set -- "$@" --extern "$crate=$root/crates/$crate/out/rlib/$crate.rlib"
+    done
+    for folder in crates/*/out/rlib; do
+        set -- "$@" -L "dependency=$root/$folder"
+    done
+    mkdir -p crates/twp_c/out
+    cd crates/twp_c
+    "$kit/bin/rattle" build --crate-name twp_c src/lib.rt "$@" --links twp_c= --crate-type staticlib \
+        --antt-project "$kit/rattle/logic/antt-project.json" --logic-built "$kit/logic_built" \
+        --toolchain "$kit/toolchain" --backend llvm --jobs 2 -o out/libtwp_c.a
+}
 version=$(sed -n 's/^pub(crate) const VERSION: .* = "\(.*\)";$/\1/p' crates/twp_c/src/version.rt)
 major=${version%%.*}
 echo 'the library is proved before it is built: some minutes the first time, seconds after that.'
-(cd crates/twp_c && rt lib) > lib.log 2>&1 || {
+if [ "${2:-}" = proved ]; then
+    prove() { prove_over_proved; }
+else
+    prove() { cd crates/twp_c && rt lib; }
+fi
+(prove) > lib.log 2>&1 || {
     cat lib.log >&2
     exit 1
 }

@@ -1,11 +1,13 @@
 #!/bin/sh
 # Builds the library for C, and tries it and what is built on it: from C and from C++, under memcheck, from four
 # threads, with memory refused, as it is installed, by the packages for Python and for Rust, and by the examples
-# of many descriptions. TOWNSHIP_CASES can name a zip of worked cases for each of them. What this machine has no
-# tools for is left out, and named before the last line, which is 'N passed, 0 failed'.
+# of many descriptions. The worked cases for each of them are those of scripts/answered, or of the zip that
+# TOWNSHIP_CASES names. What this machine has no tools for is left out, and named before the last line, which is
+# 'N passed, 0 failed'. With the word `proved` the library is built over what `rt ci` has just proved.
 set -u
 root=$(readlink -f "$(dirname "$0")/..")
 cd "$root" || exit 1
+proved=${1:-}
 work=$(mktemp -d)
 trap 'rm -rf "$work"' EXIT
 passed=0
@@ -20,6 +22,17 @@ fail() {
 }
 skip() { skipped="${skipped:+$skipped, }$1"; }
 has() { command -v "$1" > "$work/lost" 2>&1; }
+
+# The first Python that has these modules: PYTHON, the one on the path, or the system's.
+python_with() {
+    for python in "${PYTHON:-python3}" python3 /usr/bin/python3; do
+        if has "$python" && "$python" -c "import $1" > "$work/lost" 2>&1; then
+            echo "$python"
+            return
+        fi
+    done
+    return 1
+}
 
 # A command that has to succeed.
 try() {
@@ -53,12 +66,23 @@ same() {
     fi
 }
 
-if ! sh scripts/library.sh > "$work/out" 2>&1; then
+if ! sh scripts/library.sh /usr/local $proved > "$work/out" 2>&1; then
     fail 'make lib'
     echo "$passed passed, $failed failed"
     exit 1
 fi
 version=$(sed -n 's/^Version: //p' lib/township.pc)
+
+# The worked cases.
+if python=$(python_with sys); then
+    if [ -z "${TOWNSHIP_CASES:-}" ]; then
+        TOWNSHIP_CASES=$work/answered.zip
+        "$python" scripts/answered_cases.py "$TOWNSHIP_CASES"
+    fi
+    export TOWNSHIP_CASES
+    PYTHON=$python
+    export PYTHON
+fi
 
 # What can be seen of the library from outside.
 sed -n 's/^township_answer \(township_[a-z_]*\)(.*/\1/p' include/township.h | sort > "$work/wanted"
@@ -90,13 +114,13 @@ if has "$compiler"; then
     else
         skip 'memcheck: no valgrind'
     fi
-    if [ -n "${TOWNSHIP_CASES:-}" ] && has python3; then
+    if [ -n "${PYTHON:-}" ]; then
         try 'the test of cases compiles' "$compiler" -std=c11 $flags -o "$work/cases" tests/c/cases.c \
             tests/c/check.c tests/c/area.c lib/libtownship.a
-        python3 tests/c/case_records.py "$TOWNSHIP_CASES" > "$work/records" 2> "$work/lost"
+        "$PYTHON" tests/c/case_records.py "$TOWNSHIP_CASES" > "$work/records" 2> "$work/lost"
         count 'worked cases from C' sh -c '"$1" < "$2"' sh "$work/cases" "$work/records"
     else
-        skip 'worked cases from C: TOWNSHIP_CASES names no zip'
+        skip 'worked cases from C: no Python to read them'
     fi
 else
     skip "the library from C: no C compiler ($compiler)"
@@ -123,29 +147,38 @@ END
 same 'what is installed'
 
 # From Python.
-if has python3; then
+if [ -n "${PYTHON:-}" ]; then
     count 'the tests of the Python package' sh scripts/python_tests.sh
-    if python3 -c 'import setuptools, wheel, pip' 2> "$work/lost"; then
-        try 'pip installs the package' python3 -m pip install -q --no-build-isolation --no-deps --no-index \
+    if python=$(python_with 'setuptools, wheel, pip'); then
+        try 'pip installs the package' "$python" -m pip install -q --no-build-isolation --no-deps --no-index \
             --target "$work/site" ./bindings/python
         echo 161.00 > "$work/wanted"
-        env -u TOWNSHIP_LIBRARY PYTHONPATH="$work/site" python3 -c '
+        env -u TOWNSHIP_LIBRARY PYTHONPATH="$work/site" "$python" -c '
 import township
 plat = township.Plat.read(open("samples/b1.csv", "rb").read())
 print(plat.acres("sec. 5, lots 1 and 2, S1/2NE1/4."))' > "$work/found" 2>&1
         same 'the installed package'
     else
-        skip 'the wheel: no setuptools, wheel, or pip'
+        skip 'the wheel: no Python with setuptools, wheel, and pip'
     fi
     here="env TOWNSHIP_LIBRARY=$root/lib/libtownship.so PYTHONPATH=$root/bindings/python/src PYTHONDONTWRITEBYTECODE=1"
-    try '20,000 descriptions on two processes' $here python3 examples/all_cores.py --descriptions 20000 --workers 2
-    if python3 -c 'import distributed' 2> "$work/lost"; then
-        try '20,000 descriptions by Dask' $here python3 examples/dask_batch.py --descriptions 20000 --workers 2
+    try '20,000 descriptions on two processes' $here "$PYTHON" examples/all_cores.py --descriptions 20000 --workers 2
+    if python=$(python_with distributed); then
+        try '20,000 descriptions by Dask' $here "$python" examples/dask_batch.py --descriptions 20000 --workers 2
     else
-        skip 'Dask: no distributed'
+        skip 'Dask: no Python with distributed'
     fi
+    # The documents' command for a list.
+    printf 'name,description\nA,"sec. 5, lot 1."\nB,"sec. 5, N1/2."\n' > "$work/list.csv"
+    cat > "$work/wanted" << END
+name,description,acres,refusal,at,sentence
+A,"sec. 5, lot 1.",40.45,,,
+B,"sec. 5, N1/2.",,66,8,"this part holds land of lots, which are taken whole"
+END
+    $here "$PYTHON" -m township batch samples/b1.csv "$work/list.csv" 2> "$work/lost" | tr -d '\r' > "$work/found"
+    same 'python -m township batch'
 else
-    skip 'the Python package: no python3'
+    skip 'the Python package: no Python'
 fi
 
 # From Rust.

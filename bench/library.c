@@ -1,0 +1,68 @@
+/*
+ * Makes one call of the library again and again, for bench/library.sh: `library NOTES CALL COUNT`. CALL is `read`
+ * (notes to a plat), or a description on the kept plat: `one` part, `two` sections, `fifty` or `hundred` parts.
+ * Prints what the calls add up to, so that none is left out, and the seconds of processor that they took.
+ */
+#include "township.h"
+
+#include <stdio.h>
+#include <stdlib.h>
+#include <string.h>
+#include <time.h>
+
+static uint8_t notes[TOWNSHIP_NOTES_MOST];
+static uint8_t text[4096];
+
+/* Writes a description of so many squares of 2.5 acres of section 14, and gives its length. */
+static size_t squares(unsigned count) {
+    static const char *corners[] = {"NE1/4", "NW1/4", "SW1/4", "SE1/4"};
+    size_t length = (size_t)sprintf((char *)text, "sec. 14");
+    for (unsigned square = 0; square < count; square++) {
+        length += (size_t)sprintf((char *)text + length, ", %s%s%s%s", corners[square / 64 % 4],
+                                  corners[square / 16 % 4], corners[square / 4 % 4], corners[square % 4]);
+    }
+    return length;
+}
+
+static size_t description_of(const char *call) {
+    if (strcmp(call, "one") == 0) {
+        return (size_t)sprintf((char *)text, "sec. 14, NE1/4.");
+    }
+    if (strcmp(call, "two") == 0) {
+        return (size_t)sprintf((char *)text, "T. 2 N., R. 3 W., sec. 5, lots 1 and 2, S1/2NE1/4; sec. 14, NE1/4.");
+    }
+    return squares(strcmp(call, "fifty") == 0 ? 50 : 100);
+}
+
+int main(int argc, char **argv) {
+    if (argc != 4) {
+        fputs("usage: library NOTES CALL COUNT\n", stderr);
+        return 2;
+    }
+    FILE *file = fopen(argv[1], "rb");
+    if (file == NULL) {
+        perror(argv[1]);
+        return 3;
+    }
+    size_t notes_length = fread(notes, 1, sizeof notes, file);
+    fclose(file);
+    long count = atol(argv[3]);
+    township_plat plat;
+    uint64_t sum = 0;
+    township_answer answer = township_read(notes, notes_length, &plat);
+    clock_t begun = clock();
+    if (strcmp(argv[2], "read") == 0) {
+        for (long made = 0; made < count; made++) {
+            sum += township_read(notes, notes_length, &plat).verdict + plat.number;
+        }
+    } else {
+        size_t length = description_of(argv[2]);
+        for (long made = 0; made < count; made++) {
+            answer = township_acres(&plat, text, length, TOWNSHIP_EXACT);
+            sum += answer.hundredths;
+        }
+    }
+    double taken = (double)(clock() - begun) / CLOCKS_PER_SEC;
+    printf("%llu %u %.6f\n", (unsigned long long)sum, answer.verdict, taken);
+    return 0;
+}

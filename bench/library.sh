@@ -1,0 +1,53 @@
+#!/bin/sh
+# Prints how many instructions a call of the library takes: notes to a plat, and on a kept plat descriptions of one
+# part, of a lot or two and a part in two sections, and of 50 and 100 parts. It is what 2,000 calls take less what
+# 1,000 take, by valgrind's callgrind. Beside it stand the count of bench/expected-library and the ratio to that; the
+# status is 1 if a ratio is over 1.02. Then how many descriptions are answered a second on one core, from C and from
+# Python. It builds lib/ by `make lib`, unless the first word is `built`.
+set -eu
+[ "${1:-}" = built ] || sh scripts/library.sh > /dev/null
+work=$(mktemp -d)
+trap 'rm -rf "$work"' EXIT
+"${CC:-cc}" -std=c11 -O2 -Wall -Wextra -Werror -Iinclude -o "$work/library" bench/library.c lib/libtownship.a
+count() {
+    env -i PATH="$PATH" valgrind --tool=callgrind --callgrind-out-file=/dev/null "$work/library" "$@" \
+        2>&1 > /dev/null | sed -n 's/.*Collected : *//p'
+}
+too_much=0
+row() {
+    found=$((($(count samples/b1.csv "$2" 2000) - $(count samples/b1.csv "$2" 1000)) / 1000))
+    expected=$(awk -v name="$1" 'substr($0, index($0, " ") + 1) == name { print $1 }' bench/expected-library)
+    ratio=new
+    if [ -n "$expected" ]; then
+        ratio=$(awk -v found="$found" -v expected="$expected" 'BEGIN { printf "%.4f", found / expected }')
+        if [ $((100 * found)) -gt $((102 * expected)) ]; then
+            too_much=$((too_much + 1))
+            ratio="$ratio: too much"
+        fi
+    fi
+    printf '%-48s %10s  %s\n' "$1" "$found" "$ratio"
+}
+row 'field notes to a plat' read
+row 'one part' one
+row 'lots and a part in two sections' two
+row '50 parts' fifty
+row '100 parts' hundred
+
+"$work/library" samples/b1.csv one 1000000 |
+    awk '{ printf "%-48s %10.0f a second\n", "one part, from C", 1000000 / $3 }'
+if python=$(command -v "${PYTHON:-python3}"); then
+    TOWNSHIP_LIBRARY=$PWD/lib/libtownship.so PYTHONPATH=$PWD/bindings/python/src PYTHONDONTWRITEBYTECODE=1 \
+        "$python" - << 'END'
+import time
+import township
+
+plat = township.Plat.read(open("samples/b1.csv", "rb").read())
+texts = ["sec. 14, NE1/4."] * 200_000
+begun = time.process_time()
+for answer in plat.acres_of(texts):
+    pass
+taken = time.process_time() - begun
+print(f"{'one part, from Python':48} {len(texts) / taken:10.0f} a second")
+END
+fi
+[ "$too_much" = 0 ]
