@@ -82,6 +82,23 @@ while IFS='|' read -r answer first one second other; do
     answers plat notes
 done < these
 
+# A section line with other distances.
+rows_of half-miles > these
+while IFS='|' read -r answer index quarter corner; do
+    text="line $index: $quarter $corner"
+    awk -F, -v OFS=, -v record="$((index + 3))" -v quarter="$quarter" -v corner="$corner" '
+        NR == record { $4 = quarter; $5 = corner }
+        { print }
+    ' even > notes
+    if [ "$answer" = accepted ]; then
+        "$program" plat notes > wanted 2> err
+        sed 1q wanted | grep -q '^sec. 1: ' || echo "an accepted plat" > wanted
+    else
+        written "$answer\n" wanted
+    fi
+    answers plat notes
+done < these
+
 # The uneven township's notes in other forms: ends of lines, empty lines, quotes, a byte order mark, no last line
 # feed, the records in another order, and the sections of a line in the other order.
 plat_of() {

@@ -6,60 +6,6 @@ use twp_plat::{HalfMile, Plat, PlatFault};
 use twp_samples::{UNEVEN, notes_of, section};
 
 #[test]
-fn keeps_lines_to_their_limits(rt: HostRuntime) -> Result<(), Fail> {
-    let first = |line| Some(PlatFault::Irregular {
-        line,
-        half: HalfMile::First,
-    });
-    let second = |line| Some(PlatFault::Irregular {
-        line,
-        half: HalfMile::Second,
-    });
-    for (index, quarter, corner, fault) in [
-        // The first half of a closing line, and of another: 40 chains, a quarter of a chain more or
-        // less.
-        (4, "39.75", "80.00", None),
-        (4, "39.749", "80.00", first(4)),
-        (4, "40.25", "80.00", None),
-        (4, "40.251", "80.00", first(4)),
-        (58, "39.75", "80.00", None),
-        (58, "39.749", "79.749", first(58)),
-        (58, "40.25", "80.00", None),
-        (58, "40.251", "80.251", first(58)),
-        // The second half of a line that doesn't close: 79.75 - 40 = 39.75, and 80.25 - 40 = 40.25.
-        (58, "40.00", "79.75", None),
-        (58, "40.00", "79.749", second(58)),
-        (58, "40.00", "80.25", None),
-        (58, "40.00", "80.251", second(58)),
-        // The last quarter mile of a closing line: 65 - 40 - 20 = 5, and 85 - 40 - 20 = 25. Lines
-        // 47, 53 and 83 are the northernmost, the second and the southernmost that are run west,
-        // line 0 the easternmost that is run north.
-        (4, "40.00", "65.00", None),
-        (4, "40.00", "64.999", Some(PlatFault::ClosingShort(4))),
-        (4, "40.00", "85.00", None),
-        (4, "40.00", "85.001", Some(PlatFault::ClosingLong(4))),
-        (47, "40.00", "65.00", None),
-        (47, "40.00", "64.99", Some(PlatFault::ClosingShort(47))),
-        (53, "40.00", "85.00", None),
-        (53, "40.00", "85.01", Some(PlatFault::ClosingLong(53))),
-        (0, "40.00", "85.00", None),
-        (83, "40.00", "65.00", None),
-        // What the first half has more, the last quarter mile has less: 85.25 - 40.25 - 20 = 25.
-        (53, "40.25", "85.25", None),
-        (53, "40.24", "85.25", Some(PlatFault::ClosingLong(53))),
-        // The corner before the quarter corner: too short, once the first half is found right.
-        (4, "40.00", "39.00", Some(PlatFault::ClosingShort(4))),
-        (58, "40.00", "39.00", second(58)),
-        (4, "41.00", "40.00", first(4)),
-        (58, "41.00", "40.00", first(58)),
-    ] {
-        let plat = Plat::protract(&notes_of(&[(index, quarter, corner)])?);
-        assert_eq!(rt; plat.err(), fault, "line {index}: {quarter} {corner}");
-    }
-    Ok(())
-}
-
-#[test]
 fn answers_the_first_fault(rt: HostRuntime) -> Result<(), Fail> {
     let faulty = notes_of(&[
         (58, "40.00", "80.251"),
