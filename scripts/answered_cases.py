@@ -43,6 +43,8 @@ def cases():
     """Of each case its kind, notes, second text, account, and answer."""
     for notes, answer, text in rows("acres"):
         yield "acres", NOTES[notes], written(text), "exact", written(answer)
+        if b"\n" not in written(text):
+            yield "joined", b"", written(text) + b"\n" + NOTES[notes], "", written(answer)
     for notes, answer, text in rows("acres-by-plat"):
         yield "acres", NOTES[notes], written(text), "plat", written(answer)
     for answer, text in rows("normal"):

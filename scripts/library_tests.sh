@@ -73,8 +73,8 @@ if ! sh scripts/library.sh /usr/local $proved > "$work/out" 2>&1; then
 fi
 version=$(sed -n 's/^Version: //p' lib/township.pc)
 
-# The worked cases.
-if python=$(python_with sys); then
+# The worked cases, and a Python that can try the package with data frames, if there is one.
+if python=$(python_with pandas) || python=$(python_with sys); then
     if [ -z "${TOWNSHIP_CASES:-}" ]; then
         TOWNSHIP_CASES=$work/answered.zip
         "$python" scripts/answered_cases.py "$TOWNSHIP_CASES"

@@ -142,7 +142,7 @@ run report n.csv t.csv -h; ended 'help behind two files' $? 0 "$report_text" ''
 run --help akres; ended 'help before no subcommand' $? 0 "$help_text" ''
 
 # After `--` each word is a value, and so are a hyphen alone and the empty word.
-run acres -- -h --help; ended 'files called as options' $? 3 '' 'township: cannot open -h'
+run acres -- --help -h; ended 'files called as options' $? 3 '' 'township: cannot open --help'
 run plat -- acres; ended 'a file called as a subcommand' $? 3 '' 'township: cannot open acres'
 run acres n.csv -- --; ended 'a file of two hyphens' $? 3 '' 'township: cannot open --'
 run report n.csv -; ended 'a file of a hyphen' $? 3 '' 'township: cannot open -'
