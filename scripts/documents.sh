@@ -279,8 +279,10 @@ same 'the modules of docs/ARCHITECTURE.md'
 awk 'length > 300 { print FILENAME ": " FNR }' "$root"/README.md "$docs"/*.md > found
 same 'rows of tables of 300 characters at most'
 
-# The counts under "Measured" in the README are those of the first block of bench/expected.
+# The counts under "Measured" in the README are those of the first block of bench/expected, and of
+# bench/expected-library.
 sed -e '/^#/d' -e '/^$/,$d' "$root/bench/expected" > expected
+sed '/^#/d' "$root/bench/expected-library" >> expected
 sed -n '/^## Measured$/,$s/^| \([^|]*\) | \([0-9,]*\) |$/\2 \1/p' "$root/README.md" |
     awk '{ gsub(/,/, "", $1); print }' > measured
 all_read 'the counts of the README' "$(wc -l < expected)" "$(wc -l < measured)"
