@@ -29,7 +29,8 @@ def main() -> None:
     chunks = many.chunks(asked.seed, asked.descriptions, TOWNSHIPS, CHUNK)
     with cluster_of(asked) as client:
         begun = time.perf_counter()
-        answered = client.gather(client.map(many.answers, chunks, pure=False))
+        tasks = client.map(many.answers_packed, [many.packed(chunk) for chunk in chunks], pure=False)
+        answered = many.unpacked(client.gather(tasks))
         taken = time.perf_counter() - begun
     many.compare(chunks, answered)
     print(f"{asked.descriptions} descriptions by Dask: {asked.descriptions / taken:,.0f} a second")

@@ -2,6 +2,7 @@
 
 from __future__ import annotations
 
+import pickle
 from typing import NamedTuple
 
 import made_up
@@ -29,6 +30,20 @@ def chunks(seed: int, count: int, townships: int, size: int) -> list[Chunk]:
 def answers(chunk: Chunk) -> list[str]:
     """Of each description the acres, or its refusal as the program writes it."""
     return [written(answer) for answer in chunk.plat.acres_of(chunk.descriptions)]
+
+
+def packed(chunk: Chunk) -> bytes:
+    """A chunk as bytes: Dask hands them on whole, but goes through each text of a list."""
+    return pickle.dumps(chunk)
+
+
+def answers_packed(chunk: bytes) -> bytes:
+    """The answers of a packed chunk, packed."""
+    return pickle.dumps(answers(pickle.loads(chunk)))
+
+
+def unpacked(answered: list[bytes]) -> list[list[str]]:
+    return [pickle.loads(one) for one in answered]
 
 
 def written(answer: object) -> str:
