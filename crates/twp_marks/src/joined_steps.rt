@@ -3,6 +3,7 @@ ghost use Rattle.std.specs.Prelude.{◌≡◌, ◌≤◌, ◌<◌, ◌+◌, ◌&
 ghost use Rattle.twp_marks.specs.JoinedSteps.{begins_step, ends_step, has_line_feed};
 ghost use Rattle.twp_marks.specs.JoinedSteps.{HasNoJoinedStep, IsFirstJoinedStep};
 
+use memchr::memchr;
 use std::simd::prelude::*;
 use twp_grammar::Kind;
 use twp_read::Tokens;
@@ -64,7 +65,18 @@ const BLOCK: usize = 64;
 /// Whether a line ends between two bytes that could be of two steps. It is told at once of texts in
 /// which no step is joined to another, by their line ends alone.
 pub fn may_join_steps(text: &[u8]) -> bool {
-    let mut at = 0;
+    // Most texts have no line feed, or only one at their end: `memchr` comes there first.
+    match memchr(b'\n', text) {
+        Some(first) => may_join_from(text, first),
+        None => false,
+    }
+}
+
+/// The same of the line ends from a place on.
+fn may_join_from(text: &[u8], from: usize) -> bool
+    requires { from ≤ length text.now }
+{
+    let mut at = from;
     while text.len() - at >= BLOCK {
         let line_feeds = line_feeds_in(&text[at..at + BLOCK]);
         if line_feeds != 0 && is_one_between_steps(text, at, line_feeds) {

@@ -1,5 +1,5 @@
 use Rattle.std.proofs.Common.{◌-◌, ◌≤◌, length}
-use Rattle.twp_marks.proofs.joined_steps.may_join_steps.Given as goal
+use Rattle.twp_marks.proofs.joined_steps.may_join_from.Given as goal
 
 abbrev pub invariant-loop-at : goal.invariant-loop-at
 invariant-loop-at l = l.at ≤ length l.text
