@@ -35,8 +35,8 @@ lib:
 bench:
 	@sh bench/lands.sh
 	@sh bench/descriptions.sh
-	@sh bench/instructions.sh
 	@sh bench/library.sh
+	@sh bench/instructions.sh
 
 install: township lib
 	@$(MAKE) --no-print-directory install-built install-lib

@@ -1,7 +1,7 @@
 #!/bin/sh
 # Runs ./township, or the program that is named, on the rows of the folder `answered`, and compares its answer
 # and its status: those of a text that is accepted or refused. Each row has columns with bars between; the
-# first line of each file says what they are. The last line is 'N passed, 0 failed'.
+# first lines of each file say what they are. The last line is 'N passed, 0 failed'.
 set -u
 ulimit -f 4000
 ulimit -t 20
@@ -22,32 +22,36 @@ answers() {
     status=$?
     case $(sed 1q wanted) in refused*) wanted_status=1 ;; *) wanted_status=0 ;; esac
     if [ "$status" = "$wanted_status" ] && cmp -s wanted out; then
-        passed=$((passed + 1))
+        pass
         return
     fi
-    failed=$((failed + 1))
-    echo "FAILED: $*, on: $text: status $status, wanted, and found:"
+    fail "$*, on: $text: status $status, wanted, and found:"
     head -c 2000 wanted
     head -c 2000 out
+}
+
+pass() { passed=$((passed + 1)); }
+fail() {
+    failed=$((failed + 1))
+    echo "FAILED: $1"
 }
 
 # The rows of a file without what is said of them, and a text as printf writes it, in a file.
 rows_of() { grep -v '^#' "$rows/$1"; }
 written() { printf "$1" > "$2"; }
 
-rows_of acres > these
-while IFS='|' read -r notes answer text; do
-    written "$answer\n" wanted
-    written "$text" land
-    answers acres "$notes" land
-done < these
-
-rows_of acres-by-plat > these
-while IFS='|' read -r notes answer text; do
-    written "$answer\n" wanted
-    written "$text" land
-    answers acres --account plat "$notes" land
-done < these
+# Descriptions, by the words of an account, if there are any.
+described() {
+    rows_of "$1" > these
+    shift
+    while IFS='|' read -r notes answer text; do
+        written "$answer\n" wanted
+        written "$text" land
+        answers acres "$@" "$notes" land
+    done < these
+}
+described acres
+described acres-by-plat --account plat
 
 # What is written is spelled as it is.
 rows_of normal > these
@@ -90,22 +94,25 @@ while IFS='|' read -r answer index quarter corner; do
         NR == record { $4 = quarter; $5 = corner }
         { print }
     ' even > notes
-    if [ "$answer" = accepted ]; then
-        "$program" plat notes > wanted 2> err
-        sed 1q wanted | grep -q '^sec. 1: ' || echo "an accepted plat" > wanted
-    else
+    if [ "$answer" != accepted ]; then
         written "$answer\n" wanted
+        answers plat notes
+    elif "$program" plat notes > out 2> err && sed 1q out | grep -q '^sec. 1: '; then
+        pass
+    else
+        fail "$text: not accepted"
     fi
-    answers plat notes
 done < these
 
 # The uneven township's notes in other forms: ends of lines, empty lines, quotes, a byte order mark, no last line
 # feed, the records in another order, and the sections of a line in the other order.
 plat_of() {
     text=$1
-    "$program" plat uneven > wanted
+    cp "$rows/plat-uneven" wanted
     answers plat notes
 }
+cp uneven notes
+plat_of 'the uneven notes'
 for end in '\r' '\r\n' '\n\n' '\r\n\r\n\n'; do
     awk -v ORS="$end" '{ print }' uneven > notes
     plat_of "lines that end in $end"
@@ -133,12 +140,16 @@ while IFS='|' read -r front follow; do
         printf '%s' "$text" > land
         at=${#front}
         case " $follow " in *" $token "*) at=${#text} ;; *) at=$((at + 1)) ;; esac
-        found=$("$program" acres even land 2> err | sed -n 's/^refused 4[2-4] at //p')
-        if [ "${found:-${#text}}" = "$at" ]; then
-            passed=$((passed + 1))
+        answer=$("$program" acres even land 2> err)
+        case $answer in
+            'refused 4'[234]' at '*) found=${answer##* } ;;
+            'refused 6'[1-7]' at '* | *' acres') found=${#text} ;;
+            *) found="no place: $answer" ;;
+        esac
+        if [ "$found" = "$at" ]; then
+            pass
         else
-            failed=$((failed + 1))
-            echo "FAILED: $text: goes wrong at $found, and not at $at"
+            fail "$text: goes wrong at $found, and not at $at"
         fi
     done
 done < these

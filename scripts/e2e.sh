@@ -1,8 +1,8 @@
 #!/bin/sh
 # Runs ./township, or the program that is named, as people do: on files, pipes, folders, and devices. It
-# compares the status, standard output, and standard error of each run. Then it tries what the documents
-# say, worked answers, what is installed, the explanations of refusals, the program's limits, and refused growths of memory,
-# each by its own script; twp_growth is found in its crate, or is named second. The last line counts all:
+# compares the status, standard output, and standard error of each run. Then it tries worked answers, what the
+# documents say, what is installed, the explanations of refusals, the program's limits, and refused growths of
+# memory, each by its own script; twp_growth is found in its crate, or is named second. The last line counts all:
 # 'N passed, 0 failed'.
 set -u
 # A program that goes wrong fills no disk and doesn't run forever.

@@ -73,14 +73,20 @@ feed() {
     done
 }
 
-# What is shown, the answer, and the words; what is explained is on standard input.
-explained() {
+# What is shown, the answer, and the words; what is told is on standard input. One run, on files.
+told() {
     what=$1
     printf '%s\n' "$2" > wanted
     shift 2
     cat > wanted_err
     "$program" "$@" < "$input" > out 2> err
     pass_if_same 'on files' $? kept
+}
+
+# The same in each way of running.
+explained() {
+    told "$@"
+    shift 2
     "$program" "$@" < "$input" > out 2>&-
     pass_if_same 'standard error closed' $? lost
     "$program" "$@" < "$input" > out 2> /dev/full
@@ -153,16 +159,6 @@ explained_lines() {
 # A refused list.
 explained_list() {
     explained "report: $1" "$2" report notes.csv list.csv
-}
-
-# One run on files: what is shown, the answer, and the words; what is told is on standard input.
-told() {
-    what=$1
-    printf '%s\n' "$2" > wanted
-    shift 2
-    cat > wanted_err
-    "$program" "$@" < "$input" > out 2> err
-    pass_if_same 'told' $? kept
 }
 
 # One run on a description, on notes with another record of a number, and on a list, all as printf writes them.
