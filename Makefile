@@ -53,8 +53,11 @@ install-lib:
 	install -d $(DESTDIR)$(PREFIX)/lib/pkgconfig $(DESTDIR)$(PREFIX)/include
 	install -m 644 include/township.h $(DESTDIR)$(PREFIX)/include/township.h
 	install -m 644 lib/libtownship.a $(DESTDIR)$(PREFIX)/lib/libtownship.a
-	cp -P lib/libtownship.so* $(DESTDIR)$(PREFIX)/lib/
-	install -m 644 lib/township.pc $(DESTDIR)$(PREFIX)/lib/pkgconfig/township.pc
+	install -m 755 lib/libtownship.so.*.*.* $(DESTDIR)$(PREFIX)/lib/
+	cd lib && for link in libtownship.so libtownship.so.?; do \
+		ln -sf $$(readlink $$link) $(DESTDIR)$(PREFIX)/lib/$$link; done
+	sed 's|^prefix=.*|prefix=$(PREFIX)|' lib/township.pc > $(DESTDIR)$(PREFIX)/lib/pkgconfig/township.pc
+	chmod 644 $(DESTDIR)$(PREFIX)/lib/pkgconfig/township.pc
 
 man:
 	@sh scripts/man_page.sh

@@ -1,4 +1,4 @@
-"""Answers many descriptions on all cores of one machine, by processes that each keep the plats.
+"""Answers many descriptions on all cores of one machine: chunks of them go to processes, each with its plat.
 
     python3 examples/all_cores.py [--descriptions 1000000] [--workers CORES] [--seed 1]
 

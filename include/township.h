@@ -12,7 +12,7 @@
  *         answer = township_acres(&plat, text, text_length, TOWNSHIP_EXACT);
  *     }
  *     if (answer.verdict == TOWNSHIP_ACCEPTED) {
- *         printf("%llu.%02llu acres\n", answer.hundredths / 100, answer.hundredths % 100);
+ *         printf("%.2f acres\n", (double)answer.hundredths / 100);
  *     }
  *
  * No pointer may be NULL, even for no bytes, and what a call writes overlaps nothing else that it is
@@ -71,7 +71,7 @@ typedef struct township_plat {
     uint8_t east_west;   /* TOWNSHIP_EAST or TOWNSHIP_WEST */
 } township_plat;
 
-/* What a call answers. What a verdict doesn't speak of is 0. */
+/* What a call answers. What a verdict doesn't speak of is 0; TOWNSHIP_NO_ROOM keeps what there was to say. */
 typedef struct township_answer {
     uint32_t verdict;
     uint32_t number;       /* the refusal's number; docs/REFUSALS.md explains each */
@@ -119,8 +119,9 @@ township_answer township_report(const township_plat *plat, const uint8_t *list, 
 
 /*
  * Explain why field notes, a description or a list is refused: the same verdict, its line and column,
- * and some lines of text, as the program shows them. `name` is what the text calls its file, in UTF-8;
- * where it isn't UTF-8, or nothing, it is called `input`. Where nothing is refused there is no text.
+ * and some lines of text, as the program shows them; or TOWNSHIP_NO_ROOM. `name` is what the text calls
+ * its file, in UTF-8; where it isn't UTF-8, or nothing, it is called `input`. Where nothing is refused
+ * there is no text.
  */
 township_answer township_explain_notes(const uint8_t *notes, size_t notes_length, const uint8_t *name,
                                        size_t name_length, uint8_t *text, size_t room);

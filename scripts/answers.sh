@@ -69,21 +69,35 @@ while IFS='|' read -r notes answer text; do
     answers report "$notes" list
 done < these
 
-# Notes with a record of a number, or with two, in another form; a number past the last one adds it.
-rows_of records > these
-while IFS='|' read -r answer first one second other; do
-    text="$first $one $second $other"
-    written "$answer\n" wanted
-    written "$one" one
-    written "$other" other
-    awk -v first="$first" -v second="${second:-0}" '
+# The even notes with a record of a number, or with two, in another form; a number past the last one adds it.
+notes_with() {
+    written "$2" one
+    written "${4:-}" other
+    awk -v first="${1:-0}" -v second="${3:-0}" '
         function put(file,    line) { while ((getline line < file) > 0) print line }
         NR == first { put("one"); next }
         NR == second { put("other"); next }
         { print }
         END { if (first > NR) put("one"); if (second > NR) put("other") }
     ' even > notes
+}
+
+rows_of records > these
+while IFS='|' read -r answer first one second other; do
+    text="$first $one $second $other"
+    written "$answer\n" wanted
+    notes_with "$first" "$one" "$second" "$other"
     answers plat notes
+done < these
+
+# Subcommands with a second file.
+rows_of calls > these
+while IFS='|' read -r answer words second number record; do
+    text="$second, with record $number $record"
+    written "$answer\n" wanted
+    written "$second" land
+    notes_with "$number" "$record"
+    answers $words notes land
 done < these
 
 # A section line with other distances.
@@ -94,13 +108,20 @@ while IFS='|' read -r answer index quarter corner; do
         NR == record { $4 = quarter; $5 = corner }
         { print }
     ' even > notes
-    if [ "$answer" != accepted ]; then
-        written "$answer\n" wanted
-        answers plat notes
-    elif "$program" plat notes > out 2> err && sed 1q out | grep -q '^sec. 1: '; then
+    case $answer in
+        refused*)
+            written "$answer\n" wanted
+            answers plat notes
+            continue
+            ;;
+        accepted) set -- -q '^sec. 1: ' ;;
+        *) set -- -qxF "$answer" ;;
+    esac
+    if "$program" plat notes > out 2> err && grep "$@" out; then
         pass
     else
-        fail "$text: not accepted"
+        fail "$text: wanted $answer, and found:"
+        head -c 2000 out
     fi
 done < these
 

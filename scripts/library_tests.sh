@@ -2,8 +2,8 @@
 # Builds the library for C, and tries it and what is built on it: from C and from C++, under memcheck, from four
 # threads, with memory refused, as it is installed, by the packages for Python and for Rust, and by the examples
 # of many descriptions. The worked cases for each of them are those of scripts/answered, or of the zip that
-# TOWNSHIP_CASES names. What this machine has no tools for is left out, and named before the last line, which is
-# 'N passed, 0 failed'. With the word `proved` the library is built over what `rt ci` has just proved.
+# TOWNSHIP_CASES names. What this machine has no tools for is left out, and named in a line 'skipped: NAME'; the
+# last line is 'N passed, 0 failed'. With the word `proved` the library is built over what `rt ci` has just proved.
 set -u
 root=$(readlink -f "$(dirname "$0")/..")
 cd "$root" || exit 1
@@ -12,7 +12,6 @@ work=$(mktemp -d)
 trap 'rm -rf "$work"' EXIT
 passed=0
 failed=0
-skipped=
 
 pass() { passed=$((passed + 1)); }
 fail() {
@@ -20,7 +19,7 @@ fail() {
     echo "FAILED: $1"
     head -c 4000 "$work/out"
 }
-skip() { skipped="${skipped:+$skipped, }$1"; }
+skip() { echo "skipped: $1"; }
 has() { command -v "$1" > "$work/lost" 2>&1; }
 
 # The first Python that has these modules: PYTHON, the one on the path, or the system's.
@@ -145,6 +144,16 @@ cat > "$work/wanted" << END
 ./lib/pkgconfig/township.pc
 END
 same 'what is installed'
+echo /usr > "$work/wanted"
+sed -n 's/^prefix=//p' "$work/there/usr/lib/pkgconfig/township.pc" > "$work/found"
+same 'where the installed library says that it is'
+if has pkg-config && has "$compiler"; then
+    flags=$(PKG_CONFIG_PATH=$work/there/usr/lib/pkgconfig PKG_CONFIG_SYSROOT_DIR=$work/there \
+        pkg-config --cflags --libs township)
+    try 'a C program compiles by pkg-config' "$compiler" -std=c11 -o "$work/by_pkg_config" bench/library.c $flags
+    try 'a C program by pkg-config' env LD_LIBRARY_PATH="$work/there/usr/lib" "$work/by_pkg_config" \
+        samples/b1.csv one 1
+fi
 
 # From Python.
 if [ -n "${PYTHON:-}" ]; then
@@ -174,8 +183,12 @@ print(plat.acres("sec. 5, lots 1 and 2, S1/2NE1/4."))' > "$work/found" 2>&1
 name,description,acres,refusal,at,sentence
 A,"sec. 5, lot 1.",40.45,,,
 B,"sec. 5, N1/2.",,66,8,"this part holds land of lots, which are taken whole"
+status 1
 END
-    $here "$PYTHON" -m township batch samples/b1.csv "$work/list.csv" 2> "$work/lost" | tr -d '\r' > "$work/found"
+    {
+        $here "$PYTHON" -m township batch samples/b1.csv "$work/list.csv"
+        echo "status $?"
+    } > "$work/found" 2> "$work/lost"
     same 'python -m township batch'
 else
     skip 'the Python package: no Python'
@@ -188,6 +201,5 @@ else
     skip 'the Rust crate: no cargo'
 fi
 
-[ -z "$skipped" ] || echo "skipped: $skipped"
 echo "$passed passed, $failed failed"
 [ "$failed" = 0 ]

@@ -22,5 +22,7 @@ for tried in program library; do
         failed=$((failed + 1))
     fi
 done
+cat "$work/program" "$work/library" | grep '^skipped: ' > "$work/skipped" &&
+    echo "skipped, as said above: $(wc -l < "$work/skipped")"
 echo "$passed passed, $failed failed"
 [ "$failed" = 0 ]

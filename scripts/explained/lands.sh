@@ -358,3 +358,17 @@ township: land.txt:3:16: this land was named before
     |                ^^^^^^
   `E½NE¼` at 1:10 names it too: both hold sec. 14, SE1/4NE1/4.
 END
+
+# The name of a file, which is shown as safely as what is in it.
+while read -r sign shown; do
+    good
+    printf 'sec. 37.' > "$(printf "land$sign.txt")"
+    explained "a file name with $shown" 'refused 62 at 5' acres notes.csv "$(printf "land$sign.txt")" <<END
+township: land$shown.txt:1:6: there is no section 37: sections are 1 to 36
+  1 | sec. 37.
+    |      ^^
+END
+done <<'ROWS'
+\033 \x1B
+\342\200\217 \u{200F}
+ROWS

@@ -1,5 +1,21 @@
 # Rows of explanations.sh: what is told of a refused description, in one run each.
 
+# Carets below a text of ASCII, one at least, behind as many spaces as another has characters.
+carets() {
+    printf "%${#1}s%s" '' "$(printf '%s' "${2:-^}" | tr -c '\n' '^')"
+}
+
+# A sign that can't stand where it does, in a line of ASCII: what stands before it, the sign, what stands after
+# it, what could stand there, and what mends it, if that is told.
+told_at() {
+    told_land "$1$2$3" "refused 44 at ${#1}" <<END
+township: land.txt:1:$((${#1} + 1)): \`$2\` can't stand here: here could stand $4
+  1 | $1$2$3
+    | $(carets "$1" "$2")${5:+
+  $5}
+END
+}
+
 # What is wrong, and what mends it.
 told_land 'secs. 14 & 15' 'refused 42 at 9' <<'END'
 township: land.txt:1:10: `&` is no part of a description
@@ -164,6 +180,46 @@ township: land.txt:1:1: `NENE` can't stand here: here could stand `T.` of a head
     | ^^^^
   name the section first, then its lots and parts
 END
+
+# Land before its section, at the beginning, behind a heading, and behind another section. Nothing is told of what
+# may be something else: section 2, land of the section before, or land outside of a section.
+while IFS='|' read -r before sign after could advice; do
+    told_at "$before" "$sign" "$after" "$could" "$advice"
+done <<'ROWS'
+|N|1/2 of sec. 14.|`T.` of a heading, or `sec.`|name the section first, then its lots and parts
+|W|2, sec. 14.|`T.` of a heading, or `sec.`|name the section first, then its lots and parts
+|S|2 of sec. 14.|`T.` of a heading, or `sec.`|name the section first, then its lots and parts
+|North| half of sec. 14.|`T.` of a heading, or `sec.`|name the section first, then its lots and parts
+|Northeast| quarter of sec. 14.|`T.` of a heading, or `sec.`|name the section first, then its lots and parts
+|The| NE1/4 of sec. 14.|`T.` of a heading, or `sec.`|name the section first, then its lots and parts
+|the| southwest quarter, sec. 14.|`T.` of a heading, or `sec.`|name the section first, then its lots and parts
+T. 2 N., R. 3 W., |NE|1/4 of sec. 14.|`sec.`|name the section first, then its lots and parts
+T. 2 N., R. 3 W. |lots| 1 and 2, sec. 5.|`sec.`|name the section first, then its lots and parts
+T2N R3W |the| north half.|`sec.`|name the section first, then its lots and parts
+sec. 14, NE1/4; |N|1/2 of the SW1/4 of sec. 15.|`sec.`|name the section first, then its lots and parts
+sec. 14; and |the| northeast quarter of section 15.|`sec.`|name the section first, then its lots and parts
+sec. 4; |lots| 1 to 3, and 4 of the sec. 5.|`sec.`|name the section first, then its lots and parts
+|S|2, NE1/4.|`T.` of a heading, or `sec.`|
+T. 2 N., R. 3 W., |S|2, NE1/4.|`sec.`|
+sec. 14, NE1/4; |SW|1/4; sec. 15.|`sec.`|
+sec. 14, NE1/4; |SW|1/4, NW1/4 of sec. 15.|`sec.`|
+sec. 4; |lot| 1, sec. 5.|`sec.`|
+sec. 14; |north| of sec. 15.|`sec.`|
+ROWS
+
+# Words of headings and of parts.
+while IFS='|' read -r before sign after could advice; do
+    told_at "$before" "$sign" "$after" "$could" "$advice"
+done <<'ROWS'
+T. 2 |South|, R. 3 W., sec. 14.|`N` or `S`|write S.
+T. 2 |East|, R. 3 W., sec. 14.|`N` or `S`|
+T. 2 N., R. 3 |West|, sec. 14.|`E` or `W`|write W.
+T. 2 N., R. 3 |North|, sec. 14.|`E` or `W`|
+sec. 14, |southwest| quarter.|a part of the section, or another section's number|write SW1/4
+sec. 14: |Southeast| qtr.|`lot`, an aliquot part, or `all`|write SE1/4
+ROWS
+told_at 'sec. 14 ' T '. 2 N., R. 3 W.' 'parts of the section, more sections, `;`, or the end' \
+    'township and range stand first, as in T. 2 N., R. 3 W., sec. 14'
 told_land 'Twp. 2, Rge. 3, sec. 14.' 'refused 44 at 0' <<'END'
 township: land.txt:1:1: `Twp` can't stand here: here could stand `T.` of a heading, or `sec.`
   1 | Twp. 2, Rge. 3, sec. 14.

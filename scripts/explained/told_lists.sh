@@ -15,6 +15,18 @@ township: list.csv:1: this isn't the heading `name,description`: it has 1 field
   1 | \u{FEFF}name
     |             ^
 END
+told_list 'name\tdescription\nA\tsec. 7\n' 'refused 81 at 1' <<'END'
+township: list.csv:1: this isn't the heading `name,description`: it has 1 field
+  1 | name description
+    | ^^^^^^^^^^^^^^^^
+  save the file with commas between the fields
+END
+told_list 'name,description\nA\tsec. 7\n' 'refused 81 at 2' <<'END'
+township: list.csv:2: this record has 1 field instead of 2
+  2 | A sec. 7
+    |         ^
+  save the file with commas between the fields
+END
 told_list 'name,description\nA,sec. 7\n,sec. 8\n' 'refused 81 at 3' <<'END'
 township: list.csv:3: the name of the tract is empty
   3 | ,sec. 8

@@ -11,6 +11,12 @@ township: notes.csv:1: this isn't the heading `line,between,and,quarter,corner`:
     | ^
   the heading is missing: put it at the top, and the township after it
 END
+told_record 1 'W,1,12,40.00,80.00\n' 'refused 3 at 1' <<'END'
+township: notes.csv:1: this isn't the heading `line,between,and,quarter,corner`: field 1 is `W`
+  1 | W,1,12,40.00,80.00
+    | ^
+  the heading is missing: put it at the top, and the township after it
+END
 told_record 1 'Sec. 14, NE1/4.\n' 'refused 3 at 1' <<'END'
 township: notes.csv:1: this isn't the heading `line,between,and,quarter,corner`: it has 2 fields
   1 | Sec. 14, NE1/4.
@@ -62,6 +68,33 @@ township: notes.csv:3: this record has 2 fields instead of 5
   3 | N,1
     |    ^
 END
+
+# Too few fields, and too many: a record's number, what of it stands before the underlined part, that part, what
+# stands after it, how many fields there are, and what mends it. Nothing is told where a number may be a distance
+# as well as a section, or decimals as well as a further column.
+while IFS='|' read -r number before marked after fields advice; do
+    told_record "$number" "$before$marked$after\n" "refused 4 at $number" <<END
+township: notes.csv:$number: this record has $fields fields instead of 5
+  $number | $before$marked$after
+  $(echo "$number" | tr 0-9 ' ') | $(carets "$before" "$marked")${advice:+
+  $advice}
+END
+done <<'ROWS'
+46|W,2,40.00,80.00|||4|on the township boundary the third field is empty, but has its comma
+4|N,1,2,40.00|||4|
+5|N,2,40.00,80.00|||4|
+61|W,8,17,40,79,|98||6|a comma is no decimal sign here: write points, as in `40.00`
+61|W,8,17,39,98,|80||6|a comma is no decimal sign here: write points, as in `40.00`
+61|W,8,17,40,00,|80.25||6|a comma is no decimal sign here: write points, as in `40.00`
+56|W,6,7,39,98,|79|,6|7|a comma is no decimal sign here: write points, as in `40.00`
+56|W,6,7,40,79,|60||6|
+61|W,8,17,40,80,|25||6|
+56|W,6,7,40,79,|60|,12|7|
+61|W,8,17,40,00,|90|,00|7|
+61|W,8,17,40.00,80.00,|12||6|delete what comes after the fifth field
+61|W,8,17,40,80,|east||6|delete what comes after the fifth field
+61|W,8,17,40,80,|||6|delete what comes after the fifth field
+ROWS
 told_record 2 'X,2,N,3,W\n' 'refused 5 at 2' <<'END'
 township: notes.csv:2: `X` isn't `T`: the township is written as `T,2,N,3,W`
   2 | X,2,N,3,W

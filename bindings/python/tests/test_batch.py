@@ -78,8 +78,10 @@ class Batch(unittest.TestCase):
         self.assertIn(b"\nsec. 14\xbd,Pe\xf1a,,42,7,", run.stdout)
 
     def test_description_of_several_lines(self):
-        rows = self.batch('description\n"sec. 14;\r\nsec. 15."\n', status=0)
-        self.assertEqual(rows[1][:2], ["sec. 14;\r\nsec. 15.", "1280.00"])
+        for end in ("\n", "\r\n", "\r"):
+            with self.subTest(end=end):
+                rows = self.batch(f'description\n"sec. 14;{end}sec. 15."\n', status=0)
+                self.assertEqual([row[:2] for row in rows[1:]], [[f"sec. 14;{end}sec. 15.", "1280.00"]])
 
     def test_long_description(self):
         # It is longer than Python's own limit of a field.
@@ -132,6 +134,12 @@ class Batch(unittest.TestCase):
                 run = self.run_words("batch", NOTES, listed, stdout=full)
             self.assertEqual(run.returncode, 3)
             self.assertRegex(run.stderr, rb"\Atownship: cannot write: [^\n]*\n\Z")
+
+    def test_output_that_is_closed(self):
+        listed = self.put("description\nsec. 14.\n")
+        with open(listed, "rb") as given:
+            run = self.run_words("batch", NOTES, "-", stdin=given, stdout=None, preexec_fn=lambda: os.close(1))
+        self.assertEqual((run.returncode, run.stderr[:24]), (3, b"township: cannot write: "))
 
     def test_wrong_usage(self):
         for words in ((), ("batch",), ("batch", NOTES), ("batch", NOTES, "x", "y"), ("other",),

@@ -19,7 +19,7 @@ use Rattle.twp_c.specs.Answers.{ACCEPTED, bare}
 use Rattle.twp_c.specs.Calls.{Answers, IsRefusedFor, IsRefusedList, refused_for, no_memory}
 use Rattle.twp_c.specs.Calls.{OfDescription, OfDescriptionBy, OnPlat, ByAccount, account_of, on_plat, by_account}
 use Rattle.twp_c.specs.Calls.{IsPut, IsTextPut}
-use Rattle.twp_c.specs.Explanations.{IsExplained, IsExplainedFault, IsOfAccount}
+use Rattle.twp_c.specs.Explanations.{IsExplained, IsExplainedFault, IsOfAccount, IsOfFirstFault}
 use Rattle.twp_c.specs.Answers.{IsRefused, verdict_answer}
 use Rattle.twp_acres.specs.TractFaults.{refusal_of}
 use Rattle.twp_acres.specs.declared.tract_fault.TractFault.TheVariants as fault
@@ -119,7 +119,8 @@ refused_by fault.Memory refusal same = cc same
 -- a list that is refused, and its explanation
 pub explained_list : (plat : TownshipPlat) (list old new : List ℕ) (told answer : TownshipAnswer)
     (is : TractFault) (refusal : Refusal) → refusal_of is ≡ Some refusal
-    → AnswersFault plat.township list is → told ≡ answer_of_fault is → IsExplained told old new answer
+    → AnswersFault plat.township list is → told ≡ answer_of_fault is
+    → IsExplained (IsOfFirstFault plat list) told old new answer
     → Answers (IsOfAccount plat list) (IsExplainedFault plat list old new) answer
 explained_list plat list old new told answer is refusal same first told_is explained =
     let known = refused_by is refusal same in
@@ -130,7 +131,8 @@ explained_list plat list old new told answer is refusal same first told_is expla
       verdict = known.0;
       verdict_is = known.1;
       explained =
-          subst (λ told. IsExplained told old new answer) (told_is ∙ ap answer_of_verdict known.1) explained;
+          subst (λ told. IsExplained (IsOfFirstFault plat list) told old new answer)
+          (told_is ∙ ap answer_of_verdict known.1) explained;
     })
 
 -- nothing is written elsewhere

@@ -1,4 +1,4 @@
--- What a call answers. What a verdict doesn't speak of is 0.
+-- What a call answers. What a verdict doesn't speak of is 0, but NO_ROOM keeps what there was to say.
 use Rattle.std.specs.Prelude.{ℕ, ◌≡◌, ◌⊎◌, Option, Some, None}
 use Rattle.twp_grid.specs.declared.refusal.Refusal.{Refusal}
 use Rattle.twp_acres.specs.declared.stop.Stop.{Stop}

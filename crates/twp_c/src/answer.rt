@@ -7,7 +7,8 @@ use crate::verdict;
 use twp_acres::{Stop, TractFault};
 use twp_grid::Refusal;
 
-/// What a call answers: what a verdict doesn't speak of is 0.
+/// What a call answers: what a verdict doesn't speak of is 0, but `NO_ROOM` keeps what there was to
+/// say.
 #[repr(C)]
 #[derive(Clone, Copy, Debug, PartialEq, Eq)]
 pub struct TownshipAnswer {

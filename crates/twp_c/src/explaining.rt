@@ -4,7 +4,7 @@ ghost use Rattle.std.specs.Prelude.{◌≡◌, ◌≢◌};
 ghost use Rattle.twp_c.specs.Answers.{ACCEPTED, IsRefused};
 ghost use Rattle.twp_c.specs.Calls.{IsVersionCall};
 ghost use Rattle.twp_c.specs.Explanations.{ExplainsNotes, ExplainsDescription, ExplainsList};
-ghost use Rattle.twp_c.specs.Explanations.{IsExplained, told_at};
+ghost use Rattle.twp_c.specs.Explanations.{IsTold, told_at};
 
 use crate::answer::TownshipAnswer;
 use crate::plat::TownshipPlat;
@@ -36,8 +36,9 @@ pub extern "C" fn township_explain_notes(
         Err(Stop::Refused(refusal)) => TownshipAnswer::of_refusal(refusal),
     };
     match explain_notes(alloc, &given(name, notes)) {
-        Ok(told) => put_explanation(refused, &told, text),
-        Err(_) => TownshipAnswer::bare(NO_MEMORY),
+        Ok(Some(told)) => put_explanation(refused, &told, text),
+        // What is refused has an explanation.
+        Ok(None) | Err(_) => TownshipAnswer::bare(NO_MEMORY),
     }
 }
 
@@ -62,8 +63,8 @@ pub extern "C" fn township_explain_description(
         Err(Stop::Refused(refusal)) => TownshipAnswer::of_refusal(refusal),
     };
     match explain_description(alloc, plat.township(), &given(name, description)) {
-        Ok(told) => put_explanation(refused, &told, text),
-        Err(_) => TownshipAnswer::bare(NO_MEMORY),
+        Ok(Some(told)) => put_explanation(refused, &told, text),
+        Ok(None) | Err(_) => TownshipAnswer::bare(NO_MEMORY),
     }
 }
 
@@ -91,9 +92,8 @@ pub extern "C" fn township_explain_list(
     };
     let refused = TownshipAnswer::of_fault(fault);
     match explain_tracts(alloc, &plat, &given(name, list)) {
-        Ok(Some(told)) => put_explanation(refused, &Some(told.explanation), text),
-        Ok(None) => put_explanation(refused, &None, text),
-        Err(_) => TownshipAnswer::bare(NO_MEMORY),
+        Ok(Some(told)) => put_explanation(refused, &told.explanation, text),
+        Ok(None) | Err(_) => TownshipAnswer::bare(NO_MEMORY),
     }
 }
 
@@ -107,7 +107,9 @@ pub extern "C" fn township_version(text: &mut [u8]) -> TownshipAnswer
 }
 
 /// A text by the name that was given for it, if that is one.
-fn given<'a>(name: &'a [u8], bytes: &'a [u8]) -> Given<'a> {
+fn given<'a>(name: &'a [u8], bytes: &'a [u8]) -> Given<'a>
+    ensures { result.bytes.now ≡ bytes.now }
+{
     let name = match str::from_utf8(name) {
         Ok(name) if !name.is_empty() => name,
         _ => UNNAMED,
@@ -119,18 +121,15 @@ fn given<'a>(name: &'a [u8], bytes: &'a [u8]) -> Given<'a> {
     }
 }
 
-/// Puts an explanation, or no text, beside the refusal that it is of.
+/// Puts an explanation beside the refusal that it is of.
 fn put_explanation(
     refused: TownshipAnswer,
-    told: &Option<Explanation>,
+    told: &Explanation,
     text: &mut [u8],
 ) -> TownshipAnswer
-    ensures told { IsExplained refused text.old text.new result }
+    ensures told { IsTold refused told.now text.old text.new result }
     ensures kept { result.verdict ≢ refused.verdict → text.new ≡ text.old }
 {
-    let Some(told) = told else {
-        return put(at_spot(refused, 0, 0), b"", text);
-    };
     let told_at = match told.spot {
         Some(spot) => at_spot(refused, spot.line, spot.column),
         None => at_spot(refused, 0, 0),

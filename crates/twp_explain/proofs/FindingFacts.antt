@@ -16,7 +16,11 @@ use Rattle.twp_grammar.specs.Sentences.{IsReadAs}
 use Rattle.twp_grammar.specs.declared.item.Item.{Item}
 use Rattle.twp_resolve.specs.PlaceFaults as place_faults
 use Rattle.twp_resolve.specs.declared.place_fault.PlaceFault.{PlaceFault}
-use Rattle.twp_acres.specs.Answers.{ArePlatted, IsNoPlat, IsNoDescription, IsRefusal}
+use Rattle.twp_acres.specs.Answers.{ArePlatted, IsNoPlat, IsNoDescription, IsRefusal, MakePlat}
+use Rattle.twp_acres.specs.declared.verdict.Verdict.{Verdict}
+use Rattle.twp_acres.specs.declared.verdict.Verdict.TheVariants.{Refused}
+use Rattle.twp_acres.proofs.OneAnswer.{not_platted, not_described, one_plat_refusal, one_refusal, one_plat}
+use Rattle.twp_explain.specs.Refusals.{IsOfNone, IsNotOf, DescribeLand}
 use Rattle.twp_findings.specs.Findings.{IfFound, IsOf}
 use Rattle.twp_findings.specs.declared.explanation.Explanation.{Explanation}
 use Rattle.twp_findings.specs.declared.finding.Stop.{Stop}
@@ -81,3 +85,61 @@ pub items_refused : (stopped : Stop) (township : Designation) (bytes : List ℕ)
 items_refused (stop.Found finding) township bytes items fault read first is =
     inr (record { items = items; read = read; fault = fault; first = first; refusal_is = is })
 items_refused stop.Memory township bytes items fault read first is = tt
+
+-- of notes that make a plat no refusal is the verdict
+pub platted_is_none : (bytes : List ℕ) (plat : TownshipPlat) (verdict : Verdict) → ArePlatted bytes plat
+    → IsOfNone (IsNoPlat bytes) verdict
+platted_is_none bytes plat verdict are refusal none said = not_platted bytes refusal plat none are
+
+-- where what was found isn't the verdict, no refusal of the notes is
+pub other_than_found : (Is : Refusal → Type 0) (stopped : Stop) (verdict : Verdict)
+    → ((r r' : Refusal) → Is r → Is r' → r ≡ r') → IfFound stopped Is → IsNotOf stopped verdict
+    → IsOfNone Is verdict
+other_than_found Is (stop.Found finding) verdict one found other refusal is said =
+    other (subst (λ r. verdict ≡ Refused r) (one refusal finding.refusal is found) said)
+other_than_found Is stop.Memory verdict one found other refusal is said = absurd other
+
+-- and so where nothing was told of the notes, or of the land, since the verdict is another
+pub none_of_notes : {E : Type 0} (result : Result (Option Explanation) E) (bytes : List ℕ) (stopped : Stop)
+    (verdict : Verdict)
+    → IfFound stopped (IsNoPlat bytes)
+    → IfOk result (λ told. told ≡ None → IsNotOf stopped verdict)
+    → IfOk result (λ told. told ≡ None → IsOfNone (IsNoPlat bytes) verdict)
+none_of_notes (Ok told) bytes stopped verdict found none = λ is.
+    other_than_found (IsNoPlat bytes) stopped verdict (one_plat_refusal bytes) found (none is)
+none_of_notes (Err fault) bytes stopped verdict found none = tt
+
+pub none_of_land : {E : Type 0} (result : Result (Option Explanation) E) (notes description : List ℕ)
+    (stopped : Stop) (verdict : Verdict)
+    → IfFound stopped (IsRefusal notes description)
+    → IfOk result (λ told. told ≡ None → IsNotOf stopped verdict)
+    → IfOk result (λ told. told ≡ None → IsOfNone (IsRefusal notes description) verdict)
+none_of_land (Ok told) notes description stopped verdict found none = λ is.
+    other_than_found (IsRefusal notes description) stopped verdict (one_refusal notes description) found
+    (none is)
+none_of_land (Err fault) notes description stopped verdict found none = tt
+
+-- notes that make no plat are refused, whatever the description
+pub of_land : (notes description : List ℕ) (stopped : Stop) → IfFound stopped (IsNoPlat notes)
+    → IfFound stopped (IsRefusal notes description)
+of_land notes description (stop.Found finding) none = inl none
+of_land notes description stop.Memory none = tt
+
+-- and so is a description that is of no land on their plat
+pub of_description : (notes description : List ℕ) (plat : TownshipPlat) (stopped : Stop)
+    → ArePlatted notes plat → IfFound stopped (IsNoDescription plat.township description)
+    → IfFound stopped (IsRefusal notes description)
+of_description notes description plat (stop.Found finding) are none =
+    inr (record { plat = plat; platted = are; refused = none })
+of_description notes description plat stop.Memory are none = tt
+
+-- of land on their plat no refusal is the verdict
+pub land_is_none : (notes description : List ℕ) (plat : TownshipPlat) (verdict : Verdict)
+    → ArePlatted notes plat → DescribeLand plat.township description
+    → IsOfNone (IsRefusal notes description) verdict
+land_is_none notes description plat verdict are land refusal (inl none) said =
+    not_platted notes refusal plat none are
+land_is_none notes description plat verdict are land refusal (inr is) said =
+    let same : is.plat ≡ plat = one_plat notes is.plat plat is.platted are in
+    not_described plat.township description refusal land.0
+    (subst (λ (p : TownshipPlat). IsNoDescription p.township description refusal) same is.refused) land.1

@@ -1,12 +1,34 @@
--- What an explanation of a refused list of tracts is of.
-use Rattle.std.specs.Prelude.{◌≡◌, ◌⊎◌, ℕ, List, Option, Some, None}
+-- What an explanation is of, and where there is none.
+use Rattle.std.specs.Prelude.{◌≡◌, ◌≢◌, ◌⊎◌, ℕ, Bool, List, Option, Some, None}
+use Rattle.twp_grid.specs.Townships.{Designation}
 use Rattle.twp_grid.specs.declared.refusal.Refusal.{Refusal}
 use Rattle.twp_plat.specs.Plats.{TownshipPlat}
-use Rattle.twp_acres.specs.Answers.{ArePlatted, IsNoPlat}
+use Rattle.twp_acres.specs.Answers.{ArePlatted, Describe, IsNoPlat}
+use Rattle.twp_acres.specs.ReportAnswers.{IsAccountOf}
 use Rattle.twp_acres.specs.TractFaults.{IsFirstTractFault, refusal_of, verdict_of}
 use Rattle.twp_acres.specs.declared.tract_fault.TractFault.{TractFault}
 use Rattle.twp_acres.specs.declared.verdict.Verdict.{Verdict}
 use Rattle.twp_acres.specs.declared.verdict.Verdict.TheVariants.{Accepted, Refused, TractRefused}
+use Rattle.twp_findings.specs.declared.finding.Stop.{Stop}
+use Rattle.twp_findings.specs.declared.finding.Stop.TheVariants.{Found, Memory}
+
+-- the verdict is none of these refusals
+abbrev pub IsOfNone : (Refusal → Type 0) → Verdict → Type 0
+IsOfNone Is verdict = (refusal : Refusal) → Is refusal → verdict ≢ Refused refusal
+
+-- something was found, and the verdict is another
+abbrev pub IsNotOf : Stop → Verdict → Type 0
+IsNotOf (Found finding) verdict = verdict ≢ Refused finding.refusal
+IsNotOf Memory verdict = ⊥
+
+-- the bytes are a description of land on the plat of the township
+abbrev pub DescribeLand : Designation → List ℕ → Type 0
+DescribeLand township bytes =
+    (places : ℕ → ℕ → ℕ → Bool) × Describe township bytes places
+
+-- the list has an account on the plat
+abbrev pub HasAccount : TownshipPlat → List ℕ → Type 0
+HasAccount plat list = (text : List ℕ) × IsAccountOf plat list text
 
 -- the refusal of a verdict, without that of a tract's description
 abbrev pub first_refusal : Verdict → Option Refusal

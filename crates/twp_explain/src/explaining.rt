@@ -1,11 +1,12 @@
 //! Explanations, by what was asked of a run. Each stage of the run is gone through again on the
 //! bytes that it read, up to its refusal.
-ghost use Rattle.std.specs.Prelude.{◌≡◌, Some, IfOk, IfSome, IfErr};
+ghost use Rattle.std.specs.Prelude.{◌≡◌, Some, None, IfOk, IfSome, IfErr};
 ghost use Rattle.twp_notes.specs.NotesFaults.{refusal_of as refusal_of_notes};
 ghost use Rattle.twp_plat.specs.PlatFaults.{refusal_of as refusal_of_plat};
 ghost use Rattle.twp_read.specs.TextFaults.{refusal_of as refusal_of_text};
 ghost use Rattle.twp_resolve.specs.PlaceFaults.{refusal_of as refusal_of_places};
 ghost use Rattle.twp_acres.specs.Answers.{ArePlatted, IsNoPlat, IsNoDescription, IsRefusal};
+ghost use Rattle.twp_explain.specs.Refusals.{IsOfNone, IsNotOf, DescribeLand};
 ghost use Rattle.twp_findings.specs.Findings.{IfFound, IsOf};
 ghost use Rattle.twp_acres.specs.declared.verdict.Verdict.TheVariants.{Refused};
 
@@ -30,6 +31,8 @@ pub fn explain_plat(
         IsNoPlat notes.now.bytes.now explanation.refusal)) }
     ensures verdict { IfOk result (λ told. IfSome told (λ explanation.
         verdict ≡ Refused explanation.refusal)) }
+    ensures none { IfOk result (λ told. told ≡ None
+        → IsOfNone (IsNoPlat notes.now.bytes.now) verdict) }
 {
     match plat_of(alloc, notes) {
         Ok(_) => Ok(None),
@@ -49,6 +52,8 @@ pub fn explain_land(
         IsRefusal notes.now.bytes.now description.now.bytes.now explanation.refusal)) }
     ensures verdict { IfOk result (λ told. IfSome told (λ explanation.
         verdict ≡ Refused explanation.refusal)) }
+    ensures none { IfOk result (λ told. told ≡ None
+        → IsOfNone (IsRefusal notes.now.bytes.now description.now.bytes.now) verdict) }
 {
     let plat = match plat_of(alloc, notes) {
         Ok(plat) => plat,
@@ -72,6 +77,7 @@ pub(crate) fn tell(
         IsOf stop explanation.refusal)) }
     ensures verdict { IfOk result (λ told. IfSome told (λ explanation.
         verdict ≡ Refused explanation.refusal)) }
+    ensures none { IfOk result (λ told. told ≡ None → IsNotOf stop verdict) }
 {
     let Stop::Found(finding) = stop else {
         return Err(AllocError);
@@ -132,6 +138,7 @@ pub(crate) fn describe(
     bytes: &[u8],
     township: Township,
 ) -> Result<(), Stop>
+    ensures land { IfOk result (λ _. DescribeLand township bytes.now) }
     ensures found { IfErr result (λ stop. IfFound stop (IsNoDescription township bytes.now)) }
 {
     let description = match Description::read(alloc, bytes) {

@@ -1,7 +1,7 @@
 //! The explanation of a refused list of tracts.
-ghost use Rattle.std.specs.Prelude.{◌≡◌, ◌<◌, ◌≤◌, Some, length, IfOk, IfSome};
+ghost use Rattle.std.specs.Prelude.{◌≡◌, ◌<◌, ◌≤◌, Some, None, length, IfOk, IfSome};
 ghost use Rattle.twp_acres.specs.TractFaults.{IsFirstTractFault, refusal_of, verdict_of};
-ghost use Rattle.twp_explain.specs.Refusals.{IsListRefusal, first_refusal};
+ghost use Rattle.twp_explain.specs.Refusals.{IsListRefusal, HasAccount, first_refusal};
 
 use crate::explaining::{plat_of, tell};
 use crate::tracts;
@@ -72,8 +72,9 @@ pub(crate) fn fault_of(
     plat: &Plat,
     bytes: &[u8],
 ) -> Result<Option<TractFault>, AllocError>
-    ensures { IfOk result (λ found. IfSome found
+    ensures first { IfOk result (λ found. IfSome found
         (IsFirstTractFault plat.now.township bytes.now)) }
+    ensures none { IfOk result (λ found. found ≡ None → HasAccount plat.now bytes.now) }
 {
     if bytes.len() > TRACTS_LIMIT as usize {
         return Ok(Some(TractFault::TractsTooLarge));

@@ -1,8 +1,9 @@
 //! Explanations without a run: of field notes, and on a plat that is kept of a description and of a
 //! list of tracts. What is told of is the first fault, and nothing is told of what has none.
-ghost use Rattle.std.specs.Prelude.{◌≡◌, Some, IfOk, IfSome};
-ghost use Rattle.twp_acres.specs.Answers.{IsNoPlat, IsNoDescription};
+ghost use Rattle.std.specs.Prelude.{◌≡◌, Some, None, IfOk, IfSome};
+ghost use Rattle.twp_acres.specs.Answers.{MakePlat, IsNoPlat, IsNoDescription};
 ghost use Rattle.twp_acres.specs.TractFaults.{IsFirstTractFault, refusal_of};
+ghost use Rattle.twp_explain.specs.Refusals.{DescribeLand, HasAccount};
 ghost use Rattle.twp_findings.specs.Findings.{IsOf};
 
 use crate::explaining::{describe, plat_of};
@@ -15,8 +16,9 @@ use twp_plat::Plat;
 
 /// What is told of field notes that make no plat.
 pub fn explain_notes(alloc: Global, notes: &Given<'_>) -> Result<Option<Explanation>, AllocError>
-    ensures { IfOk result (λ told. IfSome told (λ explanation.
+    ensures refusal { IfOk result (λ told. IfSome told (λ explanation.
         IsNoPlat notes.now.bytes.now explanation.refusal)) }
+    ensures none { IfOk result (λ told. told ≡ None → MakePlat notes.now.bytes.now) }
 {
     match plat_of(alloc, notes) {
         Ok(_) => Ok(None),
@@ -30,8 +32,10 @@ pub fn explain_description(
     township: Township,
     description: &Given<'_>,
 ) -> Result<Option<Explanation>, AllocError>
-    ensures { IfOk result (λ told. IfSome told (λ explanation.
+    ensures refusal { IfOk result (λ told. IfSome told (λ explanation.
         IsNoDescription township description.now.bytes.now explanation.refusal)) }
+    ensures none { IfOk result (λ told. told ≡ None
+        → DescribeLand township description.now.bytes.now) }
 {
     let origin = Origin::of_file(*description);
     match describe(alloc, &origin, description.bytes, township) {
@@ -59,6 +63,7 @@ pub fn explain_tracts(
         IsFirstTractFault plat.now.township tracts.now.bytes.now it.fault)) }
     ensures refusal { IfOk result (λ told. IfSome told (λ it.
         refusal_of it.fault ≡ Some it.explanation.refusal)) }
+    ensures none { IfOk result (λ told. told ≡ None → HasAccount plat.now tracts.now.bytes.now) }
 {
     let Some(fault) = fault_of(alloc, plat, tracts.bytes)? else {
         return Ok(None);

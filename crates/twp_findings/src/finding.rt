@@ -1,6 +1,7 @@
 //! What was found wrong, and the message that tells it.
-ghost use Rattle.std.specs.Prelude.{◌≡◌, IfOk};
+ghost use Rattle.std.specs.Prelude.{◌≡◌, IfOk, IfSome};
 ghost use Rattle.twp_findings.specs.Findings.{IfFound};
+ghost use Rattle.twp_findings.specs.Spots.{IsSpotIn, start_of};
 
 use crate::explanation::{Explanation, Given};
 use std::alloc::{AllocError, Global};
@@ -68,6 +69,8 @@ impl Finding {
     /// The message about a file.
     pub fn tell(&self, alloc: Global, file: &Given<'_>) -> Result<Explanation, AllocError>
         ensures refusal { IfOk result (λ explanation. explanation.refusal ≡ self.now.refusal) }
+        ensures spot { IfOk result (λ explanation.
+            IfSome explanation.spot (IsSpotIn file.now (start_of self.now.place))) }
     {
         let (spot, mut text) = begin_message(alloc, file, self.place, self.sentence.as_str())?;
         if !self.help.is_empty() {
@@ -90,15 +93,13 @@ pub fn begin_message(
     file: &Given<'_>,
     place: Place,
     sentence: &str,
-) -> Result<(Option<Spot>, String), AllocError> {
+) -> Result<(Option<Spot>, String), AllocError>
+    ensures { IfOk result (λ told. IfSome told.0 (IsSpotIn file.now (start_of place))) }
+{
     let mut text = String::new(alloc);
     text.push_str("township: ")?;
     write_escaped(file.name.as_bytes(), &mut text)?;
-    let spot = match place {
-        Place::Whole => None,
-        Place::Line(at) => spot_in(file, at),
-        Place::Field(span) | Place::Part(span) => spot_in(file, span.start),
-    };
+    let spot = spot_of_place(file, place);
     if let Some(spot) = spot {
         write!(text, ":{}", spot.line)?;
         if let Place::Part(_) = place {
@@ -112,9 +113,22 @@ pub fn begin_message(
     Ok((spot, text))
 }
 
+/// Where a place stands, if at one line.
+fn spot_of_place(file: &Given<'_>, place: Place) -> Option<Spot>
+    ensures { IfSome result (IsSpotIn file.now (start_of place)) }
+{
+    match place {
+        Place::Whole => None,
+        Place::Line(at) => spot_in(file, at),
+        Place::Field(span) | Place::Part(span) => spot_in(file, span.start),
+    }
+}
+
 /// Where a byte stands in a file, whose lines are numbered from its first. None in a file of more
 /// bytes than any run reads.
-pub(crate) fn spot_in(file: &Given<'_>, at: usize) -> Option<Spot> {
+pub(crate) fn spot_in(file: &Given<'_>, at: usize) -> Option<Spot>
+    ensures { IfSome result (IsSpotIn file.now at) }
+{
     if file.bytes.len() > MOST_BYTES {
         return None;
     }

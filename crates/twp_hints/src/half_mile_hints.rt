@@ -10,9 +10,9 @@ use twp_plat::{
 
 /// Distances of a line in thousandths of a chain, in the order in which they are returned.
 #[derive(Clone, Copy)]
-struct Distances {
-    quarter: u32,
-    corner: u32,
+pub(crate) struct Distances {
+    pub(crate) quarter: u32,
+    pub(crate) corner: u32,
 }
 
 /// How distances come to be out of their limits.
@@ -94,7 +94,7 @@ fn write_mended(slip: Slip, mended: Distances, out: &mut String) -> Result<(), A
 }
 
 /// Whether distances of a line are within the limits of a plat.
-fn is_in_limits(line: Line, distances: Distances) -> bool {
+pub(crate) fn is_in_limits(line: Line, distances: Distances) -> bool {
     let Distances { quarter, corner } = distances;
     let half = corner.saturating_sub(quarter);
     let last = half.saturating_sub(QUARTER_MILE);

@@ -4,6 +4,7 @@
 
 mod advice;
 mod characters;
+mod lands;
 mod phrases;
 mod places;
 mod sight;

@@ -1,6 +1,8 @@
 //! What mends a record of field notes, where its bytes tell it: a table of which the first row that
 //! fits counts.
 
+use crate::columns::{goes_on, has_cut_distances, lacks_neighbor};
+use crate::numbers::{is_short_number, thousandths};
 use crate::records::Record;
 use twp_measure::Length;
 use twp_notes::FIELDS;
@@ -29,11 +31,11 @@ enum Sign {
     CasedHeading,
     /// The fields of the heading, and more.
     LongHeading,
-    /// A run, a section, and two distances.
+    /// The fields of a line on the township boundary, without the third.
     NoNeighbor,
-    /// The fields of a line, and more.
+    /// The fields of a line, and more that can't be of its distances.
     LongRecord,
-    /// The fields of a line, with a comma in each distance.
+    /// The fields of a line, with a comma in each distance that isn't whole.
     CutDistances,
     /// The field to blame is a distance with a comma for its point.
     DecimalComma,
@@ -220,8 +222,8 @@ impl Sign {
             Sign::LongHeading => record.len() > FIELDS && is_like_heading(record),
             Sign::SpacedHeading => is_like_heading(record) && has_spaces(record),
             Sign::CasedHeading => record.len() == FIELDS && is_like_heading(record),
-            Sign::NoNeighbor => record.len() == FIELDS - 1 && are_lengths(record, 2),
-            Sign::LongRecord => record.len() > FIELDS && are_lengths(record, 3),
+            Sign::NoNeighbor => lacks_neighbor(record),
+            Sign::LongRecord => goes_on(record),
             Sign::CutDistances => has_cut_distances(record),
             Sign::DecimalComma => is_decimal_comma(record.text(field)),
             Sign::WithChains => is_with_chains(record.text(field)),
@@ -265,31 +267,11 @@ fn is_like_heading(record: &Record<'_>) -> bool {
     true
 }
 
-/// Whether this field and the next one are lengths.
-fn are_lengths(record: &Record<'_>, field: usize) -> bool {
-    let next = field.saturating_add(1);
-    Length::read(record.text(field)).is_ok() && Length::read(record.text(next)).is_ok()
-}
-
-/// Whether a record has the fields of a line, but for a comma in each distance.
-fn has_cut_distances(record: &Record<'_>) -> bool {
-    record.len() == FIELDS + 2
-        && is_short_number(record.text(3), 2)
-        && is_short_number(record.text(4), 3)
-        && is_short_number(record.text(5), 2)
-        && is_short_number(record.text(6), 3)
-}
-
 /// Whether a text is a length, but for a comma in the place of its point.
 fn is_decimal_comma(text: &[u8]) -> bool {
     let whole = text.iter().take_while(|byte| **byte != b',').count();
     let decimals = text.get(whole.saturating_add(1)..).unwrap_or(b"");
     is_short_number(text.get(..whole).unwrap_or(b""), 2) && is_short_number(decimals, 3)
-}
-
-/// Whether a text is some digits, and no more than so many.
-fn is_short_number(text: &[u8], most: usize) -> bool {
-    !text.is_empty() && text.len() <= most && text.iter().all(|byte| byte.is_ascii_digit())
 }
 
 /// Whether a text is a length, and `ch` or more after it.
@@ -314,30 +296,4 @@ fn is_near(text: &[u8], wanted: u64) -> bool {
         Some(value) => value.abs_diff(wanted) <= wanted / 64,
         None => false,
     }
-}
-
-/// The thousandths of a decimal number of few digits.
-fn thousandths(text: &[u8]) -> Option<u64> {
-    let whole = text.iter().take_while(|byte| **byte != b'.').count();
-    let mut value = number_in(text.get(..whole)?)?;
-    let decimals = text.get(whole.saturating_add(1)..).unwrap_or(b"");
-    for place in 0..3 {
-        let digit = number_in(decimals.get(place..place + 1).unwrap_or(b"0"))?;
-        value = value.saturating_mul(10).saturating_add(digit);
-    }
-    Some(value)
-}
-
-/// The number that digits spell.
-pub fn number_in(digits: &[u8]) -> Option<u64> {
-    let mut value: u64 = 0;
-    for digit in digits {
-        if !digit.is_ascii_digit() {
-            return None;
-        }
-        value = value
-            .saturating_mul(10)
-            .saturating_add(u64::from(*digit - b'0'));
-    }
-    Some(value)
 }

@@ -1,4 +1,5 @@
 pub mod MarkFacts
+pub mod HeadingFacts
 pub mod NearFacts
 pub mod JoinedFacts
 pub mod PartFacts

@@ -1,7 +1,10 @@
--- What is underlined of a text: the token that stands at a place, or the aliquot part that begins
--- with it.
-use Rattle.std.specs.Prelude.{◌≡◌, ◌==◌, ℕ, ◌+◌, ◌≤◌, min, List, [], ◌∷◌, ◌++◌, length, if◌then◌else◌}
+-- What is underlined of a text: the token that stands at a place, the aliquot part or the heading that
+-- begins with it, or what lies between it and another one.
+use Rattle.std.specs.Prelude.{◌≡◌, ◌==◌, ℕ, ◌+◌, ◌≤◌, Bool, true, false, min, List, [], ◌∷◌, ◌++◌, length}
+use Rattle.std.specs.Prelude.{if◌then◌else◌}
 use Rattle.twp_excerpt.specs.declared.spot.Span.{Span}
+use Rattle.twp_grammar.specs.declared.kind.Kind.{Kind}
+use Rattle.twp_grammar.specs.declared.kind.Kind.TheVariants.{EastWest}
 use Rattle.twp_grammar.specs.Tokens.{Token, HasTokens}
 use Rattle.twp_grammar.specs.Grammar.{chain}
 use Rattle.twp_grammar.specs.Items.{Tree, tokens}
@@ -68,3 +71,32 @@ pub record IsChainSpan (text : List ℕ) (at : ℕ) (found : Span) : Type 0 wher
   pub marked : List Token
   pub marked_are : AreMarked (tokens_from at tokens) marked
   pub span_is : found ≡ span_of text at marked
+
+-- east or west
+abbrev pub is_side : Kind → Bool
+is_side (EastWest side) = true
+is_side _ = false
+
+-- of tokens, those up to the first one that says east or west; without it, all
+abbrev pub up_to_side : List Token → List Token
+up_to_side [] = []
+up_to_side (token ∷ more) = if is_side token.kind then token ∷ [] else token ∷ up_to_side more
+
+-- the first of some tokens, and those behind it up to a range's side
+abbrev pub heading_of : List Token → List Token
+heading_of [] = []
+heading_of (token ∷ more) = token ∷ up_to_side more
+
+-- the bytes of the heading whose first token stands at this place of the text
+pub record IsHeadingSpan (text : List ℕ) (at : ℕ) (found : Span) : Type 0 where
+  pub tokens : List Token
+  pub cut : HasTokens 0 text tokens
+  pub span_is : found ≡ span_of text at (heading_of (tokens_from at tokens))
+
+-- the bytes from the token that stands at a place of the text to the one that stands at another
+pub record IsRangeSpan (text : List ℕ) (first last : ℕ) (found : Span) : Type 0 where
+  pub from : Span
+  pub from_first : IsTokenSpan text first from
+  pub to : Span
+  pub to_last : IsTokenSpan text last to
+  pub span_is : found ≡ span from.start to.end

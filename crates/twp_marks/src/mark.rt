@@ -1,7 +1,8 @@
-//! What is underlined of a text: a token, or an aliquot part.
+//! What is underlined of a text: a token, an aliquot part, a heading, or a range.
 ghost use Rattle.std.specs.Prelude.{◌≡◌, ◌<◌, ◌≤◌, List, [], ◌∷◌, length, IfSome};
 ghost use Rattle.twp_grammar.specs.Tokens.{Token as SeenToken, is_white, seen};
-ghost use Rattle.twp_marks.specs.Marks.{tokens_from, span_of, IsTokenSpan, IsChainSpan};
+ghost use Rattle.twp_marks.specs.Marks.{tokens_from, span_of, end_of, is_side, up_to_side, IsTokenSpan};
+ghost use Rattle.twp_marks.specs.Marks.{IsChainSpan, IsHeadingSpan, IsRangeSpan};
 ghost use Rattle.twp_marks.specs.steps.Marking.{AreLeft, HaveSameFrom, GivesFirstOf, TakesSecond, TakesLink};
 ghost use Rattle.twp_marks.specs.steps.Marking.{EndsLinks, EndsPart, end_of_left, end_of_token};
 ghost use Rattle.twp_marks.specs.steps.Marking.{behind_of, behind_the, is_of, is_the, is_step};
@@ -42,27 +43,27 @@ pub fn chain_span(text: &[u8], at: usize) -> Span
     }
 }
 
-/// The bytes of a heading whose first token stands at a place of a text, up to its range's side.
-pub fn heading_span(text: &[u8], at: usize) -> Span {
+/// The bytes of a heading whose first token stands at a place of a text, up to its range's side: the
+/// first `E` or `W` behind that token, or else the text's last token.
+#[tactic(auto, using(crate::proofs::HeadingFacts::heading_found, crate::proofs::HeadingFacts::heading_missing))]
+pub fn heading_span(text: &[u8], at: usize) -> Span
+    ensures { IsHeadingSpan text.now at result }
+{
     let mut tokens = tokens_near(text, at);
     let Some(first) = seek(&mut tokens, at) else {
         return no_bytes(text, at);
     };
-    let mut end = first.at;
-    while let Some(token) = tokens.next() {
-        end = token.at.saturating_add(token.text.len());
-        if let Kind::EastWest(_) = token.kind {
-            break;
-        }
-    }
     Span {
         start: first.at,
-        end,
+        end: take_to_side(&mut tokens, first.at + first.text.len()),
     }
 }
 
 /// The bytes from the token that stands at a place of a text to the one that stands at another.
-pub fn range_span(text: &[u8], first: usize, last: usize) -> Span {
+#[tactic(auto, using(crate::proofs::HeadingFacts::range_found))]
+pub fn range_span(text: &[u8], first: usize, last: usize) -> Span
+    ensures { IsRangeSpan text.now first last result }
+{
     Span {
         start: token_span(text, first).start,
         end: token_span(text, last).end,
@@ -139,6 +140,31 @@ fn take_links(tokens: &mut Tokens<'_>, start: usize) -> usize
         end = further;
     }
     end
+}
+
+/// Takes the tokens up to a range's side, behind one that ends at a place, and gives where the last
+/// of all ends.
+#[tactic(auto, using(crate::proofs::HeadingFacts::side_sought, crate::proofs::HeadingFacts::no_side_yet, crate::proofs::HeadingFacts::side_found, crate::proofs::HeadingFacts::no_side))]
+fn take_to_side(tokens: &mut Tokens<'_>, start: usize) -> usize
+    requires { end_of_left tokens.old ≤ usize.MAX }
+    ensures { (list : List SeenToken) → AreLeft tokens.old list
+        → result ≡ end_of start (up_to_side list) }
+{
+    let mut end = start;
+    'tokens: while let Some(token) = next_token(tokens) {
+        end = token.at + token.text.len();
+        if is_side(token.kind) {
+            return end;
+        }
+    }
+    end
+}
+
+/// Whether a token is the side of a range.
+fn is_side(kind: Kind) -> bool
+    ensures { result ≡ is_side kind }
+{
+    matches!(kind, Kind::EastWest(_))
 }
 
 /// Takes a further half or quarter with what stands before it, and gives where it ends.

@@ -15,6 +15,8 @@ from ._refused import NOTES, Refused
 DESCRIPTION = "description"
 ADDED = ("acres", "refusal", "at", "sentence")
 
+_CRLF = "\r\n"
+
 # The word for standard input, and the numbers of its file and of standard output's.
 _INPUT_WORD = b"-"
 _INPUT, _OUTPUT = 0, 1
@@ -73,7 +75,8 @@ def _list_in(name: bytes) -> Iterator[TextIO]:
 def _output() -> Iterator[TextIO]:
     """Standard output, as UTF-8 with the bytes of the list as they were. What was written before something
     went wrong goes out too."""
-    file = open(_OUTPUT, "w", encoding="utf-8", errors="surrogateescape", newline="", closefd=False)
+    with _writing():
+        file = open(_OUTPUT, "w", encoding="utf-8", errors="surrogateescape", newline="", closefd=False)
     try:
         yield file
     finally:
@@ -122,7 +125,7 @@ def _write_answers(
     sink: TextIO,
 ) -> bool:
     """Writes the list with its answers, and says whether all descriptions are accepted."""
-    write = csv.writer(sink, lineterminator="\n").writerow
+    write = csv.writer(_LineFeeds(sink), lineterminator=_CRLF).writerow
     kept, described = itertools.tee(rows)
     answers = plat.acres_of((row[column] for row in described), account)
     every = True
@@ -134,6 +137,17 @@ def _write_answers(
         with _writing():
             write(row + _added(answer))
     return every
+
+
+class _LineFeeds:
+    """Ends each record by a line feed. The `csv` module is told to end them by CRLF, since it puts a field with
+    a carriage return in quotes only where that is one of the bytes that end a record."""
+
+    def __init__(self, sink: TextIO) -> None:
+        self._sink = sink
+
+    def write(self, record: str) -> int:
+        return self._sink.write(record[: -len(_CRLF)] + "\n")
 
 
 def _added(answer: Union[Decimal, Refused]) -> List[str]:

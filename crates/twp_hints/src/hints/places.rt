@@ -1,24 +1,29 @@
 //! What could stand at a refused place, by the names that the tables have for it.
 
+use crate::hints::lands::is_of_next_section;
+use crate::hints::sight::{Sight, Sign};
+use crate::hints::signs::fits;
 use twp_grammar::Expected;
 
-/// Whether what could stand at a place is what has this name. No name is one for anything.
-pub(crate) fn could_stand(name: &str, expected: Option<Expected>) -> bool {
+/// Whether what could stand at a refused place is what has this name. No name is one for anything.
+pub(crate) fn could_stand(name: &str, sight: &Sight<'_>) -> bool {
     if name.is_empty() {
         return true;
     }
-    match expected {
-        Some(expected) => is_named(name, expected),
+    match sight.expected {
+        Some(expected) => is_named(name, expected, sight),
         None => false,
     }
 }
 
 /// Whether this is what has a name.
-fn is_named(name: &str, expected: Expected) -> bool {
+fn is_named(name: &str, expected: Expected, sight: &Sight<'_>) -> bool {
     match name {
         "beginning" => expected == Expected::Beginning,
+        "first-section" => may_begin_first_section(expected, sight.before),
+        "next-section" => expected == Expected::Sections && is_of_next_section(sight),
         "township-side" => expected == Expected::TownshipSide,
-        "side" => matches!(expected, Expected::TownshipSide | Expected::RangeSide),
+        "range-side" => expected == Expected::RangeSide,
         "range" => expected == Expected::Range,
         "part" => may_begin_part(expected),
         "part-or-step" => may_begin_step(expected),
@@ -28,6 +33,16 @@ fn is_named(name: &str, expected: Expected) -> bool {
         "group-end" => may_end_group(expected),
         "more-of-group" => goes_on_in_group(expected),
         "nothing" => expected == Expected::Nothing,
+        _ => false,
+    }
+}
+
+/// Whether the first section may begin there: at the beginning, or after a heading. A semicolon, and
+/// `and` after one, has sections before it.
+fn may_begin_first_section(expected: Expected, before: Sign<'_>) -> bool {
+    match expected {
+        Expected::Beginning => true,
+        Expected::Sections => !fits("; and", before),
         _ => false,
     }
 }

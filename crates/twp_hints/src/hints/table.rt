@@ -31,7 +31,7 @@ fn advice_of<'a>(line: &'a str, sight: &Sight<'_>) -> Option<&'a str> {
     let (after, advice) = line.split_once('|')?;
     let is_so = fits(at, sight.at)
         && fits(before, sight.before)
-        && could_stand(place.trim_ascii(), sight.expected)
+        && could_stand(place.trim_ascii(), sight)
         && goes_on(after, sight);
     if is_so {
         Some(advice.trim_ascii())

@@ -2,20 +2,25 @@
 
 /// The rows, in the order of trying: `table` tells how they are read.
 pub(crate) const WORDS: &str = "
-# Land before its section.
-beginning     |                 | <lot>                           | <number>                            | name the section first, then its lots and parts
-beginning     |                 | <side>                          | <half> 2                            | name the section first, then its lots and parts
-beginning     |                 | <corner>                        | <quarter> 4                         | name the section first, then its lots and parts
-beginning     |                 | <side-word>                     | <half>                              | name the section first, then its lots and parts
-beginning     |                 | <corner-word>                   | <quarter>                           | name the section first, then its lots and parts
-beginning     |                 | <quarters>                      |                                     | name the section first, then its lots and parts
-beginning     |                 | the                             | <side> <side-word>; <half>          | name the section first, then its lots and parts
-beginning     |                 | the                             | <corner> <corner-word>; <quarter>   | name the section first, then its lots and parts
+# Land before its section. By itself S2 may be section 2. What stands after another section may be its land,
+# unless `of` says that it is the next one's.
+first-section |                 | <lot>                           | <number>                            | name the section first, then its lots and parts
+first-section |                 | <side>                          | <half>                              | name the section first, then its lots and parts
+first-section |                 | N E W                           | 2                                   | name the section first, then its lots and parts
+first-section |                 | S                               | 2; of <section>                     | name the section first, then its lots and parts
+first-section |                 | <corner>                        | <quarter> 4                         | name the section first, then its lots and parts
+first-section |                 | <side-word>                     | <half>                              | name the section first, then its lots and parts
+first-section |                 | <corner-word>                   | <quarter>                           | name the section first, then its lots and parts
+first-section |                 | <quarters>                      |                                     | name the section first, then its lots and parts
+first-section |                 | the                             | <side> <side-word>; <half>          | name the section first, then its lots and parts
+first-section |                 | the                             | <corner> <corner-word>; <quarter>   | name the section first, then its lots and parts
+next-section  |                 |                                 |                                     | name the section first, then its lots and parts
 
 # The heading.
 beginning     |                 | <township>                      | <number>; <north-south>; <range>; <number>; <east-west> | write T. {1} {2 initial}., R. {4} {5 initial}.
 beginning     |                 | <township>                      | <number>                            | write T. for the township and R. for the range, as in T. 2 N., R. 3 W.
-side          | <number>        | <side-word>                     |                                     | write {at initial}.
+township-side | <number>        | north south                     |                                     | write {at initial}.
+range-side    | <number>        | east west                       |                                     | write {at initial}.
 township-side | <number>        | NR SR                           | <number>                            | type a space before the R
 range         |                 | <range>                         | <number>                            | write R.
 group-end     |                 | T                               | <number>; <north-south>             | township and range stand first, as in T. 2 N., R. 3 W., sec. 14

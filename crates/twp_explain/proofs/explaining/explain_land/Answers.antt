@@ -1,0 +1,23 @@
+-- Nothing is told of land on the plat of the notes, or where the refusal is another.
+use Rattle.twp_explain.proofs.FindingFacts.{land_is_none, none_of_land, of_land, of_description}
+use Rattle.twp_explain.proofs.explaining.explain_land.Goals as goal
+
+pub returns-in-Err-clause-none : goal.returns-in-Err-clause-none
+returns-in-Err-clause-none c =
+    none_of_land c.tell.result c.args.notes.now.bytes.now c.args.description.now.bytes.now c.in-Err.stop
+    c.args.verdict
+    (of_land c.args.notes.now.bytes.now c.args.description.now.bytes.now c.in-Err.stop c.in-Err.ensures.found)
+    c.tell.ensures.none
+
+pub returns-in-Ok-describe-clause-none : goal.returns-in-Ok-describe-clause-none
+returns-in-Ok-describe-clause-none c = λ none.
+    land_is_none c.args.notes.now.bytes.now c.args.description.now.bytes.now c.in-Ok.plat c.args.verdict
+    c.in-Ok.ensures.plat c.in-Ok-describe.ensures.land
+
+pub returns-in-Err-describe-clause-none : goal.returns-in-Err-describe-clause-none
+returns-in-Err-describe-clause-none c =
+    none_of_land c.tell-in-Err.result c.args.notes.now.bytes.now c.args.description.now.bytes.now
+    c.in-Err-describe.stop c.args.verdict
+    (of_description c.args.notes.now.bytes.now c.args.description.now.bytes.now c.in-Ok.plat
+    c.in-Err-describe.stop c.in-Ok.ensures.plat c.in-Err-describe.ensures.found)
+    c.tell-in-Err.ensures.none
