@@ -122,11 +122,7 @@ fn given<'a>(name: &'a [u8], bytes: &'a [u8]) -> Given<'a>
 }
 
 /// Puts an explanation beside the refusal that it is of.
-fn put_explanation(
-    refused: TownshipAnswer,
-    told: &Explanation,
-    text: &mut [u8],
-) -> TownshipAnswer
+fn put_explanation(refused: TownshipAnswer, told: &Explanation, text: &mut [u8]) -> TownshipAnswer
     ensures told { IsTold refused told.now text.old text.new result }
     ensures kept { result.verdict ≢ refused.verdict → text.new ≡ text.old }
 {

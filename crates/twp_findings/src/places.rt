@@ -6,10 +6,12 @@ mod words;
 
 use crate::finding::{Finding, Place, spot_in};
 use crate::origin::Origin;
-use crate::places::items::{begins_at, bytes_of, item_span, number_at, range_to};
-use crate::places::items::{section_behind, section_of_number};
-use crate::places::words::{write_heading, write_lines, write_lots_held, write_lots_of};
-use crate::places::words::{write_township, write_whole_lots};
+use crate::places::items::{
+    begins_at, bytes_of, item_span, number_at, range_to, section_behind, section_of_number,
+};
+use crate::places::words::{
+    write_heading, write_lines, write_lots_held, write_lots_of, write_township, write_whole_lots,
+};
 use crate::quoted::write_quoted;
 use std::alloc::{AllocError, Global};
 use twp_excerpt::Span;

@@ -23,11 +23,7 @@ pub(crate) fn is_of_next_section(sight: &Sight<'_>) -> bool {
     if !fits(BEGINNING, sight.at) {
         return false;
     }
-    let [ends, others] = if fits("<lot>", sight.at) {
-        LOTS
-    } else {
-        PART
-    };
+    let [ends, others] = if fits("<lot>", sight.at) { LOTS } else { PART };
     let mut is_whole = fits(ends, sight.at);
     let mut is_of = false;
     for token in Tokens::new(sight.rest) {
