@@ -48,7 +48,7 @@ row() {
         whole=${4-$2}
         times=$(awk -v count="$whole" -v was="${before% *}" 'BEGIN { printf "%.3f", count / was }')
         ratio="$ratio, $times times"
-        if awk -v times="$times" -v most="${before#* }" 'BEGIN { exit !(times > most) }'; then
+        if awk -v count="$whole" -v was="${before% *}" -v most="${before#* }" 'BEGIN { exit !(count > was * most) }'; then
             too_many_times=$((too_many_times + 1))
             ratio="$ratio: too many"
         fi

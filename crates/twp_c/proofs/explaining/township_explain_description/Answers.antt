@@ -2,7 +2,8 @@
 -- ran out.
 use Rattle.std.proofs.Common.{subst}
 use Rattle.twp_c.specs.Calls.{accepted, refused_for, no_memory, on_plat}
-use Rattle.twp_c.specs.Explanations.{IsExplained}
+use Rattle.twp_acres.specs.Answers.{IsNoDescription}
+use Rattle.twp_c.specs.Explanations.{IsTold}
 use Rattle.twp_c.proofs.CallFacts.{refused_on}
 use Rattle.twp_c.proofs.explaining.township_explain_description.Goals as goal
 
@@ -15,18 +16,24 @@ pub returns-in-Err-Failed-clause-answer : goal.returns-in-Err-Failed-clause-answ
 returns-in-Err-Failed-clause-answer c =
     on_plat c.in-Some.plat c.in-Some.ensures (no_memory c.bare-in-Err-Failed.ensures)
 
-pub returns-in-Ok-explain_description-clause-answer : goal.returns-in-Ok-explain_description-clause-answer
-returns-in-Ok-explain_description-clause-answer c =
+pub returns-in-Ok-Some-clause-answer : goal.returns-in-Ok-Some-clause-answer
+returns-in-Ok-Some-clause-answer c =
     on_plat c.in-Some.plat c.in-Some.ensures
     (refused_for (record {
       refusal = c.in-Err-Refused.refusal;
       first =
           refused_on c.in-Some.plat.township c.args.description.now c.in-Err-Refused.field-0
           c.in-Err-Refused.refusal c.in-Err-Refused.field-0-is c.in-Err-Refused.ensures;
-      explained =
-          subst
-          (λ told. IsExplained told c.args.text.now c.put_explanation.new.text c.put_explanation.result)
-          c.of_refusal-refused.ensures c.put_explanation.ensures.told;
+      explained = record {
+        explanation = c.in-Ok-Some.told;
+        is_such =
+            subst (λ bytes. IsNoDescription c.in-Some.plat.township bytes c.in-Ok-Some.told.refusal)
+            c.given.ensures c.in-Ok-Some.ensures.refusal;
+        told_is =
+            subst
+            (λ told. IsTold told c.in-Ok-Some.told c.args.text.now c.put_explanation.new.text c.put_explanation.result)
+            c.of_refusal-refused.ensures c.put_explanation.ensures.told;
+      };
     }))
 
 pub returns-in-Err-clause-answer : goal.returns-in-Err-clause-answer

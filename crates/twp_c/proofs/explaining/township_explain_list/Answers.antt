@@ -1,6 +1,7 @@
 -- Nothing is explained of what has an account; the fault that is explained is the list's first; or memory ran
 -- out.
-use Rattle.std.proofs.Common.{sym, ◌∙◌}
+use Rattle.std.proofs.Common.{sym, subst, ◌∙◌}
+use Rattle.twp_acres.specs.TractFaults.{IsFirstTractFault}
 use Rattle.twp_c.specs.Calls.{accepted, no_memory, on_plat}
 use Rattle.twp_c.proofs.CallFacts.{explained_list, kept_list}
 use Rattle.twp_c.proofs.explaining.township_explain_list.Goals as goal
@@ -24,27 +25,23 @@ returns-in-Ok-Some-clause-answer c =
     (explained_list c.in-Some.plat c.args.list.now c.args.text.now c.put_explanation.new.text
     c.of_fault-refused.result c.put_explanation.result c.in-Err.fault _
     (sym c.refusal.ensures ∙ c.in-Some-refusal.is) c.in-Err.ensures.fault c.of_fault-refused.ensures
-    c.put_explanation.ensures.told)
+    (record {
+      explanation = c.in-Ok-Some.told.explanation;
+      is_such = record {
+        fault = c.in-Ok-Some.told.fault;
+        first =
+            subst (λ bytes. IsFirstTractFault c.in-Some.plat.township bytes c.in-Ok-Some.told.fault)
+            c.given.ensures c.in-Ok-Some.ensures.first;
+        refusal_is = c.in-Ok-Some.ensures.refusal;
+      };
+      told_is = c.put_explanation.ensures.told;
+    }))
 
 pub returns-in-Ok-Some-clause-kept : goal.returns-in-Ok-Some-clause-kept
 returns-in-Ok-Some-clause-kept c =
     kept_list c.args.text.now c.put_explanation.new.text c.of_fault-refused.result c.put_explanation.result
     c.in-Err.fault _ (sym c.refusal.ensures ∙ c.in-Some-refusal.is) c.of_fault-refused.ensures
     c.put_explanation.ensures.kept
-
-pub returns-in-Ok-None-clause-answer : goal.returns-in-Ok-None-clause-answer
-returns-in-Ok-None-clause-answer c =
-    on_plat c.in-Some.plat c.in-Some.ensures
-    (explained_list c.in-Some.plat c.args.list.now c.args.text.now c.put_explanation-in-Ok-None.new.text
-    c.of_fault-refused.result c.put_explanation-in-Ok-None.result c.in-Err.fault _
-    (sym c.refusal.ensures ∙ c.in-Some-refusal.is) c.in-Err.ensures.fault c.of_fault-refused.ensures
-    c.put_explanation-in-Ok-None.ensures.told)
-
-pub returns-in-Ok-None-clause-kept : goal.returns-in-Ok-None-clause-kept
-returns-in-Ok-None-clause-kept c =
-    kept_list c.args.text.now c.put_explanation-in-Ok-None.new.text c.of_fault-refused.result
-    c.put_explanation-in-Ok-None.result c.in-Err.fault _ (sym c.refusal.ensures ∙ c.in-Some-refusal.is)
-    c.of_fault-refused.ensures c.put_explanation-in-Ok-None.ensures.kept
 
 pub returns-in-Err-explain_tracts-clause-answer : goal.returns-in-Err-explain_tracts-clause-answer
 returns-in-Err-explain_tracts-clause-answer c =

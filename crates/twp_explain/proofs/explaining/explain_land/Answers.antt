@@ -1,4 +1,8 @@
 -- Nothing is told of land on the plat of the notes, or where the refusal is another.
+use Rattle.std.proofs.Common.{subst}
+use Rattle.twp_acres.specs.Answers.{IsNoDescription}
+use Rattle.twp_findings.specs.Findings.{IfFound}
+use Rattle.twp_explain.specs.Refusals.{DescribeLand}
 use Rattle.twp_explain.proofs.FindingFacts.{land_is_none, none_of_land, of_land, of_description}
 use Rattle.twp_explain.proofs.explaining.explain_land.Goals as goal
 
@@ -12,12 +16,17 @@ returns-in-Err-clause-none c =
 pub returns-in-Ok-describe-clause-none : goal.returns-in-Ok-describe-clause-none
 returns-in-Ok-describe-clause-none c = λ none.
     land_is_none c.args.notes.now.bytes.now c.args.description.now.bytes.now c.in-Ok.plat c.args.verdict
-    c.in-Ok.ensures.plat c.in-Ok-describe.ensures.land
+    c.in-Ok.ensures.plat
+    (subst (λ township. DescribeLand township c.args.description.now.bytes.now) c.township.ensures
+    c.in-Ok-describe.ensures.land)
 
 pub returns-in-Err-describe-clause-none : goal.returns-in-Err-describe-clause-none
 returns-in-Err-describe-clause-none c =
-    none_of_land c.tell-in-Err.result c.args.notes.now.bytes.now c.args.description.now.bytes.now
+    none_of_land c.tell-in-Err-describe.result c.args.notes.now.bytes.now c.args.description.now.bytes.now
     c.in-Err-describe.stop c.args.verdict
     (of_description c.args.notes.now.bytes.now c.args.description.now.bytes.now c.in-Ok.plat
-    c.in-Err-describe.stop c.in-Ok.ensures.plat c.in-Err-describe.ensures.found)
-    c.tell-in-Err.ensures.none
+    c.in-Err-describe.stop c.in-Ok.ensures.plat
+    (subst
+    (λ township. IfFound c.in-Err-describe.stop (IsNoDescription township c.args.description.now.bytes.now))
+    c.township.ensures c.in-Err-describe.ensures.found))
+    c.tell-in-Err-describe.ensures.none
