@@ -9,11 +9,10 @@
 set -eu
 notes=$1
 list=$2
-TOWNSHIP=$(command -v "${TOWNSHIP:-township}") || {
+program=$(command -v "${TOWNSHIP:-township}") || {
     echo "each_land.sh: there is no program ${TOWNSHIP:-township}" >&2
     exit 3
 }
-export TOWNSHIP
 work=$(mktemp -d)
 trap 'rm -rf "$work"' EXIT
 # Pieces of 500 lines, whose names are in the order of the list. Each has its answers in a file beside it.
@@ -21,8 +20,8 @@ split -a 4 -l 500 - "$work/piece." < "$list" || exit 3
 [ -e "$work/piece.aaaa" ] || exit 0
 printf '%s\0' "$work"/piece.* | xargs -0 -n 1 -P 4 sh -c '
     while IFS= read -r land || [ -n "$land" ]; do
-        answer=$(printf %s "$land" | "$TOWNSHIP" acres "$0" /dev/stdin 2> "$1.told")
+        answer=$(printf %s "$land" | "$0" acres "$1" /dev/stdin 2> "$2.told")
         printf "%s\t%s\t%s\n" "$?" "$answer" "$land"
-    done < "$1" > "$1.answers"
-' "$notes"
+    done < "$2" > "$2.answers"
+' "$program" "$notes"
 cat "$work"/piece.*.answers
