@@ -105,6 +105,18 @@ pub refused_on : (township : Designation) (description : List ℕ) (stopping : S
 refused_on township description stopping refusal same stops =
     subst (StopsOn township description) same stops
 
+-- the refusal of notes that stopped for it
+pub refused_in : (notes : List ℕ) (stopping : Stop) (refusal : Refusal) → stopping ≡ stop.Refused refusal
+    → IfRefused stopping (IsNoPlat notes) → IsNoPlat notes refusal
+refused_in notes stopping refusal same stops =
+    subst (λ (s : Stop). IfRefused s (IsNoPlat notes)) same stops
+
+-- what holds of a thing that was found
+pub held_by : {A : Type 0} (Holds : A → Type 0) (found : Option A) (it : A) → found ≡ Some it
+    → IfSome found Holds → Holds it
+held_by Holds None it is holds = absurd (cc is)
+held_by Holds (Some other) it is holds = subst Holds (cc is) holds
+
 -- a fault of a list that is a refusal has a verdict, which is one of a refusal
 refused_by : (is : TractFault) (refusal : Refusal) → refusal_of is ≡ Some refusal
     → (verdict : Verdict) × (verdict_of is ≡ Some verdict) × IsRefused (verdict_answer verdict).verdict

@@ -35,7 +35,7 @@ column_at (Some spot) = spot.column
 abbrev pub IsTold : TownshipAnswer → Explanation → List ℕ → List ℕ → TownshipAnswer → Type 0
 IsTold told explanation old new =
     IsPut (told_at told (line_at explanation.spot) (column_at explanation.spot))
-    explanation.text.bytes old new
+    explanation.text.bytes.items old new
 
 -- an explanation of such a refusal was put there
 pub record IsExplained (IsSuch : Refusal → Type 0) (told : TownshipAnswer) (old new : List ℕ)

@@ -38,7 +38,8 @@ pub extern "C" fn township_explain_notes(
     match explain_notes(alloc, &given(name, notes)) {
         Ok(Some(told)) => put_explanation(refused, &told, text),
         // What is refused has an explanation.
-        Ok(None) | Err(_) => TownshipAnswer::bare(NO_MEMORY),
+        Ok(None) => TownshipAnswer::bare(NO_MEMORY),
+        Err(_) => TownshipAnswer::bare(NO_MEMORY),
     }
 }
 
@@ -64,7 +65,8 @@ pub extern "C" fn township_explain_description(
     };
     match explain_description(alloc, plat.township(), &given(name, description)) {
         Ok(Some(told)) => put_explanation(refused, &told, text),
-        Ok(None) | Err(_) => TownshipAnswer::bare(NO_MEMORY),
+        Ok(None) => TownshipAnswer::bare(NO_MEMORY),
+        Err(_) => TownshipAnswer::bare(NO_MEMORY),
     }
 }
 
@@ -93,7 +95,8 @@ pub extern "C" fn township_explain_list(
     let refused = TownshipAnswer::of_fault(fault);
     match explain_tracts(alloc, &plat, &given(name, list)) {
         Ok(Some(told)) => put_explanation(refused, &told.explanation, text),
-        Ok(None) | Err(_) => TownshipAnswer::bare(NO_MEMORY),
+        Ok(None) => TownshipAnswer::bare(NO_MEMORY),
+        Err(_) => TownshipAnswer::bare(NO_MEMORY),
     }
 }
 
