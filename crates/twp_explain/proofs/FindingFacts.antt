@@ -16,12 +16,12 @@ use Rattle.twp_grammar.specs.Sentences.{IsReadAs}
 use Rattle.twp_grammar.specs.declared.item.Item.{Item}
 use Rattle.twp_resolve.specs.PlaceFaults as place_faults
 use Rattle.twp_resolve.specs.declared.place_fault.PlaceFault.{PlaceFault}
-use Rattle.twp_acres.specs.Answers.{ArePlatted, IsNoPlat, IsNoDescription, IsRefusal, MakePlat}
+use Rattle.twp_acres.specs.Answers.{ArePlatted, IsNoPlat, IsNoDescription, IsRefusal}
 use Rattle.twp_acres.specs.declared.verdict.Verdict.{Verdict}
 use Rattle.twp_acres.specs.declared.verdict.Verdict.TheVariants.{Refused}
 use Rattle.twp_acres.proofs.OneAnswer.{not_platted, not_described, one_plat_refusal, one_refusal, one_plat}
 use Rattle.twp_explain.specs.Refusals.{IsOfNone, IsNotOf, DescribeLand}
-use Rattle.twp_findings.specs.Findings.{IfFound, IsOf}
+use Rattle.twp_findings.specs.Findings.{IfFound}
 use Rattle.twp_findings.specs.declared.explanation.Explanation.{Explanation}
 use Rattle.twp_findings.specs.declared.finding.Stop.{Stop}
 use Rattle.twp_findings.specs.declared.finding.Stop.TheVariants as stop
