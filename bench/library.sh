@@ -2,8 +2,9 @@
 # Prints how many instructions a call of the library takes: notes to a plat, and on a kept plat descriptions of one
 # part, of a lot or two and a part in two sections, and of 50 and 100 parts. It is what 2,000 calls take less what
 # 1,000 take, by valgrind's callgrind. Beside it stand the count of bench/expected-library and the ratio to that; the
-# status is 1 if a ratio is over 1.02. Then how many descriptions are answered a second on one core, from C and from
-# Python. It builds lib/ by `make lib`, unless the first word is `built`.
+# status is 1 if a ratio is over 1.02, or if the last 50 parts take over 1.05 times what the 49 before them take. Then
+# how many descriptions are answered a second on one core, from C and from Python. It builds lib/ by `make lib`, unless
+# the first word is `built`.
 set -eu
 [ "${1:-}" = built ] || sh scripts/library.sh > /dev/null
 work=$(mktemp -d)
@@ -29,9 +30,15 @@ row() {
 }
 row 'field notes to a plat' read
 row 'one part' one
+one=$found
 row 'lots and a part in two sections' two
 row '50 parts' fifty
+fifty=$found
 row '100 parts' hundred
+if [ $((100 * (found - fifty))) -gt $((105 * (fifty - one))) ]; then
+    echo 'too much: the last 50 parts'
+    too_much=$((too_much + 1))
+fi
 
 "$work/library" samples/b1.csv one 1000000 |
     awk '{ printf "%-48s %10.0f a second\n", "one part, from C", 1000000 / $3 }'
