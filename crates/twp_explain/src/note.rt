@@ -1,7 +1,7 @@
 //! The one thing that is noted of accepted input: a line that ends between two steps of an aliquot
 //! part. A line end is no comma, and who meant one loses land.
-ghost use Rattle.std.specs.Prelude.{◌≤◌, length, IfOk, IfSome};
-ghost use Rattle.twp_marks.specs.JoinedSteps.{IsFirstJoinedStep};
+ghost use Rattle.std.specs.Prelude.{◌≤◌, length, IfOk, MatchOption};
+ghost use Rattle.twp_marks.specs.JoinedSteps.{HasNoJoinedStep, IsFirstJoinedStep};
 
 use crate::listed::Listed;
 use csv::ByteRecord;
@@ -21,8 +21,8 @@ const RECORDS_MOST: u32 = TRACTS_MOST + 1;
 /// What is noted of a description that was accepted: the first place where a line ends between two
 /// steps of an aliquot part. None where there is no such place.
 pub fn note_land(alloc: Global, description: &Given<'_>) -> Result<Option<Note>, AllocError>
-    ensures { IfOk result (λ told. IfSome told (λ note.
-        IsFirstJoinedStep description.now.bytes.now note.at)) }
+    ensures { IfOk result (λ told. MatchOption told (HasNoJoinedStep description.now.bytes.now)
+        (λ note. IsFirstJoinedStep description.now.bytes.now note.at)) }
 {
     if !may_join_steps(description.bytes) {
         return Ok(None);
@@ -66,7 +66,8 @@ fn first_joined_tract(alloc: Global, bytes: &[u8]) -> Result<Option<u32>, AllocE
 /// What is noted of a text.
 #[inline(never)]
 fn note_text(alloc: Global, origin: &Origin<'_>, bytes: &[u8]) -> Result<Option<Note>, AllocError>
-    ensures { IfOk result (λ told. IfSome told (λ note. IsFirstJoinedStep bytes.now note.at)) }
+    ensures { IfOk result (λ told. MatchOption told (HasNoJoinedStep bytes.now)
+        (λ note. IsFirstJoinedStep bytes.now note.at)) }
 {
     let Some(at) = first_joined_step(bytes) else {
         return Ok(None);

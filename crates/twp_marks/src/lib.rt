@@ -4,11 +4,13 @@
 #![tactic(auto)]
 
 mod joined_steps;
+mod line_ends;
 mod lots_held;
 mod mark;
 mod shared_land;
 
-pub use joined_steps::{first_joined_step, may_join_steps};
+pub use joined_steps::first_joined_step;
+pub use line_ends::may_join_steps;
 pub use lots_held::{PartOfLots, part_of_lots};
 pub use mark::{chain_span, heading_span, range_span, token_span};
 pub use shared_land::{Shared, shared_land_text};

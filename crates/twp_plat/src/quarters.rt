@@ -18,13 +18,11 @@ pub fn are_on_plat(closing_quarters: &[u32; LINES]) -> bool
     true
 }
 
-/// Whether a line may have this closing quarter, in thousandths of a chain.
+/// Whether a line may have this closing quarter, in thousandths of a chain. A quarter mile may be
+/// any line's, and is nearly each one's.
 fn is_on_plat(line: Line, quarter: u32) -> bool
     ensures { IsTrue result ↔ IsQuarterOnPlat line quarter }
 {
-    if line.is_closing() {
-        CLOSING_LEAST <= quarter && quarter <= CLOSING_MOST
-    } else {
-        quarter == QUARTER_MILE
-    }
+    quarter == QUARTER_MILE
+        || (line.is_closing() && CLOSING_LEAST <= quarter && quarter <= CLOSING_MOST)
 }
