@@ -1,9 +1,9 @@
 #!/bin/sh
 # Runs ./township, or the program that is named, as people do: on files, pipes, folders, and devices. It
-# compares the status, standard output, and standard error of each run. Then it tries worked answers, what the
-# documents say, what is installed, the explanations of refusals, the program's limits, and refused growths of
-# memory, each by its own script; twp_growth is found in its crate, or is named second. The last line counts all:
-# 'N passed, 0 failed'.
+# compares the status, standard output, and standard error of each run. Beside it, each by its own script, are
+# tried worked answers, the largest input, what the documents say, what is installed, the explanations of
+# refusals, the program's limits, and refused growths of memory; twp_growth is found in its crate, or is named
+# second. The last line counts all: 'N passed, 0 failed'.
 set -u
 # A program that goes wrong fills no disk and doesn't run forever.
 ulimit -f 4000
@@ -16,6 +16,21 @@ trap 'rm -rf "$work"' EXIT
 cd "$work" || exit 1
 passed=0
 failed=0
+
+# Begins a script of its own, whose last line is 'N passed, M failed', beside the others.
+begun=0
+begin() {
+    begun=$((begun + 1))
+    echo "$*" > "script.$begun"
+    "$@" > "counted.$begun" &
+}
+begin sh "$root/scripts/explanations.sh" "$program"
+begin sh "$root/scripts/answers.sh" "$program"
+begin sh "$root/scripts/largest.sh" "$program"
+begin sh "$root/scripts/documents.sh" "$program"
+begin sh "$root/scripts/installed.sh" "$program"
+begin env -i PATH="$PATH" sh "$root/scripts/limits.sh" "$program"
+begin sh "$root/scripts/growths.sh" "$program" "$calls"
 
 # Compares the last run: what it shows, its status, and what it wrote to standard output and standard
 # error, each without its last line feed.
@@ -189,28 +204,6 @@ refused 44 at 65536'
 refused 'a longer description' $? 'refused 83 at 2
 refused 41 at 65536'
 run report empty folder; refused 'no list is read after refused notes' $? 'refused 2 at 1'
-
-# A list of $1 tracts, at most 1,024, each another of the smallest places, of section 8: 0.625 acres.
-places() {
-    awk -v count="$1" 'BEGIN {
-        split("NE1/4 NW1/4 SW1/4 SE1/4", corners, " ")
-        print "name,description"
-        for (n = 0; n < count; n++)
-            printf "%s,\"sec. 8, %s%s%s%s%s.\"\n", n + 1, corners[int(n / 256) + 1],
-                corners[int(n / 64) % 4 + 1], corners[int(n / 16) % 4 + 1], corners[int(n / 4) % 4 + 1],
-                corners[n % 4 + 1]
-    }'
-}
-places 1000 > many
-run report n.csv many; status=$?
-lines=$(wc -l < out)
-sed -n '1p;1000,$p' out > some; mv some out
-ended '1,000 tracts' "$status $lines" '0 1002' 'tract 1: 0.63 acres
-tract 1000: 0.63 acres
-total: 625.00 acres
-remaining: 22412.57 acres' ''
-places 1001 > many
-run report n.csv many; refused '1,001 tracts' $? 'refused 85 at 1002'
 
 # Without a word: standard input.
 run < joined; ended 'joined input' $? 0 '40.45 acres' ''
@@ -468,24 +461,20 @@ in_turn acres d.txt; ended 'acres opens its files in their turn' $? 0 '40.45 acr
 in_turn normal parts; ended 'normal opens its files in their turn' $? 0 "$(cat canonical)" ''
 in_turn report t.csv; ended 'report opens its files in their turn' $? 0 "$account" ''
 
-# Counts what a script of its own tries, whose last line is 'N passed, M failed'.
-count() {
-    "$@" > counted
-    sed '$d' counted
-    if ! tail -n 1 counted | grep -x '[0-9]* passed, [0-9]* failed' > last; then
+# What the other scripts counted.
+wait
+tried=0
+while [ "$tried" -lt "$begun" ]; do
+    tried=$((tried + 1))
+    sed '$d' "counted.$tried"
+    if ! tail -n 1 "counted.$tried" | grep -x '[0-9]* passed, [0-9]* failed' > last; then
         failed=$((failed + 1))
-        echo "FAILED: no count by $*"
-        return
+        echo "FAILED: no count by $(cat "script.$tried")"
+        continue
     fi
     read -r more _ wrong _ < last
     passed=$((passed + more)) failed=$((failed + wrong))
-}
-count sh "$root/scripts/answers.sh" "$program"
-count sh "$root/scripts/documents.sh" "$program"
-count sh "$root/scripts/installed.sh" "$program"
-count sh "$root/scripts/explanations.sh" "$program"
-count env -i PATH="$PATH" sh "$root/scripts/limits.sh" "$program"
-count sh "$root/scripts/growths.sh" "$program" "$calls"
+done
 
 echo "$passed passed, $failed failed"
 [ "$failed" = 0 ]

@@ -1,3 +1,4 @@
 pub mod FindingFacts
 pub mod SharingFacts
 pub mod ListFacts
+pub mod ShownFacts

@@ -7,7 +7,10 @@ ghost use Rattle.twp_read.specs.TextFaults.{refusal_of as refusal_of_text};
 ghost use Rattle.twp_resolve.specs.PlaceFaults.{refusal_of as refusal_of_places};
 ghost use Rattle.twp_acres.specs.Answers.{ArePlatted, IsNoPlat, IsNoDescription, IsRefusal};
 ghost use Rattle.twp_explain.specs.Refusals.{IsOfNone, IsNotOf, DescribeLand};
+ghost use Rattle.twp_acres.specs.Answers.{MakePlat};
+ghost use Rattle.twp_explain.specs.ToldPlaces.{IsSpotOfStop, IsToldWhereRefused};
 ghost use Rattle.twp_findings.specs.Findings.{IfFound, IsOf};
+ghost use Rattle.twp_findings.specs.ShownPlaces.{IsTextOf, IfShown};
 ghost use Rattle.twp_acres.specs.declared.verdict.Verdict.TheVariants.{Refused};
 
 use std::alloc::{AllocError, Global};
@@ -52,6 +55,8 @@ pub fn explain_land(
         IsRefusal notes.now.bytes.now description.now.bytes.now explanation.refusal)) }
     ensures verdict { IfOk result (λ told. IfSome told (λ explanation.
         verdict ≡ Refused explanation.refusal)) }
+    ensures spot { MakePlat notes.now.bytes.now → IfOk result (λ told. IfSome told
+        (IsToldWhereRefused description.now)) }
     ensures none { IfOk result (λ told. told ≡ None
         → IsOfNone (IsRefusal notes.now.bytes.now description.now.bytes.now) verdict) }
 {
@@ -77,6 +82,7 @@ pub(crate) fn tell(
         IsOf stop explanation.refusal)) }
     ensures verdict { IfOk result (λ told. IfSome told (λ explanation.
         verdict ≡ Refused explanation.refusal)) }
+    ensures spot { IfOk result (λ told. IfSome told (IsSpotOfStop file.now stop)) }
     ensures none { IfOk result (λ told. told ≡ None → IsNotOf stop verdict) }
 {
     let Stop::Found(finding) = stop else {
@@ -140,6 +146,7 @@ pub(crate) fn describe(
 ) -> Result<(), Stop>
     ensures land { IfOk result (λ _. DescribeLand township bytes.now) }
     ensures found { IfErr result (λ stop. IfFound stop (IsNoDescription township bytes.now)) }
+    ensures shown { IsTextOf origin.now bytes.now → IfErr result (IfShown bytes.now) }
 {
     let description = match Description::read(alloc, bytes) {
         Ok(description) => description,
@@ -152,10 +159,11 @@ pub(crate) fn describe(
 }
 
 /// What is wrong with a text that isn't read.
-#[tactic(auto, using(crate::proofs::FindingFacts::of_fault))]
+#[tactic(auto, using(crate::proofs::FindingFacts::of_fault, crate::proofs::ShownFacts::text_shown))]
 #[inline(never)]
 fn stop_of_text(alloc: Global, origin: &Origin<'_>, bytes: &[u8], fault: TextFault) -> Stop
-    ensures { IfFound result (λ refusal. refusal_of_text fault ≡ Some refusal) }
+    ensures refusal { IfFound result (λ refusal. refusal_of_text fault ≡ Some refusal) }
+    ensures shown { IsTextOf origin.now bytes.now → IfShown bytes.now result }
 {
     let Some(refusal) = fault.refusal() else {
         return Stop::Memory;
@@ -164,7 +172,7 @@ fn stop_of_text(alloc: Global, origin: &Origin<'_>, bytes: &[u8], fault: TextFau
 }
 
 /// What is wrong with a description that names no land on the plat of the township.
-#[tactic(auto, using(crate::proofs::FindingFacts::of_fault))]
+#[tactic(auto, using(crate::proofs::FindingFacts::of_fault, crate::proofs::ShownFacts::items_shown))]
 #[inline(never)]
 fn stop_of_places(
     alloc: Global,
@@ -174,7 +182,8 @@ fn stop_of_places(
     township: Township,
     fault: PlaceFault,
 ) -> Stop
-    ensures { IfFound result (λ refusal. refusal_of_places fault ≡ Some refusal) }
+    ensures refusal { IfFound result (λ refusal. refusal_of_places fault ≡ Some refusal) }
+    ensures shown { IsTextOf origin.now bytes.now → IfShown bytes.now result }
 {
     let Some(refusal) = fault.refusal() else {
         return Stop::Memory;

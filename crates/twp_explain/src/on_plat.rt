@@ -4,6 +4,7 @@ ghost use Rattle.std.specs.Prelude.{◌≡◌, Some, None, IfOk, IfSome};
 ghost use Rattle.twp_acres.specs.Answers.{MakePlat, IsNoPlat, IsNoDescription};
 ghost use Rattle.twp_acres.specs.TractFaults.{IsFirstTractFault, refusal_of};
 ghost use Rattle.twp_explain.specs.Refusals.{DescribeLand, HasAccount};
+ghost use Rattle.twp_explain.specs.ToldPlaces.{IsSpotOfStop, IsToldWhereRefused};
 ghost use Rattle.twp_findings.specs.Findings.{IsOf};
 
 use crate::explaining::{describe, plat_of};
@@ -34,6 +35,7 @@ pub fn explain_description(
 ) -> Result<Option<Explanation>, AllocError>
     ensures refusal { IfOk result (λ told. IfSome told (λ explanation.
         IsNoDescription township description.now.bytes.now explanation.refusal)) }
+    ensures spot { IfOk result (λ told. IfSome told (IsToldWhereRefused description.now)) }
     ensures none { IfOk result (λ told. told ≡ None
         → DescribeLand township description.now.bytes.now) }
 {
@@ -77,7 +79,8 @@ pub fn explain_tracts(
 
 /// The message of a stop, where memory didn't run out.
 fn tell_stop(alloc: Global, file: &Given<'_>, stop: Stop) -> Result<Explanation, AllocError>
-    ensures { IfOk result (λ explanation. IsOf stop explanation.refusal) }
+    ensures refusal { IfOk result (λ explanation. IsOf stop explanation.refusal) }
+    ensures spot { IfOk result (IsSpotOfStop file.now stop) }
 {
     let Stop::Found(finding) = stop else {
         return Err(AllocError);

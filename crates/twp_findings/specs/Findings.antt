@@ -1,6 +1,7 @@
 -- What an explanation was found to be of.
-use Rattle.std.specs.Prelude.{◌≡◌, ⊤}
+use Rattle.std.specs.Prelude.{◌≡◌, ⊤, Result, Ok, Err}
 use Rattle.twp_grid.specs.declared.refusal.Refusal.{Refusal}
+use Rattle.twp_findings.specs.declared.finding.Finding.{Finding}
 use Rattle.twp_findings.specs.declared.finding.Stop.{Stop}
 use Rattle.twp_findings.specs.declared.finding.Stop.TheVariants.{Found, Memory}
 
@@ -13,3 +14,8 @@ IfFound Memory Holds = ⊤
 abbrev pub IsOf : Stop → Refusal → Type 0
 IsOf (Found finding) refusal = finding.refusal ≡ refusal
 IsOf Memory refusal = ⊥
+
+-- the stop of what was found, or of want of memory
+abbrev pub IsStopOf : {Error : Type 0} → Result Finding Error → Stop → Type 0
+IsStopOf (Ok finding) stop = stop ≡ Found finding
+IsStopOf (Err error) stop = stop ≡ Memory

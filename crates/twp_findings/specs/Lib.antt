@@ -1,3 +1,4 @@
 pub mod Findings
 pub mod Origins
 pub mod Spots
+pub mod ShownPlaces

@@ -1,17 +1,11 @@
 -- Where in its file a fault is said to stand.
-use Rattle.std.specs.Prelude.{◌≡◌, ℕ, ◌+◌, ◌≤◌, min, length}
+use Rattle.std.specs.Prelude.{◌≡◌, ℕ, ◌+◌, ◌≤◌, ◌<◌, min, Option, None, length}
+use Rattle.std.specs.Prelude.{MatchOption}
 use Rattle.twp_excerpt.specs.Spots.{line_of, column_of}
 use Rattle.twp_excerpt.specs.declared.spot.Spot.{Spot}
 use Rattle.twp_findings.specs.declared.explanation.Given.{Given}
 use Rattle.twp_findings.specs.declared.finding.Place.{Place}
 use Rattle.twp_findings.specs.declared.finding.Place.TheVariants.{Whole, Line, Field, Part}
-
--- the byte whose line and column are told
-abbrev pub start_of : Place → ℕ
-start_of Whole = 0
-start_of (Line at_) = at_
-start_of (Field span) = span.start
-start_of (Part span) = span.start
 
 -- the place in a file, or its end
 abbrev pub in_file : Given → ℕ → ℕ
@@ -23,3 +17,18 @@ pub record IsSpotIn (file : Given) (at : ℕ) (spot : Spot) : Type 0 where
   pub line : line_of file.bytes.now (in_file file at) + file.first_line ≤ 4294967295
       → spot.line + 1 ≡ line_of file.bytes.now (in_file file at) + file.first_line
   pub column : spot.column ≡ column_of file.bytes.now (in_file file at)
+
+-- the most bytes of a file in which places are told, which is more than any run reads
+abbrev pub MOST_BYTES : ℕ
+MOST_BYTES = 0x7FFFFFFF
+
+-- the line and the column of a place in a file, unless the file is longer than that
+abbrev pub IsSpotAt : Given → ℕ → Option Spot → Type 0
+IsSpotAt file at spot = MatchOption spot (MOST_BYTES < length file.bytes.now) (IsSpotIn file at)
+
+-- the line and the column that are told of what is shown: none of a file as a whole
+abbrev pub IsSpotOf : Given → Place → Option Spot → Type 0
+IsSpotOf file Whole spot = spot ≡ None
+IsSpotOf file (Line at_) spot = IsSpotAt file at_ spot
+IsSpotOf file (Field span) spot = IsSpotAt file span.start spot
+IsSpotOf file (Part span) spot = IsSpotAt file span.start spot

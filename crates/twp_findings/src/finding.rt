@@ -1,7 +1,7 @@
 //! What was found wrong, and the message that tells it.
-ghost use Rattle.std.specs.Prelude.{◌≡◌, IfOk, IfSome};
-ghost use Rattle.twp_findings.specs.Findings.{IfFound};
-ghost use Rattle.twp_findings.specs.Spots.{IsSpotIn, start_of};
+ghost use Rattle.std.specs.Prelude.{◌≡◌, IfOk};
+ghost use Rattle.twp_findings.specs.Findings.{IfFound, IsStopOf};
+ghost use Rattle.twp_findings.specs.Spots.{IsSpotAt, IsSpotOf};
 
 use crate::explanation::{Explanation, Given};
 use std::alloc::{AllocError, Global};
@@ -56,7 +56,8 @@ impl Stop {
     /// The stop of what was found of a refusal, or of want of memory.
     pub fn of(refusal: Refusal, found: Result<Finding, AllocError>) -> Stop
         requires { IfOk found (λ finding. finding.refusal ≡ refusal) }
-        ensures { IfFound result (λ found. found ≡ refusal) }
+        ensures refusal { IfFound result (λ found. found ≡ refusal) }
+        ensures found { IsStopOf found result }
     {
         match found {
             Ok(finding) => Stop::Found(finding),
@@ -70,7 +71,7 @@ impl Finding {
     pub fn tell(&self, alloc: Global, file: &Given<'_>) -> Result<Explanation, AllocError>
         ensures refusal { IfOk result (λ explanation. explanation.refusal ≡ self.now.refusal) }
         ensures spot { IfOk result (λ explanation.
-            IfSome explanation.spot (IsSpotIn file.now (start_of self.now.place))) }
+            IsSpotOf file.now self.now.place explanation.spot) }
     {
         let (spot, mut text) = begin_message(alloc, file, self.place, self.sentence.as_str())?;
         if !self.help.is_empty() {
@@ -94,7 +95,7 @@ pub fn begin_message(
     place: Place,
     sentence: &str,
 ) -> Result<(Option<Spot>, String), AllocError>
-    ensures { IfOk result (λ told. IfSome told.0 (IsSpotIn file.now (start_of place))) }
+    ensures { IfOk result (λ told. IsSpotOf file.now place told.0) }
 {
     let mut text = String::new(alloc);
     text.push_str("township: ")?;
@@ -115,7 +116,7 @@ pub fn begin_message(
 
 /// Where a place stands, if at one line.
 fn spot_of_place(file: &Given<'_>, place: Place) -> Option<Spot>
-    ensures { IfSome result (IsSpotIn file.now (start_of place)) }
+    ensures { IsSpotOf file.now place result }
 {
     match place {
         Place::Whole => None,
@@ -127,7 +128,7 @@ fn spot_of_place(file: &Given<'_>, place: Place) -> Option<Spot>
 /// Where a byte stands in a file, whose lines are numbered from its first. None in a file of more
 /// bytes than any run reads.
 pub(crate) fn spot_in(file: &Given<'_>, at: usize) -> Option<Spot>
-    ensures { IfSome result (IsSpotIn file.now at) }
+    ensures { IsSpotAt file.now at result }
 {
     if file.bytes.len() > MOST_BYTES {
         return None;

@@ -1,5 +1,6 @@
 //! Why a description names no land on the plat.
 ghost use Rattle.std.specs.Prelude.{◌≡◌, IfOk};
+ghost use Rattle.twp_findings.specs.ShownPlaces.{IsTextOf, BeginsAt};
 
 mod items;
 mod words;
@@ -32,10 +33,11 @@ struct Described<'a> {
     township: Township,
 }
 
-/// What is told of one fault: a part of the text, what is wrong with it, and what helps.
+/// What is told of one fault: where what is underlined of the text ends, which begins at the fault's
+/// place; what is wrong with it, and what helps.
 #[derive(Drop)]
 struct Told {
-    span: Span,
+    end: usize,
     sentence: String,
     help: String,
 }
@@ -51,6 +53,8 @@ pub fn find(
     refusal: Refusal,
 ) -> Result<Finding, AllocError>
     ensures refusal { IfOk result (λ finding. finding.refusal ≡ refusal) }
+    ensures place { IfOk result (λ finding. IsTextOf origin.now text.now
+        → BeginsAt text.now refusal.at finding.place) }
 {
     let described = Described {
         origin,
@@ -60,8 +64,8 @@ pub fn find(
     };
     let told = described.tell(alloc, fault)?;
     let span = Span {
-        start: origin.in_file(told.span.start),
-        end: origin.in_file(told.span.end),
+        start: origin.in_file(refusal.at as usize),
+        end: origin.in_file(told.end),
     };
     Ok(Finding {
         refusal,
@@ -117,7 +121,7 @@ impl<'a> Described<'a> {
         sentence.push_str("; the field notes are of ")?;
         write_township(self.township, &mut sentence)?;
         Ok(Told {
-            span: heading_span(self.text, at as usize),
+            end: heading_span(self.text, at as usize).end,
             sentence,
             help: String::new(alloc),
         })
@@ -133,7 +137,7 @@ impl<'a> Described<'a> {
             number
         )?;
         Ok(Told {
-            span: token_span(self.text, at as usize),
+            end: token_span(self.text, at as usize).end,
             sentence,
             help: String::new(alloc),
         })
@@ -151,7 +155,7 @@ impl<'a> Described<'a> {
         let mut help = String::new(alloc);
         write!(help, "write {} to {}", last, first)?;
         Ok(Told {
-            span: token_span(self.text, at as usize),
+            end: token_span(self.text, at as usize).end,
             sentence,
             help,
         })
@@ -164,7 +168,7 @@ impl<'a> Described<'a> {
             write_lots_of(section, &mut sentence)?;
         }
         Ok(Told {
-            span: token_span(self.text, at as usize),
+            end: token_span(self.text, at as usize).end,
             sentence,
             help: String::new(alloc),
         })
@@ -178,7 +182,7 @@ impl<'a> Described<'a> {
         help.push_str("the finest part is a square of five eighths of an acre, ")?;
         help.push_str("five quarters deep")?;
         Ok(Told {
-            span: chain_span(self.text, at as usize),
+            end: chain_span(self.text, at as usize).end,
             sentence,
             help,
         })
@@ -186,7 +190,6 @@ impl<'a> Described<'a> {
 
     /// An aliquot part that holds land of lots.
     fn tell_part_of_lots(&self, alloc: Global, at: u32) -> Result<Told, AllocError> {
-        let span = chain_span(self.text, at as usize);
         let mut sentence = String::new(alloc);
         let mut help = String::new(alloc);
         if let Some(part) = self.part_at(alloc, at)? {
@@ -194,7 +197,7 @@ impl<'a> Described<'a> {
             write_lots_held(&part, &mut help)?;
         }
         Ok(Told {
-            span,
+            end: chain_span(self.text, at as usize).end,
             sentence,
             help,
         })
@@ -228,7 +231,7 @@ impl<'a> Described<'a> {
             None => token_span(self.text, at as usize),
         };
         Ok(Told {
-            span,
+            end: span.end,
             sentence,
             help,
         })

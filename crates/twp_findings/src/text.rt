@@ -1,5 +1,7 @@
 //! Why a text isn't read as a description.
-ghost use Rattle.std.specs.Prelude.{◌≡◌, IfOk};
+ghost use Rattle.std.specs.Prelude.{◌≡◌, ℕ, List, IfOk};
+ghost use Rattle.twp_hints.specs.Sights.{shown_place};
+ghost use Rattle.twp_findings.specs.ShownPlaces.{IsTextOf, ShowsAt};
 
 mod character;
 
@@ -25,6 +27,8 @@ pub fn find(
     refusal: Refusal,
 ) -> Result<Finding, AllocError>
     ensures refusal { IfOk result (λ finding. finding.refusal ≡ refusal) }
+    ensures place { IfOk result (λ finding. IsTextOf origin.now text.now
+        → ShowsAt text.now fault (shown_place text.now refusal.at) finding.place) }
 {
     let sight = Sight::of(text, refusal, expected(fault));
     let mut sentence = String::new(alloc);
@@ -46,7 +50,11 @@ fn expected(fault: TextFault) -> Option<Expected> {
 }
 
 /// What is underlined: the refused sign, or the place where the text ends.
-fn place(origin: &Origin<'_>, sight: &Sight<'_>, fault: TextFault) -> Place {
+#[tactic(auto, using(crate::proofs::ShownFacts::shows_a_part))]
+fn place(origin: &Origin<'_>, sight: &Sight<'_>, fault: TextFault) -> Place
+    ensures { (text : List ℕ) → IsTextOf origin.now text
+        → ShowsAt text fault sight.now.start result }
+{
     if fault == TextFault::TooLarge {
         return Place::Whole;
     }

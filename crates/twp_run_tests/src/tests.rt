@@ -1,7 +1,7 @@
 use std::alloc::Global;
 use std::test::Fail;
-use twp_acres::{RunFault, Verdict, run_acres};
-use twp_grid::{Bytes, Device, Refusal};
+use twp_acres::{RunFault, Verdict};
+use twp_grid::Refusal;
 
 mod example;
 mod failing_readers;
@@ -9,12 +9,10 @@ mod failing_writers;
 mod joined;
 mod kept;
 mod limits;
-mod normal;
 mod on_plat;
 mod pieces;
 mod report;
 mod tract_faults;
-mod worst;
 
 /// What a run is to answer.
 #[derive(Clone, Copy)]
@@ -24,14 +22,6 @@ enum Said {
     Refused(u8, u32),
     /// A tract's record, and the refusal of its description.
     TractRefused(u32, u8, u32),
-}
-
-/// What a run of notes and a description writes, and its verdict.
-fn answer_to(alloc: Global, notes: &[u8], description: &[u8]) -> Result<(Vec<u8>, Verdict), Fail> {
-    let mut out = Device::new(Vec::new(alloc));
-    let mut text = Bytes::new(description);
-    let verdict = run_acres(alloc, &mut Bytes::new(notes), &mut text, &mut out)?;
-    Ok((out.get().clone()?, verdict))
 }
 
 /// The text that is to be written, and its verdict.

@@ -6,16 +6,16 @@ use twp_grid::{Device, DeviceFault, Sink, Source};
 fn a_reader_gives_few_bytes_and_counts(rt: HostRuntime) {
     let mut reader = Device::new(Reader::new(b"lot 1").at_most(3));
     let mut buffer = [b'-'; 8];
-    assert_eq!(rt; reader.fill(&mut buffer), Ok(3));
-    assert_eq!(rt; &buffer, b"lot-----");
-    assert_eq!(rt; reader.fill(&mut buffer), Ok(2));
-    assert_eq!(rt; &buffer, b" 1t-----");
-    assert_eq!(rt; reader.fill(&mut buffer), Ok(0));
-    assert_eq!(rt; (reader.get().calls(), reader.get().given()), (3, 5));
+    assert!(rt; reader.fill(&mut buffer) == Ok(3));
+    assert!(rt; &buffer == b"lot-----");
+    assert!(rt; reader.fill(&mut buffer) == Ok(2));
+    assert!(rt; &buffer == b" 1t-----");
+    assert!(rt; reader.fill(&mut buffer) == Ok(0));
+    assert!(rt; (reader.get().calls(), reader.get().given()) == (3, 5));
     let mut endless = Device::new(Reader::endless(b'x'));
-    assert_eq!(rt; endless.fill(&mut buffer), Ok(8));
-    assert_eq!(rt; &buffer, b"xxxxxxxx");
-    assert_eq!(rt; (endless.get().calls(), endless.get().given()), (1, 8));
+    assert!(rt; endless.fill(&mut buffer) == Ok(8));
+    assert!(rt; &buffer == b"xxxxxxxx");
+    assert!(rt; (endless.get().calls(), endless.get().given()) == (1, 8));
 }
 
 #[test]
@@ -56,8 +56,8 @@ fn a_device_fails_where_its_writer_does(rt: HostRuntime) {
     }
     // To take no byte is no error of a writer, but it is a device's fault.
     let mut idle = Device::new(Writer::new(rt.alloc()).with_room(0));
-    assert_eq!(rt; idle.put(b""), Ok(0));
+    assert!(rt; idle.put(b"") == Ok(0));
     assert!(rt; !idle.failed());
-    assert_eq!(rt; idle.put(b"\n"), Err(DeviceFault));
+    assert!(rt; idle.put(b"\n") == Err(DeviceFault));
     assert!(rt; idle.failed());
 }

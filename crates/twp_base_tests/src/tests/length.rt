@@ -5,31 +5,31 @@ use twp_measure::{Length, LengthFault};
 fn reads_lengths(rt: HostRuntime) {
     let read = |text: &[u8]| Length::read(text).map(|length| length.thousandths());
     // 80 times 1,000 thousandths, and 7 times.
-    assert_eq!(rt; read(b"80"), Ok(80_000));
-    assert_eq!(rt; read(b"7"), Ok(7_000));
+    assert!(rt; read(b"80") == Ok(80_000));
+    assert!(rt; read(b"7") == Ok(7_000));
     // 19 chains and 575 thousandths; 5 tenths; 0 tenths and 5 hundredths.
-    assert_eq!(rt; read(b"19.575"), Ok(19_575));
-    assert_eq!(rt; read(b"19.5"), Ok(19_500));
-    assert_eq!(rt; read(b"00.05"), Ok(50));
+    assert!(rt; read(b"19.575") == Ok(19_575));
+    assert!(rt; read(b"19.5") == Ok(19_500));
+    assert!(rt; read(b"00.05") == Ok(50));
     // The longest: 100 chains minus a thousandth.
-    assert_eq!(rt; read(b"99.999"), Ok(99_999));
+    assert!(rt; read(b"99.999") == Ok(99_999));
 }
 
 #[test]
 fn refuses_other_texts(rt: HostRuntime) {
     let fault = |text: &[u8]| Length::read(text).map(|length| length.thousandths());
-    assert_eq!(rt; fault(b""), Err(LengthFault::Empty));
-    assert_eq!(rt; fault(b"8O"), Err(LengthFault::BadDigit));
-    assert_eq!(rt; fault(b"80."), Err(LengthFault::BadDigit));
-    assert_eq!(rt; fault(b".5"), Err(LengthFault::BadDigit));
-    assert_eq!(rt; fault(b"1.2.3"), Err(LengthFault::BadDigit));
-    assert_eq!(rt; fault(b" 80"), Err(LengthFault::BadDigit));
-    assert_eq!(rt; fault(b"40.0000"), Err(LengthFault::TooManyPlaces));
-    assert_eq!(rt; fault(b"100.0000"), Err(LengthFault::TooManyPlaces));
-    assert_eq!(rt; fault(b"100.5"), Err(LengthFault::TooLong));
-    assert_eq!(rt; fault(b"100"), Err(LengthFault::TooLong));
+    assert!(rt; fault(b"") == Err(LengthFault::Empty));
+    assert!(rt; fault(b"8O") == Err(LengthFault::BadDigit));
+    assert!(rt; fault(b"80.") == Err(LengthFault::BadDigit));
+    assert!(rt; fault(b".5") == Err(LengthFault::BadDigit));
+    assert!(rt; fault(b"1.2.3") == Err(LengthFault::BadDigit));
+    assert!(rt; fault(b" 80") == Err(LengthFault::BadDigit));
+    assert!(rt; fault(b"40.0000") == Err(LengthFault::TooManyPlaces));
+    assert!(rt; fault(b"100.0000") == Err(LengthFault::TooManyPlaces));
+    assert!(rt; fault(b"100.5") == Err(LengthFault::TooLong));
+    assert!(rt; fault(b"100") == Err(LengthFault::TooLong));
     // 5 chains, but in three digits.
-    assert_eq!(rt; fault(b"005"), Err(LengthFault::TooLong));
+    assert!(rt; fault(b"005") == Err(LengthFault::TooLong));
 }
 
 #[test]

@@ -25,8 +25,8 @@ fn numbers_wind(rt: HostRuntime) {
 
 #[test]
 fn has_36_numbers(rt: HostRuntime) {
-    assert_eq!(rt; Section::new(0), None);
-    assert_eq!(rt; Section::new(1).map(|section| section.number()), Some(1));
-    assert_eq!(rt; Section::new(36).map(|section| section.number()), Some(36));
-    assert_eq!(rt; Section::new(37), None);
+    assert!(rt; Section::new(0) == None);
+    assert!(rt; Section::new(1).map(|section| section.number()) == Some(1));
+    assert!(rt; Section::new(36).map(|section| section.number()) == Some(36));
+    assert!(rt; Section::new(37) == None);
 }

@@ -1,5 +1,8 @@
 //! What is seen of a text where it is refused.
-ghost use Rattle.std.specs.Prelude.{◌≤◌, length};
+ghost use Rattle.std.specs.Prelude.{◌≡◌, ◌≤◌, length};
+ghost use Rattle.std.specs.List.{AllPass};
+ghost use Rattle.twp_excerpt.specs.Spots.{is_white};
+ghost use Rattle.twp_hints.specs.Sights.{shown_place};
 
 use bstr::decode_utf8;
 use twp_excerpt::end_of_text;
@@ -36,7 +39,9 @@ pub struct Sight<'a> {
 
 impl<'a> Sight<'a> {
     /// What is seen of a text where it is refused.
-    pub fn of(text: &'a [u8], refusal: Refusal, expected: Option<Expected>) -> Sight<'a> {
+    pub fn of(text: &'a [u8], refusal: Refusal, expected: Option<Expected>) -> Sight<'a>
+        ensures { result.start ≡ shown_place text.now refusal.at }
+    {
         let at = (refusal.at as usize).min(text.len());
         let (ahead, behind) = text.split_at(at);
         let (sign, rest) = behind.split_at(size_of_sign(behind));
@@ -80,9 +85,11 @@ const NOTHING: Sign<'static> = Sign {
 };
 
 /// How many bytes the sign takes that begins some bytes: all of its token, all of a character that
-/// begins no token, or one byte that begins no character.
+/// begins no token, or one byte that begins no character. None where nothing but white space follows.
 fn size_of_sign(bytes: &[u8]) -> usize
-    ensures { result ≤ length bytes.now }
+    ensures within { result ≤ length bytes.now }
+    ensures white { result ≡ 0 → AllPass is_white bytes.now }
+    ensures dark { AllPass is_white bytes.now → result ≡ 0 }
 {
     let Some(token) = Tokens::new(bytes).next() else {
         return 0;

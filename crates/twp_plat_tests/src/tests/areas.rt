@@ -22,9 +22,8 @@ fn adds_sections_up(rt: HostRuntime) -> Result<(), Fail> {
         (18, 63_800),
     ] {
         assert_eq!(rt;
-            plat.section_area(section(number)?).hundredths(),
-            hundredths,
-            "{number}"
+            (number, plat.section_area(section(number)?).hundredths()),
+            (number, hundredths)
         );
     }
     Ok(())
@@ -33,10 +32,10 @@ fn adds_sections_up(rt: HostRuntime) -> Result<(), Fail> {
 #[test]
 fn adds_the_township_up(rt: HostRuntime) -> Result<(), Fail> {
     let even = Plat::protract(&notes_of(&[])?)?;
-    assert_eq!(rt; even.township_area().hundredths(), 36 * 64_000);
+    assert!(rt; even.township_area().hundredths() == 36 * 64_000);
     // 31 sections of 640 acres, and 640.80, 642.40, 639.96775, 636.40 and 638.00: 23,037.56775
     // acres.
     let uneven = Plat::protract(&notes_of(&UNEVEN)?)?;
-    assert_eq!(rt; uneven.township_area().hundredths(), 2_303_757);
+    assert!(rt; uneven.township_area().hundredths() == 2_303_757);
     Ok(())
 }

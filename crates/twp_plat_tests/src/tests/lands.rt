@@ -55,9 +55,8 @@ fn adds_whole_sections_up(rt: HostRuntime) -> Result<(), Fail> {
     ] {
         let acreage = area(&plat, &sections(first, last)?)?;
         assert_eq!(rt;
-            acreage.hundredths(),
-            hundredths,
-            "sections {first} to {last}"
+            (first, last, acreage.hundredths()),
+            (first, last, hundredths)
         );
     }
     Ok(())
@@ -69,7 +68,7 @@ fn adds_lots_and_places_up_exactly(rt: HostRuntime) -> Result<(), Fail> {
     let mut land = Grid::empty();
     let nothing = area(&plat, &land)?;
     // Four times the lengths of section 6's north and west lines: 4 * 79,200 * 80,800.
-    assert_eq!(rt; (nothing.units(), nothing.over()), (0, 25_597_440_000));
+    assert!(rt; (nothing.units(), nothing.over()) == (0, 25_597_440_000));
     // Two by two places of section 14 are a sixteenth of 40 acres: 25,000,000 units.
     let mut place = Block::whole();
     for _ in 0..4u8 {
@@ -78,8 +77,8 @@ fn adds_lots_and_places_up_exactly(rt: HostRuntime) -> Result<(), Fail> {
     }
     land.add(section(14)?, place);
     let over = u128::from(plat.over());
-    assert_eq!(rt; area(&plat, &land)?.units(), 25_000_000 * over);
-    assert_eq!(rt; area(&plat, &land)?.hundredths(), 250);
+    assert!(rt; area(&plat, &land)?.units() == 25_000_000 * over);
+    assert!(rt; area(&plat, &land)?.hundredths() == 250);
     // Section 5's lots are 20 chains wide and 20.225, 20.275, 20.325 and 20.375 high: 404.5, 405.5,
     // 406.5 and 407.5 square chains, each more than what is held before it.
     for (number, units) in [
@@ -89,7 +88,10 @@ fn adds_lots_and_places_up_exactly(rt: HostRuntime) -> Result<(), Fail> {
         (4, 1_649_000_000),
     ] {
         land.add(section(5)?, lot(5, number)?);
-        assert_eq!(rt; area(&plat, &land)?.units(), units * over, "lot {number}");
+        assert_eq!(rt;
+            (number, area(&plat, &land)?.units()),
+            (number, units * over)
+        );
     }
     Ok(())
 }
@@ -136,7 +138,10 @@ fn adds_printed_lots_up(rt: HostRuntime) -> Result<(), Fail> {
     ] {
         let acreage = plat_area(&plat, &land)?;
         assert_eq!(rt; (acreage.units(), acreage.over()), (printed * 100_000, 1));
-        assert_eq!(rt; area(&plat, &land)?.hundredths(), exact, "beside {printed}");
+        assert_eq!(rt;
+            (printed, area(&plat, &land)?.hundredths()),
+            (printed, exact)
+        );
     }
     Ok(())
 }
@@ -145,8 +150,8 @@ fn adds_printed_lots_up(rt: HostRuntime) -> Result<(), Fail> {
 fn counts_places_off_the_lots_by_their_share(rt: HostRuntime) -> Result<(), Fail> {
     let plat = uneven_plat()?;
     let mut land = Grid::empty();
-    assert_eq!(rt; plat_area(&plat, &land)?.units(), 0);
-    assert_eq!(rt; plat_area(&plat, &land)?.over(), 1);
+    assert!(rt; plat_area(&plat, &land)?.units() == 0);
+    assert!(rt; plat_area(&plat, &land)?.over() == 1);
     // Two by two places of section 7 that are in no lot, in the south-eastern corner: a sixteenth of
     // 40 acres.
     let mut place = Block::whole();
@@ -155,9 +160,9 @@ fn counts_places_off_the_lots_by_their_share(rt: HostRuntime) -> Result<(), Fail
         place = place.half(Side::E).ok_or("a half")?;
     }
     land.add(section(7)?, place);
-    assert_eq!(rt; plat_area(&plat, &land)?.units(), 25_000_000);
+    assert!(rt; plat_area(&plat, &land)?.units() == 25_000_000);
     // And lot 4, which is printed as 39.03 acres.
     land.add(section(7)?, lot(7, 4)?);
-    assert_eq!(rt; plat_area(&plat, &land)?.units(), 415_300_000);
+    assert!(rt; plat_area(&plat, &land)?.units() == 415_300_000);
     Ok(())
 }

@@ -30,9 +30,8 @@ fn rounds_each_lot_once(rt: HostRuntime) -> Result<(), Fail> {
         (8, 255, None),
     ] {
         assert_eq!(rt;
-            plat.lot_hundredths(section(number)?, lot),
-            hundredths,
-            "section {number}, lot {lot}"
+            (number, lot, plat.lot_hundredths(section(number)?, lot)),
+            (number, lot, hundredths)
         );
     }
     Ok(())

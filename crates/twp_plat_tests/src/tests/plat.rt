@@ -16,7 +16,7 @@ fn answers_the_first_fault(rt: HostRuntime) -> Result<(), Fail> {
         line: 47,
         half: HalfMile::First,
     };
-    assert_eq!(rt; Plat::protract(&faulty).err(), Some(fault));
+    assert!(rt; Plat::protract(&faulty).err() == Some(fault));
     Ok(())
 }
 
@@ -61,7 +61,7 @@ fn numbers_and_tells_faults(rt: HostRuntime) -> Result<(), Fail> {
 #[test]
 fn has_the_notes_township(rt: HostRuntime) -> Result<(), Fail> {
     let notes = notes_of(&[])?;
-    assert_eq!(rt; Plat::protract(&notes)?.township(), notes.township());
+    assert!(rt; Plat::protract(&notes)?.township() == notes.township());
     Ok(())
 }
 
@@ -69,13 +69,10 @@ fn has_the_notes_township(rt: HostRuntime) -> Result<(), Fail> {
 fn is_made_again_of_its_parts(rt: HostRuntime) -> Result<(), Fail> {
     let plat = Plat::protract(&notes_of(&UNEVEN)?)?;
     // 80.20 - 40 - 20 = 20.20 chains in the east of section 5, 79.20 - 60 = 19.20 in the north of 6.
-    assert_eq!(rt; plat.closing_quarters()[4], 20_200);
-    assert_eq!(rt; plat.closing_quarters()[47], 19_200);
-    assert_eq!(rt; plat.closing_quarters()[58], 20_000);
-    assert_eq!(rt;
-        Plat::of_parts(plat.township(), plat.closing_quarters()),
-        Some(plat)
-    );
+    assert!(rt; plat.closing_quarters()[4] == 20_200);
+    assert!(rt; plat.closing_quarters()[47] == 19_200);
+    assert!(rt; plat.closing_quarters()[58] == 20_000);
+    assert!(rt; Plat::of_parts(plat.township(), plat.closing_quarters()) == Some(plat));
     Ok(())
 }
 
@@ -95,7 +92,7 @@ fn is_made_of_closing_quarters_within_their_limits(rt: HostRuntime) -> Result<()
         let mut quarters = [20_000; LINES];
         quarters[index] = quarter;
         let plat = Plat::of_parts(township, &quarters);
-        assert_eq!(rt; plat.is_some(), is_made, "line {index}: {quarter}");
+        assert_eq!(rt; (index, quarter, plat.is_some()), (index, quarter, is_made));
     }
     Ok(())
 }
@@ -113,7 +110,7 @@ fn measures_regular_positions(rt: HostRuntime) -> Result<(), Fail> {
     // 20 by 20 chains are 40 acres, in whatever section.
     let plat = Plat::protract(&notes_of(&UNEVEN)?)?;
     for number in 1..37u8 {
-        assert_eq!(rt; hundredths(&plat, number, 0, 0)?, 4_000, "section {number}");
+        assert_eq!(rt; (number, hundredths(&plat, number, 0, 0)?), (number, 4_000));
     }
     Ok(())
 }
@@ -149,9 +146,8 @@ fn measures_lots(rt: HostRuntime) -> Result<(), Fail> {
         (7, 3, 0, 3_903),
     ] {
         assert_eq!(rt;
-            hundredths(&plat, number, column, row)?,
-            acres,
-            "section {number}, column {column}, row {row}"
+            (number, column, row, hundredths(&plat, number, column, row)?),
+            (number, column, row, acres)
         );
     }
     Ok(())
@@ -162,7 +158,7 @@ fn takes_the_first_half_as_it_was_returned(rt: HostRuntime) -> Result<(), Fail> 
     // 80.20 - 40.10 - 20 = 20.10 chains in the east of section 5: (20.10 + 20.075) / 2 = 20.0875,
     // and 20 times that over 10 is 40.175 acres.
     let plat = Plat::protract(&notes_of(&[(4, "40.10", "80.20")])?)?;
-    assert_eq!(rt; hundredths(&plat, 5, 0, 3)?, 4_018);
+    assert!(rt; hundredths(&plat, 5, 0, 3)? == 4_018);
     Ok(())
 }
 
@@ -170,16 +166,16 @@ fn takes_the_first_half_as_it_was_returned(rt: HostRuntime) -> Result<(), Fail> 
 fn brings_areas_to_one_denominator(rt: HostRuntime) -> Result<(), Fail> {
     let plat = Plat::protract(&notes_of(&UNEVEN)?)?;
     // 4 * 79,200 * 80,800, section 6's north line times its west line.
-    assert_eq!(rt; plat.over(), 25_597_440_000);
+    assert!(rt; plat.over() == 25_597_440_000);
     // Section 6, the north-western position: widths 19.303.. and 19.20, heights 20.703.. and 20.80,
     // whose sums times the lines' lengths are 3,111,040,000 and 3,287,040,000.
     let corner = plat.piece_area(section(6)?, 3, 3);
-    assert_eq!(rt; corner.units(), 10_226_112_921_600_000_000);
-    assert_eq!(rt; corner.over(), 25_597_440_000);
+    assert!(rt; corner.units() == 10_226_112_921_600_000_000);
+    assert!(rt; corner.over() == 25_597_440_000);
     // A regular position: 20,000 * 20,000 units.
     let regular = plat.piece_area(section(14)?, 2, 1);
-    assert_eq!(rt; regular.units(), 400_000_000 * 25_597_440_000);
-    assert_eq!(rt; regular.over(), 25_597_440_000);
+    assert!(rt; regular.units() == 400_000_000 * 25_597_440_000);
+    assert!(rt; regular.over() == 25_597_440_000);
     Ok(())
 }
 
@@ -260,9 +256,8 @@ fn interpolates_all_positions(rt: HostRuntime) -> Result<(), Fail> {
                     let units = i128::try_from(area.units())?;
                     let expected = numerator.checked_mul(i128::from(area.over()));
                     assert_eq!(rt;
-                        units.checked_mul(denominator),
-                        expected,
-                        "section {tier} {range}, {column} {row}"
+                        (tier, range, column, row, units.checked_mul(denominator)),
+                        (tier, range, column, row, expected)
                     );
                 }
             }

@@ -13,10 +13,10 @@ fn keeps_more_steps_than_stand_beside_each_other(rt: HostRuntime) -> Result<(), 
         steps.push(Step::Quarter(Corner::NE))?;
     }
     steps.push(Step::Half(Side::W))?;
-    assert_eq!(rt; steps.len(), FINEST_STEPS + 2);
-    assert_eq!(rt; steps.get(0), Some(Step::Half(Side::S)));
-    assert_eq!(rt; steps.get(FINEST_STEPS), Some(Step::Quarter(Corner::NE)));
-    assert_eq!(rt; steps.get(FINEST_STEPS + 1), Some(Step::Half(Side::W)));
-    assert_eq!(rt; steps.get(FINEST_STEPS + 2), None);
+    assert!(rt; steps.len() == FINEST_STEPS + 2);
+    assert!(rt; steps.get(0) == Some(Step::Half(Side::S)));
+    assert!(rt; steps.get(FINEST_STEPS) == Some(Step::Quarter(Corner::NE)));
+    assert!(rt; steps.get(FINEST_STEPS + 1) == Some(Step::Half(Side::W)));
+    assert!(rt; steps.get(FINEST_STEPS + 2) == None);
     Ok(())
 }

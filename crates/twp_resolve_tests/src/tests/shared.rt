@@ -64,7 +64,7 @@ fn check_shared<L: Land>(alloc: Global, rt: &impl Abort) -> Result<(), Fail> {
     ];
     for (text, number, sharing) in rows {
         let section = Section::new(number).ok_or("a section")?;
-        assert_eq!(rt; shared::<L>(alloc, text, section)?, sharing, "of {text:?}");
+        assert_eq!(rt; (text, shared::<L>(alloc, text, section)?), (text, sharing));
     }
     Ok(())
 }

@@ -9,13 +9,13 @@ use twp_notes::read_up_to;
 fn keeps_what_it_gave(rt: HostRuntime) -> Result<(), Fail> {
     let mut source = Kept::new(rt.alloc(), Device::new(Reader::new(b"sec. 5").at_most(4)));
     let mut buffer = [0; 8];
-    assert_eq!(rt; source.kept(), Some(b"".as_slice()));
-    assert_eq!(rt; source.fill(&mut buffer[..2])?, 2);
-    assert_eq!(rt; source.kept(), Some(b"se".as_slice()));
-    assert_eq!(rt; source.fill(&mut buffer)?, 4);
-    assert_eq!(rt; source.kept(), Some(b"sec. 5".as_slice()));
-    assert_eq!(rt; source.fill(&mut buffer)?, 0);
-    assert_eq!(rt; source.kept(), Some(b"sec. 5".as_slice()));
+    assert!(rt; source.kept() == Some(b"".as_slice()));
+    assert!(rt; source.fill(&mut buffer[..2])? == 2);
+    assert!(rt; source.kept() == Some(b"se".as_slice()));
+    assert!(rt; source.fill(&mut buffer)? == 4);
+    assert!(rt; source.kept() == Some(b"sec. 5".as_slice()));
+    assert!(rt; source.fill(&mut buffer)? == 0);
+    assert!(rt; source.kept() == Some(b"sec. 5".as_slice()));
     assert!(rt; !source.failed());
     Ok(())
 }
@@ -25,10 +25,10 @@ fn keeps_nothing_of_a_call_that_fails(rt: HostRuntime) -> Result<(), Fail> {
     let reader = Reader::new(b"sec. 5").failing_at(2, ErrorKind::BrokenPipe);
     let mut source = Kept::new(rt.alloc(), Device::new(reader));
     let mut buffer = [0; 3];
-    assert_eq!(rt; source.fill(&mut buffer)?, 3);
+    assert!(rt; source.fill(&mut buffer)? == 3);
     assert!(rt; source.fill(&mut buffer).is_err());
     assert!(rt; source.failed());
-    assert_eq!(rt; source.kept(), Some(b"sec".as_slice()));
+    assert!(rt; source.kept() == Some(b"sec".as_slice()));
     Ok(())
 }
 
@@ -37,7 +37,7 @@ fn keeps_nothing_of_a_call_that_fails(rt: HostRuntime) -> Result<(), Fail> {
 fn keeps_more_than_there_was_room_for(rt: HostRuntime) -> Result<(), Fail> {
     let mut source = Kept::new(rt.alloc(), Device::new(Reader::endless(b'x')));
     let read = read_up_to(rt.alloc(), &mut source, 200_000)?;
-    assert_eq!(rt; read.len(), 200_000);
-    assert_eq!(rt; source.kept(), Some(read.as_slice()));
+    assert!(rt; read.len() == 200_000);
+    assert!(rt; source.kept() == Some(read.as_slice()));
     Ok(())
 }

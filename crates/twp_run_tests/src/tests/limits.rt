@@ -1,14 +1,13 @@
 //! Limits, and how far runs read: to one byte past a limit, and the second text only where the
 //! notes make a plat.
-use super::Said::{Acres, Refused};
+use super::Said::Refused;
 use super::example::Call;
-use super::{answer_to, expected};
+use super::expected;
 use std::alloc::Global;
 use std::test::Fail;
-use twp_acres::Verdict;
 use twp_devices::Reader;
 use twp_grid::{Bytes, Device};
-use twp_samples::{even, text_of, uneven, with_record};
+use twp_samples::{even, text_of, with_record};
 
 /// So many times the same byte.
 fn many(alloc: Global, byte: u8, count: usize) -> Result<Vec<u8>, Fail> {
@@ -31,7 +30,7 @@ fn reads_notes_to_their_limit(rt: HostRuntime) -> Result<(), Fail> {
             let mut lines = Device::new(reader);
             let mut second = Device::new(Reader::endless(b' '));
             let answer = call.answer(alloc, &mut lines, &mut second)?;
-            assert_eq!(rt; answer, expected(alloc, said)?, "{call:?}");
+            assert_eq!(rt; (call, answer), (call, expected(alloc, said)?));
             assert_eq!(rt; lines.get().given(), given);
             assert_eq!(rt; second.get().calls(), 0);
         }
@@ -55,7 +54,7 @@ fn reads_a_description_to_its_limit(rt: HostRuntime) -> Result<(), Fail> {
         ] {
             let mut text = Device::new(reader);
             let answer = call.answer(alloc, &mut Bytes::new(&notes), &mut text)?;
-            assert_eq!(rt; answer, expected(alloc, said)?, "{call:?}");
+            assert_eq!(rt; (call, answer), (call, expected(alloc, said)?));
             assert_eq!(rt; text.get().given(), given);
             assert_eq!(rt; text.get().calls(), calls);
         }
@@ -103,54 +102,9 @@ fn leaves_the_second_text_unread_without_a_plat(rt: HostRuntime) -> Result<(), F
         ] {
             let mut second = Device::new(Reader::new(b"sec. 14."));
             let answer = call.answer(alloc, &mut Bytes::new(notes), &mut second)?;
-            assert_eq!(rt; answer, expected(alloc, said)?, "{call:?}");
+            assert_eq!(rt; (call, answer), (call, expected(alloc, said)?));
             assert_eq!(rt; second.get().calls(), 0);
         }
-    }
-    Ok(())
-}
-
-#[test]
-fn takes_a_name_to_its_limit(rt: HostRuntime) -> Result<(), Fail> {
-    let alloc = rt.alloc();
-    let notes = uneven(alloc)?;
-    let longest = "A".repeat(alloc, 64)?;
-    let longer = "A".repeat(alloc, 65)?;
-    let account = format!(in alloc;
-        "tract {longest}: 39.18 acres\ntract B: 39.03 acres\n\
-        total: 78.20 acres\nremaining: 22959.37 acres\n"
-    )?;
-    let account = Vec::from_slice(alloc, account.as_bytes())?;
-    for (name, answer) in [
-        (longest, (account, Verdict::Accepted)),
-        (longer, expected(alloc, Refused(81, 2))?),
-    ] {
-        let list = format!(in alloc;
-            "name,description\n{name},\"sec. 7, lot 1.\"\nB,\"sec. 7, lot 4.\"\n"
-        )?;
-        let mut tracts = Bytes::new(list.as_bytes());
-        let report = Call::Report.answer(alloc, &mut Bytes::new(&notes), &mut tracts)?;
-        assert_eq!(rt; report, answer);
-    }
-    Ok(())
-}
-
-#[test]
-fn takes_numbers_to_their_limits(rt: HostRuntime) -> Result<(), Fail> {
-    let alloc = rt.alloc();
-    let even = even(alloc)?;
-    let farthest = with_record(alloc, &even, 2, b"T,99,N,99,W\n")?;
-    let farther = with_record(alloc, &even, 2, b"T,100,N,3,W\n")?;
-    // The longest length: a closing quarter of 99.999 - 40 - 20 = 39.999 chains.
-    let longest = text_of(alloc, &[(0, "40", "99.999")])?;
-    for (notes, description, said) in [
-        (farthest, "sec. 14.", Acres("640.00")),
-        (farther, "sec. 14.", Refused(5, 2)),
-        (longest, "sec. 14.", Refused(23, 0)),
-        (even, "sec. 9999.", Refused(62, 5)),
-    ] {
-        let answer = answer_to(alloc, &notes, description.as_bytes())?;
-        assert_eq!(rt; answer, expected(alloc, said)?, "{description}");
     }
     Ok(())
 }

@@ -25,7 +25,7 @@ fn check_three_quarters<L: Land>(alloc: Global, rt: &impl Abort) -> Result<(), F
     land.add(section, whole.quarter(Corner::SE).ok_or("a quarter")?);
     land.add(section, whole.half(Side::N).ok_or("a half")?);
     let text = spell(alloc, &land, township()?)?;
-    assert_eq!(rt; text[..], b"T. 2 N., R. 3 W.,\nsec. 14, N1/2, SE1/4.\n"[..]);
+    assert!(rt; text[..] == b"T. 2 N., R. 3 W.,\nsec. 14, N1/2, SE1/4.\n"[..]);
     Ok(())
 }
 
@@ -44,7 +44,7 @@ fn check_lots_beside_parts<L: Land>(alloc: Global, rt: &impl Abort) -> Result<()
     );
     let text = spell(alloc, &land, township()?)?;
     let line = b"T. 2 N., R. 3 W.,\nsec. 6, lots 1, 2, 3, 4, 5, S1/2NE1/4, SE1/4NW1/4.\n";
-    assert_eq!(rt; text[..], line[..]);
+    assert!(rt; text[..] == line[..]);
     Ok(())
 }
 
@@ -57,7 +57,7 @@ fn spells_lots_beside_parts(rt: HostRuntime) -> Result<(), Fail> {
 /// The empty land has no heading.
 fn check_the_empty_land<L: Land>(alloc: Global, rt: &impl Abort) -> Result<(), Fail> {
     let text = spell(alloc, &L::empty(), township()?)?;
-    assert_eq!(rt; text[..], b""[..]);
+    assert!(rt; text[..] == b""[..]);
     Ok(())
 }
 
@@ -76,10 +76,7 @@ fn check_lots_and_parts<L: Land>(alloc: Global, rt: &impl Abort) -> Result<(), F
     add_lot(&mut land, 5, 1)?;
     add_lot(&mut land, 5, 2)?;
     let text = spell(alloc, &land, township()?)?;
-    assert_eq!(rt;
-        text[..],
-        b"T. 2 N., R. 3 W.,\nsec. 5, lots 1, 2, 4, S1/2.\n"[..]
-    );
+    assert!(rt; text[..] == b"T. 2 N., R. 3 W.,\nsec. 5, lots 1, 2, 4, S1/2.\n"[..]);
     Ok(())
 }
 
@@ -97,7 +94,7 @@ fn check_several_sections<L: Land>(alloc: Global, rt: &impl Abort) -> Result<(),
     add_lot(&mut land, 1, 3)?;
     let text = spell(alloc, &land, township()?)?;
     let lines = b"T. 2 N., R. 3 W.,\nsec. 1, lot 3;\nsec. 6, all;\nsec. 36, all.\n";
-    assert_eq!(rt; text[..], lines[..]);
+    assert!(rt; text[..] == lines[..]);
     Ok(())
 }
 
@@ -139,9 +136,9 @@ fn check_lots_listed<L: Land>(alloc: Global, rt: &impl Abort) -> Result<(), Fail
         place = place.quarter(Corner::NE).ok_or("a place")?;
     }
     land.add(section, place);
-    assert_eq!(rt; held_lots(alloc, &land, section)?[..], [1][..]);
+    assert!(rt; held_lots(alloc, &land, section)?[..] == [1][..]);
     land.add(section, whole.quarter(Corner::NW).ok_or("a quarter")?);
-    assert_eq!(rt; held_lots(alloc, &land, section)?[..], [1, 3, 4, 5][..]);
+    assert!(rt; held_lots(alloc, &land, section)?[..] == [1, 3, 4, 5][..]);
     let other = Section::new(7).ok_or("a section")?;
     assert!(rt; held_lots(alloc, &land, other)?.is_empty());
     Ok(())

@@ -4,6 +4,8 @@ use Rattle.twp_acres.specs.Answers.{IsNoDescription}
 use Rattle.twp_findings.specs.Findings.{IfFound}
 use Rattle.twp_explain.specs.Refusals.{DescribeLand}
 use Rattle.twp_explain.proofs.FindingFacts.{land_is_none, none_of_land, of_land, of_description}
+use Rattle.twp_explain.specs.ToldPlaces.{IsToldWhereRefused}
+use Rattle.twp_explain.proofs.ShownFacts.{platted_tells_none}
 use Rattle.twp_explain.proofs.explaining.explain_land.Goals as goal
 
 pub returns-in-Err-clause-none : goal.returns-in-Err-clause-none
@@ -30,3 +32,8 @@ returns-in-Err-describe-clause-none c =
     (λ township. IfFound c.in-Err-describe.stop (IsNoDescription township c.args.description.now.bytes.now))
     c.township.ensures c.in-Err-describe.ensures.found))
     c.tell-in-Err-describe.ensures.none
+
+pub returns-in-Err-clause-spot : goal.returns-in-Err-clause-spot
+returns-in-Err-clause-spot c =
+    platted_tells_none c.tell.result c.args.notes.now.bytes.now c.in-Err.stop
+    (IsToldWhereRefused c.args.description.now) c.in-Err.ensures.found c.tell.ensures.found

@@ -1,0 +1,143 @@
+-- Where a refused description is shown and told, over plain values.
+use Rattle.std.proofs.Common.{◌≡◌, ◌<◌, ◌≤◌, ◌+◌, ◌⊎◌, ℕ, Bool, true, false, cond, List, Option, Some, None, Result, Ok}
+use Rattle.std.proofs.Common.{Err, min, length, drop, refl, sym, ap, subst, inl, inr, arith}
+use Rattle.std.specs.Prelude.{IfOk, IfSome, MatchOption}
+use Rattle.std.specs.List.{list_all}
+use Rattle.std.proofs.lemmas.List.Sums.{AllPass-from_list_all}
+use Rattle.twp_excerpt.specs.Spots.{is_white, end_of, line_of, column_of}
+use Rattle.twp_excerpt.specs.declared.spot.Spot.{Spot}
+use Rattle.twp_grid.specs.declared.refusal.Refusal.{Refusal}
+use Rattle.twp_hints.specs.Sights.{shown_place}
+use Rattle.twp_read.specs.TextFaults as text_faults
+use Rattle.twp_read.specs.declared.fault.TextFault.{TextFault}
+use Rattle.twp_read.specs.declared.fault.TextFault.TheVariants as faults
+use Rattle.twp_findings.specs.Findings.{IfFound, IsStopOf, IsOf}
+use Rattle.twp_findings.specs.ShownPlaces.{BeginsAt, ShowsAt, ShowsRefused, as_a_whole, there, at_the_end}
+use Rattle.twp_findings.specs.ShownPlaces.{IfShown, TOO_LARGE}
+use Rattle.twp_findings.specs.Spots.{MOST_BYTES, in_file, IsSpotIn, IsSpotAt, IsSpotOf}
+use Rattle.twp_findings.specs.declared.explanation.Explanation.{Explanation}
+use Rattle.twp_findings.specs.declared.explanation.Given.{Given}
+use Rattle.twp_findings.specs.declared.finding.Finding.{Finding}
+use Rattle.twp_findings.specs.declared.finding.Place.{Place}
+use Rattle.twp_findings.specs.declared.finding.Stop.{Stop}
+use Rattle.twp_findings.specs.declared.finding.Stop.TheVariants as stop
+use Rattle.twp_acres.specs.Answers.{MakePlat, IsNoPlat}
+use Rattle.twp_acres.proofs.OneAnswer.{not_platted}
+use Rattle.twp_explain.specs.ToldPlaces.{IsSpotOfStop, IsSpotRefused, IsToldWhereRefused}
+
+-- ---- what was found of a description shows where it is refused
+
+begins_refused : (bytes : List ℕ) (refusal : Refusal) (place : Place) (ends : Bool)
+    → list_all is_white (drop refusal.at bytes) ≡ ends
+    → BeginsAt bytes (cond ends (end_of bytes) refusal.at) place → ShowsRefused bytes refusal place
+begins_refused bytes refusal place true ends begins =
+    at_the_end (AllPass-from_list_all is_white (drop refusal.at bytes) ends) begins
+begins_refused bytes refusal place false ends begins = there begins
+
+-- the number of a refusal, if there is one
+abbrev number_of : Option Refusal → ℕ
+number_of None = 0
+number_of (Some refusal) = refusal.number
+
+shows_refused : (bytes : List ℕ) (fault : TextFault) (refusal : Refusal) (place : Place)
+    → text_faults.refusal_of fault ≡ Some refusal
+    → ShowsAt bytes fault (shown_place bytes refusal.at) place → ShowsRefused bytes refusal place
+shows_refused bytes faults.TooLarge refusal place is shows = as_a_whole (sym (ap number_of is)) shows
+shows_refused bytes (faults.BadByte at_) refusal place is shows =
+    begins_refused bytes refusal place (list_all is_white (drop refusal.at bytes)) refl shows
+shows_refused bytes (faults.BadNumber at_) refusal place is shows =
+    begins_refused bytes refusal place (list_all is_white (drop refusal.at bytes)) refl shows
+shows_refused bytes (faults.Syntax at_ expected) refusal place is shows =
+    begins_refused bytes refusal place (list_all is_white (drop refusal.at bytes)) refl shows
+shows_refused bytes faults.Memory refusal place is shows =
+    begins_refused bytes refusal place (list_all is_white (drop refusal.at bytes)) refl shows
+
+pub text_shown : {Error : Type 0} (Is : Type 0) (found : Result Finding Error) (stopped : Stop)
+    (bytes : List ℕ) (fault : TextFault) (refusal : Refusal)
+    → text_faults.refusal_of fault ≡ Some refusal → IsStopOf found stopped
+    → IfOk found (λ finding. finding.refusal ≡ refusal)
+    → IfOk found (λ finding. Is → ShowsAt bytes fault (shown_place bytes refusal.at) finding.place)
+    → Is → IfShown bytes stopped
+text_shown Is (Ok finding) stopped bytes fault refusal has stop_is same shows is =
+    subst (IfShown bytes) (sym stop_is)
+    (subst (λ (r : Refusal). ShowsRefused bytes r finding.place) (sym same)
+    (shows_refused bytes fault refusal finding.place has (shows is)))
+text_shown Is (Err error) stopped bytes fault refusal has stop_is same shows is =
+    subst (IfShown bytes) (sym stop_is) tt
+
+pub items_shown : {Error : Type 0} (Is : Type 0) (found : Result Finding Error) (stopped : Stop)
+    (bytes : List ℕ) (refusal : Refusal)
+    → IsStopOf found stopped → IfOk found (λ finding. finding.refusal ≡ refusal)
+    → IfOk found (λ finding. Is → BeginsAt bytes refusal.at finding.place) → Is → IfShown bytes stopped
+items_shown Is (Ok finding) stopped bytes refusal stop_is same begins is =
+    subst (IfShown bytes) (sym stop_is)
+    (subst (λ (r : Refusal). ShowsRefused bytes r finding.place) (sym same) (there (begins is)))
+items_shown Is (Err error) stopped bytes refusal stop_is same begins is =
+    subst (IfShown bytes) (sym stop_is) tt
+
+-- ---- what is shown there is told of there
+
+same_spot : (file : Given) (at at' : ℕ) (spot : Spot) → in_file file at ≡ in_file file at'
+    → IsSpotIn file at spot → IsSpotIn file at' spot
+same_spot file at at' spot same is = record {
+  line =
+      subst (λ n. line_of file.bytes.now n + file.first_line ≤ 4294967295
+      → spot.line + 1 ≡ line_of file.bytes.now n + file.first_line) same is.line;
+  column = subst (λ n. spot.column ≡ column_of file.bytes.now n) same is.column;
+}
+
+told_at : (file : Given) (refusal : Refusal) (place : Place) (spot : Option Spot) (at : ℕ)
+    → BeginsAt file.bytes.now at place → ((s : Spot) → IsSpotIn file at s → IsSpotRefused file refusal s)
+    → IsSpotOf file place spot
+    → MatchOption spot ((refusal.number ≡ TOO_LARGE) ⊎ (MOST_BYTES < length file.bytes.now))
+    (IsSpotRefused file refusal)
+told_at file refusal place spot at begins refused is =
+    go spot (subst (λ (p : Place). IsSpotOf file p spot) begins.is_part is)
+  where
+    go : (s : Option Spot) → IsSpotAt file begins.span.start s
+        → MatchOption s ((refusal.number ≡ TOO_LARGE) ⊎ (MOST_BYTES < length file.bytes.now))
+        (IsSpotRefused file refusal)
+    go None long = inr long
+    go (Some s) here =
+        let starts : begins.span.start ≡ min at (length file.bytes.now) = begins.starts in
+        refused s (same_spot file begins.span.start at s (omega arith) here)
+
+told_refused : (file : Given) (refusal : Refusal) (place : Place) (spot : Option Spot)
+    → ShowsRefused file.bytes.now refusal place → IsSpotOf file place spot
+    → MatchOption spot ((refusal.number ≡ TOO_LARGE) ⊎ (MOST_BYTES < length file.bytes.now))
+    (IsSpotRefused file refusal)
+told_refused file refusal place spot (as_a_whole large whole) is =
+    let none : spot ≡ None = subst (λ (p : Place). IsSpotOf file p spot) whole is in
+    subst (λ (s : Option Spot). MatchOption s
+    ((refusal.number ≡ TOO_LARGE) ⊎ (MOST_BYTES < length file.bytes.now)) (IsSpotRefused file refusal))
+    (sym none) (inl large)
+told_refused file refusal place spot (there begins) is =
+    told_at file refusal place spot refusal.at begins (λ s here. inl here) is
+told_refused file refusal place spot (at_the_end white begins) is =
+    told_at file refusal place spot (end_of file.bytes.now) begins (λ s here. inr (white, here)) is
+
+pub told_where : (file : Given) (stopped : Stop) (explanation : Explanation)
+    → IfShown file.bytes.now stopped → IsOf stopped explanation.refusal
+    → IsSpotOfStop file stopped explanation → IsToldWhereRefused file explanation
+told_where file (stop.Found finding) explanation shown of spot =
+    told_refused file explanation.refusal finding.place explanation.spot
+    (subst (λ (r : Refusal). ShowsRefused file.bytes.now r finding.place) spot.0 shown) spot.1
+told_where file stop.Memory explanation shown of spot = absurd of
+
+-- what was found is of the refusal that is told
+pub found_is : (Is : Refusal → Type 0) (stopped : Stop) (refusal : Refusal) → IfFound stopped Is
+    → IsOf stopped refusal → Is refusal
+found_is Is (stop.Found finding) refusal found of = subst Is of found
+found_is Is stop.Memory refusal found of = absurd of
+
+-- of notes that make a plat nothing is told
+pub platted_tells_none : {Error : Type 0} (result : Result (Option Explanation) Error) (bytes : List ℕ)
+    (stopped : Stop) (Told : Explanation → Type 0)
+    → IfFound stopped (IsNoPlat bytes)
+    → IfOk result (λ told. IfSome told (λ explanation. IsOf stopped explanation.refusal))
+    → MakePlat bytes → IfOk result (λ told. IfSome told Told)
+platted_tells_none (Ok (Some explanation)) bytes stopped Told found of (plat, are) =
+    absurd (not_platted bytes explanation.refusal plat
+    (found_is (IsNoPlat bytes) stopped explanation.refusal found of) are)
+platted_tells_none (Ok None) bytes stopped Told found of makes = tt
+platted_tells_none (Err error) bytes stopped Told found of makes = tt

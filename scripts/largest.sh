@@ -1,0 +1,154 @@
+#!/bin/sh
+# Runs ./township, or the program that is named, on the largest input that there may be, and on input that is one
+# more: descriptions, canonical texts, lists of tracts, names of tracts. It compares the answer and the status of
+# each run. The last line is 'N passed, 0 failed'.
+set -u
+ulimit -f 4000
+ulimit -t 20
+root=$(readlink -f "$(dirname "$0")/..")
+program=$(readlink -f "${1:-./township}")
+even=$root/samples/b0.csv
+work=$(mktemp -d)
+trap 'rm -rf "$work"' EXIT
+cd "$work" || exit 1
+passed=0
+failed=0
+
+# Runs the program with these words; it is to end with this status, and with what the file `wanted` has as the
+# last lines of its answer.
+ends() {
+    what=$1 wanted_status=$2
+    shift 2
+    "$program" "$@" > out 2> err
+    status=$?
+    if [ "$status" = "$wanted_status" ] && tail -n "$(wc -l < wanted)" out | cmp -s wanted -; then
+        passed=$((passed + 1))
+        return
+    fi
+    failed=$((failed + 1))
+    echo "FAILED: $what: status $status for $wanted_status; wanted, and the end of what was found:"
+    tail -c 1000 wanted
+    tail -c 1000 out
+}
+# The same of an answer, and of a refusal, to the even township's notes and the file `input`, or another one.
+is_answered() { printf '%b\n' "$2" > wanted; ends "$1" 0 "$3" "$even" "${4:-input}"; }
+is_refused() { printf '%b\n' "$2" > wanted; ends "$1" 1 "$3" "$even" "${4:-input}"; }
+many() { head -c "$1" /dev/zero | tr '\0' "$2"; }
+
+# So many places of sections 8 and 9, each another one, behind a text: five eighths of an acre each.
+places='
+    function place(n) {
+        return corner[int(n / 256) % 4] corner[int(n / 64) % 4] corner[int(n / 16) % 4] corner[int(n / 4) % 4] \
+            corner[n % 4]
+    }
+    BEGIN { split("NE1/4 NW1/4 SW1/4 SE1/4", c, " "); for (i = 0; i < 4; i++) corner[i] = c[i + 1] }'
+
+# A list of so many tracts, at most 1,024, each a place of section 8. 991 of them have 619.375 acres, a tie.
+tracts() {
+    awk -v count="$1" "$places"'
+        BEGIN {
+            print "name,description"
+            for (n = 0; n < count; n++) printf "%s,\"sec. 8, %s.\"\n", n, place(n)
+        }'
+}
+for row in '990 618.75 22421.25' '991 619.38 22420.63' '992 620.00 22420.00' '999 624.38 22415.63' \
+    '1000 625.00 22415.00'; do
+    read -r count total remaining << END
+$row
+END
+    tracts "$count" > input
+    is_answered "$count tracts" "total: $total acres\nremaining: $remaining acres" report
+    if [ "$(wc -l < out)" = $((count + 2)) ]; then passed=$((passed + 1)); else failed=$((failed + 1)); fi
+done
+# One more is refused, whatever it is: another place, one without a name, no tract.
+tracts 1001 > input
+is_refused '1,001 tracts' 'refused 85 at 1002' report
+(tracts 1000; echo ',sec. 12.') > input
+is_refused 'a nameless one more' 'refused 85 at 1002' report
+(tracts 1000; echo 'too,many,fields') > input
+is_refused 'one more record' 'refused 85 at 1002' report
+
+# Names of 1 to 64 bytes, none of them a control character or beyond ASCII.
+account='tract %s: 640.00 acres\ntotal: 640.00 acres\nremaining: 22400.00 acres'
+for name in ' ' "$(many 64 '~')"; do
+    printf 'name,description\n%s,sec. 14.\n' "$name" > input
+    is_answered "a name of ${#name} bytes" "$(printf "$account" "$name")" report
+done
+for name in '' "$(many 65 '~')" 'A\177' 'A\037' '\303\251'; do
+    printf 'name,description\n%b,sec. 14.\n' "$name" > input
+    is_refused "the name $name" 'refused 81 at 2' report
+done
+
+# A tract's description has 65,536 bytes at most, and a list 1,048,576; empty lines are no records.
+(printf 'name,description\nA,sec. 14.'; many $((65536 - 8)) ' ') > input
+is_answered 'the longest description' "$(printf "$account" A)" report
+(printf 'name,description\nA,sec. 14.'; many $((65537 - 8)) ' ') > input
+is_refused 'a longer description' 'refused 83 at 2\nrefused 41 at 65536' report
+(printf 'name,description\n'; many $((1048576 - 17)) '\n') > input
+is_answered 'the longest list' 'total: 0.00 acres\nremaining: 23040.00 acres' report
+(printf 'name,description\n'; many $((1048577 - 17)) '\n') > input
+is_refused 'a longer list' 'refused 80 at 1048576' report
+
+# A description that names each place of two sections, 2 times 1,024 of five eighths of an acre, and has white
+# space up to the limit of 65,536 bytes; and one that names the first place of section 9 for its last one too.
+each_place() {
+    awk -v last="$1" "$places"'
+        BEGIN {
+            for (s = 8; s <= 9; s++) {
+                text = text (s == 8 ? "" : "; ") "sec. " s
+                for (n = 0; n < 1024; n++) {
+                    text = text ", "
+                    if (s == 9 && n == 1023 && last == "again") { again = length(text); n = 0 + 1024 }
+                    text = text place(n)
+                }
+            }
+            printf "%s%*s", text, 65536 - length(text), ""
+            print length(text) > "named"
+            print again > "again"
+        }'
+}
+each_place once > input
+is_answered 'each place of two sections' '1280.00 acres' acres
+each_place again > twice
+is_refused 'one of them again' "refused 67 at $(cat again)" acres twice
+
+# The canonical text of a chessboard of these sections, of which the dark squares of this depth are held: of each
+# four the north-western and the south-eastern one, so that no half is full. The greatest quarter comes last.
+chessboard() {
+    awk -v sections="$1" -v depth="$2" '
+        BEGIN {
+            count = split(sections, section, " ")
+            split("NE NW SW SE", quarter, " ")
+            printf "T. 2 N., R. 3 W.,"
+            for (i = 1; i <= count; i++) {
+                printf "%s\nsec. %s", i == 1 ? "" : ";", section[i]
+                for (four = 0; four < 4 ^ (depth - 1); four++)
+                    for (dark = 2; dark <= 4; dark += 2) {
+                        printf ", %s1/4", quarter[dark]
+                        for (n = 1; n < depth; n++)
+                            printf "%s1/4", quarter[int(four / 4 ^ (n - 1)) % 4 + 1]
+                    }
+            }
+            print "."
+        }'
+}
+# A section has 128 dark squares of 20 bytes, with 127 times 2 between them, and with `sec. 14, ` and the end of
+# its line 2,825 bytes, or 2,824 with a number of one digit; the heading has 18. Of places it has 512 of 25 bytes,
+# and with what stands between and around them 13,833 or 13,832. A text of more than 65,536 is no description.
+regular='8 9 10 11 12 13 14 15 16 17 20 21 22 23 24 25 26 27 28 29 32 33 34'
+for row in "64991:4:$regular" "70641:4:$regular 35 36" '55348:5:8 9 10 11' '69181:5:8 9 10 11 12'; do
+    size=${row%%:*} rest=${row#*:}
+    chessboard "${rest#*:}" "${rest%%:*}" > wanted
+    sed 's/1\/4/¼/g; s/ //g' wanted > short
+    ends "a chessboard of $size bytes" 0 normal "$even" short
+    if [ "$(wc -c < out)" = "$size" ]; then passed=$((passed + 1)); else failed=$((failed + 1)); fi
+    cp wanted again
+    if [ "$size" -le 65536 ]; then
+        ends 'its canonical text' 0 normal "$even" again
+    else
+        is_refused 'its canonical text, which is too long' 'refused 41 at 65536' normal again
+    fi
+done
+
+echo "$passed passed, $failed failed"
+[ "$failed" = 0 ]
