@@ -97,7 +97,10 @@ fn reads_long_notes(rt: HostRuntime) -> Result<(), Fail> {
         // The last one has 60,000 + 41 * 135 = 65,535 bytes.
         let length = 60_000 + 41 * step;
         text.resize(length, b'\n')?;
-        assert_eq!(rt; (length, read(alloc, text.as_slice())? == notes), (length, true));
+        assert_eq!(rt;
+            (length, read(alloc, text.as_slice())? == notes),
+            (length, true)
+        );
     }
     Ok(())
 }

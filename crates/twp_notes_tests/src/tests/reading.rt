@@ -12,7 +12,10 @@ fn reads_pieces_of_any_size(rt: HostRuntime) -> Result<(), Fail> {
     let text = text_of(alloc, &notes)?;
     for most in [1, 2, 3, 7, 1_000] {
         let mut source = Device::new(Reader::new(&text).at_most(most));
-        assert_eq!(rt; (most, Notes::read(alloc, &mut source)? == notes), (most, true));
+        assert_eq!(rt;
+            (most, Notes::read(alloc, &mut source)? == notes),
+            (most, true)
+        );
     }
     Ok(())
 }
