@@ -1,2 +1,0 @@
-mod land;
-mod lots;
