@@ -1,18 +1,17 @@
 -- From line ends that don't look as if they stood between steps to steps that aren't joined.
 use Rattle.std.proofs.Common.{◌≡◌, ℕ, zero, suc, ◌+◌, ◌-◌, ◌*◌, ◌/◌, ◌^◌, ◌<◌, ◌≤◌, Bool, true, false, not}
-use Rattle.std.proofs.Common.{◌&&◌, ◌||◌, cond, List, [], ◌∷◌, ◌++◌, map, length, take, drop}
-use Rattle.std.proofs.Common.{slice_index, Any, refl, sym, ap, subst, ◌∙◌, arith, true≢false, mul_comm, inl, inr}
+use Rattle.std.proofs.Common.{◌&&◌, ◌||◌, ◌==◌, cond, List, [], ◌∷◌, ◌++◌, map, length, take, drop}
+use Rattle.std.proofs.Common.{slice_index, refl, sym, ap, subst, ◌∙◌, arith, true≢false, mul_comm, inl, inr}
 use Rattle.std.proofs.Common.{take-append-drop, length-append, length-drop, length-take-le, div-one, pow-suc}
 use Rattle.std.proofs.Common.{take_at, drop_at, get_or-append-add, get_or-drop, get_or-take, drop-drop}
 use native.Mathlib.Nat.{zero-div, div-div-eq-div-mul}
 use Rattle.std.specs.List.{AllPass, list_any, prefix_len}
-use Rattle.std.proofs.lemmas.Bool.{cases_lt, and_parts, or_cases, eqb-true, false_from_ne_true}
-use Rattle.std.proofs.lemmas.List.{drop-take, drop-map, get_or_append_left, append_assoc, get_or_read}
+use Rattle.std.proofs.lemmas.Bool.{cases_lt, and_parts, or_cases, or_left, or_right, eqb-true}
+use Rattle.std.proofs.lemmas.Bool.{false_from_ne_true}
+use Rattle.std.proofs.lemmas.List.{drop-take, drop-map, get_or_append_left, append_assoc}
 use Rattle.std.proofs.lemmas.List.Elements.{All-drop}
 use Rattle.std.proofs.lemmas.Simd.{length-chunk, trailing_mask_l, none_from_empty_mask, run_in_chunk_fails}
-use Rattle.std.proofs.lemmas.List.Folds.{Any-from_list_any}
-use Rattle.std.specs.Char.{is_ascii_whitespace}
-use Rattle.std.specs.Str.{IsTrimAsciiEnd, str_to_ascii_lowercase}
+use Rattle.std.specs.Str.{str_to_ascii_lowercase}
 use lib.Count.{count_trailing_zeros}
 use lib.Lanes.{mask_l, chunk}
 use Rattle.twp_grammar.specs.declared.kind.Kind.{Kind}
@@ -23,7 +22,7 @@ use Rattle.twp_grammar.specs.Tokens.{a_quarter, a_quarter_sign, a_comma, a_semic
 use Rattle.twp_grammar.proofs.TokenFacts.{has_token_list, one_token_list}
 use Rattle.twp_marks.specs.JoinedSteps.{ends_step, begins_step, has_line_feed, end_of, bytes_between}
 use Rattle.twp_marks.specs.JoinedSteps.{are_joined, NoneJoined, HasNoJoinedStep}
-use Rattle.twp_marks.specs.steps.LineEnds.{is_line_feed, is_step_end, EndLikeStep, BeginWithStep}
+use Rattle.twp_marks.specs.steps.LineEnds.{is_line_feed, is_step_end, is_blank, EndLikeStep, BeginWithStep}
 use Rattle.twp_marks.specs.steps.LineEnds.{LooksBetweenSteps, NoneBetweenSteps, first_begins_step}
 
 -- ---- from one stretch of a text to the next
@@ -232,20 +231,20 @@ last_byte text at bytes token rest left s some =
     ∙ get_or-append-add s.space (token.text ++ rest) last 0
     ∙ get_or_append_left token.text rest 0 last (omega arith)
 
--- a step ends before a place, and white space lies between
+-- a step ends before a place, and blanks lie between
 ends_before : (text : List ℕ) (end place : ℕ) → 0 < end → end ≤ place → place ≤ length text
     → is_step_end (slice_index text (end - 1)) ≡ true
-    → ((k : ℕ) → end ≤ k → k < place → is_white (slice_index text k) ≡ true)
+    → ((k : ℕ) → end ≤ k → k < place → is_blank (slice_index text k) ≡ true)
     → EndLikeStep (take place text)
-ends_before text end place some order within ends white =
+ends_before text end place some order within ends blank =
     let long : length (take place text) ≡ place = length-take-le place text within in
     record {
       at = end - 1;
       within = omega arith;
       ends = subst (λ b. is_step_end b ≡ true) (sym (get_or-take place text (end - 1) 0 (omega arith))) ends;
-      white = λ k low high.
-          subst (λ b. is_white b ≡ true) (sym (get_or-take place text k 0 (omega arith)))
-          (white k (omega arith) (omega arith));
+      blank = λ k low high.
+          subst (λ b. is_blank b ≡ true) (sym (get_or-take place text k 0 (omega arith)))
+          (blank k (omega arith) (omega arith));
     }
 
 -- a token that white space comes before, from within that space on
@@ -287,20 +286,64 @@ between_is_space text at bytes token rest left s =
     ∙ ap (take (length s.space)) (sym left ∙ s.spelled)
     ∙ take_at s.space (token.text ++ rest) (length s.space) refl
 
--- at a line feed before the second of two steps, the text looks as if it stood between steps
+-- white space that is no line feed
+blank_in_line : (byte : ℕ) → is_white byte ≡ true → is_line_feed byte ≡ false → is_blank byte ≡ true
+blank_in_line byte white inside = elim (or_cases _ _ white) [
+  | inl more ↦ elim (or_cases _ _ more) [
+    | inl blanks ↦ or_left ((byte == 32) || (byte == 9)) (byte == 13) blanks
+    | inr feed ↦ absurd (true≢false (sym feed ∙ inside))
+  ]
+  | inr return ↦ or_right ((byte == 32) || (byte == 9)) (byte == 13) return
+]
+
+-- the first line feed among some bytes
+record IsFirstFeed (bytes : List ℕ) : Type 0 where
+  at : ℕ
+  within : at < length bytes
+  feed : is_line_feed (slice_index bytes at) ≡ true
+  before : (k : ℕ) → k < at → is_line_feed (slice_index bytes k) ≡ false
+
+first_feed_of : (x : ℕ) (xs : List ℕ) (here : Bool) → is_line_feed x ≡ here
+    → (here || has_line_feed xs) ≡ true → (has_line_feed xs ≡ true → IsFirstFeed xs)
+    → IsFirstFeed (x ∷ xs)
+first_feed_of x xs true is some more = record {
+  at = 0;
+  within = omega arith;
+  feed = is;
+  before = λ k below. absurd (omega arith);
+}
+first_feed_of x xs false is some more =
+    let first : IsFirstFeed xs = more some in
+    record {
+      at = suc first.at;
+      within = let within = first.within in omega arith;
+      feed = first.feed;
+      before = before_it first;
+    }
+  where
+    before_it : (f : IsFirstFeed xs) (k : ℕ) → k < suc f.at → is_line_feed (slice_index (x ∷ xs) k) ≡ false
+    before_it f zero below = is
+    before_it f (suc k) below = f.before k (omega arith)
+
+first_feed : (bytes : List ℕ) → has_line_feed bytes ≡ true → IsFirstFeed bytes
+first_feed [] some = absurd (true≢false (sym some))
+first_feed (x ∷ xs) some = first_feed_of x xs (is_line_feed x) refl some (first_feed xs)
+
+-- at the first line feed before the second of two steps, the text looks as if it stood between steps
 looks_so : (text : List ℕ) (end : ℕ) (bytes : List ℕ) (next : Token) (rest : List ℕ) (more : List Token)
     (j : ℕ)
     → bytes ≡ drop end text → (s : StartsWith end bytes next rest) → HasTokens (end_of next) rest more
     → 0 < end → is_step_end (slice_index text (end - 1)) ≡ true → begins_step next.kind ≡ true
-    → j < length s.space → end + j < length text → LooksBetweenSteps text (end + j)
-looks_so text end bytes next rest more j left s has some ends begins within inside = record {
+    → j < length s.space → ((k : ℕ) → k < j → is_line_feed (slice_index s.space k) ≡ false)
+    → end + j < length text → LooksBetweenSteps text (end + j)
+looks_so text end bytes next rest more j left s has some ends begins within first inside = record {
   ends =
       ends_before text end (end + j) some (omega arith) (omega arith) ends (λ k low high.
       let m : ℕ = k - end in
       let is : end + m ≡ k = omega arith in
-      subst (λ p. is_white (slice_index text p) ≡ true) is
-      (subst (λ b. is_white b ≡ true) (sym (in_space text end bytes next rest left s m (omega arith)))
-      (s.white m 0 (omega arith))));
+      subst (λ p. is_blank (slice_index text p) ≡ true) is
+      (subst (λ b. is_blank b ≡ true) (sym (in_space text end bytes next rest left s m (omega arith)))
+      (blank_in_line (slice_index s.space m) (s.white m 0 (omega arith)) (first m (omega arith)))));
   begins = record {
     tokens = next ∷ more;
     cut = (
@@ -325,21 +368,20 @@ apart text at bytes token next rest rest' more left none s s' has joined =
     let steps = and_parts (ends_step token.kind) (begins_step next.kind) both.0 in
     let left' : rest ≡ drop end text = behind text at bytes token rest left s in
     let last : EndsStep token.text = step_end token.text rest token.kind s.is steps.0 in
-    let feed : Any (λ byte. is_line_feed byte ≡ true) s'.space =
-    Any-from_list_any is_line_feed s'.space
+    let first : IsFirstFeed s'.space =
+    first_feed s'.space
     (ap has_line_feed (sym (between_is_space text end rest next rest' left' s')) ∙ both.1) in
-    let j : ℕ = feed.0 in
+    let j : ℕ = first.at in
     let long : length rest ≡ length s'.space + length (next.text ++ rest') =
     ap length s'.spelled ∙ length-append s'.space (next.text ++ rest') in
     let whole : length rest ≡ length text - end = ap length left' ∙ length-drop end text in
-    let inside : end + j < length text = let within = feed.2 in omega arith in
+    let inside : end + j < length text = let within = first.within in omega arith in
     let some : 0 < end = let own = last.0 in omega arith in
-    let is : slice_index text (end + j) ≡ feed.1 =
-    in_space text end rest next rest' left' s' j feed.2
-    ∙ sym (get_or_read s'.space j feed.1 feed.2 (sym feed.3) 0) in
-    none (end + j) (omega arith) inside (ap is_line_feed is ∙ feed.4)
+    none (end + j) (omega arith) inside
+    (ap is_line_feed (in_space text end rest next rest' left' s' j first.within) ∙ first.feed)
     (looks_so text end rest next rest' more j left' s' has some
-    (ap is_step_end (last_byte text at bytes token rest left s last.0) ∙ last.1) steps.1 feed.2 inside)
+    (ap is_step_end (last_byte text at bytes token rest left s last.0) ∙ last.1) steps.1 first.within
+    first.before inside)
 
 none_joined_from : (text : List ℕ) (at : ℕ) (bytes : List ℕ) (tokens : List Token)
     → bytes ≡ drop at text → NoneBetweenSteps text 0 (length text) → HasTokens at bytes tokens
@@ -363,19 +405,7 @@ none_joined text none =
 
 -- ---- what the looks at both sides answer
 
-white_is_ascii : (byte : ℕ) → is_white byte ≡ true → is_ascii_whitespace byte ≡ true
-white_is_ascii byte h = elim (or_cases _ _ h) [
-  | inl more ↦ elim (or_cases _ _ more) [
-    | inl blanks ↦ elim (or_cases _ _ blanks) [
-      | inl space ↦ rw (eqb-true byte 32 space) refl
-      | inr tab ↦ rw (eqb-true byte 9 tab) refl
-    ]
-    | inr feed ↦ rw (eqb-true byte 10 feed) refl
-  ]
-  | inr return ↦ rw (eqb-true byte 13 return) refl
-]
-
-step_end_is_dark : (byte : ℕ) → is_step_end byte ≡ true → is_ascii_whitespace byte ≡ false
+step_end_is_dark : (byte : ℕ) → is_step_end byte ≡ true → is_blank byte ≡ false
 step_end_is_dark byte h = elim (or_cases _ _ h) [
   | inl more ↦ elim (or_cases _ _ more) [
     | inl digits ↦ elim (or_cases _ _ digits) [
@@ -387,34 +417,48 @@ step_end_is_dark byte h = elim (or_cases _ _ h) [
   | inr half ↦ rw (eqb-true byte 0xBD half) refl
 ]
 
--- what is left without the white space at the end ends with the step's last byte
-pub record KeepsStepEnd (kept : List ℕ) : Type 0 where
-  pub some : 0 < length kept
-  pub ends : is_step_end (slice_index kept (length kept - 1)) ≡ true
+-- from a place on there are blanks alone
+pub record BlankFrom (bytes : List ℕ) (end : ℕ) : Type 0 where
+  pub within : end ≤ length bytes
+  pub blank : (k : ℕ) → end ≤ k → k < length bytes → is_blank (slice_index bytes k) ≡ true
 
-pub keeps_step_end : (bytes kept : List ℕ) → IsTrimAsciiEnd bytes kept → EndLikeStep bytes
-    → KeepsStepEnd kept
-keeps_step_end bytes kept (n, is, long, within, white, dark) e =
-    let here : e.at < n = elim (cases_lt e.at n) [
-      | inl below ↦ below
-      | inr above ↦
-          absurd (true≢false (sym (white e.at above e.within) ∙ step_end_is_dark (slice_index bytes e.at) e.ends))
-    ] in
-    let last : n - 1 ≤ e.at = elim (cases_lt e.at (n - 1)) [
-      | inl below ↦
-          absurd (true≢false (sym (white_is_ascii (slice_index bytes (n - 1)) (e.white (n - 1) below (omega arith)))
-          ∙ dark (omega arith)))
-      | inr above ↦ above
-    ] in
-    let at : length kept - 1 ≡ e.at = omega arith in
+pub blank_start : (bytes : List ℕ) → BlankFrom bytes (length bytes)
+blank_start bytes = record { within = omega arith; blank = λ k low high. absurd (omega arith) }
+
+pub blank_more : (bytes : List ℕ) (end : ℕ) → BlankFrom bytes end → 0 < end
+    → is_blank (slice_index bytes (end - 1)) ≡ true → BlankFrom bytes (end - 1)
+blank_more bytes end from some here =
+    let within : end ≤ length bytes = from.within in
     record {
-      some = omega arith;
-      ends =
-          subst (λ b. is_step_end b ≡ true)
-          (sym (ap (slice_index kept) at ∙ ap (λ l. slice_index l e.at) is
-          ∙ get_or-take n bytes e.at 0 here))
-          e.ends;
+      within = omega arith;
+      blank = λ k low high. elim (cases_lt k end) [
+        | inl below ↦
+            let is : end - 1 ≡ k = omega arith in
+            subst (λ p. is_blank (slice_index bytes p) ≡ true) is here
+        | inr above ↦ from.blank k above high
+      ];
     }
+
+pub ends_within : (bytes : List ℕ) (end : ℕ) → BlankFrom bytes end → (e : EndLikeStep bytes) → e.at < end
+ends_within bytes end from e = elim (cases_lt e.at end) [
+  | inl below ↦ below
+  | inr above ↦
+      absurd (true≢false (sym (from.blank e.at above e.within)
+      ∙ step_end_is_dark (slice_index bytes e.at) e.ends))
+]
+
+pub ends_there : (bytes : List ℕ) (end : ℕ) → BlankFrom bytes end → 0 < end
+    → is_blank (slice_index bytes (end - 1)) ≡ false → EndLikeStep bytes
+    → is_step_end (slice_index bytes (end - 1)) ≡ true
+ends_there bytes end from some dark e =
+    let below : e.at < end = ends_within bytes end from e in
+    let within : end ≤ length bytes = from.within in
+    elim (cases_lt e.at (end - 1)) [
+      | inl before ↦ absurd (true≢false (sym (e.blank (end - 1) before (omega arith)) ∙ dark))
+      | inr last ↦
+          let is : e.at ≡ end - 1 = omega arith in
+          subst (λ p. is_step_end (slice_index bytes p) ≡ true) is e.ends
+    ]
 
 -- the first token of bytes that begin with a step begins one
 pub first_begins : (at : ℕ) (bytes : List ℕ) (token : Token) (rest : List ℕ)

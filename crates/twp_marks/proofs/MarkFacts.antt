@@ -16,7 +16,8 @@ use Rattle.twp_grammar.specs.Items.{Tree, tokens, ◌&◌}
 use Rattle.twp_grammar.proofs.TokenFacts.{one_token_list, has_token_list}
 use Rattle.twp_marks.specs.Marks.{tokens_from, span, span_of, first_of, end_of, AreLongestPart}
 use Rattle.twp_marks.specs.Marks.{BeginWithPart, AreMarked, a_part, a_token, IsTokenSpan, IsChainSpan}
-use Rattle.twp_marks.specs.steps.Marking.{AreLeft, HaveSameFrom, GivesFirstOf, end_of_left, is_step, is_of, is_the}
+use Rattle.twp_marks.specs.steps.Marking.{AreLeft, HaveSameFrom, GivesFirstOf, end_of_left, is_step, is_of}
+use Rattle.twp_marks.specs.steps.Marking.{is_the}
 use Rattle.twp_marks.specs.steps.Marking.{behind_second, behind_step, behind_of, behind_the, behind_link}
 use Rattle.twp_marks.specs.steps.Marking.{link, IsSecond, TakesSecond, IsLink, TakesLink, tokens_of_links}
 use Rattle.twp_marks.specs.steps.Marking.{EndsLinks, EndsPart}
@@ -472,7 +473,8 @@ pub found_near : (text : List ℕ) (at : ℕ) (left : Left) (o : Option Piece) (
     → (list : List Token) → AreLeft (whole text) list → GivesFirstOf (tokens_from at list) o after
 found_near text at left o after same found list has =
     let near = has_token_list left.at left.bytes in
-    subst (λ (l : List Token). GivesFirstOf l o after) (sym (same list near.0 has near.1)) (found near.0 near.1)
+    subst (λ (l : List Token). GivesFirstOf l o after) (sym (same list near.0 has near.1))
+    (found near.0 near.1)
 
 pub token_found : (text : List ℕ) (at : ℕ) (after : Left) (token : Piece)
     → ((list : List Token) → AreLeft (whole text) list

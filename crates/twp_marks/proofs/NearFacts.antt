@@ -1,6 +1,7 @@
 -- No token holds white space, so the tokens behind white space are those of the bytes that follow it.
 use Rattle.std.proofs.Common.{◌≡◌, ◌==◌, ℕ, suc, ◌+◌, ◌-◌, ◌<◌, ◌≤◌, Bool, true, false, not, List, []}
-use Rattle.std.proofs.Common.{◌∷◌, ◌++◌, length, take, drop, get_or, drop-cons, refl, get_or-append-add, ◌⊎◌, sym, ap, ◌∙◌, arith}
+use Rattle.std.proofs.Common.{◌∷◌, ◌++◌, length, take, drop, get_or, drop-cons, refl, get_or-append-add, ◌⊎◌}
+use Rattle.std.proofs.Common.{sym, ap, ◌∙◌, arith}
 use Rattle.std.proofs.Common.{length-append, length-take, append_assoc, subst, inl, inr}
 use Rattle.std.specs.Char.{is_ascii_alphabetic, is_ascii_digit}
 use Rattle.std.specs.List.{AllPass, list_all}
@@ -54,7 +55,8 @@ token_is_dark text rest kind (bad is k) =
 
 -- two fronts of the same bytes: the longer one begins with the other
 longer : (front more front' more' : List ℕ) → front ++ more ≡ front' ++ more'
-    → length front ≤ length front' → (between : List ℕ) × (front' ≡ front ++ between) × (more ≡ between ++ more')
+    → length front ≤ length front'
+    → (between : List ℕ) × (front' ≡ front ++ between) × (more ≡ between ++ more')
 longer [] more front' more' same less = (front', refl, same)
 longer (b ∷ front) more [] more' same less = absurd (omega arith)
 longer (b ∷ front) more (b' ∷ front') more' same less =
@@ -114,7 +116,8 @@ behind_white n m front byte bytes (token ∷ more) left white is (rest, s, has) 
     in_space : length front + 1 ≤ length s.space
         → tokens_from m (token ∷ more) ≡ tokens_from m left
     in_space within =
-        let l = longer (front ++ (byte ∷ [])) bytes s.space (token.text ++ rest) spelled (omega (arith, long)) in
+        let l =
+        longer (front ++ (byte ∷ [])) bytes s.space (token.text ++ rest) spelled (omega (arith, long)) in
         let size : length s.space ≡ (length front + 1) + length l.0 =
         ap length l.1 ∙ length-append (front ++ (byte ∷ [])) l.0 ∙ ap (λ n. n + length l.0) long in
         let white_left : AllPass is_white l.0 = λ k d under.
@@ -132,7 +135,8 @@ behind_white n m front byte bytes (token ∷ more) left white is (rest, s, has) 
         ap (tokens_from m) (one_token_list m bytes (token ∷ more) left (rest, starts, has) has')
 
     -- the token ends before the white space
-    ends_before : GoOn (token.at + length token.text) m byte bytes more left → (between : List ℕ) → front ≡ s.space ++ (token.text ++ between)
+    ends_before : GoOn (token.at + length token.text) m byte bytes more left → (between : List ℕ)
+        → front ≡ s.space ++ (token.text ++ between)
         → rest ≡ between ++ (byte ∷ bytes) → tokens_from m (token ∷ more) ≡ tokens_from m left
     ends_before go_on between front_is rest_is =
         let size : length front ≡ length s.space + (length token.text + length between) =
@@ -143,7 +147,8 @@ behind_white n m front byte bytes (token ∷ more) left white is (rest, s, has) 
         (go_on between (omega (arith, s.place, is, size))
         (subst (λ r. HasTokens (token.at + length token.text) r more) rest_is has))
 
-    in_text : GoOn (token.at + length token.text) m byte bytes more left → (after : List ℕ) → front ≡ s.space ++ after → token.text ++ rest ≡ after ++ (byte ∷ bytes)
+    in_text : GoOn (token.at + length token.text) m byte bytes more left → (after : List ℕ)
+        → front ≡ s.space ++ after → token.text ++ rest ≡ after ++ (byte ∷ bytes)
         → tokens_from m (token ∷ more) ≡ tokens_from m left
     in_text go_on after front_is same = by_size (cases_lt (length after) (length token.text))
       where
@@ -156,13 +161,16 @@ behind_white n m front byte bytes (token ∷ more) left white is (rest, s, has) 
             let l = longer (after ++ (byte ∷ [])) bytes token.text rest
             (append_assoc after (byte ∷ []) bytes ∙ sym same)
             (omega (arith, length-append after (byte ∷ []), over)) in
-            absurd (not_within token.text after byte l.0 white (token_is_dark token.text rest token.kind s.is) l.1)
+            absurd
+            (not_within token.text after byte l.0 white (token_is_dark token.text rest token.kind s.is) l.1)
 
-    by_place : GoOn (token.at + length token.text) m byte bytes more left → (length s.space < length front + 1) ⊎ (length front + 1 ≤ length s.space)
+    by_place : GoOn (token.at + length token.text) m byte bytes more left
+        → (length s.space < length front + 1) ⊎ (length front + 1 ≤ length s.space)
         → tokens_from m (token ∷ more) ≡ tokens_from m left
     by_place go_on (inr within) = in_space within
     by_place go_on (inl over) =
-        let l = longer s.space (token.text ++ rest) front (byte ∷ bytes) (sym s.spelled) (omega (arith, over)) in
+        let l =
+        longer s.space (token.text ++ rest) front (byte ∷ bytes) (sym s.spelled) (omega (arith, over)) in
         in_text go_on l.0 l.1 l.2
 
 -- the same of a place in a text that white space stands before

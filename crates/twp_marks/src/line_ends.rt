@@ -4,7 +4,7 @@ ghost use Rattle.std.specs.Prelude.{◌≡◌, ◌≤◌, ◌+◌, true, false, 
 ghost use Rattle.std.specs.Simd.Lanes.{mask_l, chunk};
 ghost use Rattle.twp_marks.specs.JoinedSteps.{HasNoJoinedStep};
 ghost use Rattle.twp_marks.specs.steps.LineEnds.{NoneBetweenSteps, LooksBetweenSteps, EndLikeStep};
-ghost use Rattle.twp_marks.specs.steps.LineEnds.{BeginWithStep, is_line_feed, is_step_end};
+ghost use Rattle.twp_marks.specs.steps.LineEnds.{BeginWithStep, is_blank, is_line_feed, is_step_end};
 
 use crate::joined_steps::begins_step;
 use memchr::memchr;
@@ -92,14 +92,23 @@ fn looks_between_steps(text: &[u8], place: usize) -> bool
     ends_like_step(&text[..place]) && begins_with_step(text, place)
 }
 
-/// Whether the last of some bytes that isn't white space is one that a step can end with.
+/// Whether the last of some bytes that isn't a blank is one that a step can end with. Blanks are looked
+/// at back to the line feed before them, so that each byte is looked at once for all line feeds.
 fn ends_like_step(bytes: &[u8]) -> bool
     ensures { EndLikeStep bytes.now → IsTrue result }
 {
-    match bytes.trim_ascii_end().last() {
-        Some(byte) => is_step_end(*byte),
-        None => false,
+    let mut end = bytes.len();
+    while end > 0 && is_blank(bytes[end - 1]) {
+        end -= 1;
     }
+    end > 0 && is_step_end(bytes[end - 1])
+}
+
+/// Whether a byte is a space, a tab, or a carriage return.
+fn is_blank(byte: u8) -> bool
+    ensures { result ≡ is_blank byte }
+{
+    matches!(byte, b' ' | b'\t' | b'\r')
 }
 
 /// Whether a byte is the last one of a half or a quarter.

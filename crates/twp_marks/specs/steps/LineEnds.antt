@@ -1,7 +1,7 @@
 -- A line end between two steps of an aliquot part, as it looks by what stands beside it.
 use Rattle.std.specs.Prelude.{◌≡◌, ◌==◌, ◌||◌, ℕ, ◌<◌, ◌≤◌, Bool, true, false, List, [], ◌∷◌}
 use Rattle.std.specs.Prelude.{length, take, drop, slice_index}
-use Rattle.twp_grammar.specs.Tokens.{Token, HasTokens, is_white}
+use Rattle.twp_grammar.specs.Tokens.{Token, HasTokens}
 use Rattle.twp_marks.specs.JoinedSteps.{begins_step}
 
 -- a line feed
@@ -12,12 +12,16 @@ is_line_feed byte = byte == 10
 abbrev pub is_step_end : ℕ → Bool
 is_step_end byte = (byte == 50) || (byte == 52) || (byte == 0xBC) || (byte == 0xBD)
 
--- the bytes end as a step does, but for white space
+-- a space, a tab, or a carriage return
+abbrev pub is_blank : ℕ → Bool
+is_blank byte = (byte == 32) || (byte == 9) || (byte == 13)
+
+-- the bytes end as a step does, but for blanks
 pub record EndLikeStep (bytes : List ℕ) : Type 0 where
   pub at : ℕ
   pub within : at < length bytes
   pub ends : is_step_end (slice_index bytes at) ≡ true
-  pub white : (k : ℕ) → at < k → k < length bytes → is_white (slice_index bytes k) ≡ true
+  pub blank : (k : ℕ) → at < k → k < length bytes → is_blank (slice_index bytes k) ≡ true
 
 -- the first token, if there is one, begins a step
 abbrev pub first_begins_step : List Token → Bool

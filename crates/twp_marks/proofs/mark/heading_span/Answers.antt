@@ -12,4 +12,6 @@ returns-in_default c =
 pub returns : goal.returns
 returns c =
     heading_found c.args.text.now c.args.at c.take_to_side.result c.seek.new.tokens c.in-Some.first
-    (found_near _ _ _ (Some c.in-Some.first) c.seek.new.tokens c.tokens_near-tokens.ensures.same c.in-Some.ensures.found) c.take_to_side.ensures
+    (found_near _ _ _ (Some c.in-Some.first) c.seek.new.tokens c.tokens_near-tokens.ensures.same
+    c.in-Some.ensures.found)
+    c.take_to_side.ensures

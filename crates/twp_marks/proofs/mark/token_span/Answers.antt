@@ -11,4 +11,5 @@ returns-in_default c =
 pub returns : goal.returns
 returns c =
     token_found c.args.text.now c.args.at c.seek.new.tokens c.in-Some.token
-    (found_near _ _ _ (Some c.in-Some.token) c.seek.new.tokens c.tokens_near-tokens.ensures.same c.in-Some.ensures.found)
+    (found_near _ _ _ (Some c.in-Some.token) c.seek.new.tokens c.tokens_near-tokens.ensures.same
+    c.in-Some.ensures.found)

@@ -12,4 +12,5 @@ returns-then-is_white-clause-same c = λ all some has left.
 
 pub returns-clause-same : goal.returns-clause-same
 returns-clause-same c = λ all some has left.
-    ap (λ l. tokens_from c.args.at l) (one_token_list 0 c.args.text.now all some has (rw c.new.ensures at left))
+    ap (λ l. tokens_from c.args.at l)
+    (one_token_list 0 c.args.text.now all some has (rw c.new.ensures at left))
