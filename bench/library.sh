@@ -14,8 +14,8 @@ trap 'rm -rf "$work"' EXIT
 # told to do so by wide stores: each instruction counts once.
 once=glibc.cpu.x86_rep_stosb_threshold=1000000:glibc.cpu.x86_rep_movsb_threshold=1000000
 count() {
-    env -i PATH="$PATH" GLIBC_TUNABLES="$once" valgrind --tool=callgrind --callgrind-out-file=/dev/null "$work/library" "$@" \
-        2>&1 > /dev/null | sed -n 's/.*Collected : *//p'
+    env -i PATH="$PATH" GLIBC_TUNABLES="$once" valgrind --tool=callgrind --callgrind-out-file=/dev/null \
+        "$work/library" "$@" 2>&1 > /dev/null | sed -n 's/.*Collected : *//p'
 }
 too_much=0
 row() {
