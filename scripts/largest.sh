@@ -14,19 +14,18 @@ cd "$work" || exit 1
 passed=0
 failed=0
 
-# Runs the program with these words; it is to end with this status, and with what the file `wanted` has as the
-# last lines of its answer.
+# Runs the program with these words; it is to end with this status, and to answer what the file `wanted` has.
 ends() {
     what=$1 wanted_status=$2
     shift 2
     "$program" "$@" > out 2> err
     status=$?
-    if [ "$status" = "$wanted_status" ] && tail -n "$(wc -l < wanted)" out | cmp -s wanted -; then
+    if [ "$status" = "$wanted_status" ] && cmp -s wanted out; then
         passed=$((passed + 1))
         return
     fi
     failed=$((failed + 1))
-    echo "FAILED: $what: status $status for $wanted_status; wanted, and the end of what was found:"
+    echo "FAILED: $what: status $status for $wanted_status; the ends of what was wanted, and found:"
     tail -c 1000 wanted
     tail -c 1000 out
 }
@@ -35,37 +34,44 @@ is_answered() { printf '%b\n' "$2" > wanted; ends "$1" 0 "$3" "$even" "${4:-inpu
 is_refused() { printf '%b\n' "$2" > wanted; ends "$1" 1 "$3" "$even" "${4:-input}"; }
 many() { head -c "$1" /dev/zero | tr '\0' "$2"; }
 
-# So many places of sections 8 and 9, each another one, behind a text: five eighths of an acre each.
-places='
-    function place(n) {
-        return corner[int(n / 256) % 4] corner[int(n / 64) % 4] corner[int(n / 16) % 4] corner[int(n / 4) % 4] \
-            corner[n % 4]
+# Of the parts that quartering a section so many times gives, the one of this number, from 0: five times gives 1,024
+# places of five eighths of an acre, and four times 256 squares of 2.5 acres.
+parts='
+    function part(number, times,   text) {
+        for (; times > 0; times--) text = text corner[int(number / 4 ^ (times - 1)) % 4 + 1]
+        return text
     }
-    BEGIN { split("NE1/4 NW1/4 SW1/4 SE1/4", c, " "); for (i = 0; i < 4; i++) corner[i] = c[i + 1] }'
+    BEGIN { split("NE1/4 NW1/4 SW1/4 SE1/4", corner, " ") }'
 
-# A list of so many tracts, at most 1,024, each a place of section 8. 991 of them have 619.375 acres, a tie.
+# A list of so many tracts, each another part of the sections from 8 on, and the tracts in its account, of so many
+# acres each.
 tracts() {
-    awk -v count="$1" "$places"'
+    awk -v count="$1" -v times="$2" "$parts"'
         BEGIN {
             print "name,description"
-            for (n = 0; n < count; n++) printf "%s,\"sec. 8, %s.\"\n", n, place(n)
+            for (n = 0; n < count; n++)
+                printf "%s,\"sec. %s, %s.\"\n", n, 8 + int(n / 4 ^ times), part(n % 4 ^ times, times)
         }'
 }
-for row in '990 618.75 22421.25' '991 619.38 22420.63' '992 620.00 22420.00' '999 624.38 22415.63' \
-    '1000 625.00 22415.00'; do
-    read -r count total remaining << END
+account_of() {
+    awk -v count="$1" -v acres="$2" 'BEGIN { for (n = 0; n < count; n++) print "tract " n ": " acres " acres" }'
+}
+# 991 places have 619.375 acres of 23,040, a tie, and leave another one.
+for row in '990 5 0.63 618.75 22421.25' '991 5 0.63 619.38 22420.63' '992 5 0.63 620.00 22420.00' \
+    '999 5 0.63 624.38 22415.63' '1000 5 0.63 625.00 22415.00' '1000 4 2.50 2500.00 20540.00'; do
+    read -r count times acres total remaining << END
 $row
 END
-    tracts "$count" > input
-    is_answered "$count tracts" "total: $total acres\nremaining: $remaining acres" report
-    if [ "$(wc -l < out)" = $((count + 2)) ]; then passed=$((passed + 1)); else failed=$((failed + 1)); fi
+    tracts "$count" "$times" > input
+    (account_of "$count" "$acres"; printf 'total: %s acres\nremaining: %s acres\n' "$total" "$remaining") > wanted
+    ends "$count tracts" 0 report "$even" input
 done
 # One more is refused, whatever it is: another place, one without a name, no tract.
-tracts 1001 > input
+tracts 1001 5 > input
 is_refused '1,001 tracts' 'refused 85 at 1002' report
-(tracts 1000; echo ',sec. 12.') > input
+(tracts 1000 5; echo ',sec. 12.') > input
 is_refused 'a nameless one more' 'refused 85 at 1002' report
-(tracts 1000; echo 'too,many,fields') > input
+(tracts 1000 5; echo 'too,many,fields') > input
 is_refused 'one more record' 'refused 85 at 1002' report
 
 # Names of 1 to 64 bytes, none of them a control character or beyond ASCII.
@@ -92,25 +98,24 @@ is_refused 'a longer list' 'refused 80 at 1048576' report
 # A description that names each place of two sections, 2 times 1,024 of five eighths of an acre, and has white
 # space up to the limit of 65,536 bytes; and one that names the first place of section 9 for its last one too.
 each_place() {
-    awk -v last="$1" "$places"'
+    awk -v last="$1" "$parts"'
         BEGIN {
             for (s = 8; s <= 9; s++) {
                 text = text (s == 8 ? "" : "; ") "sec. " s
                 for (n = 0; n < 1024; n++) {
                     text = text ", "
-                    if (s == 9 && n == 1023 && last == "again") { again = length(text); n = 0 + 1024 }
-                    text = text place(n)
+                    at = length(text)
+                    text = text part(s == 9 && n == 1023 ? last : n, 5)
                 }
             }
             printf "%s%*s", text, 65536 - length(text), ""
-            print length(text) > "named"
-            print again > "again"
+            print at > "at"
         }'
 }
-each_place once > input
+each_place 1023 > input
 is_answered 'each place of two sections' '1280.00 acres' acres
-each_place again > twice
-is_refused 'one of them again' "refused 67 at $(cat again)" acres twice
+each_place 0 > twice
+is_refused 'one of them again' "refused 67 at $(cat at)" acres twice
 
 # The canonical text of a chessboard of these sections, of which the dark squares of this depth are held: of each
 # four the north-western and the south-eastern one, so that no half is full. The greatest quarter comes last.
