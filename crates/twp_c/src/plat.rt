@@ -2,7 +2,8 @@
 ghost use Rattle.std.specs.Prelude.{◌≡◌, MatchOption, Some, None};
 ghost use Rattle.twp_c.specs.GivenPlats.{IsGivenPlat, IsNoGivenPlat, given_of};
 ghost use Rattle.twp_c.specs.GivenPlats.{IsGivenTownship, IsNoGivenTownship};
-ghost use Rattle.twp_c.specs.GivenPlats.{north_south_of, east_west_of, code_of_north_south, code_of_east_west};
+ghost use Rattle.twp_c.specs.GivenPlats.{north_south_of, east_west_of};
+ghost use Rattle.twp_c.specs.GivenPlats.{code_of_north_south, code_of_east_west};
 
 use twp_grid::{EastWest, LINES, NorthSouth, Township};
 use twp_plat::Plat;

@@ -58,5 +58,6 @@ pub dark_within : (text : List ℕ) (at : ℕ) → ¬ AllPass is_white (drop at 
 dark_within text at dark = elim (cases_lt at (length text)) [
   | inl within ↦ within
   | inr past ↦
-      absurd (dark (subst (AllPass is_white) (sym (drop_all at text past)) (λ k d below. absurd (omega arith))))
+      let none : AllPass is_white [] = λ k d below. absurd (omega arith) in
+      absurd (dark (subst (AllPass is_white) (sym (drop_all at text past)) none))
 ]
