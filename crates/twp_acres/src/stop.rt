@@ -7,7 +7,7 @@ use twp_plat::PlatFault;
 use twp_text::{PlaceFault, TextFault};
 
 /// Why there is no answer.
-#[derive(Clone, Copy, Debug, PartialEq, Eq, Hash, Error)]
+#[derive(Clone, Copy, Debug, PartialEq, Eq, Error)]
 pub enum Stop {
     /// The input is refused, for its first fault.
     #[error("refused {} at {}", .0.number, .0.at)]

@@ -11,7 +11,7 @@ pub const TRACTS_MOST: u32 = 1_000;
 
 /// Why bytes are no list of tracts on a plat. Records are numbered from 1, as `csv` gives them,
 /// and the first one is the heading; the layout of the list is this project's rule.
-#[derive(Clone, Copy, Debug, PartialEq, Eq, Hash, Error)]
+#[derive(Clone, Copy, Debug, PartialEq, Eq, Error)]
 pub enum TractFault {
     /// 80, at the limit: there are more bytes than a list may have.
     #[error("the list of tracts has more than 1,048,576 bytes")]

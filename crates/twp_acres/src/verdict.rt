@@ -4,7 +4,7 @@ use twp_grid::Refusal;
 use twp_notes::ReadFault;
 
 /// What a run answered, beside the text that it wrote.
-#[derive(Clone, Copy, Debug, PartialEq, Eq, Hash)]
+#[derive(Clone, Copy, PartialEq, Eq)]
 pub enum Verdict {
     /// The input was accepted.
     Accepted,
@@ -20,7 +20,7 @@ pub enum Verdict {
 }
 
 /// Why a run gave no verdict.
-#[derive(Clone, Copy, Debug, PartialEq, Eq, Hash, Error)]
+#[derive(Clone, Copy, Debug, PartialEq, Eq, Error)]
 pub enum RunFault {
     /// A reader failed.
     #[error("cannot read")]

@@ -10,7 +10,7 @@ use twp_grid::{Section, lot_place};
 use twp_plat::Plat;
 
 /// Which area a whole lot counts with in the acreage run (this project's rule).
-#[derive(Clone, Copy, Debug, PartialEq, Eq)]
+#[derive(Clone, Copy, PartialEq, Eq)]
 pub enum Account {
     /// The exact area of its position.
     Exact,

@@ -1,7 +1,7 @@
 use crate::work::Work;
 
 /// A kind of land.
-#[derive(Clone, Copy, Debug, PartialEq, Eq)]
+#[derive(Clone, Copy, PartialEq, Eq)]
 pub enum Kind {
     Grid,
     Lanes,
@@ -19,7 +19,7 @@ impl Kind {
 }
 
 /// Some work on a land, so many times.
-#[derive(Clone, Copy, Debug)]
+#[derive(Clone, Copy)]
 pub struct Task {
     pub kind: Kind,
     pub work: Work,

@@ -2,7 +2,7 @@ use twp_fixtures::Mixed;
 use twp_land::Land;
 
 /// A kind of work on a land. `Blocks` makes the sections and blocks alone, for comparison.
-#[derive(Clone, Copy, Debug, PartialEq, Eq)]
+#[derive(Clone, Copy, PartialEq, Eq)]
 pub enum Work {
     Blocks,
     Add,

@@ -10,7 +10,7 @@ use twp_grid::Refusal;
 /// What a call answers: what a verdict doesn't speak of is 0, but `NO_ROOM` keeps what there was to
 /// say.
 #[repr(C)]
-#[derive(Clone, Copy, Debug, PartialEq, Eq)]
+#[derive(Clone, Copy, PartialEq, Eq)]
 pub struct TownshipAnswer {
     /// One of the numbers of `verdict`.
     pub verdict: u32,

@@ -18,7 +18,7 @@ const WORD: u128 = 1 << 64;
 
 /// An exact area: `units` square thousandths of a chain over `over`, which is at least 1.
 #[repr(C)]
-#[derive(Clone, Copy, Debug)]
+#[derive(Clone, Copy)]
 pub struct TownshipFraction {
     /// The low 64 bits of the units.
     pub units_low: u64,

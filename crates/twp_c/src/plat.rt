@@ -10,7 +10,7 @@ use twp_plat::Plat;
 
 /// The parts of a plat, whether they are one's or not.
 #[repr(C)]
-#[derive(Clone, Copy, Debug)]
+#[derive(Clone, Copy)]
 pub struct TownshipPlat {
     /// The last quarter mile of each section line, by the line's index, in thousandths of a chain.
     pub closing_quarters: [u32; LINES],

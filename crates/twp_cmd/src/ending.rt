@@ -6,7 +6,7 @@ use twp_acres::{RunFault, Verdict};
 use twp_command::{Name, TaskFault};
 
 /// How the program ends.
-#[derive(Debug, Drop)]
+#[derive(Drop)]
 pub(crate) enum Ending {
     /// A run answered, and wrote its answer.
     Answered(Verdict),

@@ -14,7 +14,7 @@ use thiserror::Error;
 use twp_area::Account;
 
 /// What the program is asked to do.
-#[derive(Debug, Drop)]
+#[derive(Drop)]
 pub enum Task {
     /// Write the plat of field notes.
     Plat {

@@ -2,7 +2,7 @@ use std::io;
 use std::io::{Error, ErrorKind, Read};
 
 /// Gives bytes, and counts its calls and the bytes that it gave.
-#[derive(Debug, Drop)]
+#[derive(Drop)]
 pub struct Reader<'a> {
     supply: Supply<'a>,
     most: usize,
@@ -12,7 +12,7 @@ pub struct Reader<'a> {
 }
 
 /// What there is to read.
-#[derive(Clone, Copy, Debug)]
+#[derive(Clone, Copy)]
 enum Supply<'a> {
     Bytes(&'a [u8]),
     Endless(u8),

@@ -3,7 +3,7 @@ use std::io;
 use std::io::{Error, ErrorKind, Write};
 
 /// Takes bytes, as many as it has room for, and keeps them.
-#[derive(Debug, Drop)]
+#[derive(Drop)]
 pub struct Writer {
     taken: Vec<u8>,
     room: usize,

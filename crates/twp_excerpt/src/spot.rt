@@ -7,14 +7,14 @@ use bstr::decode_utf8;
 use memchr::memrchr;
 
 /// Where a byte of a text stands. Both numbers count from 1.
-#[derive(Clone, Copy, Debug, PartialEq, Eq)]
+#[derive(Clone, Copy, PartialEq, Eq)]
 pub struct Spot {
     pub line: u32,
     pub column: u32,
 }
 
 /// Bytes of a text, from an offset up to another.
-#[derive(Clone, Copy, Debug, PartialEq, Eq)]
+#[derive(Clone, Copy, PartialEq, Eq)]
 pub struct Span {
     pub start: usize,
     pub end: usize,

@@ -47,7 +47,7 @@ pub fn explain_description(
 }
 
 /// The fault of a list of tracts, and what is told of it.
-#[derive(Debug, Drop)]
+#[derive(Drop)]
 pub struct ToldFault {
     /// The list's first fault.
     pub fault: TractFault,

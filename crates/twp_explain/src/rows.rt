@@ -100,7 +100,7 @@ fn character_end(text: &[u8], start: usize) -> usize {
 struct Hint(Sign, &'static str);
 
 /// What may be seen of a record.
-#[derive(Clone, Copy, Debug, PartialEq, Eq)]
+#[derive(Clone, Copy, PartialEq, Eq)]
 enum Sign {
     /// Several fields, each of them empty.
     Empty,

@@ -2,7 +2,7 @@ use twp_excerpt::Spot;
 use twp_grid::Refusal;
 
 /// A text that a run read, as its reader knows it.
-#[derive(Clone, Copy, Debug)]
+#[derive(Clone, Copy)]
 pub struct Given<'a> {
     /// The name of its file, or what else it is called.
     pub name: &'a str,
@@ -13,7 +13,7 @@ pub struct Given<'a> {
 }
 
 /// What is told of a refusal.
-#[derive(Debug, Drop)]
+#[derive(Drop)]
 pub struct Explanation {
     /// The refusal that is explained.
     pub refusal: Refusal,
@@ -24,7 +24,7 @@ pub struct Explanation {
 }
 
 /// What is noted of input that was accepted.
-#[derive(Debug, Drop)]
+#[derive(Drop)]
 pub struct Note {
     /// The offset in its text of what is noted.
     pub at: usize,

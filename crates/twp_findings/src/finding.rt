@@ -12,7 +12,7 @@ use twp_grid::Refusal;
 const MOST_BYTES: usize = 0x7FFF_FFFF;
 
 /// Where in a file a fault is shown.
-#[derive(Clone, Copy, Debug, PartialEq, Eq)]
+#[derive(Clone, Copy, PartialEq, Eq)]
 pub enum Place {
     /// In the file as a whole.
     Whole,
@@ -25,7 +25,7 @@ pub enum Place {
 }
 
 /// What was found wrong.
-#[derive(Debug, Drop)]
+#[derive(Drop)]
 pub struct Finding {
     /// The refusal.
     pub refusal: Refusal,

@@ -9,7 +9,7 @@ use twp_measure::{Length, LengthFault};
 use twp_notes::{FIELDS, NotesFault};
 
 /// Fields of a record, from one to another, counted from 0.
-#[derive(Clone, Copy, Debug, PartialEq, Eq)]
+#[derive(Clone, Copy, PartialEq, Eq)]
 pub(crate) struct Fields {
     pub(crate) first: usize,
     pub(crate) last: usize,

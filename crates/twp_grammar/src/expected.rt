@@ -1,7 +1,7 @@
 use std::fmt;
 
 /// What could stand where a description goes wrong, by what stands before it.
-#[derive(Clone, Copy, Debug, PartialEq, Eq, Hash)]
+#[derive(Clone, Copy, PartialEq, Eq)]
 pub enum Expected {
     /// Before the first token.
     Beginning,
@@ -63,6 +63,13 @@ pub enum Expected {
     Step,
     /// After the last full stop.
     Nothing,
+}
+
+/// As it is told: an error that holds it needs the impl, and thirty names would be proved for nothing.
+impl fmt::Debug for Expected {
+    fn fmt<W: fmt::Write>(&self, f: &mut fmt::Formatter<W>) -> fmt::Result {
+        fmt::Display::fmt(self, f)
+    }
 }
 
 impl fmt::Display for Expected {

@@ -7,7 +7,7 @@ use std::marker::Model;
 use twp_grid::{Corner, EastWest, NorthSouth, PLACE_DIGITS, Side};
 
 /// A number as it was written, and its place in the text.
-#[derive(Clone, Copy, Debug, PartialEq, Eq, Hash)]
+#[derive(Clone, Copy, Debug, PartialEq, Eq)]
 pub struct Numeral {
     /// 0 to 9999. Whether the plat has such a section or lot is not judged here.
     pub value: u16,
@@ -16,7 +16,7 @@ pub struct Numeral {
 }
 
 /// A step of an aliquot part: which half, or which quarter, of what the steps after it name.
-#[derive(Clone, Copy, Debug, PartialEq, Eq, Hash)]
+#[derive(Clone, Copy, Debug, PartialEq, Eq)]
 pub enum Step {
     /// The half on this side.
     Half(Side),

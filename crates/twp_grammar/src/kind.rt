@@ -2,7 +2,7 @@ use twp_grid::{Corner, EastWest, NorthSouth};
 
 /// What a token of a description is. The words are those of the Specifications for Descriptions of
 /// Land, in uppercase or lowercase.
-#[derive(Clone, Copy, Debug, PartialEq, Eq, Hash)]
+#[derive(Clone, Copy, PartialEq, Eq)]
 pub enum Kind {
     /// `sec`, `secs`, `section` or `sections`.
     Sec,

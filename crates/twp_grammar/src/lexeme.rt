@@ -1,7 +1,7 @@
 use crate::kind::Kind;
 
 /// A token that begins at a place: its kind, and how many bytes it has.
-#[derive(Clone, Copy, Debug, PartialEq, Eq)]
+#[derive(Clone, Copy, PartialEq, Eq)]
 pub struct Lexeme {
     /// What the bytes are.
     pub kind: Kind,

@@ -8,7 +8,7 @@ use crate::expected::Expected;
 
 /// What the tokens so far are the beginning of, named after the last of them. These are the states
 /// of the least machine that takes the sentences of the grammar.
-#[derive(Clone, Copy, Debug, PartialEq, Eq)]
+#[derive(Clone, Copy, PartialEq, Eq)]
 pub enum State {
     /// Before the first token.
     Start,

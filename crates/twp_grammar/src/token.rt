@@ -2,7 +2,7 @@ use crate::kind::Kind;
 
 /// A piece of a description: a word, a number, a half or a quarter, a mark, or what is none of
 /// these.
-#[derive(Clone, Copy, Debug, PartialEq, Eq)]
+#[derive(Clone, Copy, PartialEq, Eq)]
 pub struct Token<'a> {
     /// What the bytes are.
     pub kind: Kind,

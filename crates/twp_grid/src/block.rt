@@ -10,7 +10,7 @@ use crate::span::Span;
 use std::marker::Model;
 
 /// A side of a section or of a part of it.
-#[derive(Clone, Copy, Debug, PartialEq, Eq, Hash)]
+#[derive(Clone, Copy, Debug, PartialEq, Eq)]
 pub enum Side {
     /// The north side.
     N,
@@ -23,7 +23,7 @@ pub enum Side {
 }
 
 /// A corner of a section or of a part of it.
-#[derive(Clone, Copy, Debug, PartialEq, Eq, Hash)]
+#[derive(Clone, Copy, Debug, PartialEq, Eq)]
 pub enum Corner {
     /// The north-east corner.
     NE,
@@ -38,7 +38,7 @@ pub enum Corner {
 /// A rectangle of a section's places: the whole section, a position, and each half and quarter of a
 /// block, which are the aliquot parts (Specifications for Descriptions of Land). A place's column
 /// is counted from the east and its row from the south, from 0 to less than `PLACES_ACROSS`.
-#[derive(Clone, Copy, Debug, PartialEq, Eq, Hash)]
+#[derive(Clone, Copy, PartialEq, Eq)]
 pub struct Block {
     columns: Span,
     rows: Span,

@@ -3,7 +3,7 @@ ghost use Rattle.std.specs.Prelude.{◌≡◌};
 use crate::device::{DeviceFault, Source};
 
 /// Bytes in memory, to read. They never fail.
-#[derive(Clone, Copy, Debug)]
+#[derive(Clone, Copy)]
 pub struct Bytes<'a> {
     unread: &'a [u8],
 }

@@ -5,7 +5,7 @@ ghost use Rattle.std.specs.Io.KnownBytes.{ReadConsumes, WriteAppends, Keeps};
 use std::io::{Read, Write};
 
 /// A device has failed, for whatever reason: it takes and gives no more bytes.
-#[derive(Clone, Copy, Debug, PartialEq, Eq, Hash)]
+#[derive(Clone, Copy, Debug, PartialEq, Eq)]
 pub struct DeviceFault;
 
 /// What bytes are read from.
@@ -59,7 +59,7 @@ pub trait Sink {
 
 /// A reader or a writer as a device: an error of any kind is a fault, and so is a write that takes
 /// no byte of a slice that isn't empty.
-#[derive(Debug, Drop)]
+#[derive(Drop)]
 pub struct Device<T> {
     inner: T,
     failed: bool,

@@ -7,7 +7,7 @@ use crate::section::{Section, Standing};
 use std::marker::Model;
 
 /// Which way a line is run, as its field notes are written.
-#[derive(Clone, Copy, Debug, PartialEq, Eq, Hash)]
+#[derive(Clone, Copy, PartialEq, Eq)]
 pub enum Run {
     /// From the south end to the north end.
     North,
@@ -21,7 +21,7 @@ pub const LINES: usize = 84;
 /// One of a township's 84 section lines, each a mile, by its index: first the north-run lines,
 /// seven to a row from the east, then the west-run lines, six to a tier from the east (this
 /// project's rule).
-#[derive(Clone, Copy, Debug, PartialEq, Eq, PartialOrd, Ord, Hash)]
+#[derive(Clone, Copy, PartialEq, Eq)]
 pub struct Line {
     index: u8,
 }

@@ -1,6 +1,6 @@
 /// A numbered refusal and its place: a record's number, a line's index, or an offset or a length in
 /// bytes, as the number's fault says.
-#[derive(Clone, Copy, Debug, PartialEq, Eq, Hash)]
+#[derive(Clone, Copy, Debug, PartialEq, Eq)]
 pub struct Refusal {
     /// What is wrong, as `docs/REFUSALS.md` numbers it.
     pub number: u8,

@@ -10,7 +10,7 @@ pub const SECTIONS: u8 = 36;
 /// One of a township's 36 sections, by its number. The numbers wind back and forth: row 0 has 1 to
 /// 6 from the east, row 1 has 7 to 12 from the west, and so on to 36 in the south-east corner
 /// (Manual of Surveying Instructions 2009, chapter 3).
-#[derive(Clone, Copy, Debug, PartialEq, Eq, PartialOrd, Ord, Hash)]
+#[derive(Clone, Copy, PartialEq, Eq)]
 pub struct Section {
     number: u8,
 }

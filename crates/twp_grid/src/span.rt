@@ -16,7 +16,7 @@ pub const PLACES_ACROSS: usize = 1 << PLACE_DIGITS;
 pub const PLACES_TO_POSITION: u8 = PLACES_ACROSS as u8 / POSITIONS_ACROSS;
 
 /// Columns or rows of places in succession, as halving a section's side gives them.
-#[derive(Clone, Copy, Debug, PartialEq, Eq, Hash)]
+#[derive(Clone, Copy, PartialEq, Eq)]
 pub(crate) struct Span {
     start: usize,
     len: usize,

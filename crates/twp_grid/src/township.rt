@@ -4,7 +4,7 @@ ghost use Rattle.std.specs.Option.{SomeIff};
 use std::marker::Model;
 
 /// Which side of the base line a township lies on.
-#[derive(Clone, Copy, Debug, PartialEq, Eq, Hash)]
+#[derive(Clone, Copy, Debug, PartialEq, Eq)]
 pub enum NorthSouth {
     /// North of the base line.
     N,
@@ -13,7 +13,7 @@ pub enum NorthSouth {
 }
 
 /// Which side of the principal meridian a range lies on.
-#[derive(Clone, Copy, Debug, PartialEq, Eq, Hash)]
+#[derive(Clone, Copy, Debug, PartialEq, Eq)]
 pub enum EastWest {
     /// East of the principal meridian.
     E,
@@ -23,7 +23,7 @@ pub enum EastWest {
 
 /// A township's designation, as T. 2 N., R. 3 W., without its principal meridian. Both numbers are
 /// 1 to 99 (this project's limit).
-#[derive(Clone, Copy, Debug, PartialEq, Eq, Hash)]
+#[derive(Clone, Copy, PartialEq, Eq)]
 pub struct Township {
     tier_number: u8,
     tier_side: NorthSouth,

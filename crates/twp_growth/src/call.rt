@@ -1,5 +1,5 @@
 /// A run that reads field notes and a second text.
-#[derive(Clone, Copy, Debug, PartialEq, Eq)]
+#[derive(Clone, Copy, PartialEq, Eq)]
 pub enum Run {
     Acres,
     AcresByPlat,
@@ -9,7 +9,7 @@ pub enum Run {
 
 /// A call and its inputs. Notes, descriptions and tracts are named by their files; the room is how
 /// many bytes a vector has room for behind those that it holds before the call.
-#[derive(Clone, Copy, Debug)]
+#[derive(Clone, Copy)]
 pub enum Call<'a> {
     WriteLength {
         length: &'a str,

@@ -13,7 +13,7 @@ const PIECE: usize = 4_000;
 
 /// A source that keeps a copy of the bytes that it gives, since a file may be read but once. Where
 /// memory for the copy is refused, it is given up, and the source gives its bytes as before.
-#[derive(Debug, Drop)]
+#[derive(Drop)]
 pub struct Kept<S> {
     source: S,
     copy: Option<Vec<u8>>,

@@ -17,7 +17,7 @@ pub type Lanes = Sections<LaneRows>;
 /// The finest parts, which long lists are made of, have one row of places or two. To tell whether
 /// such a block is met, and to add it, the lanes of its first and its last row are enough, and no
 /// vector of all lanes is made for it. A block of more rows takes all lanes at once.
-#[derive(Clone, Copy, Debug)]
+#[derive(Clone, Copy)]
 pub struct LaneRows {
     lanes: [Lane; PLACES_ACROSS],
 }

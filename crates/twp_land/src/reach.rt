@@ -1,7 +1,7 @@
 ghost use Rattle.std.specs.Prelude.{◌≡◌, min, max};
 
 /// The indexes from `first` up to `end`. There are none where `end` isn't above `first`.
-#[derive(Clone, Copy, Debug)]
+#[derive(Clone, Copy)]
 pub(crate) struct Reach {
     pub(crate) first: usize,
     pub(crate) end: usize,

@@ -12,7 +12,7 @@ use twp_grid::{Block, PLACES_ACROSS};
 pub type Grid = Sections<Rows>;
 
 /// A section's places as rows of tests, from the south.
-#[derive(Clone, Copy, Debug)]
+#[derive(Clone, Copy)]
 pub struct Rows {
     rows: [Row; PLACES_ACROSS],
 }

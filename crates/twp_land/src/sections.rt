@@ -19,7 +19,7 @@ const NOWHERE: Reach = Reach {
 
 /// A land that keeps a set of places for each section, by number. Sets outside its reach hold no
 /// place: what is asked of a whole land looks only at the others.
-#[derive(Debug, Drop)]
+#[derive(Drop)]
 pub struct Sections<P: Plot> {
     plots: [P; SETS],
     reach: Reach,

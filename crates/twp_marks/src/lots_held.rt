@@ -17,7 +17,7 @@ use twp_resolve::chain_block;
 use twp_spell::{held_lots, spell};
 
 /// The land of an aliquot part that holds land of lots.
-#[derive(Debug, Drop)]
+#[derive(Drop)]
 pub struct PartOfLots {
     /// The section that it is a part of.
     pub section: Section,

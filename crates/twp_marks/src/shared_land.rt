@@ -12,7 +12,7 @@ use twp_resolve::{SharingItems, shared_into};
 use twp_spell::spell;
 
 /// Land that two items of a description name.
-#[derive(Debug, Drop)]
+#[derive(Drop)]
 pub struct Shared {
     /// The item for which the description is refused, and the first that names some of its land.
     pub items: SharingItems,

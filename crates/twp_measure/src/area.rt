@@ -10,7 +10,7 @@ pub const AREA_MAX: u128 = 1_000_000_000_000_000_000_000_000;
 /// An area of land as an exact fraction: `units` square thousandths of a chain over `over`, which
 /// is at least 1 (this project's rule). 10,000,000 units over 1 are an acre, which is 10 square
 /// chains.
-#[derive(Clone, Copy, Debug)]
+#[derive(Clone, Copy)]
 pub struct Area {
     units: u128,
     over: u64,

@@ -12,7 +12,7 @@ use thiserror::Error;
 
 /// The length of a survey line in thousandths of a chain, 0 to 99,999 (this project's rule). A
 /// chain is 66 feet or 100 links, and 80 chains are a mile. The default is no length at all, 0.
-#[derive(Clone, Copy, Debug, Default, PartialEq, Eq, PartialOrd, Ord, Hash)]
+#[derive(Clone, Copy, Default, PartialEq, Eq)]
 pub struct Length {
     thousandths: u32,
 }
@@ -31,7 +31,7 @@ impl Model for Length {
 }
 
 /// Why a text is no length. Of several faults the first in this order is reported.
-#[derive(Clone, Copy, Debug, PartialEq, Eq, Hash, Error)]
+#[derive(Clone, Copy, Debug, PartialEq, Eq, Error)]
 pub enum LengthFault {
     /// The text has no byte.
     #[error("a length is empty")]

@@ -8,7 +8,7 @@ pub const MOST_BYTES: u32 = 65_536;
 
 /// Why bytes are no field notes. Records are numbered from 1, as `csv` gives them; the layout of
 /// the notes is this project's rule.
-#[derive(Clone, Copy, Debug, PartialEq, Eq, Hash, Error)]
+#[derive(Clone, Copy, Debug, PartialEq, Eq, Error)]
 pub enum NotesFault {
     /// 1, at the limit: there are more bytes than field notes may have.
     #[error("the notes have more than 65,536 bytes")]

@@ -16,7 +16,7 @@ use std::marker::Model;
 use twp_grid::{LINES, Line, Source, Township};
 
 /// The field notes of a township: what was returned of each of its 84 lines.
-#[derive(Clone, Debug, Drop, PartialEq, Eq)]
+#[derive(Clone, Drop, PartialEq, Eq)]
 pub struct Notes {
     township: Township,
     lines: [Returned; LINES],

@@ -9,7 +9,7 @@ use thiserror::Error;
 use twp_grid::{DeviceFault, Source};
 
 /// Why bytes could not be read.
-#[derive(Clone, Copy, Debug, PartialEq, Eq, Hash, Error)]
+#[derive(Clone, Copy, Debug, PartialEq, Eq, Error)]
 pub enum ReadFault {
     /// The device failed.
     #[error("cannot read")]

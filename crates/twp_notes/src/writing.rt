@@ -44,7 +44,7 @@ impl Field {
 
 /// How a line is named in writing: by its run and the sections beside it, first the one on its east
 /// or on its north (this project's order).
-#[derive(Clone, Copy, Debug, PartialEq, Eq, Hash)]
+#[derive(Clone, Copy, PartialEq, Eq)]
 pub struct LineNames {
     /// Which way it is run.
     pub run: Run,

@@ -3,7 +3,7 @@ use thiserror::Error;
 use twp_grid::Refusal;
 
 /// The half miles of a line, as they are run.
-#[derive(Clone, Copy, Debug, PartialEq, Eq, Hash)]
+#[derive(Clone, Copy, Debug, PartialEq, Eq)]
 pub enum HalfMile {
     /// From the line's start to its quarter corner.
     First,
@@ -22,7 +22,7 @@ impl fmt::Display for HalfMile {
 
 /// Why field notes make no plat: a half mile of a line is out of its limits, which are this
 /// project's. Lines go by their indexes, and of a line the first half mile comes before the second.
-#[derive(Clone, Copy, Debug, PartialEq, Eq, Hash, Error)]
+#[derive(Clone, Copy, Debug, PartialEq, Eq, Error)]
 pub enum PlatFault {
     /// 21, at the line: a half mile that isn't a closing one is too short or too long.
     #[error("the {half} half mile of the line of index {line} isn't from 39.750 to 40.250 chains")]

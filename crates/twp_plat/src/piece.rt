@@ -11,7 +11,7 @@ use crate::closing::QUARTER_MILE;
 use std::marker::Model;
 
 /// The closing quarters of a section's four lines, in thousandths of a chain.
-#[derive(Clone, Copy, Debug)]
+#[derive(Clone, Copy)]
 pub struct SideQuarters {
     pub east: u32,
     pub west: u32,

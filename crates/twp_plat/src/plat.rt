@@ -22,7 +22,7 @@ const CORNER_SECTION: u8 = 6;
 
 /// The plat of a township, as its field notes make it: what its sections' positions are computed
 /// from.
-#[derive(Clone, Debug, Drop, PartialEq, Eq)]
+#[derive(Clone, Drop, PartialEq, Eq)]
 pub struct Plat {
     township: Township,
     closing_quarters: [u32; LINES],

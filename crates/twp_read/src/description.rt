@@ -17,7 +17,7 @@ use twp_grammar::{Expected, Item, Kind, State};
 const BYTES_TO_ITEM: usize = 16;
 
 /// A description of land, as the items that it names, from left to right.
-#[derive(Debug, Drop)]
+#[derive(Drop)]
 pub struct Description {
     items: Vec<Item>,
 }

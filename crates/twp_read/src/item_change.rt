@@ -7,7 +7,7 @@ use twp_grammar::{Item, Numeral, Step};
 use twp_grid::{EastWest, NorthSouth};
 
 /// What a token says of the newest item.
-#[derive(Clone, Copy, Debug, PartialEq, Eq)]
+#[derive(Clone, Copy, PartialEq, Eq)]
 pub enum Change {
     TownshipNumber(u16),
     TownshipSide(NorthSouth),

@@ -26,7 +26,7 @@ pub fn first_token(text: &[u8], from: usize) -> Option<Token<'_>>
 /// The tokens of a description, from left to right. White space between them is left out. A byte
 /// that begins no token is one of kind `BadByte`, and more than four digits are one of kind
 /// `BadNumber`.
-#[derive(Debug, Drop)]
+#[derive(Drop)]
 pub struct Tokens<'a> {
     text: &'a [u8],
     /// Where the remaining bytes begin.

@@ -8,7 +8,7 @@ use twp_grid::Refusal;
 /// the Specifications for Descriptions of Land). Places are offsets in the text. The first item
 /// with a fault is reported; of one item's faults, the one with the least number, and of the two
 /// numbers of a range, the first before the second.
-#[derive(Clone, Copy, Debug, PartialEq, Eq, Hash, Error)]
+#[derive(Clone, Copy, Debug, PartialEq, Eq, Error)]
 pub enum PlaceFault {
     /// 61, at the heading: it is of another township than the plat.
     #[error("the heading at {at} is of another township than the field notes")]

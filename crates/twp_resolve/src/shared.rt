@@ -19,7 +19,7 @@ use twp_land::Land;
 use twp_read::Description;
 
 /// Two items of a description that name the same land: their indexes.
-#[derive(Clone, Copy, Debug, PartialEq, Eq)]
+#[derive(Clone, Copy, PartialEq, Eq)]
 pub struct SharingItems {
     /// The first item that names some of the later one's land.
     pub earlier: usize,

@@ -51,7 +51,7 @@ fn tells_faults(rt: HostRuntime) -> Result<(), Fail> {
         (RunFault::Write, "cannot write"),
         (RunFault::Memory, "out of memory"),
     ] {
-        assert_eq!(rt; fault.to_string(rt.alloc())?.as_str(), text);
+        assert!(rt; fault.to_string(rt.alloc())?.as_str() == text);
     }
     Ok(())
 }

@@ -40,7 +40,7 @@ fn rounds_half_up(rt: HostRuntime) -> Result<(), Fail> {
         (AREA_MAX, 1, 10_000_000_000_000_000_000),
     ] {
         let area = Area::new(units, over).ok_or("in bounds")?;
-        assert_eq!(rt; (units, over, area.hundredths()), (units, over, hundredths));
+        assert!(rt; area.hundredths() == hundredths);
     }
     Ok(())
 }

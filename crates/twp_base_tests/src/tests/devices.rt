@@ -24,13 +24,13 @@ fn a_device_fails_where_its_reader_does(rt: HostRuntime) {
         let reader = Reader::new(b"township").at_most(1).failing_at(3, kind);
         let mut device = Device::new(reader);
         let mut buffer = [0; 5];
-        assert_eq!(rt; device.fill(&mut buffer), Ok(1));
+        assert!(rt; device.fill(&mut buffer) == Ok(1));
         assert!(rt; !device.failed());
-        assert_eq!(rt; device.fill(&mut buffer), Ok(1));
+        assert!(rt; device.fill(&mut buffer) == Ok(1));
         assert!(rt; !device.failed());
-        assert_eq!(rt; device.fill(&mut buffer), Err(DeviceFault));
+        assert!(rt; device.fill(&mut buffer) == Err(DeviceFault));
         assert!(rt; device.failed());
-        assert_eq!(rt; (device.get().calls(), device.get().given()), (3, 2));
+        assert!(rt; (device.get().calls(), device.get().given()) == (3, 2));
     }
 }
 

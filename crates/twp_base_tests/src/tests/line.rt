@@ -25,15 +25,9 @@ fn finds_lines_in_either_order(rt: HostRuntime) {
         (Run::West, 7, 18, 59),
         (Run::West, 31, 0, 83),
     ] {
-        assert_eq!(rt;
-            (section, other, find(run, section, other)),
-            (section, other, Some(index))
-        );
+        assert!(rt; find(run, section, other) == Some(index));
         if other > 0 {
-            assert_eq!(rt;
-                (other, section, find(run, other, section)),
-                (other, section, Some(index))
-            );
+            assert!(rt; find(run, other, section) == Some(index));
         }
     }
 }
@@ -50,10 +44,7 @@ fn finds_no_line_elsewhere(rt: HostRuntime) {
         (Run::West, 12, 0),
         (Run::North, 6, 7),
     ] {
-        assert_eq!(rt;
-            (section, other, find(run, section, other)),
-            (section, other, None)
-        );
+        assert!(rt; find(run, section, other) == None);
     }
 }
 
@@ -61,9 +52,9 @@ fn finds_no_line_elsewhere(rt: HostRuntime) {
 fn tells_closing_lines(rt: HostRuntime) -> Result<(), Fail> {
     for index in 0..LINES as u8 {
         let line = Line::at_index(index).ok_or("an index")?;
-        assert_eq!(rt; line.index(), index);
+        assert!(rt; line.index() == index);
         let closing = [0, 1, 2, 3, 4, 5, 6, 47, 53, 59, 65, 71, 77, 83].contains(&index);
-        assert_eq!(rt; (index, line.is_closing()), (index, closing));
+        assert!(rt; line.is_closing() == closing);
     }
     assert!(rt; Line::at_index(84) == None);
     Ok(())
@@ -78,10 +69,7 @@ fn has_four_sides(rt: HostRuntime) -> Result<(), Fail> {
     ] {
         let lines = sides(Section::new(number).ok_or("a section")?);
         let [east, west, north, south] = lines;
-        assert_eq!(rt;
-            [east.index(), west.index(), north.index(), south.index()],
-            indexes
-        );
+        assert!(rt; [east.index(), west.index(), north.index(), south.index()] == indexes);
     }
     Ok(())
 }

@@ -13,12 +13,9 @@ fn numbers_wind(rt: HostRuntime) {
     for row in 0..6u8 {
         for column in 0..6u8 {
             let section = Section::at(row, column);
-            assert_eq!(rt;
-                section.number(),
-                rows[usize::from(row)][usize::from(column)]
-            );
-            assert_eq!(rt; section.row(), row);
-            assert_eq!(rt; section.column(), column);
+            assert!(rt; section.number() == rows[usize::from(row)][usize::from(column)]);
+            assert!(rt; section.row() == row);
+            assert!(rt; section.column() == column);
         }
     }
 }

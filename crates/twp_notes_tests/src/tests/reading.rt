@@ -12,10 +12,7 @@ fn reads_pieces_of_any_size(rt: HostRuntime) -> Result<(), Fail> {
     let text = text_of(alloc, &notes)?;
     for most in [1, 2, 3, 7, 1_000] {
         let mut source = Device::new(Reader::new(&text).at_most(most));
-        assert_eq!(rt;
-            (most, Notes::read(alloc, &mut source)? == notes),
-            (most, true)
-        );
+        assert!(rt; Notes::read(alloc, &mut source)? == notes);
     }
     Ok(())
 }
@@ -44,15 +41,15 @@ fn reads_to_a_limit(rt: HostRuntime) -> Result<(), Fail> {
     let alloc = rt.alloc();
     for (limit, whole) in [(5, None), (6, Some("acres\n")), (7, Some("acres\n"))] {
         let read = read_whole(alloc, &mut Bytes::new(b"acres\n"), limit)?;
-        assert_eq!(rt; (limit, read.is_some()), (limit, whole.is_some()));
+        assert!(rt; read.is_some() == whole.is_some());
         if let (Some(bytes), Some(text)) = (read, whole) {
-            assert_eq!(rt; bytes.as_slice(), text.as_bytes());
+            assert!(rt; bytes.as_slice() == text.as_bytes());
         }
     }
     for (most, front) in [(0, ""), (3, "acr"), (6, "acres\n"), (9, "acres\n")] {
         let mut source = Device::new(Reader::new(b"acres\n"));
         let read = read_up_to(alloc, &mut source, most)?;
-        assert_eq!(rt; read.as_slice(), front.as_bytes());
+        assert!(rt; read.as_slice() == front.as_bytes());
     }
     Ok(())
 }
@@ -70,9 +67,9 @@ fn tells_that_a_reader_failed(rt: HostRuntime) -> Result<(), Fail> {
             let reader = Reader::new(&text).at_most(500).failing_at(call, kind);
             let mut source = Device::new(reader);
             let read = Notes::read(alloc, &mut source);
-            assert_eq!(rt; (call, read == Err(NotesFault::Read)), (call, call < 6));
-            assert_eq!(rt; read.is_ok(), call == 6);
-            assert_eq!(rt; source.failed(), call < 6);
+            assert!(rt; (read == Err(NotesFault::Read)) == (call < 6));
+            assert!(rt; read.is_ok() == (call == 6));
+            assert!(rt; source.failed() == (call < 6));
         }
     }
     Ok(())
@@ -84,7 +81,7 @@ fn tells_faults(rt: HostRuntime) -> Result<(), Fail> {
         (ReadFault::Read, "cannot read"),
         (ReadFault::Memory, "out of memory"),
     ] {
-        assert_eq!(rt; fault.to_string(rt.alloc())?.as_str(), text);
+        assert!(rt; fault.to_string(rt.alloc())?.as_str() == text);
     }
     Ok(())
 }

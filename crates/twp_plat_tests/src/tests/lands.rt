@@ -54,10 +54,7 @@ fn adds_whole_sections_up(rt: HostRuntime) -> Result<(), Fail> {
         (1, 36, 2_303_757),
     ] {
         let acreage = area(&plat, &sections(first, last)?)?;
-        assert_eq!(rt;
-            (first, last, acreage.hundredths()),
-            (first, last, hundredths)
-        );
+        assert!(rt; acreage.hundredths() == hundredths);
     }
     Ok(())
 }
@@ -88,10 +85,7 @@ fn adds_lots_and_places_up_exactly(rt: HostRuntime) -> Result<(), Fail> {
         (4, 1_649_000_000),
     ] {
         land.add(section(5)?, lot(5, number)?);
-        assert_eq!(rt;
-            (number, area(&plat, &land)?.units()),
-            (number, units * over)
-        );
+        assert!(rt; area(&plat, &land)?.units() == units * over);
     }
     Ok(())
 }
@@ -137,11 +131,8 @@ fn adds_printed_lots_up(rt: HostRuntime) -> Result<(), Fail> {
         (sections(1, 36)?, 2_303_760, 2_303_757),
     ] {
         let acreage = plat_area(&plat, &land)?;
-        assert_eq!(rt; (acreage.units(), acreage.over()), (printed * 100_000, 1));
-        assert_eq!(rt;
-            (printed, area(&plat, &land)?.hundredths()),
-            (printed, exact)
-        );
+        assert!(rt; (acreage.units(), acreage.over()) == (printed * 100_000, 1));
+        assert!(rt; area(&plat, &land)?.hundredths() == exact);
     }
     Ok(())
 }

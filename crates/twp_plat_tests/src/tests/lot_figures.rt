@@ -29,10 +29,7 @@ fn rounds_each_lot_once(rt: HostRuntime) -> Result<(), Fail> {
         (8, 4, None),
         (8, 255, None),
     ] {
-        assert_eq!(rt;
-            (number, lot, plat.lot_hundredths(section(number)?, lot)),
-            (number, lot, hundredths)
-        );
+        assert!(rt; plat.lot_hundredths(section(number)?, lot) == hundredths);
     }
     Ok(())
 }

@@ -55,7 +55,7 @@ sec. 36: total 640.00\n\
 township total 23037.57\n";
 
 /// Which run it is.
-#[derive(Clone, Copy, Debug, PartialEq, Eq)]
+#[derive(Clone, Copy, PartialEq, Eq)]
 pub enum Call {
     Acres,
     AcresAs(Account),

@@ -39,20 +39,15 @@ fn runs(
     match fails {
         None => {
             let (text, verdict) = expected(alloc, example.said)?;
-            assert_eq!(rt; outcome, Ok(verdict), "{:?}", example.call);
-            assert_eq!(rt; out.get().as_slice(), text.as_slice());
+            assert!(rt; outcome == Ok(verdict));
+            assert!(rt; out.get().as_slice() == text.as_slice());
             assert!(rt; !lines.failed() && !second.failed());
         }
         Some(calls) => {
-            assert_eq!(rt;
-                outcome,
-                Err(RunFault::Read),
-                "{:?} {calls:?}",
-                example.call
-            );
+            assert!(rt; outcome == Err(RunFault::Read));
             assert!(rt; out.get().is_empty());
             assert!(rt; lines.failed() || second.failed());
-            assert_eq!(rt; (lines.get().calls(), second.get().calls()), calls);
+            assert!(rt; (lines.get().calls(), second.get().calls()) == calls);
         }
     }
     Ok(())

@@ -30,9 +30,9 @@ fn reads_notes_to_their_limit(rt: HostRuntime) -> Result<(), Fail> {
             let mut lines = Device::new(reader);
             let mut second = Device::new(Reader::endless(b' '));
             let answer = call.answer(alloc, &mut lines, &mut second)?;
-            assert_eq!(rt; (call, answer), (call, expected(alloc, said)?));
-            assert_eq!(rt; lines.get().given(), given);
-            assert_eq!(rt; second.get().calls(), 0);
+            assert!(rt; answer == expected(alloc, said)?);
+            assert!(rt; lines.get().given() == given);
+            assert!(rt; second.get().calls() == 0);
         }
     }
     Ok(())
@@ -54,9 +54,9 @@ fn reads_a_description_to_its_limit(rt: HostRuntime) -> Result<(), Fail> {
         ] {
             let mut text = Device::new(reader);
             let answer = call.answer(alloc, &mut Bytes::new(&notes), &mut text)?;
-            assert_eq!(rt; (call, answer), (call, expected(alloc, said)?));
-            assert_eq!(rt; text.get().given(), given);
-            assert_eq!(rt; text.get().calls(), calls);
+            assert!(rt; answer == expected(alloc, said)?);
+            assert!(rt; text.get().given() == given);
+            assert!(rt; text.get().calls() == calls);
         }
     }
     Ok(())
@@ -81,9 +81,9 @@ fn reads_a_list_to_its_limit(rt: HostRuntime) -> Result<(), Fail> {
     ] {
         let mut tracts = Device::new(reader);
         let answer = Call::Report.answer(alloc, &mut Bytes::new(&notes), &mut tracts)?;
-        assert_eq!(rt; answer, expected(alloc, said)?);
-        assert_eq!(rt; tracts.get().given(), given);
-        assert_eq!(rt; tracts.get().calls(), calls);
+        assert!(rt; answer == expected(alloc, said)?);
+        assert!(rt; tracts.get().given() == given);
+        assert!(rt; tracts.get().calls() == calls);
     }
     Ok(())
 }
@@ -102,8 +102,8 @@ fn leaves_the_second_text_unread_without_a_plat(rt: HostRuntime) -> Result<(), F
         ] {
             let mut second = Device::new(Reader::new(b"sec. 14."));
             let answer = call.answer(alloc, &mut Bytes::new(notes), &mut second)?;
-            assert_eq!(rt; (call, answer), (call, expected(alloc, said)?));
-            assert_eq!(rt; second.get().calls(), 0);
+            assert!(rt; answer == expected(alloc, said)?);
+            assert!(rt; second.get().calls() == 0);
         }
     }
     Ok(())

@@ -31,12 +31,7 @@ fn runs_in_pieces(alloc: Global, rt: &impl Abort, example: Example) -> Result<()
         let mut lines = Device::new(Reader::new(example.notes).at_most(most));
         let mut second = Device::new(Reader::new(example.second).at_most(most));
         let answer = example.call.answer(alloc, &mut lines, &mut second)?;
-        assert_eq!(rt;
-            answer,
-            expected(alloc, example.said)?,
-            "{:?} by {most}",
-            example.call
-        );
+        assert!(rt; answer == expected(alloc, example.said)?);
     }
     Ok(())
 }

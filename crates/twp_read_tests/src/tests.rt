@@ -1,4 +1,0 @@
-mod description;
-mod fault;
-mod steps;
-mod tokens;

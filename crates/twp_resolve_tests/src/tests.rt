@@ -1,3 +1,0 @@
-mod place_fault;
-mod resolving;
-mod shared;
