@@ -1,6 +1,9 @@
 //! Why a description names no land on the plat.
-ghost use Rattle.std.specs.Prelude.{◌≡◌, IfOk};
+ghost use Rattle.std.specs.Prelude.{◌≡◌, IfOk, MatchOption};
+ghost use Rattle.twp_marks.specs.Marks.{IsTokenSpan, IsChainSpan, IsHeadingSpan};
 ghost use Rattle.twp_findings.specs.ShownPlaces.{IsTextOf, BeginsAt};
+ghost use Rattle.twp_findings.specs.Underlined.{EndsAs, EndsWithFault, IsFaultSpan, IsItemAt};
+ghost use Rattle.twp_findings.specs.Underlined.{IsSpanAt, NoneAt};
 
 mod items;
 mod words;
@@ -55,6 +58,8 @@ pub fn find(
     ensures refusal { IfOk result (λ finding. finding.refusal ≡ refusal) }
     ensures place { IfOk result (λ finding. IsTextOf origin.now text.now
         → BeginsAt text.now refusal.at finding.place) }
+    ensures end { IfOk result (λ finding. IsTextOf origin.now text.now
+        → EndsWithFault text.now description.now fault finding.place) }
 {
     let described = Described {
         origin,
@@ -77,7 +82,10 @@ pub fn find(
 
 impl<'a> Described<'a> {
     /// What is told of a fault.
-    fn tell(&self, alloc: Global, fault: PlaceFault) -> Result<Told, AllocError> {
+    fn tell(&self, alloc: Global, fault: PlaceFault) -> Result<Told, AllocError>
+        ensures { IfOk result (λ told.
+            EndsAs (IsFaultSpan self.now.text.now self.now.description.now fault) told.end) }
+    {
         match fault {
             PlaceFault::OtherTownship { at } => self.tell_heading(alloc, at),
             PlaceFault::NoSection { at } => self.tell_section(alloc, at),
@@ -89,8 +97,11 @@ impl<'a> Described<'a> {
         }
     }
 
-    /// The item that begins at a place, and how many stand before it.
-    fn item_at(&self, at: u32) -> Option<&'a Item> {
+    /// The item that begins at a place.
+    fn item_at(&self, at: u32) -> Option<&'a Item>
+        ensures { MatchOption result (NoneAt at self.now.description.now)
+            (λ item. IsItemAt at self.now.description.now item.now) }
+    {
         for item in self.description.items() {
             if begins_at(item, at) {
                 return Some(item);
@@ -112,7 +123,9 @@ impl<'a> Described<'a> {
     }
 
     /// A heading of another township.
-    fn tell_heading(&self, alloc: Global, at: u32) -> Result<Told, AllocError> {
+    fn tell_heading(&self, alloc: Global, at: u32) -> Result<Told, AllocError>
+        ensures { IfOk result (λ told. EndsAs (IsHeadingSpan self.now.text.now at) told.end) }
+    {
         let mut sentence = String::new(alloc);
         sentence.push_str("this heading is of ")?;
         if let Some(item) = self.item_at(at) {
@@ -128,7 +141,9 @@ impl<'a> Described<'a> {
     }
 
     /// A number that is no section's.
-    fn tell_section(&self, alloc: Global, at: u32) -> Result<Told, AllocError> {
+    fn tell_section(&self, alloc: Global, at: u32) -> Result<Told, AllocError>
+        ensures { IfOk result (λ told. EndsAs (IsTokenSpan self.now.text.now at) told.end) }
+    {
         let mut sentence = String::new(alloc);
         let number = number_at(self.description.items(), at);
         write!(
@@ -144,7 +159,9 @@ impl<'a> Described<'a> {
     }
 
     /// A range whose last number is less than its first.
-    fn tell_range(&self, alloc: Global, at: u32) -> Result<Told, AllocError> {
+    fn tell_range(&self, alloc: Global, at: u32) -> Result<Told, AllocError>
+        ensures { IfOk result (λ told. EndsAs (IsTokenSpan self.now.text.now at) told.end) }
+    {
         let (first, last) = range_to(self.description.items(), at);
         let mut sentence = String::new(alloc);
         write!(
@@ -162,7 +179,9 @@ impl<'a> Described<'a> {
     }
 
     /// A number that is no lot's.
-    fn tell_lot(&self, alloc: Global, at: u32) -> Result<Told, AllocError> {
+    fn tell_lot(&self, alloc: Global, at: u32) -> Result<Told, AllocError>
+        ensures { IfOk result (λ told. EndsAs (IsTokenSpan self.now.text.now at) told.end) }
+    {
         let mut sentence = String::new(alloc);
         if let Some(section) = section_of_number(self.description.items(), at) {
             write_lots_of(section, &mut sentence)?;
@@ -175,7 +194,9 @@ impl<'a> Described<'a> {
     }
 
     /// An aliquot part that is finer than places are.
-    fn tell_fine_part(&self, alloc: Global, at: u32) -> Result<Told, AllocError> {
+    fn tell_fine_part(&self, alloc: Global, at: u32) -> Result<Told, AllocError>
+        ensures { IfOk result (λ told. EndsAs (IsChainSpan self.now.text.now at) told.end) }
+    {
         let mut sentence = String::new(alloc);
         sentence.push_str("this part is too fine: a side is halved five times at most")?;
         let mut help = String::new(alloc);
@@ -189,7 +210,9 @@ impl<'a> Described<'a> {
     }
 
     /// An aliquot part that holds land of lots.
-    fn tell_part_of_lots(&self, alloc: Global, at: u32) -> Result<Told, AllocError> {
+    fn tell_part_of_lots(&self, alloc: Global, at: u32) -> Result<Told, AllocError>
+        ensures { IfOk result (λ told. EndsAs (IsChainSpan self.now.text.now at) told.end) }
+    {
         let mut sentence = String::new(alloc);
         let mut help = String::new(alloc);
         if let Some(part) = self.part_at(alloc, at)? {
@@ -215,7 +238,10 @@ impl<'a> Described<'a> {
     }
 
     /// Land that was named before.
-    fn tell_overlap(&self, alloc: Global, at: u32) -> Result<Told, AllocError> {
+    fn tell_overlap(&self, alloc: Global, at: u32) -> Result<Told, AllocError>
+        ensures { IfOk result (λ told.
+            EndsAs (IsSpanAt self.now.text.now self.now.description.now at) told.end) }
+    {
         let items = self.description.items();
         let mut sentence = String::new(alloc);
         sentence.push_str("this land was named before")?;
@@ -226,15 +252,21 @@ impl<'a> Described<'a> {
                 write_lines(&shared.text, &mut help)?;
             }
         }
-        let span = match self.item_at(at) {
-            Some(item) => item_span(self.text, item),
-            None => token_span(self.text, at as usize),
-        };
         Ok(Told {
-            end: span.end,
+            end: self.span_at(at).end,
             sentence,
             help,
         })
+    }
+
+    /// The bytes of the item that begins at a place; where none does, those of the token there.
+    fn span_at(&self, at: u32) -> Span
+        ensures { IsSpanAt self.now.text.now self.now.description.now at result }
+    {
+        match self.item_at(at) {
+            Some(item) => item_span(self.text, item),
+            None => token_span(self.text, at as usize),
+        }
     }
 
     /// Appends an item as it is written, and where it stands.

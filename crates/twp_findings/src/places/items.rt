@@ -1,4 +1,7 @@
 //! Which item of a description stands at a place, and of which section it tells.
+ghost use Rattle.std.specs.Prelude.{◌≡◌, ◌↔◌, IsTrue};
+ghost use Rattle.twp_resolve.specs.PlaceFaults.{start_of};
+ghost use Rattle.twp_findings.specs.Underlined.{IsItemSpan};
 
 use twp_excerpt::Span;
 use twp_grammar::{Item, Numeral};
@@ -6,12 +9,16 @@ use twp_grid::{SECTIONS, Section};
 use twp_marks::{chain_span, heading_span, range_span, token_span};
 
 /// Whether an item begins at a place: its first number, its first token, or its word.
-pub(crate) fn begins_at(item: &Item, at: u32) -> bool {
+pub(crate) fn begins_at(item: &Item, at: u32) -> bool
+    ensures { IsTrue result ↔ (start_of item.now ≡ at) }
+{
     place_of(item) == at
 }
 
 /// The place of an item.
-fn place_of(item: &Item) -> u32 {
+fn place_of(item: &Item) -> u32
+    ensures { result ≡ start_of item.now }
+{
     match *item {
         Item::Heading { at, .. } => at,
         Item::Sections { first, .. } => first.at,
@@ -23,7 +30,9 @@ fn place_of(item: &Item) -> u32 {
 
 /// The bytes of an item: a heading, a number or a range from its first number to its last, an
 /// aliquot part, or a word.
-pub(crate) fn item_span(text: &[u8], item: &Item) -> Span {
+pub(crate) fn item_span(text: &[u8], item: &Item) -> Span
+    ensures { IsItemSpan text.now item.now result }
+{
     match *item {
         Item::Heading { at, .. } => heading_span(text, at as usize),
         Item::Sections { first, last, .. } => range_span(text, first.at as usize, last.at as usize),
