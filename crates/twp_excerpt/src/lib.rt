@@ -9,4 +9,4 @@ mod spot;
 
 pub use escaped::write_escaped;
 pub use excerpt::write_excerpt;
-pub use spot::{Span, Spot, end_of_text, spot_of};
+pub use spot::{Span, Spot, end_of_text, first_size, spot_of};

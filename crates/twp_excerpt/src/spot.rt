@@ -104,8 +104,8 @@ fn size_at(bytes: &[u8], at: usize) -> usize
     first_size(&bytes[at..])
 }
 
-/// How many bytes the first character takes, or 1 where no character begins the bytes.
-fn first_size(bytes: &[u8]) -> usize
+/// How many bytes the first character of UTF-8 takes, or 1 where no character begins the bytes.
+pub fn first_size(bytes: &[u8]) -> usize
     requires { 0 < length bytes.now }
     ensures value { result ≡ first_size bytes.now }
     ensures some { 0 < result }

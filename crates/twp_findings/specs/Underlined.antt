@@ -1,5 +1,5 @@
--- What is underlined of a description that is refused for what it names.
-use Rattle.std.specs.Prelude.{◌≡◌, ◌≢◌, ℕ, min, List, length, Some, slice_get}
+-- Where ends what is underlined of a refused description.
+use Rattle.std.specs.Prelude.{◌≡◌, ◌≢◌, ℕ, ◌+◌, min, List, length, drop, Some, slice_get}
 use Rattle.twp_excerpt.specs.declared.spot.Span.{Span}
 use Rattle.twp_grammar.specs.declared.item.Item.{Item}
 use Rattle.twp_grammar.specs.declared.item.Item.TheVariants as item
@@ -7,8 +7,21 @@ use Rattle.twp_resolve.specs.declared.place_fault.PlaceFault.{PlaceFault}
 use Rattle.twp_resolve.specs.declared.place_fault.PlaceFault.TheVariants as fault
 use Rattle.twp_resolve.specs.PlaceFaults.{start_of}
 use Rattle.twp_marks.specs.Marks.{IsTokenSpan, IsChainSpan, IsHeadingSpan, IsRangeSpan}
+use Rattle.twp_hints.specs.Sights.{shown_place, TakesSign}
 use Rattle.twp_findings.specs.declared.finding.Place.{Place}
 use Rattle.twp_findings.specs.declared.finding.Place.TheVariants.{Part}
+
+-- what is underlined ends at this place of the text, or with it
+pub record EndsAt (text : List ℕ) (end : ℕ) (place : Place) : Type 0 where
+  pub shown : Span
+  pub is_part : place ≡ Part shown
+  pub ends : shown.end ≡ min end (length text)
+
+-- what is underlined of a text that isn't read is the first sign from a place on; nothing at the end
+pub record EndsWithSign (text : List ℕ) (at : ℕ) (place : Place) : Type 0 where
+  pub size : ℕ
+  pub sign : TakesSign (drop at text) size
+  pub ends : EndsAt text (shown_place text at + size) place
 
 -- the bytes of an item: a heading, a range from its first number to its last, an aliquot part, or a word
 abbrev pub IsItemSpan : List ℕ → Item → Span → Type 0
@@ -54,8 +67,6 @@ pub record EndsAs (IsOfKind : Span → Type 0) (end : ℕ) : Type 0 where
 -- what is underlined ends where what is at fault does
 pub record EndsWithFault (text : List ℕ) (items : List Item) (fault : PlaceFault) (place : Place)
     : Type 0 where
-  pub shown : Span
-  pub is_part : place ≡ Part shown
   pub end : ℕ
   pub of_fault : EndsAs (IsFaultSpan text items fault) end
-  pub ends : shown.end ≡ min end (length text)
+  pub ends : EndsAt text end place

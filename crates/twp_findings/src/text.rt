@@ -1,7 +1,9 @@
 //! Why a text isn't read as a description.
-ghost use Rattle.std.specs.Prelude.{◌≡◌, ℕ, List, IfOk};
+ghost use Rattle.std.specs.Prelude.{◌≡◌, ◌≢◌, ◌+◌, length, IfOk};
 ghost use Rattle.twp_hints.specs.Sights.{shown_place};
+ghost use Rattle.twp_read.specs.declared.fault.TextFault.TheVariants.{TooLarge};
 ghost use Rattle.twp_findings.specs.ShownPlaces.{IsTextOf, ShowsAt};
+ghost use Rattle.twp_findings.specs.Underlined.{EndsAt, EndsWithSign};
 
 mod character;
 
@@ -29,13 +31,15 @@ pub fn find(
     ensures refusal { IfOk result (λ finding. finding.refusal ≡ refusal) }
     ensures place { IfOk result (λ finding. IsTextOf origin.now text.now
         → ShowsAt text.now fault (shown_place text.now refusal.at) finding.place) }
+    ensures end { fault ≢ TooLarge → IfOk result (λ finding. IsTextOf origin.now text.now
+        → EndsWithSign text.now refusal.at finding.place) }
 {
     let sight = Sight::of(text, refusal, expected(fault));
     let mut sentence = String::new(alloc);
     write_sentence(&sight, fault, &mut sentence)?;
     Ok(Finding {
         refusal,
-        place: place(origin, &sight, fault),
+        place: place(origin, text, &sight, fault),
         sentence,
         help: hint_for(alloc, &sight)?,
     })
@@ -51,14 +55,17 @@ fn expected(fault: TextFault) -> Option<Expected> {
 
 /// What is underlined: the refused sign, or the place where the text ends.
 #[tactic(auto, using(crate::proofs::ShownFacts::shows_a_part))]
-fn place(origin: &Origin<'_>, sight: &Sight<'_>, fault: TextFault) -> Place
-    ensures { (text : List ℕ) → IsTextOf origin.now text
-        → ShowsAt text fault sight.now.start result }
+fn place(origin: &Origin<'_>, text: &[u8], sight: &Sight<'_>, fault: TextFault) -> Place
+    ensures begins { IsTextOf origin.now text.now
+        → ShowsAt text.now fault sight.now.start result }
+    ensures ends { fault ≢ TooLarge → IsTextOf origin.now text.now
+        → EndsAt text.now (sight.now.start + length sight.now.at.bytes.now) result }
 {
     if fault == TextFault::TooLarge {
         return Place::Whole;
     }
     let end = sight.start.saturating_add(sight.at.bytes.len());
+    let end = end.min(text.len());
     Place::Part(Span {
         start: origin.in_file(sight.start),
         end: origin.in_file(end),

@@ -1,1 +1,2 @@
 pub mod SightFacts
+pub mod SignFacts

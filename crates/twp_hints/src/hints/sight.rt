@@ -1,11 +1,11 @@
 //! What is seen of a text where it is refused.
-ghost use Rattle.std.specs.Prelude.{◌≡◌, ◌≤◌, length};
+ghost use Rattle.std.specs.Prelude.{◌≡◌, ◌≤◌, ◌↔◌, length, drop, IsTrue};
 ghost use Rattle.std.specs.List.{AllPass};
 ghost use Rattle.twp_excerpt.specs.Spots.{is_white};
-ghost use Rattle.twp_hints.specs.Sights.{shown_place};
+ghost use Rattle.twp_grammar.specs.declared.kind.Kind.TheVariants.{BadByte};
+ghost use Rattle.twp_hints.specs.Sights.{shown_place, TakesSign};
 
-use bstr::decode_utf8;
-use twp_excerpt::end_of_text;
+use twp_excerpt::{end_of_text, first_size};
 use twp_grammar::{Expected, Kind, Token};
 use twp_grid::Refusal;
 use twp_read::Tokens;
@@ -40,7 +40,8 @@ pub struct Sight<'a> {
 impl<'a> Sight<'a> {
     /// What is seen of a text where it is refused.
     pub fn of(text: &'a [u8], refusal: Refusal, expected: Option<Expected>) -> Sight<'a>
-        ensures { result.start ≡ shown_place text.now refusal.at }
+        ensures start { result.start ≡ shown_place text.now refusal.at }
+        ensures sign { TakesSign (drop refusal.at text.now) (length result.at.bytes.now) }
     {
         let at = (refusal.at as usize).min(text.len());
         let (ahead, behind) = text.split_at(at);
@@ -90,17 +91,22 @@ fn size_of_sign(bytes: &[u8]) -> usize
     ensures within { result ≤ length bytes.now }
     ensures white { result ≡ 0 → AllPass is_white bytes.now }
     ensures dark { AllPass is_white bytes.now → result ≡ 0 }
+    ensures sign { TakesSign bytes.now result }
 {
     let Some(token) = Tokens::new(bytes).next() else {
         return 0;
     };
-    if token.kind != Kind::BadByte {
-        return token.text.len().min(bytes.len());
+    if is_bad_byte(token.kind) {
+        return first_size(bytes);
     }
-    match decode_utf8(bytes) {
-        (Some(_), size) => size.min(bytes.len()),
-        (None, _) => bytes.len().min(1),
-    }
+    token.text.len()
+}
+
+/// Whether a token is a byte that begins none.
+fn is_bad_byte(kind: Kind) -> bool
+    ensures { IsTrue result ↔ (kind ≡ BadByte) }
+{
+    matches!(kind, Kind::BadByte)
 }
 
 /// The last sign of some bytes.

@@ -3,12 +3,13 @@ use Rattle.std.specs.List.{AllPass}
 use Rattle.std.proofs.lemmas.Bool.{eqb-true, eq-eqb, false≢true}
 use Rattle.std.proofs.lemmas.List.{drop_min}
 use Rattle.twp_excerpt.specs.Spots.{is_white}
+use Rattle.twp_hints.specs.Sights.{TakesSign}
 use Rattle.twp_hints.proofs.SightFacts.{shown_at_end, shown_there, dark_within}
 use Rattle.twp_hints.proofs.hints.sight.Sight.of.Goals as goal
 use Rattle.twp_hints.proofs.hints.sight.Sight.of.Goals.{then-is_empty, else-is_empty}
 
-pub returns : goal.returns
-returns c =
+pub returns-clause-start : goal.returns-clause-start
+returns-clause-start c =
     let text = c.args.text.now in
     let at = c.args.refusal.at in
     let behind : c.split_at.result.1.now ≡ drop at text =
@@ -34,3 +35,13 @@ returns c =
           w.result-is ∙ c.min-at.ensures ∙ omega (arith, dark_within text at dark)
           ∙ sym (shown_there text at dark)
     ]
+
+pub returns-clause-sign : goal.returns-clause-sign
+returns-clause-sign c =
+    let behind : c.split_at.result.1.now ≡ drop c.args.refusal.at c.args.text.now =
+    c.split_at.ensures.back
+    ∙ ap (λ n. drop n c.args.text.now) c.min-at.ensures
+    ∙ drop_min c.args.refusal.at c.args.text.now in
+    subst (λ b. TakesSign b (length c.split_at-2.result.0.now)) behind
+    (subst (TakesSign c.split_at.result.1.now) (sym c.split_at-2.ensures.front_len)
+    c.size_of_sign.ensures.sign)
