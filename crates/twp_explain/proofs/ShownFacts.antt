@@ -124,6 +124,17 @@ told_where file (stop.Found finding) explanation shown of spot =
     (subst (λ (r : Refusal). ShowsRefused file.bytes.now r finding.place) spot.0 shown) spot.1
 told_where file stop.Memory explanation shown of spot = absurd of
 
+-- what is told of what was found is told where the description is refused
+pub tells_where : {Error : Type 0} (result : Result (Option Explanation) Error) (file : Given)
+    (stopped : Stop) → IfShown file.bytes.now stopped
+    → IfOk result (λ told. IfSome told (λ explanation. IsOf stopped explanation.refusal))
+    → IfOk result (λ told. IfSome told (IsSpotOfStop file stopped))
+    → IfOk result (λ told. IfSome told (IsToldWhereRefused file))
+tells_where (Ok (Some explanation)) file stopped shown of spot =
+    told_where file stopped explanation shown of spot
+tells_where (Ok None) file stopped shown of spot = tt
+tells_where (Err error) file stopped shown of spot = tt
+
 -- what was found is of the refusal that is told
 pub found_is : (Is : Refusal → Type 0) (stopped : Stop) (refusal : Refusal) → IfFound stopped Is
     → IsOf stopped refusal → Is refusal

@@ -1,11 +1,11 @@
 -- Nothing is told of land on the plat of the notes, or where the refusal is another.
-use Rattle.std.proofs.Common.{subst}
+use Rattle.std.proofs.Common.{ap, subst}
 use Rattle.twp_acres.specs.Answers.{IsNoDescription}
 use Rattle.twp_findings.specs.Findings.{IfFound}
 use Rattle.twp_explain.specs.Refusals.{DescribeLand}
 use Rattle.twp_explain.proofs.FindingFacts.{land_is_none, none_of_land, of_land, of_description}
 use Rattle.twp_explain.specs.ToldPlaces.{IsToldWhereRefused}
-use Rattle.twp_explain.proofs.ShownFacts.{platted_tells_none}
+use Rattle.twp_explain.proofs.ShownFacts.{platted_tells_none, tells_where}
 use Rattle.twp_explain.proofs.explaining.explain_land.Goals as goal
 
 pub returns-in-Err-clause-none : goal.returns-in-Err-clause-none
@@ -37,3 +37,12 @@ pub returns-in-Err-clause-spot : goal.returns-in-Err-clause-spot
 returns-in-Err-clause-spot c =
     platted_tells_none c.tell.result c.args.notes.now.bytes.now c.in-Err.stop
     (IsToldWhereRefused c.args.description.now) c.in-Err.ensures.found c.tell.ensures.found
+
+pub returns-in-Err-describe-clause-spot : goal.returns-in-Err-describe-clause-spot
+returns-in-Err-describe-clause-spot c = λ makes.
+    tells_where c.tell-in-Err-describe.result c.args.description.now c.in-Err-describe.stop
+    (c.in-Err-describe.ensures.shown (record {
+      whole = c.of_file-origin.ensures.whole;
+      same = ap (λ file. file.bytes.now) c.of_file-origin.ensures.file;
+    }))
+    c.tell-in-Err-describe.ensures.found c.tell-in-Err-describe.ensures.spot
