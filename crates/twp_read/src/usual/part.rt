@@ -161,16 +161,31 @@ pub fn behind_comma(text: &[u8], end: Reached) -> Reached
     ensures { (items : List TakenItem)
         → Leads text.now end.at end.state items result.at result.state items }
 {
+    if let Some(behind) = behind_comma_space(text, end) {
+        return behind;
+    }
     match end.state {
-        State::Step if goes_on(text, end.at, b", ") => Reached {
-            at: end.at + COMMA_SPACE,
-            state: State::PartComma,
-        },
         State::Step if goes_on(text, end.at, b",") => Reached {
             at: behind_white(text, end.at + COMMA),
             state: State::PartComma,
         },
         _ => end,
+    }
+}
+
+/// The place after a comma and a space, if exactly these bytes follow a part.
+#[inline(always)]
+pub fn behind_comma_space(text: &[u8], end: Reached) -> Option<Reached>
+    requires { end.at ≤ length text.now }
+    ensures { IfSome result (λ behind. (items : List TakenItem)
+        → Leads text.now end.at end.state items behind.at behind.state items) }
+{
+    match end.state {
+        State::Step if goes_on(text, end.at, b", ") => Some(Reached {
+            at: end.at + COMMA_SPACE,
+            state: State::PartComma,
+        }),
+        _ => None,
     }
 }
 
