@@ -6,13 +6,13 @@ ghost use Rattle.twp_grammar.specs.Machine.{is_in_chain};
 ghost use Rattle.twp_read.specs.steps.Usual.{Leads};
 
 use crate::reached::Reached;
-use crate::usual::part::{behind_comma, behind_comma_space, behind_of_the};
+use crate::usual::part::{behind_comma, behind_of_the};
 use crate::usual::step::step_at;
 use std::alloc::AllocError;
 use twp_grammar::{Item, State, Steps};
 
-/// Takes the steps that a chain continues with, as long as each is spelled in the usual way, and the
-/// comma after it: those that stand right after one another, and those after `of the`.
+/// Takes the steps that a chain continues with, as long as each is spelled in the usual way: those
+/// that stand right after one another, and those after `of the`. Takes the comma after them, too.
 #[inline(always)]
 pub fn take_more_steps(item: &mut Item, text: &[u8], from: Reached) -> Result<Reached, AllocError>
     requires place { from.at ≤ length text.now }
@@ -24,11 +24,14 @@ pub fn take_more_steps(item: &mut Item, text: &[u8], from: Reached) -> Result<Re
     if let Item::Chain { steps, .. } = item {
         let adjoining = take_adjoining(steps, text, from)?;
         // Most parts end here, and no `of the` has to be looked for.
-        if let Some(behind) = behind_comma_space(text, adjoining) {
+        if let Some(behind) = behind_comma(text, adjoining) {
             return Ok(behind);
         }
         let end = take_steps_of(steps, text, adjoining)?;
-        return Ok(behind_comma(text, end));
+        if let Some(behind) = behind_comma(text, end) {
+            return Ok(behind);
+        }
+        return Ok(end);
     }
     Ok(from)
 }
@@ -55,7 +58,8 @@ fn take_steps_of(steps: &mut Steps, text: &[u8], from: Reached) -> Result<Reache
     }
 }
 
-/// Takes steps as long as each stands right after `of the`.
+/// Takes steps as long as each stands right after `of the`. No step is looked for right behind them
+/// until there is no further `of the`.
 #[inline(always)]
 fn take_row_of(steps: &mut Steps, text: &[u8], from: Reached) -> Result<Reached, AllocError>
     requires place { from.at ≤ length text.now }

@@ -10,5 +10,6 @@ returns-then-others-ne0-clause-white c =
 pub loop-at-preserved : goal.loop-at-preserved
 loop-at-preserved c =
     let run =
-    all_spaces c.args.text.now c.loop-at.at 64 _ (omega arith) c.lanes_of_others-others.ensures (omega arith) in
+    all_spaces c.args.text.now c.loop-at.at 64 _ (omega arith) c.lanes_of_others-others.ensures
+    (omega arith) in
     (omega arith, run ∙ c.loop-at.invariant.1)
