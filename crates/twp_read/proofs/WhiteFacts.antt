@@ -35,16 +35,16 @@ pub one_more_white : (text : List ℕ) (at : ℕ) → begins_with is_white (drop
 one_more_white text at h =
     one_more (drop at text) h ∙ ap (λ b. 1 + prefix_len is_white b) (drop-drop 1 at text)
 
--- from one place to another, where all that stands between them is spaces
-pub spaces_between : (text : List ℕ) (at n : ℕ)
+-- from one place to another, where all that stands between them is white space
+pub white_between : (text : List ℕ) (at n : ℕ)
     → ((k : ℕ) → at ≤ k → k < at + n → begins_with is_white (drop k text) ≡ true)
     → at + n + prefix_len is_white (drop (at + n) text) ≡ at + prefix_len is_white (drop at text)
-spaces_between text at zero white =
+white_between text at zero white =
     let place : at + 0 ≡ at = omega arith in
     ap (λ m. m + prefix_len is_white (drop m text)) place
-spaces_between text at (suc n) white =
+white_between text at (suc n) white =
     let one = one_more_white text at (white at (omega arith) (omega arith)) in
-    let more = spaces_between text (at + 1) n (λ k low high. white k (omega arith) (omega arith)) in
+    let more = white_between text (at + 1) n (λ k low high. white k (omega arith) (omega arith)) in
     let place : at + 1 + n ≡ at + suc n = omega arith in
     ap (λ m. m + prefix_len is_white (drop m text)) (sym place) ∙ more ∙ omega (arith, one)
 
@@ -153,7 +153,7 @@ pub all_spaces : (text : List ℕ) (at n others : ℕ) → at + n ≤ length tex
     → others ≡ mask_l (map (λ byte. not (byte == 32)) (chunk at n text)) → others ≡ 0
     → at + n + prefix_len is_white (drop (at + n) text) ≡ at + prefix_len is_white (drop at text)
 all_spaces text at n others room marked none =
-    spaces_between text at n (λ k low high. space_at text k (omega arith)
+    white_between text at n (λ k low high. space_at text k (omega arith)
     (none_from_empty_mask (λ byte. not (byte == 32)) text at n 0 room (sym marked ∙ none) k low high))
 
 pub spaces_ahead : (text : List ℕ) (at n others : ℕ) → at + n ≤ length text → n ≤ 64
@@ -168,7 +168,7 @@ spaces_ahead text at n others room few marked some =
     ap (count_trailing_zeros 64) marked
     ∙ trailing_mask_l other 64 (chunk at n text) (omega arith) (omega (arith, marked)) in
     let within = run_in_chunk_le other text at n (count_trailing_zeros 64 others) 0 room counted in
-    spaces_between text at (count_trailing_zeros 64 others) (λ k low high. space_at text k (omega arith)
+    white_between text at (count_trailing_zeros 64 others) (λ k low high. space_at text k (omega arith)
     (run_in_chunk_fails other text at n (count_trailing_zeros 64 others) 0 room counted k low high))
 
 -- where no lane is dark, the mask is empty

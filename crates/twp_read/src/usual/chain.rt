@@ -27,34 +27,30 @@ pub fn take_more_steps(item: &mut Item, text: &[u8], from: Reached) -> Result<Re
         if let Some(behind) = behind_comma(text, adjoining) {
             return Ok(behind);
         }
-        let end = take_steps_of(steps, text, adjoining)?;
-        if let Some(behind) = behind_comma(text, end) {
-            return Ok(behind);
-        }
-        return Ok(end);
+        return take_steps_of(steps, text, adjoining);
     }
     Ok(from)
 }
 
-/// Takes the steps after `of the`, and those that stand right after them.
+/// Takes the steps after `of the`, and those that stand right after them, and the comma.
 #[inline(always)]
 fn take_steps_of(steps: &mut Steps, text: &[u8], from: Reached) -> Result<Reached, AllocError>
     requires place { from.at ≤ length text.now }
     requires chain { is_in_chain from.state ≡ true }
-    ensures within { IfOk result (λ to. to.at ≤ length text.now) }
-    ensures forward { IfOk result (λ to. from.at ≤ to.at) }
-    ensures chain { IfOk result (λ to. is_in_chain to.state ≡ true) }
-    ensures leads { IfOk result (λ to. (place : ℕ) (items : List Item)
+    ensures { IfOk result (λ to. (place : ℕ) (items : List Item)
         → Leads text.now from.at from.state (Chain steps.old place ∷ items)
         to.at to.state (Chain steps.new place ∷ items)) }
 {
     let mut reached = from;
-    'words: loop {
-        let behind = take_row_of(steps, text, reached)?;
-        if behind.at == reached.at {
+    'rows: loop {
+        let row = take_row_of(steps, text, reached)?;
+        if row.at == reached.at {
+            return Ok(row);
+        }
+        reached = take_adjoining(steps, text, row)?;
+        if let Some(behind) = behind_comma(text, reached) {
             return Ok(behind);
         }
-        reached = take_adjoining(steps, text, behind)?;
     }
 }
 

@@ -6,8 +6,8 @@ use Rattle.twp_read.specs.steps.Usual.{Leads}
 use Rattle.twp_read.proofs.usual.chain.take_steps_of.Given as goal
 
 -- the steps so far led here, wherever their chain begins and whatever stands before it
-abbrev pub invariant-words : goal.invariant-words
-invariant-words l =
+abbrev pub invariant-rows : goal.invariant-rows
+invariant-rows l =
     (l.reached.at ≤ length l.text)
     × (l.fn.from.at ≤ l.reached.at)
     × (is_in_chain l.reached.state ≡ true)
@@ -15,5 +15,5 @@ invariant-words l =
     → Leads l.text l.fn.from.at l.fn.from.state (Chain l.fn.steps place ∷ items)
     l.reached.at l.reached.state (Chain l.steps place ∷ items))
 
-abbrev pub decreases-words : goal.decreases-words
-decreases-words l = length l.text - l.reached.at
+abbrev pub decreases-rows : goal.decreases-rows
+decreases-rows l = length l.text - l.reached.at
