@@ -1,5 +1,5 @@
 //! White space: how far it reaches from a place on.
-ghost use Rattle.std.specs.Prelude.{◌≡◌, ◌<◌, ◌≤◌, ◌+◌, length, drop, map, IsTrue};
+ghost use Rattle.std.specs.Prelude.{◌≡◌, ◌<◌, ◌≤◌, ◌+◌, ◌==◌, not, length, drop, map, IsTrue};
 ghost use Rattle.std.specs.List.{prefix_len};
 ghost use Rattle.std.specs.Simd.Lanes.{mask_l};
 ghost use Rattle.twp_grammar.specs.Tokens.{begins_with, is_white};
@@ -7,7 +7,10 @@ ghost use Rattle.twp_grammar.specs.steps.Cutting.{is_dark};
 
 use std::simd::prelude::*;
 
-/// How many bytes are looked at together where there is much white space.
+/// How many bytes are looked at together where there are many spaces, as before an indented line.
+const SPACES: usize = 64;
+
+/// How many bytes are looked at together where there is much white space of any kind.
 const LANES: usize = 16;
 
 /// The first place from a place on that has no white space, or the text's length. Usually there is
@@ -27,9 +30,50 @@ pub(crate) fn behind_white(text: &[u8], from: usize) -> usize
     behind_much_white(text, from + 1)
 }
 
-/// The same for white space of any length and kind.
+/// The same for white space of any length. Most of it is spaces.
 #[inline(never)]
 fn behind_much_white(text: &[u8], from: usize) -> usize
+    requires { from ≤ length text.now }
+    ensures value { result ≡ from + prefix_len is_white (drop from text.now) }
+    ensures range { result ≤ length text.now }
+{
+    let at = behind_spaces(text, from);
+    if !is_white_at(text, at) {
+        return at;
+    }
+    behind_any_white(text, at)
+}
+
+/// Passes over spaces, except those near the text's end. What it passes over is white space.
+#[inline(always)]
+fn behind_spaces(text: &[u8], from: usize) -> usize
+    requires { from ≤ length text.now }
+    ensures white { result + prefix_len is_white (drop result text.now)
+        ≡ from + prefix_len is_white (drop from text.now) }
+    ensures range { result ≤ length text.now }
+{
+    let mut at = from;
+    while text.len() - at >= SPACES {
+        let others = lanes_of_others(u8x64::from_slice(&text[at..]));
+        if others != 0 {
+            return at + others.trailing_zeros() as usize;
+        }
+        at += SPACES;
+    }
+    at
+}
+
+/// A bit for each byte that is no space, the lowest for the first.
+#[inline(always)]
+fn lanes_of_others(bytes: u8x64) -> u64
+    ensures { result ≡ mask_l (map (λ byte. not (byte == 32)) bytes) }
+{
+    !bytes.simd_eq(u8x64::splat(b' ')).to_bitmask()
+}
+
+/// The same for white space of any length and kind.
+#[inline(always)]
+fn behind_any_white(text: &[u8], from: usize) -> usize
     requires { from ≤ length text.now }
     ensures value { result ≡ from + prefix_len is_white (drop from text.now) }
     ensures range { result ≤ length text.now }

@@ -11,7 +11,8 @@ use crate::usual::step::step_at;
 use std::alloc::AllocError;
 use twp_grammar::{Item, State, Steps};
 
-/// Takes the steps that a chain continues with, and the comma after it.
+/// Takes the steps that a chain continues with, as long as each is spelled in the usual way: those
+/// that stand right after one another, and those after `of the`. Takes the comma after them, too.
 #[inline(always)]
 pub fn take_more_steps(item: &mut Item, text: &[u8], from: Reached) -> Result<Reached, AllocError>
     requires place { from.at ≤ length text.now }
@@ -21,26 +22,61 @@ pub fn take_more_steps(item: &mut Item, text: &[u8], from: Reached) -> Result<Re
         to.at to.state (item.new ∷ items)) }
 {
     if let Item::Chain { steps, .. } = item {
-        let end = take_steps(steps, text, from)?;
-        return Ok(behind_comma(text, end));
+        let adjoining = take_adjoining(steps, text, from)?;
+        // Most parts end here, and no `of the` has to be looked for.
+        if let Some(behind) = behind_comma(text, adjoining) {
+            return Ok(behind);
+        }
+        return take_steps_of(steps, text, adjoining);
     }
     Ok(from)
 }
 
-/// Takes the steps that a chain continues with, as long as each is spelled in the usual way: those
-/// that stand right after one another, and those after `of the`.
+/// Takes the steps after `of the`, and those that stand right after them, and the comma.
 #[inline(always)]
-fn take_steps(steps: &mut Steps, text: &[u8], from: Reached) -> Result<Reached, AllocError>
+fn take_steps_of(steps: &mut Steps, text: &[u8], from: Reached) -> Result<Reached, AllocError>
+    requires place { from.at ≤ length text.now }
+    requires chain { is_in_chain from.state ≡ true }
+    ensures { IfOk result (λ to. (place : ℕ) (items : List Item)
+        → Leads text.now from.at from.state (Chain steps.old place ∷ items)
+        to.at to.state (Chain steps.new place ∷ items)) }
+{
+    let mut reached = from;
+    'rows: loop {
+        let row = take_row_of(steps, text, reached)?;
+        if row.at == reached.at {
+            return Ok(row);
+        }
+        reached = take_adjoining(steps, text, row)?;
+        if let Some(behind) = behind_comma(text, reached) {
+            return Ok(behind);
+        }
+    }
+}
+
+/// Takes steps as long as each stands right after `of the`. No step is looked for right behind them
+/// until there is no further `of the`.
+#[inline(always)]
+fn take_row_of(steps: &mut Steps, text: &[u8], from: Reached) -> Result<Reached, AllocError>
     requires place { from.at ≤ length text.now }
     requires chain { is_in_chain from.state ≡ true }
     ensures within { IfOk result (λ to. to.at ≤ length text.now) }
+    ensures forward { IfOk result (λ to. from.at ≤ to.at) }
+    ensures chain { IfOk result (λ to. is_in_chain to.state ≡ true) }
     ensures leads { IfOk result (λ to. (place : ℕ) (items : List Item)
         → Leads text.now from.at from.state (Chain steps.old place ∷ items)
         to.at to.state (Chain steps.new place ∷ items)) }
 {
-    let mut reached = take_adjoining(steps, text, from)?;
+    let mut reached = from;
     while let Some(behind) = behind_of_the(text, reached) {
-        reached = take_adjoining(steps, text, behind)?;
+        let Some(usual) = step_at(text, behind.at) else {
+            return Ok(behind);
+        };
+        steps.push(usual.step)?;
+        reached = Reached {
+            at: behind.at + usual.size,
+            state: State::Step,
+        };
     }
     Ok(reached)
 }
@@ -52,6 +88,7 @@ fn take_adjoining(steps: &mut Steps, text: &[u8], from: Reached) -> Result<Reach
     requires chain { is_in_chain from.state ≡ true }
     ensures within { IfOk result (λ to. to.at ≤ length text.now) }
     ensures forward { IfOk result (λ to. from.at ≤ to.at) }
+    ensures chain { IfOk result (λ to. is_in_chain to.state ≡ true) }
     ensures leads { IfOk result (λ to. (place : ℕ) (items : List Item)
         → Leads text.now from.at from.state (Chain steps.old place ∷ items)
         to.at to.state (Chain steps.new place ∷ items)) }

@@ -154,23 +154,24 @@ pub fn ahead_of_part(text: &[u8], from: Reached) -> Reached
     }
 }
 
-/// Passes over the comma after a part, and the space after the comma, or the end of the line.
+/// The place after the comma that follows a part, and after the space behind the comma, or the end of
+/// the line.
 #[inline(always)]
-pub fn behind_comma(text: &[u8], end: Reached) -> Reached
+pub fn behind_comma(text: &[u8], end: Reached) -> Option<Reached>
     requires { end.at ≤ length text.now }
-    ensures { (items : List TakenItem)
-        → Leads text.now end.at end.state items result.at result.state items }
+    ensures { IfSome result (λ behind. (items : List TakenItem)
+        → Leads text.now end.at end.state items behind.at behind.state items) }
 {
     match end.state {
-        State::Step if goes_on(text, end.at, b", ") => Reached {
+        State::Step if goes_on(text, end.at, b", ") => Some(Reached {
             at: end.at + COMMA_SPACE,
             state: State::PartComma,
-        },
-        State::Step if goes_on(text, end.at, b",") => Reached {
+        }),
+        State::Step if goes_on(text, end.at, b",") => Some(Reached {
             at: behind_white(text, end.at + COMMA),
             state: State::PartComma,
-        },
-        _ => end,
+        }),
+        _ => None,
     }
 }
 

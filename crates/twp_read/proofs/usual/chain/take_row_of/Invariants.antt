@@ -1,13 +1,16 @@
-use Rattle.std.proofs.Common.{◌≤◌, ℕ, List, ◌∷◌, length, ◌-◌}
+use Rattle.std.proofs.Common.{◌≡◌, ◌≤◌, ℕ, List, ◌∷◌, true, length, ◌-◌}
 use Rattle.twp_grammar.specs.declared.item.Item.{Item}
 use Rattle.twp_grammar.specs.declared.item.Item.TheVariants.{Chain}
+use Rattle.twp_grammar.specs.Machine.{is_in_chain}
 use Rattle.twp_read.specs.steps.Usual.{Leads}
-use Rattle.twp_read.proofs.usual.chain.take_steps.Given as goal
+use Rattle.twp_read.proofs.usual.chain.take_row_of.Given as goal
 
 -- the steps so far led here, wherever their chain begins and whatever stands before it
 abbrev pub invariant-loop-behind : goal.invariant-loop-behind
 invariant-loop-behind l =
     (l.reached.at ≤ length l.text)
+    × (l.fn.from.at ≤ l.reached.at)
+    × (is_in_chain l.reached.state ≡ true)
     × ((place : ℕ) (items : List Item)
     → Leads l.text l.fn.from.at l.fn.from.state (Chain l.fn.steps place ∷ items)
     l.reached.at l.reached.state (Chain l.steps place ∷ items))

@@ -1,7 +1,7 @@
 use Rattle.std.proofs.Common.{length, ◌-◌, ◌≡◌, ◌≤◌, ◌+◌, drop}
 use Rattle.twp_grammar.specs.Tokens.{is_white}
 use Rattle.std.specs.List.{prefix_len}
-use Rattle.twp_read.proofs.white.behind_much_white.Given as goal
+use Rattle.twp_read.proofs.white.behind_spaces.Given as goal
 
 -- the white space at the place so far ends where that at the first place does
 abbrev pub invariant-loop-at : goal.invariant-loop-at
