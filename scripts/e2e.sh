@@ -211,6 +211,12 @@ cat joined | run; ended 'joined input on a pipe' $? 0 '40.45 acres' ''
 (cat d.txt; echo; sleep 1; cat n.csv) | run; ended 'a slow pipe' $? 0 '40.45 acres' ''
 run < empty; refused 'no input' $? 'refused 2 at 1'
 run < /dev/zero; refused 'endless input' $? 'refused 2 at 1'
+run < d.txt; refused 'a description alone' $? 'refused 2 at 1'
+echo | run; refused 'a line feed alone' $? 'refused 2 at 1'
+printf '\377\000,"""\n\r"' | run; refused 'any bytes' $? 'refused 3 at 1'
+many 10000000 '\n' | run; refused 'many line feeds' $? 'refused 1 at 65536'
+(many 65537 ' '; echo; cat "$root/samples/b0.csv") | run
+refused 'a description that is too long' $? 'refused 41 at 65536'
 
 # Help.
 help_text="Draws a township's plat from its field notes, and gives the acres of land described on it

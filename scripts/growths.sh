@@ -1,11 +1,12 @@
 #!/bin/sh
 # Refuses ./township, or the program that is named, one growth of its memory after another, in each of its
-# five ways of running; and so each call that takes memory, which twp_growth, or the program that is named
-# second, makes alone. A run with a refused growth ends there, as out of memory: it has written nothing, and
+# five ways of running; and so calls that read and write, which twp_growth, or the program that is named second,
+# makes alone. A run with a refused growth ends there, as out of memory: it has written nothing, and a call
 # leaves a vector as it was. Only what serves to explain a refusal is done without: where memory is refused
 # for the copy of what the program reads, or for the explanation, the answer and the status are the same, and
 # the explanation is whole or left out. The first run in which there is nothing to refuse gives the right
-# answer. The last line is 'N passed, 0 failed'.
+# answer. At the end it compares what twp_growth tells of inputs that are none. The last line is
+# 'N passed, 0 failed'.
 set -u
 ulimit -f 2000
 ulimit -t 20
@@ -151,6 +152,24 @@ held: 39.05' write-acres 3905 $room
     refuse_call 'write_acres' 'held: ' 'answered
 held: 0.05' write-acres 5 $room
 done
+# Whole chains in one digit, one decimal, zeros in front, the longest length; round hundredths, and the most of all.
+while read -r length written; do
+    refuse_call 'Length::write' 'held: ' "answered
+held: $written" write-length "$length" 0
+done << 'END'
+7 7.00
+19.5 19.50
+00.05 0.05
+99.999 99.999
+END
+while read -r hundredths written; do
+    refuse_call 'write_acres' 'held: ' "answered
+held: $written" write-acres "$hundredths" 0
+done << 'END'
+0 0.00
+16000 160.00
+18446744073709551615 184467440737095516.15
+END
 notes=$(cat n.csv)
 refuse_call 'Notes::write' 'held: ' "answered
 held: $notes
@@ -158,64 +177,35 @@ held: $notes
 refuse_call 'Notes::read' '' "answered
 $notes
 " read-notes n.csv
+# Notes of the greatest numbers, with zeros in front and one decimal, as they are written.
+sed '2s/.*/T,99,S,99,E/; 3s/.*/N,01,,00.5,99.999/' n.csv > far.csv
+refuse_call 'Notes::read' '' "answered
+$(sed '2s/.*/T,99,S,99,E/; 3s/.*/N,1,,0.50,99.999/' n.csv)
+" read-notes far.csv
+refuse_call 'Notes::read' '' "answered
+$(cat uneven.csv)
+" read-notes uneven.csv
 refuse_call 'Description::read' '' 'answered
-T. 2 N., R. 3 W.,
-sec. 14, all.
+2
 ' read-description d.txt
-least=0
-refuse_call 'spell of the empty land' '' 'answered
-' spell
-least=1
+# A chain of twelve steps, of which ten have room in its item, each half a half: the sixth is too fine.
+printf 'sec. 14, N1/2N1/2N1/2N1/2N1/2N1/2N1/2N1/2N1/2N1/2N1/2N1/2.' > chain
+refuse_call 'Description::read' '' 'answered
+2
+' read-description chain
+
 normal='T. 2 N., R. 3 W.,
 sec. 14, N1/2, SE1/4.'
-refuse_call 'spell' '' "answered
-$normal
-" spell parts
-refuse_call 'run_acres' '' 'accepted
-640.00 acres
-' run-acres n.csv d.txt
-printf 'sec. 7, lots 1 to 4, inclusive.' > lots
-refuse_call 'run_acres_as, by the plat' '' 'accepted
-156.42 acres
-' run-acres-by-plat uneven.csv lots
-refuse_call 'held_lots' '' 'answered
-1
-2
-3
-4
-' held-lots lots
-refuse_call 'run_normal' '' "accepted
-$normal
-" run-normal n.csv parts
 account='tract A: 39.18 acres
 tract B: 39.03 acres
 total: 78.20 acres
 remaining: 22959.37 acres'
-refuse_call 'run_report' '' "accepted
-$account
-" run-report uneven.csv t.csv
-# A chain of twelve steps, of which ten have room in its item, each half a half: the sixth is too fine.
-printf 'sec. 14, N1/2N1/2N1/2N1/2N1/2N1/2N1/2N1/2N1/2N1/2N1/2N1/2.' > chain
-refuse_call 'run_acres of a long chain' '' 'refused
-refused 65 at 9
-' run-acres n.csv chain
-# Twenty tracts, a section each of 640 acres: 12,800 of 23,040.
-awk 'BEGIN { print "name,description"; for (n = 1; n <= 20; n++) printf "%s,sec. %s.\n", n, n }' > twenty
-refuse_call 'run_report of twenty tracts' '' "accepted
-$(awk 'BEGIN { for (n = 1; n <= 20; n++) printf "tract %s: 640.00 acres\n", n }')
-total: 12800.00 acres
-remaining: 10240.00 acres
-" run-report n.csv twenty
+printf 'sec. 7, lots 1 to 4, inclusive.' > lots
 # Of the plat's 37 lines those of sections 6, 7 and 8 and the last, and how many they are.
 plat='sec. 6: lot 1 40.90, lot 2 41.10, lot 3 41.31, lot 4 39.95, lot 5 38.70, lot 6 38.90, lot 7 39.10, total 639.97
 sec. 7: lot 1 39.18, lot 2 39.13, lot 3 39.08, lot 4 39.03, total 636.40
 sec. 8: total 640.00
 township total 23037.57'
-lines='1,2p;8,10p;39p;$='
-refuse_call 'run_plat' '' "accepted
-$plat
-39
-" run-plat uneven.csv
 lines='6,8p;37p;$='
 refuse_program 'plat' 1 "$plat
 37" plat uneven.csv
@@ -223,7 +213,14 @@ lines=p
 refuse_program 'acres' 2 '640.00 acres' acres n.csv d.txt
 refuse_program 'acres by the plat' 2 '156.42 acres' acres --account plat uneven.csv lots
 refuse_program 'normal' 2 "$normal" normal n.csv parts
+refuse_program 'normal of lots' 2 'T. 2 N., R. 3 W.,
+sec. 7, lots 1, 2, 3, 4.' normal uneven.csv lots
 refuse_program 'report' 2 "$account" report uneven.csv t.csv
+# Twenty tracts, a section each of 640 acres: 12,800 of 23,040.
+awk 'BEGIN { print "name,description"; for (n = 1; n <= 20; n++) printf "%s,sec. %s.\n", n, n }' > twenty
+refuse_program 'report of twenty tracts' 2 "$(awk 'BEGIN { for (n = 1; n <= 20; n++) printf "tract %s: 640.00 acres\n", n }')
+total: 12800.00 acres
+remaining: 10240.00 acres" report n.csv twenty
 # A copy has room for 131,072 bytes, and grows for more.
 (cat t.csv; head -c 200000 /dev/zero | tr '\0' '\n') > long.csv
 refuse_program 'report of a long list' 3 "$account" report uneven.csv long.csv
@@ -242,6 +239,7 @@ refuse_refusal 'missing notes' 1 'refused 11 at 53' plat lacking.csv
 refuse_refusal 'a long line' 2 'refused 23 at 53' acres long-line.csv d.txt
 refuse_refusal 'a short text' 2 'refused 44 at 8' normal n.csv short
 refuse_refusal 'an overlap' 2 'refused 67 at 19' acres n.csv overlap
+refuse_refusal 'a long chain' 2 'refused 65 at 9' acres n.csv chain
 refuse_refusal 'a refused tract' 2 'refused 83 at 2
 refused 67 at 19' report n.csv refused-tract.csv
 refuse_refusal 'land of two tracts' 2 'refused 84 at 3' report n.csv shared-land.csv
@@ -249,6 +247,69 @@ printf 'sec. 14, NE1/4 and N1/2.\n' | cat - n.csv > joined
 input=joined
 refuse_refusal 'joined input' 1 'refused 67 at 19'
 begin ''
+
+# What is told of a length, field notes or a description that is none, in words of which the program shows few. The
+# call is made, and tells of it, or there is nothing to make it with.
+is_told() {
+    what="twp_growth $1" growth=0 wanted=$2
+    shift 2
+    "$calls" "$@" > out 2> err
+    status=$?
+    if [ "$(sed 's/^Error: //; /^calling$/d' out err)" = "$wanted" ]; then pass; else fail; fi
+}
+while IFS='|' read -r length told; do
+    is_told 'write-length' "$told" write-length "$length" 0
+done << 'END'
+|a length is empty
+8O|a length is no decimal number
+80.|a length is no decimal number
+.5|a length is no decimal number
+1.2.3|a length is no decimal number
+ 80|a length is no decimal number
+40.0000|a length has more than three decimals
+100.0000|a length has more than three decimals
+100.5|a length has more than two digits before its point
+100|a length has more than two digits before its point
+005|a length has more than two digits before its point
+END
+# The notes with another record of a number, and what is wrong with it.
+while IFS='|' read -r number record told; do
+    awk -v number="$number" -v record="$record" '
+        NR == number { $0 = record }
+        { print }
+        END { if (number > NR) print record }
+    ' n.csv > damaged.csv
+    is_told 'read-notes' "$told" read-notes damaged.csv
+done << 'END'
+1|Line,between,and,quarter,corner|record 1 isn't the heading `line,between,and,quarter,corner`
+2|T,2,N,3|record 2 doesn't have five fields
+2|T,0,N,3,W|record 2 isn't a township, as `T,2,N,3,W`: numbers 1 to 99, in one or two digits
+3|X,1,,40.00,80.00|record 3 has no run: its first field is `N` or `W`
+4|N,37,2,40.00,80.00|record 4 has no sections: 1 to 36 in one or two digits; only field 3 may be empty
+5|N,1,3,40.00,80.00|record 5 names no line: its run has none between these sections
+86|W,31,,40.00,8O|a distance of record 86 isn't chains: one or two digits, at most three decimals
+87|N,1,,40.00,80.00|record 87 returns a line that an earlier record returned
+END
+is_told 'read-notes' 'no record returns the line of index 53' read-notes lacking.csv
+: > nothing
+is_told 'read-notes' 'the notes are empty: record 1 is `line,between,and,quarter,corner`' read-notes nothing
+head -c 65537 /dev/zero > zeros
+is_told 'read-notes' 'the notes have more than 65,536 bytes' read-notes zeros
+is_told 'read-description' 'a description has more than 65536 bytes' read-description zeros
+# The place is counted by hand, and what could stand there is in the grammar.
+while IFS='|' read -r text told; do
+    printf '%s' "$text" > text
+    is_told 'read-description' "$told" read-description text
+done << 'END'
+sec. 14-15.|the byte at 7 is no part of a description
+sec. 10000.|the number at 5 has more than four digits
+sec. 14,|the description goes wrong at 8: here could stand a part of the section, or another section's number
+sec. 14, NE1/2.|the description goes wrong at 11: here could stand `1/4`
+sec. 14, lots 1 and.|the description goes wrong at 19: here could stand another lot's number, or another part
+T. 2 N. R. 3 W.|the description goes wrong at 15: here could stand `sec.`
+lot 1.|the description goes wrong at 0: here could stand `T.` of a heading, or `sec.`
+sec. 14. sec. 15.|the description goes wrong at 9: here could stand nothing more
+END
 
 echo "$passed passed, $failed failed"
 [ "$failed" = 0 ]
