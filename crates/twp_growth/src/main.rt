@@ -1,6 +1,6 @@
 //! Makes one call that takes memory, on an input whose answer is known, and tells what it answered
 //! and what it left. `scripts/growths.sh` refuses the call each growth of its memory in turn, and
-//! compares what is told of an input that is none.
+//! `scripts/single_calls.sh` compares what is told, of an input that is none too.
 //!
 //! All that a call needs is made before the line `calling` is written, and its answer is written as
 //! soon as it is there. So what the process grows between its first write and its second is grown
@@ -19,7 +19,7 @@ fn main(rt: HostRuntime) -> Result<ExitCode> {
     let mut words = env::args(&rt)?;
     let _program = words.next();
     let (Some(call), Some(input), room) = (words.next(), words.next(), words.next()) else {
-        eprintln!(rt; "twp_growth CALL INPUT [ROOM]: scripts/growths.sh has the calls")?;
+        eprintln!(rt; "twp_growth CALL INPUT [ROOM]: scripts/single_calls.sh has the calls")?;
         return Ok(ExitCode::from(2));
     };
     if let Some(room) = room {

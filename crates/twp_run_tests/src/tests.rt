@@ -4,4 +4,5 @@
 mod device;
 mod failing;
 mod fault;
+mod notes;
 mod running;

@@ -1,14 +1,13 @@
 //! Each run, over devices for tests.
 use crate::tests::device::{Reader, Writer};
-use std::alloc::Global;
+use crate::tests::notes::NOTES;
+use std::alloc::{AllocError, Global};
 use std::test::Fail;
 use twp_acres::{
     Account, RunFault, Verdict, run_acres, run_acres_as, run_normal, run_plat, run_report,
 };
-use twp_grid::{Device, EastWest, LINES, NorthSouth, Township};
+use twp_grid::Device;
 use twp_input::run_joined;
-use twp_measure::Length;
-use twp_notes::{Notes, Returned};
 
 /// Which run it is.
 #[derive(Clone, Copy)]
@@ -89,17 +88,10 @@ pub const EXAMPLES: [Example; 6] = [
     },
 ];
 
-/// What stands before the notes of T. 2 N., R. 3 W., and these, with all lines of 40 and 80 chains:
-/// 1,638 bytes, which are 32 of the heading, 10 of the township, 16 of each of the 84 lines, and of
-/// each of the 36 sections its digits at each of its 4 sides, 4 * (9 + 27 * 2).
-pub fn notes_behind(alloc: Global, front: &str) -> Result<Vec<u8>, Fail> {
-    let township = Township::new(2, NorthSouth::N, 3, EastWest::W).ok_or("a township")?;
-    let line = Returned {
-        quarter: Length::read(b"40").ok().ok_or("a length")?,
-        corner: Length::read(b"80").ok().ok_or("a length")?,
-    };
+/// The notes, and what stands before them.
+pub fn notes_behind(alloc: Global, front: &str) -> Result<Vec<u8>, AllocError> {
     let mut text = Vec::from_slice(alloc, front.as_bytes())?;
-    Notes::new(township, [line; LINES]).write(&mut text)?;
+    text.extend_from_slice(NOTES.as_bytes())?;
     Ok(text)
 }
 
