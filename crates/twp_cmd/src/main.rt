@@ -6,12 +6,6 @@
 
 use std::process::ExitCode;
 
-mod ending;
-mod files;
-mod program;
-mod subcommand;
-mod telling;
-
 fn main(rt: HostRuntime) -> ExitCode {
-    ExitCode::from(program::run(&rt))
+    ExitCode::from(twp_program::run(&rt))
 }

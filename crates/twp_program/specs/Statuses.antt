@@ -6,10 +6,10 @@ use Rattle.twp_acres.specs.declared.verdict.RunFault.{RunFault}
 use Rattle.twp_acres.specs.declared.verdict.RunFault.TheVariants as fault
 use Rattle.twp_acres.specs.declared.verdict.Verdict.{Verdict}
 use Rattle.twp_acres.specs.declared.verdict.Verdict.TheVariants.{Accepted, Refused, TractRefused}
-use Rattle.twp_cmd.specs.declared.ending.Ending.{Ending}
-use Rattle.twp_cmd.specs.declared.ending.Ending.TheVariants.{Answered, Helps, Misused, Failed}
-use Rattle.twp_cmd.specs.declared.ending.Failure.{Failure}
-use Rattle.twp_cmd.specs.declared.ending.Failure.TheVariants.{Run}
+use Rattle.twp_program.specs.declared.ending.Ending.{Ending}
+use Rattle.twp_program.specs.declared.ending.Ending.TheVariants.{Answered, Helps, Misused, Failed}
+use Rattle.twp_program.specs.declared.ending.Failure.{Failure}
+use Rattle.twp_program.specs.declared.ending.Failure.TheVariants.{Run}
 use Rattle.twp_command.specs.declared.task.TaskFault.{TaskFault}
 use Rattle.twp_command.specs.declared.task.TaskFault.TheVariants.{Usage, Help, Memory}
 

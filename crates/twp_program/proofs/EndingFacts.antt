@@ -8,13 +8,13 @@ use Rattle.twp_acres.specs.Runs.{IsRun, Reads, RunsOnPlat, Use}
 use Rattle.twp_acres.specs.declared.verdict.Verdict.{Verdict}
 use Rattle.twp_acres.specs.declared.verdict.RunFault.{RunFault}
 use Rattle.twp_acres.specs.declared.verdict.RunFault.TheVariants.{Read, Write, Memory}
-use Rattle.twp_cmd.specs.Endings.{AnswerTo, EndsAs, EndsRun, FailsOn, IsJoinedVerdict, IsRunFailure}
-use Rattle.twp_cmd.specs.Endings.{IsVerdictOf, RunsOnNotes}
+use Rattle.twp_program.specs.Endings.{AnswerTo, EndsAs, EndsRun, FailsOn, IsJoinedVerdict, IsRunFailure}
+use Rattle.twp_program.specs.Endings.{IsVerdictOf, RunsOnNotes}
 use Rattle.twp_input.specs.Joined.{joined_description, joined_notes}
-use Rattle.twp_cmd.specs.Statuses.{ending_of, ending_of_fault, failing}
+use Rattle.twp_program.specs.Statuses.{ending_of, ending_of_fault, failing}
 use Rattle.twp_command.specs.Tasks.{IsFaultOf, IsTaskOf}
-use Rattle.twp_cmd.specs.declared.ending.Failure.{Failure}
-use Rattle.twp_cmd.specs.declared.ending.Failure.TheVariants.{Open, Run}
+use Rattle.twp_program.specs.declared.ending.Failure.{Failure}
+use Rattle.twp_program.specs.declared.ending.Failure.TheVariants.{Open, Run}
 use Rattle.twp_command.specs.declared.task.Task.{Task}
 use Rattle.twp_command.specs.declared.task.Task.TheVariants.{Plat}
 use Rattle.twp_command.specs.declared.task.TaskFault.{TaskFault}

@@ -16,12 +16,12 @@ use Rattle.twp_acres.specs.declared.verdict.Verdict.{Verdict}
 use Rattle.twp_acres.specs.declared.verdict.RunFault.{RunFault}
 use Rattle.twp_acres.specs.declared.verdict.RunFault.TheVariants.{Read, Write, Memory}
 use Rattle.twp_input.specs.Joined.{joined_description, joined_notes}
-use Rattle.twp_cmd.specs.Statuses.{IsStatusOf, failing}
+use Rattle.twp_program.specs.Statuses.{IsStatusOf, failing}
 use Rattle.twp_command.specs.Tasks.{HasKindAt, IsFaultOf, IsTaskOf}
-use Rattle.twp_cmd.specs.declared.ending.Ending.{Ending}
-use Rattle.twp_cmd.specs.declared.ending.Ending.TheVariants.{Answered, Helps, Misused, Failed}
-use Rattle.twp_cmd.specs.declared.ending.Failure.{Failure}
-use Rattle.twp_cmd.specs.declared.ending.Failure.TheVariants.{Open, Run}
+use Rattle.twp_program.specs.declared.ending.Ending.{Ending}
+use Rattle.twp_program.specs.declared.ending.Ending.TheVariants.{Answered, Helps, Misused, Failed}
+use Rattle.twp_program.specs.declared.ending.Failure.{Failure}
+use Rattle.twp_program.specs.declared.ending.Failure.TheVariants.{Open, Run}
 use Rattle.twp_command.specs.declared.task.Task.{Task}
 use Rattle.twp_command.specs.declared.task.Task.TheVariants.{Plat, Acres, Normal, Report}
 use Rattle.twp_command.specs.declared.task.TaskFault.TheVariants.{Usage}

@@ -4,7 +4,7 @@
 ghost use Rattle.std.specs.Prelude.{◌≡◌, ◌≢◌, ◌↔◌, Ok, Some, IfSome, IsTrue};
 ghost use Rattle.twp_acres.specs.declared.verdict.Verdict.TheVariants.{Accepted};
 ghost use Rattle.twp_explain.specs.Refusals.{first_refusal};
-ghost use Rattle.twp_cmd.specs.Tellings.{IsToldOf};
+ghost use Rattle.twp_program.specs.Tellings.{IsToldOf};
 
 use crate::ending::Failure;
 use crate::files::{OpenedNotes, OpenedText};

@@ -1,7 +1,7 @@
 -- The words ask for the task that was run, or the fault is theirs.
 use Rattle.std.specs.Prelude.{map, string_bytes}
-use Rattle.twp_cmd.proofs.EndingFacts.{ends_as, ends_as_fault}
-use Rattle.twp_cmd.proofs.program.run_words.Goals as goal
+use Rattle.twp_program.proofs.EndingFacts.{ends_as, ends_as_fault}
+use Rattle.twp_program.proofs.program.run_words.Goals as goal
 
 pub returns-in-Ok : goal.returns-in-Ok
 returns-in-Ok g c =

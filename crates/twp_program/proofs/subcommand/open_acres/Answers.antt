@@ -1,7 +1,7 @@
 -- The run's verdict is that of its answer to the bytes that it read.
-use Rattle.twp_cmd.proofs.EndingFacts.{task_answers, task_fails}
+use Rattle.twp_program.proofs.EndingFacts.{task_answers, task_fails}
 use Rattle.twp_command.specs.declared.task.Task.TheVariants.{Acres}
-use Rattle.twp_cmd.proofs.subcommand.open_acres.Goals as goal
+use Rattle.twp_program.proofs.subcommand.open_acres.Goals as goal
 
 pub returns-clause-answers : goal.returns-clause-answers
 returns-clause-answers g c =

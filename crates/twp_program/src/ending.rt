@@ -1,5 +1,5 @@
 ghost use Rattle.std.specs.Prelude.{◌≡◌};
-ghost use Rattle.twp_cmd.specs.Statuses.{ending_of, ending_of_fault, failing, status_of};
+ghost use Rattle.twp_program.specs.Statuses.{ending_of, ending_of_fault, failing, status_of};
 
 use thiserror::Error;
 use twp_acres::{RunFault, Verdict};
@@ -7,7 +7,7 @@ use twp_command::{Name, TaskFault};
 
 /// How the program ends.
 #[derive(Drop)]
-pub(crate) enum Ending {
+pub enum Ending {
     /// A run answered, and wrote its answer.
     Answered(Verdict),
     /// Help was asked for, which the text gives.
@@ -20,7 +20,7 @@ pub(crate) enum Ending {
 
 /// Why the program has no answer.
 #[derive(Debug, Drop, Error)]
-pub(crate) enum Failure {
+pub enum Failure {
     /// A file can't be opened.
     #[error("cannot open {name}")]
     Open { name: Name },

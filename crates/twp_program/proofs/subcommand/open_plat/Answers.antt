@@ -1,7 +1,7 @@
 -- The run's verdict is that of its answer to the bytes that it read.
-use Rattle.twp_cmd.proofs.EndingFacts.{plat_answers, task_fails}
+use Rattle.twp_program.proofs.EndingFacts.{plat_answers, task_fails}
 use Rattle.twp_command.specs.declared.task.Task.TheVariants.{Plat}
-use Rattle.twp_cmd.proofs.subcommand.open_plat.Goals as goal
+use Rattle.twp_program.proofs.subcommand.open_plat.Goals as goal
 
 pub returns-clause-answers : goal.returns-clause-answers
 returns-clause-answers g c = plat_answers c.args.notes _ _ _ c.plat-outcome.ensures

@@ -8,7 +8,7 @@ ghost use Rattle.twp_acres.specs.PlatAnswers.{IsPlatAnswer};
 ghost use Rattle.twp_acres.specs.ReportAnswers.{IsReportAnswer};
 ghost use Rattle.twp_acres.specs.Runs.{RunsOnPlat, used};
 ghost use Rattle.twp_acres.specs.Tracts.{TRACTS_LIMIT};
-ghost use Rattle.twp_cmd.specs.Endings.{EndsRun, FailsOn, IsVerdictOf, RunsOnNotes};
+ghost use Rattle.twp_program.specs.Endings.{EndsRun, FailsOn, IsVerdictOf, RunsOnNotes};
 
 use crate::ending::{Failure, outcome_of};
 use crate::files::{OpenedNotes, OpenedText, open_notes, open_text};

@@ -1,6 +1,6 @@
 -- What the run of joined input gave.
-use Rattle.twp_cmd.proofs.EndingFacts.{joined_answers, joined_fails}
-use Rattle.twp_cmd.proofs.program.run_standard_input.Goals as goal
+use Rattle.twp_program.proofs.EndingFacts.{joined_answers, joined_fails}
+use Rattle.twp_program.proofs.program.run_standard_input.Goals as goal
 
 pub returns-clause-answers : goal.returns-clause-answers
 returns-clause-answers g c =

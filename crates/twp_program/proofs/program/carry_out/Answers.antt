@@ -2,7 +2,7 @@
 use Rattle.std.proofs.Common.{rules, ◌<◌, length, inl}
 use Rattle.std.specs.Prelude.{map, string_bytes}
 use Rattle.std.proofs.lemmas.List.{length-map}
-use Rattle.twp_cmd.proofs.program.carry_out.Goals as goal
+use Rattle.twp_program.proofs.program.carry_out.Goals as goal
 
 pub returns-in-Ok : goal.returns-in-Ok
 returns-in-Ok g c =

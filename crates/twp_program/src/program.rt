@@ -1,8 +1,8 @@
 //! The program over the host's capabilities, which `main` gives it.
 ghost use Rattle.std.specs.Prelude.{◌≡◌, map, string_bytes, IfErr, IfOk};
-ghost use Rattle.twp_cmd.specs.Endings.{EndsAs, EndsProgram, IsJoinedVerdict, IsProgramStatus};
-ghost use Rattle.twp_cmd.specs.Endings.{IsRunFailure, IsWordsFault};
-ghost use Rattle.twp_cmd.specs.Statuses.{IsStatusOf, words_fault};
+ghost use Rattle.twp_program.specs.Endings.{EndsAs, EndsProgram, IsJoinedVerdict, IsProgramStatus};
+ghost use Rattle.twp_program.specs.Endings.{IsRunFailure, IsWordsFault};
+ghost use Rattle.twp_program.specs.Statuses.{IsStatusOf, words_fault};
 
 use crate::ending::{Ending, Failure, NO_ANSWER, outcome_of};
 use crate::subcommand::run_task;

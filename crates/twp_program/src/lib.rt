@@ -1,0 +1,12 @@
+//! The program `township` over the host's capabilities: the files that a command line names, the runs
+//! on them or on standard input, what is told of a refusal on standard error, and the status.
+#![tactic(auto)]
+
+mod ending;
+mod files;
+mod program;
+mod subcommand;
+mod telling;
+
+pub use ending::{Ending, Failure};
+pub use program::run;
