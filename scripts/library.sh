@@ -23,7 +23,7 @@ prove_over_proved() {
         --antt-project "$kit/rattle/logic/antt-project.json" --logic-built "$kit/logic_built" \
         --toolchain "$kit/toolchain" --backend llvm --jobs 2 -o out/libtwp_c.a
 }
-version=$(sed -n 's/^pub(crate) const VERSION: .* = "\(.*\)";$/\1/p' crates/twp_c/src/version.rt)
+version=$(sed -n 's/^pub(crate) const VERSION: .* = "\(.*\)";$/\1/p' crates/twp_calls/src/version.rt)
 major=${version%%.*}
 echo 'the library is proved before it is built: some minutes the first time, seconds after that.'
 if [ "${2:-}" = proved ]; then

@@ -1,23 +1,11 @@
-//! Explanations of refusals, for C: each refusal as the other calls answer it, with its line and
-//! column, and a text.
+//! The calls that explain refusals, as C calls them, and the version.
 ghost use Rattle.std.specs.Prelude.{◌≡◌, ◌≢◌};
-ghost use Rattle.twp_c.specs.Answers.{ACCEPTED, IsRefused};
-ghost use Rattle.twp_c.specs.Calls.{IsVersionCall};
-ghost use Rattle.twp_c.specs.Explanations.{ExplainsNotes, ExplainsDescription, ExplainsList};
-ghost use Rattle.twp_c.specs.Explanations.{IsTold, told_at};
+ghost use Rattle.twp_calls.specs.Answers.{ACCEPTED, IsRefused};
+ghost use Rattle.twp_calls.specs.Calls.{IsVersionCall};
+ghost use Rattle.twp_calls.specs.Explanations.{ExplainsNotes, ExplainsDescription, ExplainsList};
 
-use crate::answer::TownshipAnswer;
-use crate::plat::TownshipPlat;
-use crate::reading::plat_of_notes;
-use crate::text::put;
-use crate::verdict::{ACCEPTED, NO_MEMORY, NO_PLAT};
-use crate::version::VERSION;
 use std::alloc::Global;
-use twp_acres::{Account, Stop, account_on, area_on};
-use twp_explain::{Explanation, Given, explain_description, explain_notes, explain_tracts};
-
-/// What a text is called that has no name of its own.
-const UNNAMED: &str = "input";
+use twp_calls::{TownshipAnswer, TownshipPlat};
 
 /// Explains why field notes are refused.
 #[unsafe(no_mangle)]
@@ -30,17 +18,7 @@ pub extern "C" fn township_explain_notes(
     ensures answer { ExplainsNotes notes.now text.old text.new result }
     ensures kept { ¬ IsRefused result.verdict → text.new ≡ text.old }
 {
-    let refused = match plat_of_notes(alloc, notes) {
-        Ok(_) => return TownshipAnswer::bare(ACCEPTED),
-        Err(Stop::Failed(_)) => return TownshipAnswer::bare(NO_MEMORY),
-        Err(Stop::Refused(refusal)) => TownshipAnswer::of_refusal(refusal),
-    };
-    match explain_notes(alloc, &given(name, notes)) {
-        Ok(Some(told)) => put_explanation(refused, &told, text),
-        // What is refused has an explanation.
-        Ok(None) => TownshipAnswer::bare(NO_MEMORY),
-        Err(_) => TownshipAnswer::bare(NO_MEMORY),
-    }
+    twp_calls::township_explain_notes(alloc, notes, name, text)
 }
 
 /// Explains why a description is refused.
@@ -55,19 +33,7 @@ pub extern "C" fn township_explain_description(
     ensures answer { ExplainsDescription plat.now description.now text.old text.new result }
     ensures kept { ¬ IsRefused result.verdict → text.new ≡ text.old }
 {
-    let Some(plat) = plat.plat() else {
-        return TownshipAnswer::bare(NO_PLAT);
-    };
-    let refused = match area_on(alloc, &plat, description, Account::Exact) {
-        Ok(_) => return TownshipAnswer::bare(ACCEPTED),
-        Err(Stop::Failed(_)) => return TownshipAnswer::bare(NO_MEMORY),
-        Err(Stop::Refused(refusal)) => TownshipAnswer::of_refusal(refusal),
-    };
-    match explain_description(alloc, plat.township(), &given(name, description)) {
-        Ok(Some(told)) => put_explanation(refused, &told, text),
-        Ok(None) => TownshipAnswer::bare(NO_MEMORY),
-        Err(_) => TownshipAnswer::bare(NO_MEMORY),
-    }
+    twp_calls::township_explain_description(alloc, plat, description, name, text)
 }
 
 /// Explains why a list of tracts is refused.
@@ -82,22 +48,7 @@ pub extern "C" fn township_explain_list(
     ensures answer { ExplainsList plat.now list.now text.old text.new result }
     ensures kept { ¬ IsRefused result.verdict → text.new ≡ text.old }
 {
-    let Some(plat) = plat.plat() else {
-        return TownshipAnswer::bare(NO_PLAT);
-    };
-    let fault = match account_on(alloc, &plat, list) {
-        Ok(_) => return TownshipAnswer::bare(ACCEPTED),
-        Err(fault) => fault,
-    };
-    let Some(_) = fault.refusal() else {
-        return TownshipAnswer::bare(NO_MEMORY);
-    };
-    let refused = TownshipAnswer::of_fault(fault);
-    match explain_tracts(alloc, &plat, &given(name, list)) {
-        Ok(Some(told)) => put_explanation(refused, &told.explanation, text),
-        Ok(None) => TownshipAnswer::bare(NO_MEMORY),
-        Err(_) => TownshipAnswer::bare(NO_MEMORY),
-    }
+    twp_calls::township_explain_list(alloc, plat, list, name, text)
 }
 
 /// The version of the library.
@@ -106,43 +57,5 @@ pub extern "C" fn township_version(text: &mut [u8]) -> TownshipAnswer
     ensures answer { IsVersionCall text.old text.new result }
     ensures kept { result.verdict ≢ ACCEPTED → text.new ≡ text.old }
 {
-    put(TownshipAnswer::bare(ACCEPTED), VERSION.as_bytes(), text)
-}
-
-/// A text by the name that was given for it, if that is one.
-fn given<'a>(name: &'a [u8], bytes: &'a [u8]) -> Given<'a>
-    ensures { result.bytes.now ≡ bytes.now }
-{
-    let name = match str::from_utf8(name) {
-        Ok(name) if !name.is_empty() => name,
-        _ => UNNAMED,
-    };
-    Given {
-        name,
-        bytes,
-        first_line: 1,
-    }
-}
-
-/// Puts an explanation beside the refusal that it is of.
-fn put_explanation(refused: TownshipAnswer, told: &Explanation, text: &mut [u8]) -> TownshipAnswer
-    ensures told { IsTold refused told.now text.old text.new result }
-    ensures kept { result.verdict ≢ refused.verdict → text.new ≡ text.old }
-{
-    let told_at = match told.spot {
-        Some(spot) => at_spot(refused, spot.line, spot.column),
-        None => at_spot(refused, 0, 0),
-    };
-    put(told_at, told.text.as_bytes(), text)
-}
-
-/// An answer with a line and a column.
-fn at_spot(told: TownshipAnswer, line: u32, column: u32) -> TownshipAnswer
-    ensures { result ≡ told_at told line column }
-{
-    TownshipAnswer {
-        line,
-        column,
-        ..told
-    }
+    twp_calls::township_version(text)
 }

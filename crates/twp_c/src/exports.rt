@@ -1,32 +1,11 @@
-//! What C calls. Each call takes a plat as plain data, and bytes by a pointer and their number.
+//! The calls that answer on a plat, as C calls them.
 ghost use Rattle.std.specs.Prelude.{◌≡◌, ◌≢◌};
-ghost use Rattle.twp_c.specs.Answers.{ACCEPTED};
-ghost use Rattle.twp_c.specs.Calls.{IsReadCall, IsAcresCall, IsAreaCall, IsNormalCall};
-ghost use Rattle.twp_c.specs.Calls.{IsPrintCall, IsReportCall};
+ghost use Rattle.twp_calls.specs.Answers.{ACCEPTED};
+ghost use Rattle.twp_calls.specs.Calls.{IsReadCall, IsAcresCall, IsAreaCall, IsNormalCall};
+ghost use Rattle.twp_calls.specs.Calls.{IsPrintCall, IsReportCall};
 
-use crate::account::account_of;
-use crate::answer::TownshipAnswer;
-use crate::plat::TownshipPlat;
-use crate::reading::plat_of_notes;
-use crate::text::put;
-use crate::verdict::{ACCEPTED, NO_ACCOUNT, NO_MEMORY, NO_PLAT};
 use std::alloc::Global;
-use twp_acres::{account_on, acres_on, area_on, normal_on, print_plat};
-
-/// How many values a word of 64 bits has.
-const WORD: u128 = 1 << 64;
-
-/// An exact area: `units` square thousandths of a chain over `over`, which is at least 1.
-#[repr(C)]
-#[derive(Clone, Copy)]
-pub struct TownshipFraction {
-    /// The low 64 bits of the units.
-    pub units_low: u64,
-    /// And the high ones.
-    pub units_high: u64,
-    /// What they are divided by.
-    pub over: u64,
-}
+use twp_calls::{TownshipAnswer, TownshipFraction, TownshipPlat};
 
 /// Makes the plat of field notes.
 #[unsafe(no_mangle)]
@@ -38,13 +17,7 @@ pub extern "C" fn township_read(
     ensures answer { IsReadCall notes.now plat.new result }
     ensures kept { result.verdict ≢ ACCEPTED → plat.new ≡ plat.old }
 {
-    match plat_of_notes(alloc, notes) {
-        Ok(read) => {
-            *plat = TownshipPlat::of(&read);
-            TownshipAnswer::bare(ACCEPTED)
-        }
-        Err(stop) => TownshipAnswer::of_stop(stop),
-    }
+    twp_calls::township_read(alloc, notes, plat)
 }
 
 /// The acres of a description on a plat, by an account.
@@ -57,16 +30,7 @@ pub extern "C" fn township_acres(
 ) -> TownshipAnswer
     ensures { IsAcresCall plat.now description.now account result }
 {
-    let Some(plat) = plat.plat() else {
-        return TownshipAnswer::bare(NO_PLAT);
-    };
-    let Some(account) = account_of(account) else {
-        return TownshipAnswer::bare(NO_ACCOUNT);
-    };
-    match acres_on(alloc, &plat, description, account) {
-        Ok(hundredths) => TownshipAnswer::of_acres(hundredths),
-        Err(stop) => TownshipAnswer::of_stop(stop),
-    }
+    twp_calls::township_acres(alloc, plat, description, account)
 }
 
 /// The exact area, of which `township_acres` has the hundredths.
@@ -81,24 +45,7 @@ pub extern "C" fn township_area(
     ensures answer { IsAreaCall plat.now description.now account area.new result }
     ensures kept { result.verdict ≢ ACCEPTED → area.new ≡ area.old }
 {
-    let Some(plat) = plat.plat() else {
-        return TownshipAnswer::bare(NO_PLAT);
-    };
-    let Some(account) = account_of(account) else {
-        return TownshipAnswer::bare(NO_ACCOUNT);
-    };
-    match area_on(alloc, &plat, description, account) {
-        Ok(exact) => {
-            let units = exact.units();
-            *area = TownshipFraction {
-                units_low: (units % WORD) as u64,
-                units_high: (units / WORD) as u64,
-                over: exact.over(),
-            };
-            TownshipAnswer::bare(ACCEPTED)
-        }
-        Err(stop) => TownshipAnswer::of_stop(stop),
-    }
+    twp_calls::township_area(alloc, plat, description, account, area)
 }
 
 /// The canonical text of the land described.
@@ -112,13 +59,7 @@ pub extern "C" fn township_normal(
     ensures answer { IsNormalCall plat.now description.now text.old text.new result }
     ensures kept { result.verdict ≢ ACCEPTED → text.new ≡ text.old }
 {
-    let Some(plat) = plat.plat() else {
-        return TownshipAnswer::bare(NO_PLAT);
-    };
-    match normal_on(alloc, &plat, description) {
-        Ok(normal) => put(TownshipAnswer::bare(ACCEPTED), &normal, text),
-        Err(stop) => TownshipAnswer::of_stop(stop),
-    }
+    twp_calls::township_normal(alloc, plat, description, text)
 }
 
 /// The printed plat.
@@ -131,13 +72,7 @@ pub extern "C" fn township_print(
     ensures answer { IsPrintCall plat.now text.old text.new result }
     ensures kept { result.verdict ≢ ACCEPTED → text.new ≡ text.old }
 {
-    let Some(plat) = plat.plat() else {
-        return TownshipAnswer::bare(NO_PLAT);
-    };
-    match print_plat(alloc, &plat) {
-        Ok(printed) => put(TownshipAnswer::bare(ACCEPTED), &printed, text),
-        Err(_) => TownshipAnswer::bare(NO_MEMORY),
-    }
+    twp_calls::township_print(alloc, plat, text)
 }
 
 /// The account of a list of tracts.
@@ -151,11 +86,5 @@ pub extern "C" fn township_report(
     ensures answer { IsReportCall plat.now list.now text.old text.new result }
     ensures kept { result.verdict ≢ ACCEPTED → text.new ≡ text.old }
 {
-    let Some(plat) = plat.plat() else {
-        return TownshipAnswer::bare(NO_PLAT);
-    };
-    match account_on(alloc, &plat, list) {
-        Ok(account) => put(TownshipAnswer::bare(ACCEPTED), &account, text),
-        Err(fault) => TownshipAnswer::of_fault(fault),
-    }
+    twp_calls::township_report(alloc, plat, list, text)
 }

@@ -1,13 +1,6 @@
-//! The library that C calls, and what is built on C: `include/township.h` tells of each call. A plat
-//! is plain data, answers are plain data too, and texts go to the caller's memory.
+//! The library that C calls, and what is built on C: `include/township.h` tells of each call. Each hands
+//! what it is given to the call of the same name in `twp_calls`, where its wrong bodies are.
 #![tactic(auto)]
 
-mod account;
-mod answer;
 mod explaining;
 mod exports;
-mod plat;
-mod reading;
-mod text;
-mod verdict;
-mod version;

@@ -1,0 +1,27 @@
+-- The explanation is of the refusal of the notes; or memory ran out.
+use Rattle.std.proofs.Common.{subst}
+use Rattle.twp_acres.specs.Answers.{IsNoPlat}
+use Rattle.twp_calls.specs.Calls.{refused_for}
+use Rattle.twp_calls.specs.Explanations.{IsTold}
+use Rattle.twp_calls.proofs.CallFacts.{refused_in, held_by}
+use Rattle.twp_calls.proofs.explaining.township_explain_notes.Goals as goal
+
+pub returns-in-Ok-Some-clause-answer : goal.returns-in-Ok-Some-clause-answer
+returns-in-Ok-Some-clause-answer c =
+    refused_for (record {
+      refusal = c.in-Err-Refused.refusal;
+      first =
+          refused_in c.args.notes.now c.in-Err-Refused.field-0 c.in-Err-Refused.refusal
+          c.in-Err-Refused.field-0-is c.in-Err-Refused.ensures;
+      explained = record {
+        explanation = c.in-Ok-Some.told;
+        is_such =
+            subst (λ bytes. IsNoPlat bytes c.in-Ok-Some.told.refusal) c.given.ensures
+            (held_by (λ told. IsNoPlat c.given.result.bytes.now told.refusal) c.in-Ok-Some.field-0
+            c.in-Ok-Some.told c.in-Ok-Some.field-0-is c.in-Ok-Some.ensures.refusal);
+        told_is =
+            subst
+            (λ told. IsTold told c.in-Ok-Some.told c.args.text.now c.put_explanation.new.text c.put_explanation.result)
+            c.of_refusal-refused.ensures c.put_explanation.ensures.told;
+      };
+    })

@@ -1,0 +1,99 @@
+-- What the calls answer that explain refusals: the refusal as the other calls answer it, and beside it the
+-- line, the column and the text of an explanation of that refusal.
+use Rattle.std.specs.Prelude.{◌≡◌, ℕ, List, Option, Some, None}
+use Rattle.twp_excerpt.specs.declared.spot.Spot.{Spot}
+use Rattle.twp_grid.specs.declared.refusal.Refusal.{Refusal}
+use Rattle.twp_measure.specs.Areas.{Fraction}
+use Rattle.twp_plat.specs.Plats.{TownshipPlat}
+use Rattle.twp_area.specs.declared.account.Account.TheVariants.{Exact}
+use Rattle.twp_acres.specs.Answers.{ArePlatted, IsNoPlat, IsNoDescription}
+use Rattle.twp_acres.specs.OnPlats.{HasAreaOn}
+use Rattle.twp_acres.specs.ReportAnswers.{IsAccountOf}
+use Rattle.twp_acres.specs.TractFaults.{IsFirstTractFault, refusal_of, verdict_of}
+use Rattle.twp_acres.specs.declared.tract_fault.TractFault.{TractFault}
+use Rattle.twp_acres.specs.declared.verdict.Verdict.{Verdict}
+use Rattle.twp_findings.specs.declared.explanation.Explanation.{Explanation}
+use Rattle.twp_calls.specs.Answers.{ACCEPTED, bare, refused, verdict_answer}
+use Rattle.twp_calls.specs.Calls.{Answers, IsPut, OnPlat}
+use Rattle.twp_calls.specs.declared.answer.TownshipAnswer.{TownshipAnswer}
+use Rattle.twp_calls.specs.declared.plat.TownshipPlat.{TownshipPlat as GivenPlat}
+
+-- an answer with a line and a column
+abbrev pub told_at : TownshipAnswer → ℕ → ℕ → TownshipAnswer
+told_at told line column = record told { line = line; column = column }
+
+-- the line and the column where a fault stands; 0 where it stands at no one place
+abbrev pub line_at : Option Spot → ℕ
+line_at None = 0
+line_at (Some spot) = spot.line
+
+abbrev pub column_at : Option Spot → ℕ
+column_at None = 0
+column_at (Some spot) = spot.column
+
+-- the text of an explanation was put beside the answer, with its line and column
+abbrev pub IsTold : TownshipAnswer → Explanation → List ℕ → List ℕ → TownshipAnswer → Type 0
+IsTold told explanation old new =
+    IsPut (told_at told (line_at explanation.spot) (column_at explanation.spot))
+    explanation.text.bytes.items old new
+
+-- an explanation of such a refusal was put there
+pub record IsExplained (IsSuch : Refusal → Type 0) (told : TownshipAnswer) (old new : List ℕ)
+    (answer : TownshipAnswer) : Type 0 where
+  pub explanation : Explanation
+  pub is_such : IsSuch explanation.refusal
+  pub told_is : IsTold told explanation old new answer
+
+-- the refusal of the first fault is explained
+pub record IsExplainedRefusal (HasFirst : Refusal → Type 0) (old new : List ℕ)
+    (answer : TownshipAnswer) : Type 0 where
+  pub refusal : Refusal
+  pub first : HasFirst refusal
+  pub explained : IsExplained HasFirst (refused refusal) old new answer
+
+-- the refusal is that of the first fault of the list
+pub record IsOfFirstFault (plat : TownshipPlat) (list : List ℕ) (refusal : Refusal) : Type 0 where
+  pub fault : TractFault
+  pub first : IsFirstTractFault plat.township list fault
+  pub refusal_is : refusal_of fault ≡ Some refusal
+
+-- `township_explain_notes`: of notes that make a plat nothing is explained
+pub record IsOfPlat (notes : List ℕ) (answer : TownshipAnswer) : Type 0 where
+  pub plat : TownshipPlat
+  pub platted : ArePlatted notes plat
+  pub answer_is : answer ≡ bare ACCEPTED
+
+abbrev pub ExplainsNotes : List ℕ → List ℕ → List ℕ → TownshipAnswer → Type 0
+ExplainsNotes notes old new =
+    Answers (IsOfPlat notes) (IsExplainedRefusal (IsNoPlat notes) old new)
+
+-- `township_explain_description`: nor of a description that has an area on the plat
+pub record IsOfArea (plat : TownshipPlat) (description : List ℕ) (answer : TownshipAnswer)
+    : Type 0 where
+  pub area : Fraction
+  pub has : HasAreaOn plat description Exact area
+  pub answer_is : answer ≡ bare ACCEPTED
+
+abbrev pub ExplainsDescription : GivenPlat → List ℕ → List ℕ → List ℕ → TownshipAnswer → Type 0
+ExplainsDescription given description old new = OnPlat given (λ plat.
+    Answers (IsOfArea plat description)
+    (IsExplainedRefusal (IsNoDescription plat.township description) old new))
+
+-- `township_explain_list`: nor of a list that has an account on the plat
+pub record IsOfAccount (plat : TownshipPlat) (list : List ℕ) (answer : TownshipAnswer)
+    : Type 0 where
+  pub text : List ℕ
+  pub has : IsAccountOf plat list text
+  pub answer_is : answer ≡ bare ACCEPTED
+
+pub record IsExplainedFault (plat : TownshipPlat) (list old new : List ℕ) (answer : TownshipAnswer)
+    : Type 0 where
+  pub fault : TractFault
+  pub first : IsFirstTractFault plat.township list fault
+  pub verdict : Verdict
+  pub verdict_is : verdict_of fault ≡ Some verdict
+  pub explained : IsExplained (IsOfFirstFault plat list) (verdict_answer verdict) old new answer
+
+abbrev pub ExplainsList : GivenPlat → List ℕ → List ℕ → List ℕ → TownshipAnswer → Type 0
+ExplainsList given list old new = OnPlat given (λ plat.
+    Answers (IsOfAccount plat list) (IsExplainedFault plat list old new))

@@ -1,0 +1,23 @@
+//! What the library for C answers: a plat is plain data, answers are plain data too, and texts go to
+//! the caller's memory. `include/township.h` tells of each call; `twp_c` gives them to C.
+#![tactic(auto)]
+
+mod account;
+mod answer;
+mod answering;
+mod explaining;
+mod plat;
+mod reading;
+mod text;
+mod verdict;
+mod version;
+
+pub use answer::TownshipAnswer;
+pub use answering::{
+    TownshipFraction, township_acres, township_area, township_normal, township_print,
+    township_read, township_report,
+};
+pub use explaining::{
+    township_explain_description, township_explain_list, township_explain_notes, township_version,
+};
+pub use plat::TownshipPlat;
