@@ -11,11 +11,10 @@ mod reading;
 mod telling;
 mod writing;
 
-use anyhow::Result;
 use std::process::ExitCode;
-use std::{env, fs};
+use std::{env, fs, io};
 
-fn main(rt: HostRuntime) -> Result<ExitCode> {
+fn main(rt: HostRuntime) -> io::Result<ExitCode> {
     let mut words = env::args(&rt)?;
     let _program = words.next();
     let (Some(call), Some(input), room) = (words.next(), words.next(), words.next()) else {
@@ -23,8 +22,7 @@ fn main(rt: HostRuntime) -> Result<ExitCode> {
         return Ok(ExitCode::from(2));
     };
     if let Some(room) = room {
-        let room = room.as_str().parse::<u8>()?;
-        writing::write(&rt, call.as_str(), input.as_str(), room)?;
+        writing::write(&rt, call.as_str(), input.as_str(), room.as_str())?;
         return Ok(ExitCode::SUCCESS);
     }
     let text = fs::read(&rt, input.as_str())?;

@@ -1,7 +1,6 @@
 //! Calls that make a value, which is told of by its text.
 
 use crate::telling::{ANSWERED, start};
-use anyhow::Result;
 use std::io;
 use std::io::Write;
 use twp_grid::Bytes;
@@ -9,29 +8,27 @@ use twp_notes::Notes;
 use twp_read::Description;
 
 /// Reads field notes, and tells them as they are written, or why they are none.
-pub fn read_notes(rt: &HostRuntime, text: &[u8]) -> Result<()> {
+pub fn read_notes(rt: &HostRuntime, text: &[u8]) -> io::Result<()> {
     start(rt)?;
     match Notes::read(rt.alloc(), &mut Bytes::new(text)) {
         Ok(notes) => {
             rt.println(ANSWERED)?;
             let mut written = Vec::new(rt.alloc());
             notes.write(&mut written)?;
-            io::writer(rt).write_all(written.as_slice())?;
+            io::writer(rt).write_all(written.as_slice())
         }
-        Err(fault) => rt.println(fault)?,
+        Err(fault) => rt.println(fault),
     }
-    Ok(())
 }
 
 /// Reads a description, and tells how many items it has, or why it is none.
-pub fn read_description(rt: &HostRuntime, text: &[u8]) -> Result<()> {
+pub fn read_description(rt: &HostRuntime, text: &[u8]) -> io::Result<()> {
     start(rt)?;
     match Description::read(rt.alloc(), text) {
         Ok(description) => {
             rt.println(ANSWERED)?;
-            rt.println(description.items().len())?;
+            rt.println(description.items().len())
         }
-        Err(fault) => rt.println(fault)?,
+        Err(fault) => rt.println(fault),
     }
-    Ok(())
 }

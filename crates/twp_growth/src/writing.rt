@@ -1,8 +1,7 @@
 //! Calls that write into a vector, which is told of as they leave it.
 
 use crate::telling::{ANSWERED, OUT_OF_MEMORY, start, tell};
-use anyhow::Result;
-use std::fs;
+use std::{fs, io};
 use twp_grid::Bytes;
 use twp_measure::{Length, write_acres};
 use twp_notes::Notes;
@@ -11,24 +10,36 @@ use twp_notes::Notes;
 const HELD: &[u8] = b"held: ";
 
 /// Writes acres, of which the input is the hundredths, a length, or field notes, of which it is the
-/// file, into a vector that holds some bytes, and has room for so many more.
-pub fn write(rt: &HostRuntime, call: &str, input: &str, room: u8) -> Result<()> {
+/// file, into a vector that holds some bytes, and has room for so many more; or tells why the input
+/// is none.
+pub fn write(rt: &HostRuntime, call: &str, input: &str, room: &str) -> io::Result<()> {
+    let Ok(room) = room.parse::<u8>() else {
+        return rt.println("no room");
+    };
     let mut vector = Vec::with_capacity(rt.alloc(), HELD.len() + usize::from(room))?;
     vector.extend_from_slice(HELD)?;
     let outcome = match call {
         "write-acres" => {
-            let hundredths = input.parse::<u64>()?;
+            let Ok(hundredths) = input.parse::<u64>() else {
+                return rt.println("no hundredths");
+            };
             start(rt)?;
             write_acres(hundredths, &mut vector)
         }
         "write-length" => {
-            let length = Length::read(input.as_bytes())?;
+            let length = match Length::read(input.as_bytes()) {
+                Ok(length) => length,
+                Err(fault) => return rt.println(fault),
+            };
             start(rt)?;
             length.write(&mut vector)
         }
         _ => {
             let text = fs::read(rt, input)?;
-            let notes = Notes::read(rt.alloc(), &mut Bytes::new(text.as_slice()))?;
+            let notes = match Notes::read(rt.alloc(), &mut Bytes::new(text.as_slice())) {
+                Ok(notes) => notes,
+                Err(fault) => return rt.println(fault),
+            };
             start(rt)?;
             notes.write(&mut vector)
         }
@@ -37,6 +48,5 @@ pub fn write(rt: &HostRuntime, call: &str, input: &str, room: u8) -> Result<()> 
         Ok(()) => ANSWERED,
         Err(_) => OUT_OF_MEMORY,
     };
-    tell(rt, answer, vector.as_slice())?;
-    Ok(())
+    tell(rt, answer, vector.as_slice())
 }
