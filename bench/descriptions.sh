@@ -1,13 +1,13 @@
 #!/bin/sh
-# Builds twp_bench_text and prints how many instructions it takes to read descriptions: what the whole
+# Builds twp_bench and prints how many instructions it takes to read descriptions: what the whole
 # process takes, less what it takes to read nothing. The descriptions are files that are named, or else
 # 65,536 bytes of fine parts, the same in lowercase, half as many, and 65,536 bytes of halves of halves in
 # words.
 set -eu
-(cd crates/twp_bench_text && rt run < stdin > /dev/null)
-program=crates/twp_bench_text/out/twp_bench_text
+(cd crates/twp_bench && rt run -- lanes count 10 > /dev/null)
+program=crates/twp_bench/out/twp_bench
 count() {
-    env -i PATH="$PATH" valgrind --tool=callgrind --callgrind-out-file=/dev/null "$program" \
+    env -i PATH="$PATH" valgrind --tool=callgrind --callgrind-out-file=/dev/null "$program" text \
         < "$1" 2>&1 >/dev/null | sed -n 's/.*Collected : *//p'
 }
 work=$(mktemp -d)

@@ -151,6 +151,23 @@ plat_of 'the records from the last one'
 awk -F, -v OFS=, 'NR > 2 && $3 != "" { was = $2; $2 = $3; $3 = was } { print }' uneven > notes
 plat_of 'the sections in the other order'
 
+# Each byte by itself. White space and a T, which begins a heading, are read to their end; other letters, digits and
+# signs are tokens that begin no description; and any other byte begins no token.
+awk 'BEGIN {
+    for (byte = 0; byte < 256; byte++) {
+        letter = byte >= 65 && byte <= 90 || byte >= 97 && byte <= 122
+        if (byte == 9 || byte == 10 || byte == 13 || byte == 32 || byte == 84 || byte == 116) answer = "44 at 1"
+        else if (letter || byte >= 48 && byte <= 57 || index(",.:;", sprintf("%c", byte)) && byte > 0) answer = "44 at 0"
+        else answer = "42 at 0"
+        printf "%03o refused %s\n", byte, answer
+    }
+}' > these
+while read -r text answer; do
+    written "$answer\n" wanted
+    written "\\$text" land
+    answers acres even land
+done < these
+
 # A token of each class that a sentence can have, and a word of none, behind fronts of sentences: where it may
 # follow, the text goes wrong after it, if at all; otherwise it goes wrong at it.
 tokens='sec lot all and to inclusive of the t r n e ne 1/2 1/4 1 , ; : . x'

@@ -2,8 +2,8 @@
 # Runs ./township, or the program that is named, as people do: on files, pipes, folders, and devices. It
 # compares the status, standard output, and standard error of each run. Beside it, each by its own script, are
 # tried worked answers, the largest input, what the documents say, what is installed, the explanations of
-# refusals, the program's limits, and refused growths of memory; twp_growth is found in its crate, or is named
-# second. The last line counts all: 'N passed, 0 failed'.
+# refusals, the program's limits, refused growths of memory, and single calls; twp_growth is found in its crate, or
+# is named second. The last line counts all: 'N passed, 0 failed'.
 set -u
 # A program that goes wrong fills no disk and doesn't run forever.
 ulimit -f 4000
@@ -31,6 +31,7 @@ begin sh "$root/scripts/documents.sh" "$program"
 begin sh "$root/scripts/installed.sh" "$program"
 begin env -i PATH="$PATH" sh "$root/scripts/limits.sh" "$program"
 begin sh "$root/scripts/growths.sh" "$program" "$calls"
+begin sh "$root/scripts/single_calls.sh" "$calls"
 
 # Compares the last run: what it shows, its status, and what it wrote to standard output and standard
 # error, each without its last line feed.
@@ -211,6 +212,12 @@ cat joined | run; ended 'joined input on a pipe' $? 0 '40.45 acres' ''
 (cat d.txt; echo; sleep 1; cat n.csv) | run; ended 'a slow pipe' $? 0 '40.45 acres' ''
 run < empty; refused 'no input' $? 'refused 2 at 1'
 run < /dev/zero; refused 'endless input' $? 'refused 2 at 1'
+run < d.txt; refused 'a description alone' $? 'refused 2 at 1'
+echo | run; refused 'a line feed alone' $? 'refused 2 at 1'
+printf '\377\000,"""\n\r"' | run; refused 'any bytes' $? 'refused 3 at 1'
+many 10000000 '\n' | run; refused 'many line feeds' $? 'refused 1 at 65536'
+(many 65537 ' '; echo; cat "$root/samples/b0.csv") | run
+refused 'a description that is too long' $? 'refused 41 at 65536'
 
 # Help.
 help_text="Draws a township's plat from its field notes, and gives the acres of land described on it

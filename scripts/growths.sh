@@ -1,7 +1,7 @@
 #!/bin/sh
 # Refuses ./township, or the program that is named, one growth of its memory after another, in each of its
-# five ways of running; and so each call that takes memory, which twp_growth, or the program that is named
-# second, makes alone. A run with a refused growth ends there, as out of memory: it has written nothing, and
+# five ways of running; and so calls that read and write, which twp_growth, or the program that is named second,
+# makes alone. A run with a refused growth ends there, as out of memory: it has written nothing, and a call
 # leaves a vector as it was. Only what serves to explain a refusal is done without: where memory is refused
 # for the copy of what the program reads, or for the explanation, the answer and the status are the same, and
 # the explanation is whole or left out. The first run in which there is nothing to refuse gives the right
@@ -159,63 +159,26 @@ refuse_call 'Notes::read' '' "answered
 $notes
 " read-notes n.csv
 refuse_call 'Description::read' '' 'answered
-T. 2 N., R. 3 W.,
-sec. 14, all.
+1
 ' read-description d.txt
-least=0
-refuse_call 'spell of the empty land' '' 'answered
-' spell
-least=1
+# A chain of twelve steps, of which ten have room in its item, each half a half: the sixth is too fine.
+printf 'sec. 14, N1/2N1/2N1/2N1/2N1/2N1/2N1/2N1/2N1/2N1/2N1/2N1/2.' > chain
+refuse_call 'Description::read' '' 'answered
+2
+' read-description chain
+
 normal='T. 2 N., R. 3 W.,
 sec. 14, N1/2, SE1/4.'
-refuse_call 'spell' '' "answered
-$normal
-" spell parts
-refuse_call 'run_acres' '' 'accepted
-640.00 acres
-' run-acres n.csv d.txt
-printf 'sec. 7, lots 1 to 4, inclusive.' > lots
-refuse_call 'run_acres_as, by the plat' '' 'accepted
-156.42 acres
-' run-acres-by-plat uneven.csv lots
-refuse_call 'held_lots' '' 'answered
-1
-2
-3
-4
-' held-lots lots
-refuse_call 'run_normal' '' "accepted
-$normal
-" run-normal n.csv parts
 account='tract A: 39.18 acres
 tract B: 39.03 acres
 total: 78.20 acres
 remaining: 22959.37 acres'
-refuse_call 'run_report' '' "accepted
-$account
-" run-report uneven.csv t.csv
-# A chain of twelve steps, of which ten have room in its item, each half a half: the sixth is too fine.
-printf 'sec. 14, N1/2N1/2N1/2N1/2N1/2N1/2N1/2N1/2N1/2N1/2N1/2N1/2.' > chain
-refuse_call 'run_acres of a long chain' '' 'refused
-refused 65 at 9
-' run-acres n.csv chain
-# Twenty tracts, a section each of 640 acres: 12,800 of 23,040.
-awk 'BEGIN { print "name,description"; for (n = 1; n <= 20; n++) printf "%s,sec. %s.\n", n, n }' > twenty
-refuse_call 'run_report of twenty tracts' '' "accepted
-$(awk 'BEGIN { for (n = 1; n <= 20; n++) printf "tract %s: 640.00 acres\n", n }')
-total: 12800.00 acres
-remaining: 10240.00 acres
-" run-report n.csv twenty
+printf 'sec. 7, lots 1 to 4, inclusive.' > lots
 # Of the plat's 37 lines those of sections 6, 7 and 8 and the last, and how many they are.
 plat='sec. 6: lot 1 40.90, lot 2 41.10, lot 3 41.31, lot 4 39.95, lot 5 38.70, lot 6 38.90, lot 7 39.10, total 639.97
 sec. 7: lot 1 39.18, lot 2 39.13, lot 3 39.08, lot 4 39.03, total 636.40
 sec. 8: total 640.00
 township total 23037.57'
-lines='1,2p;8,10p;39p;$='
-refuse_call 'run_plat' '' "accepted
-$plat
-39
-" run-plat uneven.csv
 lines='6,8p;37p;$='
 refuse_program 'plat' 1 "$plat
 37" plat uneven.csv
@@ -223,7 +186,14 @@ lines=p
 refuse_program 'acres' 2 '640.00 acres' acres n.csv d.txt
 refuse_program 'acres by the plat' 2 '156.42 acres' acres --account plat uneven.csv lots
 refuse_program 'normal' 2 "$normal" normal n.csv parts
+refuse_program 'normal of lots' 2 'T. 2 N., R. 3 W.,
+sec. 7, lots 1, 2, 3, 4.' normal uneven.csv lots
 refuse_program 'report' 2 "$account" report uneven.csv t.csv
+# Twenty tracts, a section each of 640 acres: 12,800 of 23,040.
+awk 'BEGIN { print "name,description"; for (n = 1; n <= 20; n++) printf "%s,sec. %s.\n", n, n }' > twenty
+refuse_program 'report of twenty tracts' 2 "$(awk 'BEGIN { for (n = 1; n <= 20; n++) printf "tract %s: 640.00 acres\n", n }')
+total: 12800.00 acres
+remaining: 10240.00 acres" report n.csv twenty
 # A copy has room for 131,072 bytes, and grows for more.
 (cat t.csv; head -c 200000 /dev/zero | tr '\0' '\n') > long.csv
 refuse_program 'report of a long list' 3 "$account" report uneven.csv long.csv
@@ -242,6 +212,7 @@ refuse_refusal 'missing notes' 1 'refused 11 at 53' plat lacking.csv
 refuse_refusal 'a long line' 2 'refused 23 at 53' acres long-line.csv d.txt
 refuse_refusal 'a short text' 2 'refused 44 at 8' normal n.csv short
 refuse_refusal 'an overlap' 2 'refused 67 at 19' acres n.csv overlap
+refuse_refusal 'a long chain' 2 'refused 65 at 9' acres n.csv chain
 refuse_refusal 'a refused tract' 2 'refused 83 at 2
 refused 67 at 19' report n.csv refused-tract.csv
 refuse_refusal 'land of two tracts' 2 'refused 84 at 3' report n.csv shared-land.csv

@@ -1,7 +1,8 @@
 #!/bin/sh
 # Runs ./township, or the program that is named, on the largest input that there may be, and on input that is one
-# more: descriptions, canonical texts, lists of tracts, names of tracts. It compares the answer and the status of
-# each run. The last line is 'N passed, 0 failed'.
+# more: field notes, descriptions, canonical texts, lists of tracts, names of tracts; and on input of many lengths, of
+# which none needs more memory than there is. It compares the answer and the status of each run, and how far it reads.
+# The last line is 'N passed, 0 failed'.
 set -u
 ulimit -f 4000
 ulimit -t 20
@@ -94,6 +95,82 @@ is_refused 'a longer description' 'refused 83 at 2\nrefused 41 at 65536' report
 is_answered 'the longest list' 'total: 0.00 acres\nremaining: 23040.00 acres' report
 (printf 'name,description\n'; many $((1048577 - 17)) '\n') > input
 is_refused 'a longer list' 'refused 80 at 1048576' report
+# What is told shows line 200,002 of a list of more bytes than the program's copy of it has room for from the start.
+(printf 'name,description\n'; many 200000 '\n'; echo 'A,sec. 37.') > input
+is_refused 'a tract behind empty lines' 'refused 83 at 2\nrefused 62 at 5' report
+if grep -q '^township: input:200002:' err; then passed=$((passed + 1)); else failed=$((failed + 1)); fi
+
+# Field notes have 65,536 bytes at most. The even ones have 1,638, and empty lines are no records.
+printf 'sec. 14.' > land
+mkdir folder
+echo '640.00 acres' > wanted
+for length in $(seq 60000 41 65536) 65536; do
+    (cat "$even"; many $((length - 1638)) '\n') > notes
+    ends "notes of $length bytes" 0 acres notes land
+done
+# Whatever the bytes are, too many are refused first; and no second file is read, as this one can't be.
+(cat "$even"; many $((65537 - 1638)) '\n') > more
+many 65536 x > letters
+many 65537 x > more_letters
+for subcommand in acres normal report plat; do
+    set -- folder
+    [ $subcommand != plat ] || set --
+    echo 'refused 1 at 65536' > wanted
+    ends "$subcommand: longer notes" 1 $subcommand more "$@"
+    ends "$subcommand: more letters" 1 $subcommand more_letters "$@"
+    echo 'refused 3 at 1' > wanted
+    ends "$subcommand: letters" 1 $subcommand letters "$@"
+done
+
+# A description has 65,536 bytes at most, and too many are refused before a byte that is no part of it.
+for subcommand in acres normal; do
+    many 65536 ' ' > input
+    is_refused "$subcommand: white space" 'refused 44 at 65536' $subcommand
+    many 65536 '\377' > input
+    is_refused "$subcommand: bad bytes" 'refused 42 at 0' $subcommand
+    for byte in ' ' '\377'; do
+        many 65537 "$byte" > input
+        is_refused "$subcommand: a longer text" 'refused 41 at 65536' $subcommand
+    done
+done
+
+# How far a run reads: one byte past a limit, and no second file where the notes make no plat. What is left in a pipe
+# is counted when the run has ended. Joined input without a line feed is read to 65,536 + 65,538 bytes.
+leaves() {
+    what=$1 left=$2 count=$3 byte=$4
+    shift 4
+    many "$count" "$byte" | { "$program" "$@" > out 2> err; wc -c; } > counted
+    if [ "$(cat counted)" = "$left" ]; then
+        passed=$((passed + 1))
+    else
+        failed=$((failed + 1))
+        echo "FAILED: $what: $(cat counted) bytes are left, and not $left"
+    fi
+}
+leaves 'notes' $((200000 - 65537)) 200000 x plat /dev/stdin
+leaves 'a description' $((200000 - 65537)) 200000 ' ' acres "$even" /dev/stdin
+leaves 'a description to be spelled' $((200000 - 65537)) 200000 ' ' normal "$even" /dev/stdin
+leaves 'a list' $((1200000 - 1048577)) 1200000 x report "$even" /dev/stdin
+leaves 'joined input' $((200000 - 131074)) 200000 ' '
+leaves 'a description without a plat' 200000 200000 ' ' acres letters /dev/stdin
+leaves 'a list without a plat' 200000 200000 ' ' report letters /dev/stdin
+
+# Each length near the limit, and those of powers of two and beside them: a section and white space, and a list of
+# section 1 again and again, which is read whole before its second number, at 6 or behind a space at 7, is refused.
+(printf 'sec. 14'; many 65536 ' ') > blank
+(printf 'sec 1'; yes ,1 | head -n 32768 | tr -d '\n') > odd
+(printf ' '; cat odd) > spaced
+powers=$(awk 'BEGIN { for (n = 8; n <= 65536; n *= 2) print n - 1, n, n == 65536 ? "" : n + 1 }')
+echo '640.00 acres' > wanted
+for length in $powers $(seq 65000 65536); do
+    head -c "$length" blank > input
+    ends "a description of $length bytes" 0 acres "$even" input
+done
+for length in $powers; do
+    if [ $((length % 2)) = 1 ]; then list=odd at=6; else list=spaced at=7; fi
+    head -c "$length" $list > input
+    is_refused "a list of $length bytes" "refused 67 at $at" acres
+done
 
 # A description that names each place of two sections, 2 times 1,024 of five eighths of an acre, and has white
 # space up to the limit of 65,536 bytes; and one that names the first place of section 9 for its last one too.

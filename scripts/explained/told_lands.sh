@@ -425,6 +425,38 @@ township: land.txt:1:56: this land was named before
   `NE1/4 of the NE1/4 of the NE1/4 of t..` at 1:10 names it too: both hold sec. 14, NE1/4NE1/4NE1/4NE1/4.
 END
 
+# The earlier item is the first that shares land with the later one, of whatever kind both are.
+told_land 'sec. 14, S1/2, NW1/4, NE1/4, N1/2.' 'refused 67 at 29' <<'END'
+township: land.txt:1:30: this land was named before
+  1 | sec. 14, S1/2, NW1/4, NE1/4, N1/2.
+    |                              ^^^^
+  `NW1/4` at 1:16 names it too: both hold sec. 14, NW1/4.
+END
+told_land 'sec. 14, S1/2, N1/2; secs. 13 thru 15.' 'refused 67 at 27' <<'END'
+township: land.txt:1:28: this land was named before
+  1 | sec. 14, S1/2, N1/2; secs. 13 thru 15.
+    |                            ^^^^^^^^^^
+  `S1/2` at 1:10 names it too: both hold sec. 14, S1/2.
+END
+told_land 'secs. 13 to 15; secs. 15 to 16' 'refused 67 at 22' <<'END'
+township: land.txt:1:23: this land was named before
+  1 | secs. 13 to 15; secs. 15 to 16
+    |                       ^^^^^^^^
+  `13 to 15` at 1:7 names it too: both hold sec. 15, all.
+END
+told_land 'sec. 14, NE1/4; sec. 15; sec. 14, E1/2.' 'refused 67 at 34' <<'END'
+township: land.txt:1:35: this land was named before
+  1 | sec. 14, NE1/4; sec. 15; sec. 14, E1/2.
+    |                                   ^^^^
+  `NE1/4` at 1:10 names it too: both hold sec. 14, NE1/4.
+END
+told_land 'secs. 1 thru 36; sec. 36, SE1/4NE1/4.' 'refused 67 at 26' <<'END'
+township: land.txt:1:27: this land was named before
+  1 | secs. 1 thru 36; sec. 36, SE1/4NE1/4.
+    |                           ^^^^^^^^^^
+  `1 thru 36` at 1:7 names it too: both hold sec. 36, SE1/4NE1/4.
+END
+
 # How lines are shown, and what is underlined: escapes, wide characters, tabs, ends of lines, and long lines.
 told_land 'sec. 14 é¡ÿ Ωж→ 山🌲 a "b" \047c\047 {d} ~ N½SW¼' 'refused 42 at 8' <<'END'
 township: land.txt:1:9: U+00E9 is no part of a description

@@ -1,7 +1,9 @@
-//! Measures lands: makes so many calls of one kind on mixed blocks of a land of one kind. `make
-//! bench` counts the instructions of each.
+//! Measures lands, by so many calls of one kind on mixed blocks of a land of one kind, and how a
+//! description is read, which is standard input. `make bench` counts the instructions of each.
 #![tactic(auto)]
 
+mod mixed;
+mod reading;
 mod task;
 mod work;
 
@@ -19,24 +21,32 @@ fn asked(rt: &(impl Env + Alloc)) -> io::Result<Option<Task>> {
     let Some(land) = words.next() else {
         return Ok(None);
     };
+    if land.as_str() == "text" {
+        return Ok(Some(Task::Text));
+    }
     let Some(work) = words.next() else {
         return Ok(None);
     };
     let Some(times) = words.next() else {
         return Ok(None);
     };
-    Ok(Task::read(land.as_str(), work.as_str(), times.as_str()))
+    Ok(Task::of_land(land.as_str(), work.as_str(), times.as_str()))
 }
 
 fn main(rt: HostRuntime) -> io::Result<ExitCode> {
-    let Some(Task { kind, work, times }) = asked(&rt)? else {
-        eprintln!(rt; "twp_bench grid|lanes blocks|add|meets|full|count|take TIMES")?;
-        return Ok(ExitCode::from(2));
-    };
-    let tally = match kind {
-        Kind::Grid => measure::<Grid>(work, times),
-        Kind::Lanes => measure::<Lanes>(work, times),
-    };
-    println!(rt; "{tally}")?;
+    match asked(&rt)? {
+        Some(Task::Text) => reading::tell_items(&rt)?,
+        Some(Task::Land(kind, work, times)) => {
+            let tally = match kind {
+                Kind::Grid => measure::<Grid>(work, times),
+                Kind::Lanes => measure::<Lanes>(work, times),
+            };
+            rt.println(tally)?;
+        }
+        None => {
+            eprintln!(rt; "twp_bench text | grid|lanes blocks|add|meets|full|count|take TIMES")?;
+            return Ok(ExitCode::from(2));
+        }
+    }
     Ok(ExitCode::SUCCESS)
 }

@@ -1,7 +1,7 @@
 use crate::work::Work;
 
 /// A kind of land.
-#[derive(Clone, Copy, PartialEq, Eq)]
+#[derive(Clone, Copy)]
 pub enum Kind {
     Grid,
     Lanes,
@@ -18,21 +18,19 @@ impl Kind {
     }
 }
 
-/// Some work on a land, so many times.
+/// What to measure.
 #[derive(Clone, Copy)]
-pub struct Task {
-    pub kind: Kind,
-    pub work: Work,
-    pub times: u32,
+pub enum Task {
+    /// How a description is read.
+    Text,
+    /// Some work on a land, so many times.
+    Land(Kind, Work, u32),
 }
 
 impl Task {
     /// The task of three words.
-    pub fn read(land: &str, work: &str, times: &str) -> Option<Task> {
-        Some(Task {
-            kind: Kind::read(land)?,
-            work: Work::read(work)?,
-            times: times.parse::<u32>().ok()?,
-        })
+    pub fn of_land(land: &str, work: &str, times: &str) -> Option<Task> {
+        let times = times.parse::<u32>().ok()?;
+        Some(Task::Land(Kind::read(land)?, Work::read(work)?, times))
     }
 }

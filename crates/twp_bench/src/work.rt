@@ -1,8 +1,8 @@
-use twp_fixtures::Mixed;
+use crate::mixed::Mixed;
 use twp_land::Land;
 
 /// A kind of work on a land. `Blocks` makes the sections and blocks alone, for comparison.
-#[derive(Clone, Copy, PartialEq, Eq)]
+#[derive(Clone, Copy)]
 pub enum Work {
     Blocks,
     Add,

@@ -1,4 +1,3 @@
-use std::fmt::Display;
 use std::io;
 use std::io::Write;
 
@@ -9,12 +8,12 @@ pub const ANSWERED: &str = "answered";
 pub const OUT_OF_MEMORY: &str = "out of memory";
 
 /// Marks that all is made, and that the call is next.
-pub fn start<R: Print>(rt: &R) -> io::Result<()> {
+pub fn start(rt: &HostRuntime) -> io::Result<()> {
     rt.println("calling")
 }
 
 /// Tells what a call answered, and behind that the bytes that it made or left.
-pub fn tell<R: Print, A: Display + Drop>(rt: &R, answer: A, bytes: &[u8]) -> io::Result<()> {
+pub fn tell(rt: &HostRuntime, answer: &str, bytes: &[u8]) -> io::Result<()> {
     rt.println(answer)?;
     io::writer(rt).write_all(bytes)
 }

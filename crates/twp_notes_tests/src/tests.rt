@@ -1,4 +1,0 @@
-mod fault;
-mod notes;
-mod reading;
-mod sample;

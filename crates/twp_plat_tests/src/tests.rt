@@ -1,4 +1,0 @@
-mod areas;
-mod lands;
-mod lot_figures;
-mod plat;

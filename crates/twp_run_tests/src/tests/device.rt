@@ -1,0 +1,94 @@
+//! Readers and writers that fail at a call, and give or take a few bytes a call. As a `Device` each
+//! is a source or a sink that tells none of its bytes.
+use std::alloc::Global;
+use std::io;
+use std::io::{Error, ErrorKind, Read, Write};
+
+/// Gives bytes, and counts its calls.
+#[derive(Drop)]
+pub struct Reader<'a> {
+    /// Those that are left.
+    pub bytes: &'a [u8],
+    /// How many it gives a call at most.
+    pub most: usize,
+    /// At which call it fails, the first being 1, and of what kind the error is: who calls again
+    /// reads on as if nothing had been.
+    pub fails: (u32, ErrorKind),
+    pub calls: u32,
+}
+
+impl<'a> Reader<'a> {
+    /// Gives these bytes, all at once, and never fails.
+    pub fn new(bytes: &'a [u8]) -> Reader<'a> {
+        Reader {
+            bytes,
+            most: usize::MAX,
+            fails: (0, ErrorKind::Other),
+            calls: 0,
+        }
+    }
+}
+
+impl Read for Reader<'_> {
+    fn read(&mut self, buf: &mut [u8]) -> io::Result<usize> {
+        self.calls = self.calls.saturating_add(1);
+        let (call, kind) = self.fails;
+        if self.calls == call {
+            return Err(Error::from(kind));
+        }
+        let count = buf.len().min(self.most).min(self.bytes.len());
+        let (front, rest) = self.bytes.split_at(count);
+        buf[..count].copy_from_slice(front);
+        self.bytes = rest;
+        Ok(count)
+    }
+}
+
+/// Takes bytes, and keeps them.
+#[derive(Drop)]
+pub struct Writer {
+    pub taken: Vec<u8>,
+    /// How many more it takes.
+    pub room: usize,
+    /// How many it takes a call at most.
+    pub most: usize,
+    /// How it fails where it has no room. None is that it takes no byte, which is no error.
+    pub full: Option<ErrorKind>,
+    /// How it fails where it is flushed, if it does.
+    pub flushed: Option<ErrorKind>,
+}
+
+impl Writer {
+    /// Takes all bytes, one a call, and never fails.
+    pub fn new(alloc: Global) -> Writer {
+        Writer {
+            taken: Vec::new(alloc),
+            room: usize::MAX,
+            most: 1,
+            full: None,
+            flushed: None,
+        }
+    }
+}
+
+impl Write for Writer {
+    fn write(&mut self, buf: &[u8]) -> io::Result<usize> {
+        if let Some(kind) = self.full
+            && self.room == 0
+            && !buf.is_empty()
+        {
+            return Err(Error::from(kind));
+        }
+        let count = buf.len().min(self.most).min(self.room);
+        self.taken.extend_from_slice(&buf[..count])?;
+        self.room -= count;
+        Ok(count)
+    }
+
+    fn flush(&mut self) -> io::Result<()> {
+        match self.flushed {
+            Some(kind) => Err(Error::from(kind)),
+            None => Ok(()),
+        }
+    }
+}
