@@ -166,7 +166,7 @@ explained_land 'the, before a part' 'refused 44 at 9' <<'END'
 township: land.txt:1:10: `the` can't stand here: here could stand a part of the section, or another section's number
   1 | sec. 14, the NE1/4.
     |          ^^^
-  leave the out
+  leave `the` out
 END
 land 'sec. 14, North Half.'
 explained_land 'a half in words' 'refused 44 at 9' <<'END'

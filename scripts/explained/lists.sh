@@ -41,6 +41,12 @@ township: list.csv:3: this record has 3 fields instead of 2
     |          ^^^^^^^
   put the description in quotes: B,"sec. 7, lot 4."
 END
+list 'A,sec. 7\nB,sec. 8, NE1/4.,40\n'
+explained_list 'a comma without quotes, or a column more' 'refused 81 at 3' <<'END'
+township: list.csv:3: this record has 4 fields instead of 2
+  3 | B,sec. 8, NE1/4.,40
+    |          ^^^^^^^
+END
 list 'A,sec. 7\nB, "sec. 7, lot 4."\n'
 explained_list 'a space before the quotes' 'refused 81 at 3' <<'END'
 township: list.csv:3: this record has 3 fields instead of 2

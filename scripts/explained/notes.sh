@@ -110,7 +110,7 @@ township: notes.csv:3: `X` isn't a run: a line runs `N` from its south end, or `
 END
 added ',,,,'
 explained_notes 'the row of a spreadsheet' 'refused 6 at 87' <<'END'
-township: notes.csv:87: `` isn't a run: a line runs `N` from its south end, or `W` from its east end
+township: notes.csv:87: an empty field isn't a run: a line runs `N` from its south end, or `W` from its east end
   87 | ,,,,
      | ^
   a row without text, as a spreadsheet leaves it: delete it

@@ -64,7 +64,7 @@ told_land 'sec. 14: the NE1/4' 'refused 44 at 9' <<'END'
 township: land.txt:1:10: `the` can't stand here: here could stand `lot`, an aliquot part, or `all`
   1 | sec. 14: the NE1/4
     |          ^^^
-  leave the out
+  leave `the` out
 END
 told_land 'sec. 14, \n' 'refused 44 at 10' <<'END'
 township: land.txt:1:9: the description ends too soon: here could stand a part of the section, or another section's number
@@ -352,7 +352,7 @@ told_land 'sec. 5, government lot 1.' 'refused 44 at 8' <<'END'
 township: land.txt:1:9: `government` can't stand here: here could stand a part of the section, or another section's number
   1 | sec. 5, government lot 1.
     |         ^^^^^^^^^^
-  leave government out
+  leave `government` out
 END
 told_land 'secs. 4 thru 9, incl.' 'refused 44 at 16' <<'END'
 township: land.txt:1:17: `incl` can't stand here: here could stand `inclusive` of the range, another section's number, or `all`

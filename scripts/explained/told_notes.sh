@@ -200,7 +200,7 @@ township: notes.csv:3: `N ` isn't a run: a line runs `N` from its south end, or 
   a space counts here: take it out
 END
 told_record 86 ',,,,\n' 'refused 6 at 86' <<'END'
-township: notes.csv:86: `` isn't a run: a line runs `N` from its south end, or `W` from its east end
+township: notes.csv:86: an empty field isn't a run: a line runs `N` from its south end, or `W` from its east end
   86 | ,,,,
      | ^
   a row without text, as a spreadsheet leaves it: delete it

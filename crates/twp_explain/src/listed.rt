@@ -71,6 +71,12 @@ impl<'a> Listed<'a> {
         self.between(start, end)
     }
 
+    /// What stands in the file from a field up to the last one but one.
+    pub(crate) fn written_before_last(&self, place: usize) -> &[u8] {
+        let Span { start, end } = self.record.span(place, self.len().saturating_sub(2));
+        self.between(start, end)
+    }
+
     /// What stands in the file from an offset to another, where there is such a part.
     fn between(&self, start: usize, end: usize) -> &[u8] {
         let bytes = self.file.bytes;

@@ -2,9 +2,10 @@
 ghost use Rattle.std.specs.Prelude.{◌≡◌};
 
 use crate::listed::Listed;
-use std::alloc::AllocError;
+use std::alloc::{AllocError, Global};
 use twp_excerpt::{Span, write_escaped};
 use twp_findings::{Finding, Origin, Place, write_count, write_quoted};
+use twp_read::{Description, TextFault};
 
 /// The fields of the heading.
 const HEADING: [&[u8]; 2] = [b"name", b"description"];
@@ -16,7 +17,11 @@ const NAME_MOST: usize = 64;
 const SHOWN_MOST: usize = 100;
 
 /// Tells of a record that isn't the heading, or isn't a tract.
-pub(crate) fn tell(listed: &Listed<'_>, finding: &mut Finding) -> Result<(), AllocError>
+pub(crate) fn tell(
+    alloc: Global,
+    listed: &Listed<'_>,
+    finding: &mut Finding,
+) -> Result<(), AllocError>
     ensures refusal { finding.new.refusal ≡ finding.old.refusal }
 {
     if listed.number() == 1 {
@@ -31,7 +36,7 @@ pub(crate) fn tell(listed: &Listed<'_>, finding: &mut Finding) -> Result<(), All
         finding.place = Place::Field(name_span(listed));
         write_name_fault(listed, &mut finding.sentence)?;
     }
-    write_help(listed, &mut finding.help)
+    write_help(alloc, listed, &mut finding.help)
 }
 
 /// The first field of a record that isn't the heading's.
@@ -140,10 +145,13 @@ const HINTS: [Hint; 8] = [
 ];
 
 /// Appends what mends a record, where that is known.
-fn write_help(listed: &Listed<'_>, text: &mut String) -> Result<(), AllocError> {
+fn write_help(alloc: Global, listed: &Listed<'_>, text: &mut String) -> Result<(), AllocError> {
     for hint in &HINTS {
         let Hint(sign, advice) = hint;
         if sign.fits(listed) {
+            if *sign == Sign::Unquoted && ends_before_last(alloc, listed)? {
+                return Ok(());
+            }
             text.push_str(advice)?;
             return write_mended(*sign, listed, text);
         }
@@ -186,6 +194,20 @@ fn is_unquoted(listed: &Listed<'_>) -> bool {
     let rest = listed.written_from(1);
     let begins = rest.starts_with(b"sec") || rest.starts_with(b"Sec") || rest.starts_with(b"T");
     listed.len() > 2 && begins && !rest.contains(&b'"')
+}
+
+/// Whether a whole description, with its full stop, ends before the last field, which may then be
+/// another column.
+fn ends_before_last(alloc: Global, listed: &Listed<'_>) -> Result<bool, AllocError> {
+    let front = listed.written_before_last(1);
+    if front.last() != Some(&b'.') {
+        return Ok(false);
+    }
+    match Description::read(alloc, front) {
+        Ok(_) => Ok(true),
+        Err(TextFault::Memory) => Err(AllocError),
+        Err(_) => Ok(false),
+    }
 }
 
 /// Appends a record whose description isn't in quotes as it should be, where it is short.

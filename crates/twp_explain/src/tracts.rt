@@ -42,7 +42,7 @@ pub(crate) fn find(
         help: String::new(alloc),
     };
     match fault {
-        TractFault::TractRow(_) => rows::tell(&listed, &mut finding)?,
+        TractFault::TractRow(_) => rows::tell(alloc, &listed, &mut finding)?,
         TractFault::NameRepeated(_) => tell_name(alloc, &listed, &mut finding)?,
         TractFault::TractRefused { .. } => {
             tell_description(alloc, &listed, township, &mut finding)?

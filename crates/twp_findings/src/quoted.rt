@@ -5,8 +5,11 @@ use twp_excerpt::write_escaped;
 /// The most bytes that are quoted of a field.
 const QUOTED: usize = 36;
 
-/// Appends a field between marks, safe to show and cut short.
+/// Appends a field between marks, safe to show and cut short, or that it is empty.
 pub fn write_quoted(text: &[u8], out: &mut String) -> Result<(), AllocError> {
+    if text.is_empty() {
+        return out.push_str("an empty field");
+    }
     out.push_str("`")?;
     if text.len() <= QUOTED {
         write_escaped(text, out)?;

@@ -46,8 +46,8 @@ part-or-step  |                 | north south                     | east west; <
 part-or-step  |                 | <quarters>                      |                                     | write {quarters}
 
 # Other words.
-part          |                 | the                             |                                     | leave the out
-part          |                 | government govt gov             | <lot>                               | leave {at} out
+part          |                 | the                             |                                     | leave `{at}` out
+part          |                 | government govt gov             | <lot>                               | leave `{at}` out
 range-end     |                 | incl inc                        |                                     | write inclusive
               |                 | except excepting excluding less |                                     | name the land that is left: there are no exceptions
 ";
