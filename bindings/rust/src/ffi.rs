@@ -213,7 +213,7 @@ pub(crate) fn report(plat: &Parts, list: &[u8], room: &mut [u8]) -> Answer {
     }
 }
 
-/// Writes an explanation of why field notes are refused, in which they have this name.
+/// Writes an explanation of why field notes are refused. The text calls them `name`.
 pub(crate) fn explain_notes(notes: &[u8], name: &str, room: &mut [u8]) -> Answer {
     // SAFETY: slices meet the library's requirements.
     unsafe {
@@ -228,7 +228,7 @@ pub(crate) fn explain_notes(notes: &[u8], name: &str, room: &mut [u8]) -> Answer
     }
 }
 
-/// Writes an explanation of why a description is refused, in which it has this name.
+/// Writes an explanation of why a description is refused. The text calls it `name`.
 pub(crate) fn explain_description(
     plat: &Parts,
     description: &[u8],
@@ -249,7 +249,7 @@ pub(crate) fn explain_description(
     }
 }
 
-/// Writes an explanation of why a list of tracts is refused, in which it has this name.
+/// Writes an explanation of why a list of tracts is refused. The text calls it `name`.
 pub(crate) fn explain_list(plat: &Parts, list: &[u8], name: &str, room: &mut [u8]) -> Answer {
     // SAFETY: slices and a reference meet the library's requirements.
     unsafe {

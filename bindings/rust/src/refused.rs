@@ -59,7 +59,7 @@ pub struct Refused {
     pub line: Option<u32>,
     /// The column, in characters, counted from 1. `None` if the line is.
     pub column: Option<u32>,
-    /// The explanation, as the program `township` prints it on standard error.
+    /// The explanation, in the form that the program `township` prints on standard error.
     pub explanation: String,
 }
 

@@ -56,7 +56,7 @@ class Refused(Exception):
     line: Optional[int]
     #: The column, in characters, counted from 1. None if the line is.
     column: Optional[int]
-    #: The explanation, as the program `township` prints it on standard error.
+    #: The explanation, in the form that the program `township` prints on standard error.
     explanation: str
     #: For refusal 83, the refusal of the tract's description. None for any other number.
     inner: Optional[Refusal]
