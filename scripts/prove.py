@@ -84,7 +84,9 @@ class Turns:
 
     def show(self):
         minutes = int(time.monotonic() - self.start) // 60
-        print(f"{len(self.proved)} of {len(self.all)} crates are proved; {minutes} minutes so far", flush=True)
+        now = ", ".join(crate.name for crate, _ in self.running.values())
+        done = f"{len(self.proved)} of {len(self.all)} crates proved, {minutes} min so far"
+        print(f"{done}; now {now}" if now else done, flush=True)
 
     def processes_for(self, others):
         """How many processes a crate gets now, if so many others are ready as well; 0 if it has to wait."""
@@ -109,23 +111,25 @@ class Turns:
         """Proves all crates, and returns whether it could."""
         if not self.waiting:
             return True
-        self.show()
         has_failed = False
         with ThreadPoolExecutor(self.processors) as pool:
             self.begin(pool)
             while self.running:
-                for ended in wait(self.running, return_when=FIRST_COMPLETED).done:
+                self.show()
+                for ended in wait(self.running, timeout=60, return_when=FIRST_COMPLETED).done:
                     crate, _ = self.running.pop(ended)
                     is_proved, said = ended.result()
                     if is_proved:
                         self.proved.add(crate)
-                        self.show()
                     else:
                         has_failed = True
                         print(said, end="", file=sys.stderr, flush=True)
                 if not has_failed:
                     self.begin(pool)
-        return not has_failed
+        if has_failed:
+            return False
+        self.show()
+        return True
 
 
 def main():
