@@ -5,6 +5,7 @@ set -eu
 cd "$(dirname "$0")/.."
 echo 'township is proved before it is built: some minutes the first time, seconds after that.'
 python3 scripts/prove.py twp_cmd
+echo 'building the program'
 log=$(mktemp)
 trap 'rm -f "$log"' EXIT
 if ! (cd crates/twp_cmd && exec rt run < stdin > /dev/null 2> "$log"); then
