@@ -12,4 +12,4 @@ if ! rt try < stdin > "$log" 2>&1; then
     exit 1
 fi
 grep -v -e '^checked:' -e '^run=' "$log"
-echo 'That answer is not proved. Now the proofs: about nine minutes on 4 cores, then the sample again.'
+echo 'That answer is not proved. Now the proofs, and then the sample again.'

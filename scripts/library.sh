@@ -29,6 +29,7 @@ echo 'the library is proved before it is built: some minutes the first time, sec
 if [ "${2:-}" = proved ]; then
     prove() { prove_over_proved; }
 else
+    python3 scripts/prove.py twp_c
     prove() { cd crates/twp_c && rt lib; }
 fi
 (prove) > lib.log 2>&1 || {

@@ -2,8 +2,9 @@
 # Builds the library for C, and tries it and what is built on it: from C and from C++, under memcheck, from four
 # threads, with memory refused, as it is installed, by the packages for Python and for Rust, and by the examples
 # of many descriptions. The worked cases for each of them are those of scripts/answered, or of the zip that
-# TOWNSHIP_CASES names. What this machine has no tools for is left out, and named in a line 'skipped: NAME'; the
-# last line is 'N passed, 0 failed'. With the word `proved` the library is built over what `rt ci` has just proved.
+# TOWNSHIP_CASES names. A test whose tool is missing is skipped, and named in a line 'skipped: NAME';
+# scripts/needs.sh lists the packages to install. The last line is 'N passed, 0 failed'. With the word `proved` the
+# library is built over what `rt ci` has just proved.
 set -u
 root=$(readlink -f "$(dirname "$0")/..")
 cd "$root" || exit 1
@@ -22,16 +23,8 @@ fail() {
 skip() { echo "skipped: $1"; }
 has() { command -v "$1" > "$work/lost" 2>&1; }
 
-# The first Python that has these modules: PYTHON, the one on the path, or the system's.
-python_with() {
-    for python in "${PYTHON:-python3}" python3 /usr/bin/python3; do
-        if has "$python" && "$python" -c "import $1" > "$work/lost" 2>&1; then
-            echo "$python"
-            return
-        fi
-    done
-    return 1
-}
+# The first Python that has these modules.
+python_with() { sh scripts/python_with.sh "$1"; }
 
 # A command that has to succeed.
 try() {
@@ -153,6 +146,8 @@ if has pkg-config && has "$compiler"; then
     try 'a C program compiles by pkg-config' "$compiler" -std=c11 -o "$work/by_pkg_config" bench/library.c $flags
     try 'a C program by pkg-config' env LD_LIBRARY_PATH="$work/there/usr/lib" "$work/by_pkg_config" \
         samples/b1.csv one 1
+else
+    skip 'a C program by pkg-config: no pkg-config, or no C compiler'
 fi
 
 # From Python.

@@ -4,8 +4,8 @@
     python3 scripts/wrap_proofs.py [--check] [--width N] [FILE or FOLDER ..]
 
 A folder stands for each .antt file below it that is not in an out/ folder; with no argument, crates/ is
-meant. With --check nothing is written: each line that is too long is named, and the status is 1 if there
-are any. The width is 110 columns where none is given.
+meant. With --check nothing is written: each line that is too long is named, and each file of more than 400
+lines; the status is 1 if there are any. The width is 110 columns where none is given.
 
 A line that fits is left as it is. A longer one is taken apart into the shape of its term, and broken first
 where that shape is: after `in` and `=`, before `→` and the operators, between arguments. The indentation is
@@ -27,6 +27,8 @@ from pathlib import Path
 from typing import Callable, Iterator, List, Optional, Tuple, Union
 
 WIDTH = 110
+# A file of more lines is split by subject.
+LINES = 400
 CONTINUATION = 4
 BLOCK = 2
 # So much may stand behind the block or the body that a term ends with.
@@ -773,23 +775,27 @@ def wrap_file(path: Path, width: int) -> int:
 
 
 def check_file(path: Path, width: int) -> int:
-    """Names the lines that are too long, and returns how many there are."""
-    lines = path.read_text(encoding="utf-8").split("\n")
-    long = [(at, len(line)) for at, line in enumerate(lines, 1) if len(line) > width]
-    for at, size in long:
-        print(f"{path}:{at}: {size} columns")
-    return len(long)
+    """Names the lines that are too long, and the file if it has too many, and returns how many faults there are."""
+    lines = path.read_text(encoding="utf-8").splitlines()
+    faults = [f"{path}:{at}: {len(line)} columns" for at, line in enumerate(lines, 1) if len(line) > width]
+    if len(lines) > LINES:
+        faults.append(f"{path}: {len(lines)} lines")
+    for fault in faults:
+        print(fault)
+    return len(faults)
 
 
 def main() -> None:
     parser = argparse.ArgumentParser(description="Wraps the long lines of .antt files.")
-    parser.add_argument("--check", action="store_true", help="write nothing; name each line that is too long")
+    parser.add_argument("--check", action="store_true", help="write nothing; name what is too long")
     parser.add_argument("--width", type=int, default=WIDTH, help=f"the most columns ({WIDTH})")
     parser.add_argument("paths", nargs="*", default=["crates"], help="files, or folders of .antt files")
     given = parser.parse_args()
     visit = check_file if given.check else wrap_file
     left = sum(visit(path, given.width) for path in files_in(given.paths))
-    if left:
+    if left and given.check:
+        print(f"{left} faults: more than {given.width} columns, or more than {LINES} lines")
+    elif left:
         print(f"{left} lines have more than {given.width} columns")
     sys.exit(1 if given.check and left else 0)
 

@@ -3,6 +3,7 @@ use Rattle.std.proofs.Common.{◌≡◌, ℕ, suc, ◌+◌, ◌-◌, ◌≤◌, 
 use Rattle.std.proofs.Common.{ap, refl, sym, ◌∙◌, arith, append_assoc}
 use Rattle.std.specs.Prelude.{OnOk, Result, Ok, Err}
 use Rattle.std.proofs.lemmas.List.{append-nil}
+use Rattle.twp_grid.specs.Winding.{SECTION_COUNT}
 use Rattle.twp_acres.specs.PlatAnswers.{texts_to}
 
 pub no_texts : (text : ℕ → List ℕ) → texts_to 0 text ≡ []
@@ -51,6 +52,11 @@ lines_grow number now new more text first is is' last =
     ∙ ap (λ t. t ++ more) is
     ∙ ap (λ t. texts_to (number - 1) text ++ t) (last ∙ ap text (sym here))
     ∙ sym (texts_next (number - 1) text))
+
+-- the lines of all sections
+pub lines_all : (number : ℕ) (now : List ℕ) (text : ℕ → List ℕ) → number - 1 ≡ SECTION_COUNT
+    → now ≡ texts_to (number - 1) text → now ≡ texts_to SECTION_COUNT text
+lines_all number now text all is = rw all at is
 
 -- two texts after all lines
 pub lines_end : (lines name total now mid new : List ℕ) → now ≡ lines → mid ≡ now ++ name → new ≡ mid ++ total

@@ -1,8 +1,8 @@
 //! The answer of the plat run.
 ghost use Rattle.std.specs.Prelude.{◌≡◌, ◌≤◌, ◌++◌, false, OnOk, IfOk, IfErr};
-ghost use Rattle.twp_grid.specs.Winding.{IsSection};
 ghost use Rattle.twp_grid.specs.Lots.{number_of_lots};
 ghost use Rattle.twp_notes.specs.FieldNotes.{NOTES_MOST};
+ghost use Rattle.twp_plat.specs.PlatAreas.{IsSectionArea};
 ghost use Rattle.twp_area.specs.PlatFigures.{PlatFigures, AreFigures};
 ghost use Rattle.twp_acres.specs.PlatAnswers.{IsPlatAnswer};
 ghost use Rattle.twp_acres.specs.PlatAnswers.{lot_text, total_text, section_name, section_line};
@@ -16,7 +16,7 @@ use crate::verdict::{RunFault, Verdict};
 use itoa::Buffer;
 use std::alloc::{AllocError, Global};
 use twp_grid::{SECTIONS, Section, Source, lot_count};
-use twp_measure::write_acres;
+use twp_measure::{Area, write_acres};
 use twp_plat::Plat;
 
 /// The answer of field notes: the printed plat, or the refusal.
@@ -52,17 +52,26 @@ pub fn print_plat(alloc: Global, plat: &Plat) -> Result<Vec<u8>, AllocError>
     ensures { IfOk result (λ text. IsTextOfPlat plat.now text.items) }
 {
     let mut text = Vec::new(alloc);
+    let mut township = Area::zero(plat.over());
     for number in 1..SECTIONS + 1 {
         let section = Section::new(number).unwrap();
-        write_section(plat, section, &mut text)?;
+        let area = plat.section_area(section);
+        write_section(plat, section, &area, &mut text)?;
+        township = township.plus(&area);
     }
     text.extend_from_slice(b"township ")?;
-    write_total(township_figure(plat), &mut text)?;
+    write_total(township.hundredths(), &mut text)?;
     Ok(text)
 }
 
-/// Appends the line of a section.
-fn write_section(plat: &Plat, section: Section, text: &mut Vec<u8>) -> Result<(), AllocError>
+/// Appends the line of a section with this area.
+fn write_section(
+    plat: &Plat,
+    section: Section,
+    area: &Area,
+    text: &mut Vec<u8>,
+) -> Result<(), AllocError>
+    requires area { IsSectionArea plat.now section area.now }
     ensures ok { (figures : PlatFigures) → AreFigures plat.now figures
         → OnOk result (text.new.items ≡ text.old.items ++ section_line figures section) }
 {
@@ -71,7 +80,7 @@ fn write_section(plat: &Plat, section: Section, text: &mut Vec<u8>) -> Result<()
         let lot = lots_before + 1;
         write_lot(lot, lot_figure(plat, section, lot), text)?;
     }
-    write_total(section_figure(plat, section), text)
+    write_total(area.hundredths(), text)
 }
 
 /// Appends a section's number, as `sec. 5: `.
@@ -111,21 +120,4 @@ fn lot_figure(plat: &Plat, section: Section, lot: u8) -> u64
         → result ≡ figures.lots section lot }
 {
     plat.lot_hundredths(section, lot).unwrap()
-}
-
-/// A section's hundredths of an acre.
-fn section_figure(plat: &Plat, section: Section) -> u64
-    ensures { (figures : PlatFigures) → AreFigures plat.now figures → IsSection section
-        → result ≡ figures.sections section }
-{
-    plat.section_area(section).hundredths()
-}
-
-/// The township's hundredths of an acre.
-fn township_figure(plat: &Plat) -> u64
-    ensures figure { (figures : PlatFigures) → AreFigures plat.now figures
-        → result ≡ figures.township }
-    ensures has { (figures : PlatFigures) × AreFigures plat.now figures }
-{
-    plat.township_area().hundredths()
 }

@@ -6,17 +6,22 @@ ghost use Rattle.twp_acres.specs.ReportAnswers.{IsAccountOf};
 ghost use Rattle.twp_acres.specs.TractFaults.{AnswersFault};
 ghost use Rattle.twp_acres.specs.steps.TractTaking.{tally_of, IsTallyOf, AreTractsRefused};
 
+use crate::names::Names;
 use crate::running_account::RunningAccount;
 use crate::tract::is_heading;
 use crate::tract_fault::{TRACTS_MOST, TractFault};
 use csv::ByteRecord;
 use std::alloc::Global;
+use std::cmp::min;
 use twp_land::{Land, Lanes};
 use twp_notes::Records;
 use twp_plat::Plat;
 
 /// The number of the record after the heading, the first one of a tract.
 const FIRST_TRACT: u32 = 2;
+
+/// There is room from the start for one name for each of this many bytes: most tracts take more.
+const BYTES_TO_NAME: usize = 32;
 
 /// The text of the account of a list of tracts on a plat, or the list's first fault. The list is
 /// within its limit of bytes.
@@ -34,7 +39,11 @@ pub fn account_of(alloc: Global, plat: &Plat, bytes: &[u8]) -> Result<Vec<u8>, T
     if !is_heading(&row) {
         return Err(TractFault::TractRow(1));
     }
-    let mut account: RunningAccount<Lanes> = RunningAccount::new(alloc, plat);
+    let names = Names::with_room(
+        alloc,
+        min(bytes.len() / BYTES_TO_NAME, TRACTS_MOST as usize),
+    )?;
+    let mut account: RunningAccount<Lanes> = RunningAccount::new(alloc, plat, names);
     take_tracts(alloc, plat, records, &mut row, &mut account)?;
     account.totals.write(&mut account.text)?;
     Ok(account.text)

@@ -3,7 +3,8 @@ use Rattle.std.proofs.Common.{◌≡◌, ℕ, zero, suc, ◌+◌, ◌-◌, ◌<�
 use Rattle.std.proofs.Common.{◌∷◌}
 use Rattle.std.proofs.Common.{Option, Some, None, length, take, drop, reverse, get_or, refl, sym, ap}
 use Rattle.std.proofs.Common.{◌∙◌}
-use Rattle.std.proofs.Common.{subst, arith, length-drop, length-take, get_or-drop, get_or-take, inl, inr, ◌==◌, ◌⊎◌}
+use Rattle.std.proofs.Common.{subst, arith, length-drop, length-take, get_or-drop, get_or-take, inl, inr}
+use Rattle.std.proofs.Common.{◌==◌, ◌⊎◌}
 use Rattle.std.proofs.lemmas.List.{take_more, reverse-append, drop-drop}
 use Rattle.std.specs.List.{prefix_len}
 use Rattle.std.specs.Prelude.{slice_index}

@@ -1,6 +1,9 @@
+pub mod StepFacts
+pub mod ChainFacts
 pub mod MarkFacts
 pub mod HeadingFacts
 pub mod NearFacts
 pub mod JoinedFacts
+pub mod BetweenFacts
 pub mod LineEndFacts
 pub mod PartFacts

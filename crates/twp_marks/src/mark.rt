@@ -115,7 +115,7 @@ fn seek<'a>(tokens: &mut Tokens<'a>, at: usize) -> Option<Token<'a>>
 
 /// Takes the rest of an aliquot part, behind its first token, and gives where it ends. Where it is
 /// none, that is the token's end.
-#[tactic(auto, using(crate::proofs::MarkFacts::no_part, crate::proofs::MarkFacts::part_ends))]
+#[tactic(auto, using(crate::proofs::ChainFacts::no_part, crate::proofs::ChainFacts::part_ends))]
 fn take_chain(tokens: &mut Tokens<'_>, first: Token<'_>) -> usize
     requires first { end_of_token first ≤ usize.MAX }
     requires left { end_of_left tokens.old ≤ usize.MAX }
@@ -130,7 +130,7 @@ fn take_chain(tokens: &mut Tokens<'_>, first: Token<'_>) -> usize
 
 /// Takes the further halves and quarters, behind one that ends at a place, and gives where the last
 /// of all ends.
-#[tactic(auto, using(crate::proofs::MarkFacts::links_begin, crate::proofs::MarkFacts::links_go_on, crate::proofs::MarkFacts::links_end))]
+#[tactic(auto, using(crate::proofs::StepFacts::links_begin, crate::proofs::StepFacts::links_go_on, crate::proofs::StepFacts::links_end))]
 fn take_links(tokens: &mut Tokens<'_>, start: usize) -> usize
     requires { end_of_left tokens.old ≤ usize.MAX }
     ensures { (list : List SeenToken) → AreLeft tokens.old list → EndsLinks list start result }
@@ -168,7 +168,7 @@ fn is_side(kind: Kind) -> bool
 }
 
 /// Takes a further half or quarter with what stands before it, and gives where it ends.
-#[tactic(auto, using(crate::proofs::MarkFacts::no_first, crate::proofs::MarkFacts::link_taken))]
+#[tactic(auto, using(crate::proofs::StepFacts::no_first, crate::proofs::StepFacts::link_taken))]
 fn take_link(tokens: &mut Tokens<'_>) -> Option<usize>
     requires { end_of_left tokens.old ≤ usize.MAX }
     ensures taken { (list : List SeenToken) → AreLeft tokens.old list
@@ -181,7 +181,7 @@ fn take_link(tokens: &mut Tokens<'_>) -> Option<usize>
 }
 
 /// Takes a token behind `of`, `of the`, or nothing.
-#[tactic(auto, using(crate::proofs::MarkFacts::no_of, crate::proofs::MarkFacts::behind_an_of))]
+#[tactic(auto, using(crate::proofs::StepFacts::no_of, crate::proofs::StepFacts::behind_an_of))]
 fn first_of_step<'a>(tokens: &mut Tokens<'a>) -> Option<Token<'a>>
     ensures found { (list : List SeenToken) → AreLeft tokens.old list
         → GivesFirstOf (behind_of list) result tokens.new }
@@ -196,7 +196,7 @@ fn first_of_step<'a>(tokens: &mut Tokens<'a>) -> Option<Token<'a>>
 }
 
 /// Takes a token behind `the` or nothing.
-#[tactic(auto, using(crate::proofs::MarkFacts::no_the, crate::proofs::MarkFacts::behind_a_the))]
+#[tactic(auto, using(crate::proofs::StepFacts::no_the, crate::proofs::StepFacts::behind_a_the))]
 fn first_behind_the<'a>(tokens: &mut Tokens<'a>) -> Option<Token<'a>>
     ensures found { (list : List SeenToken) → AreLeft tokens.old list
         → GivesFirstOf (behind_the list) result tokens.new }
@@ -211,7 +211,7 @@ fn first_behind_the<'a>(tokens: &mut Tokens<'a>) -> Option<Token<'a>>
 }
 
 /// Takes the token that makes a half or a quarter of the one before it, and gives where it ends.
-#[tactic(auto, using(crate::proofs::MarkFacts::second_taken, crate::proofs::MarkFacts::no_second))]
+#[tactic(auto, using(crate::proofs::StepFacts::second_taken, crate::proofs::StepFacts::no_second))]
 fn take_second(tokens: &mut Tokens<'_>, first: Kind) -> Option<usize>
     requires { end_of_left tokens.old ≤ usize.MAX }
     ensures taken { (list : List SeenToken) → AreLeft tokens.old list

@@ -1,6 +1,7 @@
 use Rattle.std.proofs.Common.{◌≡◌, ℕ, ◌+◌, List, ap, arith}
 use Rattle.twp_grid.specs.Lots.{number_of_lots}
 use Rattle.twp_area.specs.PlatFigures.{PlatFigures}
+use Rattle.twp_area.proofs.FigureFacts.{same_section}
 use Rattle.twp_acres.specs.PlatAnswers.{section_name, lot_text, total_text, lots_text}
 use Rattle.twp_acres.proofs.PlatTexts.{texts_begin, texts_grow, texts_end, on_ok}
 use Rattle.twp_acres.proofs.plat_answer.write_section.Goals as goal
@@ -30,9 +31,11 @@ returns c = record {
   ok = λ figures are.
       let all : c.loop-lots_before.lots_before ≡ number_of_lots c.args.section = omega arith in
       let lots = rw all at (c.loop-lots_before.invariant.written figures are) in
-      let total =
-      rw (c.section_figure.ensures figures are c.lot_count-lots_before-end.ensures.section) at
-      c.write_total.ensures.ok in
+      let range = c.lot_count-lots_before-end.ensures.section in
+      let figure =
+      same_section c.args.plat.now c.args.section c.hundredths.result _ c.args.area.now range c.requires.area
+      c.hundredths.ensures (are.sections c.args.section range) in
+      let total = rw figure at c.write_total.ensures.ok in
       on_ok c.write_total.result _ _ total
       (texts_end c.args.text.now.items (section_name c.args.section) (lots_text figures c.args.section)
       c.loop-lots_before.text.items _ (total_text (figures.sections c.args.section)) lots);

@@ -35,7 +35,8 @@ returns-in-Ok-Some-clause-answer c =
             c.in-Ok-Some.field-0 c.in-Ok-Some.told c.in-Ok-Some.field-0-is c.in-Ok-Some.ensures.refusal));
         told_is =
             subst
-            (λ told. IsTold told c.in-Ok-Some.told c.args.text.now c.put_explanation.new.text c.put_explanation.result)
+            (λ told.
+            IsTold told c.in-Ok-Some.told c.args.text.now c.put_explanation.new.text c.put_explanation.result)
             c.of_refusal-refused.ensures c.put_explanation.ensures.told;
       };
     }))

@@ -7,5 +7,6 @@ pieces-preserved c = record {
   within = omega (arith, c.min-end.ensures, c.pieces-test.true);
   copied = c.in_ok-extend_from_slice.ensures.items
       ∙ piece_added c.args.bytes.now c.args.copy.now.items c.pieces.copy.items c.pieces.at c.min-end.result
-      (omega (arith, c.min-end.ensures, c.saturating_add.ensures, c.pieces-test.true)) c.pieces.invariant.copied;
+      (omega (arith, c.min-end.ensures, c.saturating_add.ensures, c.pieces-test.true))
+      c.pieces.invariant.copied;
 }

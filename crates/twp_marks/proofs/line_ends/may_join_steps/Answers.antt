@@ -1,4 +1,4 @@
-use Rattle.twp_marks.proofs.LineEndFacts.{none_joined}
+use Rattle.twp_marks.proofs.BetweenFacts.{none_joined}
 use Rattle.twp_marks.proofs.line_ends.may_join_steps.Goals as goal
 
 pub returns-in-Some : goal.returns-in-Some

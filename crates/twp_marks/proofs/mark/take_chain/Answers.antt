@@ -1,4 +1,4 @@
-use Rattle.twp_marks.proofs.MarkFacts.{part_ends}
+use Rattle.twp_marks.proofs.ChainFacts.{part_ends}
 use Rattle.twp_marks.proofs.mark.take_chain.Goals as goal
 
 pub returns : goal.returns

@@ -1,4 +1,4 @@
-use Rattle.twp_marks.proofs.MarkFacts.{link_taken}
+use Rattle.twp_marks.proofs.StepFacts.{link_taken}
 use Rattle.twp_marks.proofs.mark.take_link.Goals as goal
 
 pub returns-clause-taken : goal.returns-clause-taken

@@ -1,5 +1,5 @@
 use Rattle.std.proofs.Common.{◌∙◌}
-use Rattle.twp_marks.proofs.MarkFacts.{links_go_on}
+use Rattle.twp_marks.proofs.StepFacts.{links_go_on}
 use Rattle.twp_marks.proofs.mark.take_links.Goals as goal
 
 pub links-preserved : goal.links-preserved

@@ -1,7 +1,7 @@
 use Rattle.std.proofs.Common.{◌≡◌, List, length}
 use Rattle.twp_grammar.specs.Tokens.{Token}
 use Rattle.twp_marks.specs.steps.Marking.{AreLeft, end_of_left}
-use Rattle.twp_marks.proofs.MarkFacts.{AreLinks}
+use Rattle.twp_marks.proofs.StepFacts.{AreLinks}
 use Rattle.twp_marks.proofs.mark.take_links.Given as goal
 
 -- the halves and quarters so far
