@@ -1,9 +1,10 @@
-"""Answers many descriptions on all cores of one machine: chunks of them go to processes, each with its plat.
+"""Processes many descriptions on all the cores of one machine. Each process receives chunks of descriptions,
+each with its plat.
 
     python3 examples/all_cores.py [--descriptions 1000000] [--workers CORES] [--seed 1]
 
-The descriptions are made up from the seed, over 36 townships, and the answers are compared with those of one
-process. The last line says how many there were a second.
+The descriptions, in 36 townships, are generated from the seed. The answers are compared with those of a
+single process. The last line of output gives the number of descriptions per second.
 """
 
 from __future__ import annotations
@@ -20,7 +21,7 @@ CHUNK = 5_000
 
 
 def main() -> None:
-    words = argparse.ArgumentParser(description="Answers many descriptions on all cores.")
+    words = argparse.ArgumentParser(description="Process many descriptions on all cores.")
     words.add_argument("--descriptions", type=int, default=1_000_000)
     words.add_argument("--workers", type=int, default=os.cpu_count())
     words.add_argument("--seed", type=int, default=1)

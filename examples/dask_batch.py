@@ -1,10 +1,10 @@
-"""Answers many descriptions on many machines, by Dask.
+"""Processes many descriptions on many machines, with Dask.
 
     python3 examples/dask_batch.py [--scheduler HOST:PORT] [--descriptions 1000000] [--workers 2] [--seed 1]
 
-Without a scheduler it starts a cluster on this machine, of so many workers. Each worker needs the package
-`township` and the folder of this file on its path. The descriptions are made up from the seed, over 36
-townships, and the answers are compared with those of one process.
+If no scheduler is given, the example starts a cluster on this machine with the given number of workers. Every
+worker needs the package `township` and this file's folder on its path. The descriptions, in 36 townships, are
+generated from the seed. The answers are compared with those of a single process.
 """
 
 from __future__ import annotations
@@ -20,8 +20,8 @@ CHUNK = 5_000
 
 
 def main() -> None:
-    words = argparse.ArgumentParser(description="Answers many descriptions by Dask.")
-    words.add_argument("--scheduler", help="the address of a scheduler that runs already")
+    words = argparse.ArgumentParser(description="Process many descriptions with Dask.")
+    words.add_argument("--scheduler", help="the address of a running scheduler")
     words.add_argument("--descriptions", type=int, default=1_000_000)
     words.add_argument("--workers", type=int, default=2)
     words.add_argument("--seed", type=int, default=1)

@@ -1,11 +1,12 @@
 #!/bin/sh
-# Answers each line of a list as a description, by the program, on four processors:
+# Runs the program on each line of a list, as a description, in four parallel processes:
 #
 #     sh examples/each_land.sh NOTES LIST
 #
-# For each line, in the order of the list, it writes the program's status, its answer, and the line, with
-# tabulators between. TOWNSHIP names the program, where it isn't found as `township`. It ends with 3, and a line
-# on standard error, where the list can't be read or there is no program.
+# For each line, in the order of the list, it prints the program's exit status, its answer, and the line,
+# separated by tabs. If the program is not on the path as `township`, set TOWNSHIP to its path. If the list
+# cannot be read or the program is not found, the script prints an error on standard error and exits with
+# status 3.
 set -eu
 notes=$1
 list=$2
@@ -15,7 +16,7 @@ program=$(command -v "${TOWNSHIP:-township}") || {
 }
 work=$(mktemp -d)
 trap 'rm -rf "$work"' EXIT
-# Pieces of 500 lines, whose names are in the order of the list. Each has its answers in a file beside it.
+# Pieces of 500 lines, named in the order of the list. The answers to each piece go to a file of their own.
 split -a 4 -l 500 - "$work/piece." < "$list" || exit 3
 [ -e "$work/piece.aaaa" ] || exit 0
 printf '%s\0' "$work"/piece.* | xargs -0 -n 1 -P 4 sh -c '

@@ -1,4 +1,4 @@
-"""Townships and descriptions that are made up from a seed, for the examples."""
+"""Generates townships and descriptions from a seed, for the examples."""
 
 from __future__ import annotations
 
@@ -10,16 +10,16 @@ import township
 
 SAMPLES = pathlib.Path(__file__).resolve().parent.parent / "samples"
 QUARTER_MILE = 20_000
-# The lines that end in the north or in the west boundary, where errors of measurement are thrown.
+# The lines that end on the north or west boundary, where errors of measurement are thrown.
 CLOSING_LINES = (*range(7), *range(47, 84, 6))
 CORNERS = ("NE", "NW", "SW", "SE")
 SIDES = ("N", "S", "E", "W")
-# Sections with lots are those along the north and west sides of a township.
+# The sections with lots, along the north and west boundaries of a township, and their numbers of lots.
 LOTS = {1: 4, 2: 4, 3: 4, 4: 4, 5: 4, 6: 7, 7: 4, 18: 4, 19: 4, 30: 4, 31: 4}
 
 
 def plats(seed: int, count: int) -> list[township.Plat]:
-    """Plats of `count` townships, whose closing quarters are up to a chain more or less than 20 chains."""
+    """Return plats of `count` townships. Their closing quarters differ from 20 chains by at most 1 chain."""
     chance = random.Random(seed)
     even = township.Plat.read((SAMPLES / "b0.csv").read_bytes())
     made = []
@@ -33,7 +33,7 @@ def plats(seed: int, count: int) -> list[township.Plat]:
 
 
 def descriptions(seed: int, count: int) -> Iterator[str]:
-    """Descriptions of some land each, of which one in fifty is refused."""
+    """Generate `count` descriptions of land. About one in fifty is refused."""
     chance = random.Random(seed)
     for _ in range(count):
         yield one_description(chance)

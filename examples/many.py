@@ -1,4 +1,4 @@
-"""What the examples of many descriptions share: chunks of work, and their answers."""
+"""Shared by the examples that process many descriptions: chunks of work, and their answers."""
 
 from __future__ import annotations
 
@@ -10,15 +10,17 @@ import township
 
 
 class Chunk(NamedTuple):
-    """Descriptions on one plat. Both are plain data, which a process can hand to another."""
+    """Descriptions on one plat. Both are plain data, which one process can send to another."""
 
     plat: township.Plat
     descriptions: list[str]
 
 
 def chunks(seed: int, count: int, townships: int, size: int) -> list[Chunk]:
-    """`count` descriptions in chunks of at most `size`, by turns on the plats of so many townships, and small
-    enough that each township has its turn."""
+    """Return `count` descriptions in chunks of at most `size`.
+
+    The chunks use the plats of the townships in turn, and are small enough for every township to have a turn.
+    """
     size = max(1, min(size, count // townships))
     plats = made_up.plats(seed, townships)
     texts = made_up.descriptions(seed, count)
@@ -30,17 +32,17 @@ def chunks(seed: int, count: int, townships: int, size: int) -> list[Chunk]:
 
 
 def answers(chunk: Chunk) -> list[str]:
-    """Of each description the acres, or its refusal as the program writes it."""
+    """Return the acreage of each description, or its refusal as the program prints it."""
     return [written(answer) for answer in chunk.plat.acres_of(chunk.descriptions)]
 
 
 def packed(chunk: Chunk) -> bytes:
-    """A chunk as bytes: Dask hands them on whole, but goes through each text of a list."""
+    """Return a chunk as bytes. Dask passes bytes on whole, but processes every string in a list."""
     return pickle.dumps(chunk)
 
 
 def answers_packed(chunk: bytes) -> bytes:
-    """The answers of a packed chunk, packed."""
+    """Return the packed answers to a packed chunk."""
     return pickle.dumps(answers(pickle.loads(chunk)))
 
 
@@ -55,6 +57,6 @@ def written(answer: object) -> str:
 
 
 def compare(given: list[Chunk], answered: list[list[str]]) -> None:
-    """Ends the program where an answer differs from that of this process."""
+    """End the program if any answer differs from this process's own."""
     if answered != [answers(chunk) for chunk in given]:
         raise SystemExit("an answer differs from that of one process")

@@ -2,18 +2,18 @@
 
 use crate::ffi;
 
-/// What a whole lot counts in the acres of a description.
+/// How a whole lot counts in the acreage of a description.
 #[derive(Clone, Copy, Debug, Default, PartialEq, Eq, Hash)]
 pub enum Account {
-    /// Its exact area.
+    /// At its exact area.
     #[default]
     Exact,
-    /// The acres that the plat prints of it. Other land counts its nominal area.
+    /// At the acreage printed on the plat. Other land counts at its nominal area.
     Plat,
 }
 
 impl Account {
-    /// The library's number for the account.
+    /// Returns the library's code for the account.
     pub(crate) fn code(self) -> u32 {
         match self {
             Account::Exact => ffi::EXACT,

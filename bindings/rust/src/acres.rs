@@ -1,14 +1,14 @@
-//! Acres, rounded.
+//! Rounded acreage.
 
 use std::fmt;
 
-/// How many hundredths an acre has.
+/// The number of hundredths in an acre.
 const HUNDREDTHS: u64 = 100;
 
-/// Acres in hundredths: an exact area, rounded once, half up.
+/// An acreage in hundredths of an acre: an exact area, rounded once, half up.
 ///
-/// They are written with two decimal places. Each figure is rounded by itself, so those of two
-/// lands need not add up to that of both together.
+/// It is displayed with two decimal places. Each figure is rounded independently, so the figures
+/// for two tracts may not add up to the figure for both together.
 ///
 /// ```
 /// # let notes = include_bytes!(concat!(env!("CARGO_MANIFEST_DIR"), "/../../samples/b1.csv"));
@@ -24,7 +24,7 @@ pub struct Acres {
 }
 
 impl Acres {
-    /// So many hundredths of an acre.
+    /// Makes an acreage from a number of hundredths of an acre.
     ///
     /// ```
     /// assert_eq!(township::Acres::of_hundredths(63).to_string(), "0.63");
@@ -33,12 +33,12 @@ impl Acres {
         Acres { hundredths }
     }
 
-    /// How many hundredths of an acre they are.
+    /// Returns the acreage in hundredths of an acre.
     pub const fn hundredths(self) -> u64 {
         self.hundredths
     }
 
-    /// The acres that a text such as `161.00` writes, in digits alone and with two decimal places.
+    /// Parses a text such as `161.00`: digits only, with two decimal places.
     pub(crate) fn of_text(text: &str) -> Option<Acres> {
         let (whole, decimals) = text.split_once('.')?;
         if decimals.len() != 2 {
@@ -51,7 +51,7 @@ impl Acres {
     }
 }
 
-/// The number that digits write. Rust's own `parse` takes a sign too.
+/// Parses digits as a number. Rust's own `parse` would also accept a sign.
 fn number(digits: &str) -> Option<u64> {
     if !digits.bytes().all(|digit| digit.is_ascii_digit()) {
         return None;
@@ -60,8 +60,7 @@ fn number(digits: &str) -> Option<u64> {
 }
 
 impl fmt::Display for Acres {
-    /// With two decimal places. A width and a fill are those of a number; a precision makes no
-    /// difference.
+    /// Writes two decimal places. Width and fill work as they do for numbers; precision is ignored.
     fn fmt(&self, f: &mut fmt::Formatter<'_>) -> fmt::Result {
         let (whole, decimals) = (self.hundredths / HUNDREDTHS, self.hundredths % HUNDREDTHS);
         f.pad_integral(true, "", &format!("{whole}.{decimals:02}"))

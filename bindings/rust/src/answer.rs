@@ -1,14 +1,14 @@
-//! What the library's answers say.
+//! Interpretation of the library's answers.
 
 use crate::ffi::{self, Answer};
 use crate::refused::Refusal;
 
-/// How a call went.
+/// The outcome of a call.
 #[derive(Clone, Copy, Debug, PartialEq, Eq)]
 pub(crate) enum Verdict {
     Accepted,
     Refused,
-    /// A tract's description has a refusal of its own.
+    /// A tract's description was refused, and its own refusal is included.
     TractRefused,
     NoPlat,
     NoAccount,
@@ -16,7 +16,7 @@ pub(crate) enum Verdict {
     NoMemory,
 }
 
-/// Why an input is refused, before it is explained.
+/// The reason that an input is refused, before it is explained.
 #[derive(Clone, Copy, Debug, PartialEq, Eq)]
 pub(crate) struct Fault {
     pub(crate) refusal: Refusal,
@@ -38,10 +38,10 @@ impl Answer {
         }
     }
 
-    /// This answer where it accepts the input, or the fault for which it refuses it.
+    /// Returns this answer if it accepts the input, or else the fault for which it refuses it.
     ///
-    /// Panics where memory ran out. What the other verdicts speak of can't be: the types of plats
-    /// and of accounts have no other values, and a text gets the room that it takes.
+    /// Panics if memory runs out. The other verdicts cannot occur: the types rule out plats and
+    /// accounts that are not valid, and every text gets the buffer that it needs.
     pub(crate) fn accepted(self) -> Result<Answer, Fault> {
         match self.verdict() {
             Verdict::Accepted => Ok(self),
@@ -54,7 +54,7 @@ impl Answer {
         }
     }
 
-    /// How many bytes the text of this answer has.
+    /// Returns the length of this answer's text in bytes.
     pub(crate) fn text_length(&self) -> usize {
         usize::try_from(self.length).expect("a text that was in memory fits there")
     }
@@ -75,7 +75,7 @@ impl Answer {
     }
 }
 
-/// Ends a call for which there is too little memory.
+/// Panics because there is not enough memory.
 pub(crate) fn out_of_memory() -> ! {
     panic!("township: out of memory")
 }
@@ -84,7 +84,7 @@ pub(crate) fn out_of_memory() -> ! {
 mod tests {
     use super::*;
 
-    // The library answers some of these too seldom to be waited for.
+    // Some of these verdicts are too rare to provoke from the library itself.
 
     fn with(verdict: u32) -> Answer {
         Answer {

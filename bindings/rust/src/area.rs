@@ -4,10 +4,10 @@ use crate::ffi::Fraction;
 use std::cmp::Ordering;
 use std::fmt;
 
-/// How many square thousandths of a chain an acre has: it is ten square chains.
+/// The number of square thousandths of a chain in an acre, which is ten square chains.
 const UNITS_IN_ACRE: u128 = 10_000_000;
 
-/// An exact area in acres: a fraction in lowest terms.
+/// An exact area in acres, as a fraction in lowest terms.
 ///
 /// ```
 /// # let notes = include_bytes!(concat!(env!("CARGO_MANIFEST_DIR"), "/../../samples/b1.csv"));
@@ -25,24 +25,24 @@ pub struct Area {
 }
 
 impl Area {
-    /// What stands above the line of the fraction.
+    /// Returns the numerator.
     pub const fn numerator(self) -> u128 {
         self.numerator
     }
 
-    /// What stands below it: at least 1, and with no factor in common with the numerator.
+    /// Returns the denominator, which is at least 1 and has no factor in common with the numerator.
     pub const fn denominator(self) -> u128 {
         self.denominator
     }
 
-    /// The area that the library wrote. Its units are below 10 to the 24th, and what they are
-    /// divided by has 64 bits, so that no number here has more than 88.
+    /// Converts an area written by the library. Its units are less than 10 to the 24th, and their
+    /// divisor has 64 bits, so no number here has more than 88 bits.
     pub(crate) fn of_fraction(fraction: Fraction) -> Area {
         let units = (u128::from(fraction.units_high) << 64) | u128::from(fraction.units_low);
         Area::reduced(units, u128::from(fraction.over) * UNITS_IN_ACRE)
     }
 
-    /// A fraction in lowest terms; the denominator isn't 0.
+    /// Reduces a fraction to lowest terms. The denominator must not be 0.
     fn reduced(numerator: u128, denominator: u128) -> Area {
         let common = common_divisor(numerator, denominator);
         Area {
@@ -52,7 +52,7 @@ impl Area {
     }
 }
 
-/// The greatest common divisor of two numbers that aren't both 0.
+/// Returns the greatest common divisor of two numbers that are not both 0.
 fn common_divisor(mut a: u128, mut b: u128) -> u128 {
     while b != 0 {
         (a, b) = (b, a % b);
@@ -67,8 +67,8 @@ impl PartialOrd for Area {
 }
 
 impl Ord for Area {
-    /// By whole acres, and where these are the same by what is left. Multiplied crosswise, the
-    /// numbers could be too large.
+    /// Compares whole acres first and, if they are equal, the remainders. Cross multiplication
+    /// could overflow.
     fn cmp(&self, other: &Area) -> Ordering {
         let (mut a, mut b) = (*self, *other);
         loop {
@@ -77,7 +77,7 @@ impl Ord for Area {
             if by_whole.is_ne() || a_left == 0 || b_left == 0 {
                 return by_whole.then(a_left.cmp(&b_left));
             }
-            // What is left is turned over, and so the two change places.
+            // Compare the reciprocals of the remainders, which reverses the order.
             (a, b) = (
                 Area {
                     numerator: b.denominator,
@@ -93,7 +93,7 @@ impl Ord for Area {
 }
 
 impl fmt::Display for Area {
-    /// As `809/20`, or as `640` where they are whole acres.
+    /// Writes `809/20`, for example, or `640` for whole acres.
     fn fmt(&self, f: &mut fmt::Formatter<'_>) -> fmt::Result {
         if self.denominator == 1 {
             return write!(f, "{}", self.numerator);

@@ -1,5 +1,5 @@
-//! The calls of the library and their structs, as `include/township.h` declares them. Each call has
-//! a safe function here, and all else in this crate is safe.
+//! The library's functions and structs, as declared in `include/township.h`. Each function has a
+//! safe wrapper here; the rest of the crate contains no unsafe code.
 
 use crate::plat::LINES;
 use std::mem::{offset_of, size_of};
@@ -26,7 +26,7 @@ pub(crate) const SOUTH: u8 = 1;
 pub(crate) const EAST: u8 = 0;
 pub(crate) const WEST: u8 = 1;
 
-/// `township_plat`: the parts of a plat, whether they are one's or not.
+/// `township_plat`: the parts of a plat, which may or may not be valid.
 #[repr(C)]
 #[derive(Clone, Debug, PartialEq, Eq, Hash)]
 pub(crate) struct Parts {
@@ -41,7 +41,7 @@ pub(crate) struct Parts {
 }
 
 impl Parts {
-    /// Parts of no plat: what a call that makes a plat writes over.
+    /// Parts that are not a valid plat, for a call to overwrite.
     const BLANK: Parts = Parts {
         closing_quarters: [0; LINES],
         number: 0,
@@ -51,7 +51,7 @@ impl Parts {
     };
 }
 
-/// `township_answer`. What a verdict doesn't speak of is 0.
+/// `township_answer`. Fields that do not apply to the verdict are 0.
 #[repr(C)]
 #[derive(Clone, Copy, Debug, Default, PartialEq, Eq)]
 pub(crate) struct Answer {
@@ -60,35 +60,35 @@ pub(crate) struct Answer {
     pub(crate) at: u32,
     pub(crate) inner_number: u32,
     pub(crate) inner_at: u32,
-    /// The line and column of an explained fault, from 1; or both are 0.
+    /// The line and column of an explained fault, counted from 1, or both 0.
     pub(crate) line: u32,
     pub(crate) column: u32,
     pub(crate) reserved: u32,
-    /// Of an acre.
+    /// Hundredths of an acre.
     pub(crate) hundredths: u64,
-    /// The bytes of a text, written or not.
+    /// The length of the text in bytes, whether it was written or not.
     pub(crate) length: u64,
 }
 
-/// `township_fraction`: square thousandths of a chain, in two halves, over a number.
+/// `township_fraction`: square thousandths of a chain, as a low and a high half, over a divisor.
 #[repr(C)]
 #[derive(Clone, Copy, Debug, Default, PartialEq, Eq)]
 pub(crate) struct Fraction {
     pub(crate) units_low: u64,
     pub(crate) units_high: u64,
-    /// At least 1 where a call has written it.
+    /// At least 1, once a call has written it.
     pub(crate) over: u64,
 }
 
-// The library was compiled for these layouts.
+// The library is compiled for these layouts.
 const _: () = assert!(size_of::<Parts>() == 340 && offset_of!(Parts, number) == 336);
 const _: () = assert!(size_of::<Answer>() == 48 && offset_of!(Answer, hundredths) == 32);
 const _: () = assert!(size_of::<Fraction>() == 24 && offset_of!(Fraction, over) == 16);
 
-// The library asks for pointers that aren't null, each with as many bytes behind it as the number
-// beside it says, and for no overlap between what a call writes and what else it is given. Slices
-// and references are that: a slice's pointer isn't null even where it has no bytes, and what is
-// borrowed as `&mut` overlaps nothing. The library keeps no pointer when it returns.
+// The library requires that no pointer be null, that each point to at least as many bytes as its
+// length parameter says, and that the memory a call writes not overlap its other arguments. Slices
+// and references meet these requirements: a slice's pointer is not null even if the slice is empty,
+// and a `&mut` borrow overlaps nothing else. The library keeps no pointer after it returns.
 extern "C" {
     fn township_read(notes: *const u8, notes_length: usize, plat: *mut Parts) -> Answer;
     fn township_acres(
@@ -148,24 +148,25 @@ extern "C" {
     fn township_version(text: *mut u8, room: usize) -> Answer;
 }
 
-/// Reads field notes. The parts are a plat's only where the answer accepts the notes.
+/// Reads field notes. The parts are valid only if the answer accepts the notes.
 pub(crate) fn read(notes: &[u8]) -> (Answer, Parts) {
     let mut plat = Parts::BLANK;
-    // SAFETY: a slice and a reference are what the library asks for.
+    // SAFETY: a slice and a reference meet the library's requirements.
     let answer = unsafe { township_read(notes.as_ptr(), notes.len(), &mut plat) };
     (answer, plat)
 }
 
-/// The acres of a description, by an account.
+/// Returns the acreage of a description, by an account.
 pub(crate) fn acres(plat: &Parts, description: &[u8], account: u32) -> Answer {
-    // SAFETY: a slice and a reference are what the library asks for.
+    // SAFETY: a slice and a reference meet the library's requirements.
     unsafe { township_acres(plat, description.as_ptr(), description.len(), account) }
 }
 
-/// The exact area of a description, by an account: there is one only where the answer accepts it.
+/// Returns the exact area of a description, by an account. It is valid only if the answer accepts
+/// the description.
 pub(crate) fn area(plat: &Parts, description: &[u8], account: u32) -> (Answer, Fraction) {
     let mut area = Fraction::default();
-    // SAFETY: a slice and references are what the library asks for.
+    // SAFETY: a slice and references meet the library's requirements.
     let answer = unsafe {
         township_area(
             plat,
@@ -178,9 +179,9 @@ pub(crate) fn area(plat: &Parts, description: &[u8], account: u32) -> (Answer, F
     (answer, area)
 }
 
-/// Writes the canonical text of a description.
+/// Writes the canonical text for a description.
 pub(crate) fn normal(plat: &Parts, description: &[u8], room: &mut [u8]) -> Answer {
-    // SAFETY: slices and a reference are what the library asks for.
+    // SAFETY: slices and a reference meet the library's requirements.
     unsafe {
         township_normal(
             plat,
@@ -194,13 +195,13 @@ pub(crate) fn normal(plat: &Parts, description: &[u8], room: &mut [u8]) -> Answe
 
 /// Writes the printed plat.
 pub(crate) fn print_plat(plat: &Parts, room: &mut [u8]) -> Answer {
-    // SAFETY: a slice and a reference are what the library asks for.
+    // SAFETY: a slice and a reference meet the library's requirements.
     unsafe { township_print(plat, room.as_mut_ptr(), room.len()) }
 }
 
-/// Writes the account of a list of tracts.
+/// Writes the report on a list of tracts.
 pub(crate) fn report(plat: &Parts, list: &[u8], room: &mut [u8]) -> Answer {
-    // SAFETY: slices and a reference are what the library asks for.
+    // SAFETY: slices and a reference meet the library's requirements.
     unsafe {
         township_report(
             plat,
@@ -212,9 +213,9 @@ pub(crate) fn report(plat: &Parts, list: &[u8], room: &mut [u8]) -> Answer {
     }
 }
 
-/// Writes why field notes are refused; the text calls them by the name.
+/// Writes an explanation of why field notes are refused. The text calls them `name`.
 pub(crate) fn explain_notes(notes: &[u8], name: &str, room: &mut [u8]) -> Answer {
-    // SAFETY: slices are what the library asks for.
+    // SAFETY: slices meet the library's requirements.
     unsafe {
         township_explain_notes(
             notes.as_ptr(),
@@ -227,14 +228,14 @@ pub(crate) fn explain_notes(notes: &[u8], name: &str, room: &mut [u8]) -> Answer
     }
 }
 
-/// Writes why a description is refused; the text calls it by the name.
+/// Writes an explanation of why a description is refused. The text calls it `name`.
 pub(crate) fn explain_description(
     plat: &Parts,
     description: &[u8],
     name: &str,
     room: &mut [u8],
 ) -> Answer {
-    // SAFETY: slices and a reference are what the library asks for.
+    // SAFETY: slices and a reference meet the library's requirements.
     unsafe {
         township_explain_description(
             plat,
@@ -248,9 +249,9 @@ pub(crate) fn explain_description(
     }
 }
 
-/// Writes why a list of tracts is refused; the text calls it by the name.
+/// Writes an explanation of why a list of tracts is refused. The text calls it `name`.
 pub(crate) fn explain_list(plat: &Parts, list: &[u8], name: &str, room: &mut [u8]) -> Answer {
-    // SAFETY: slices and a reference are what the library asks for.
+    // SAFETY: slices and a reference meet the library's requirements.
     unsafe {
         township_explain_list(
             plat,
@@ -266,6 +267,6 @@ pub(crate) fn explain_list(plat: &Parts, list: &[u8], name: &str, room: &mut [u8
 
 /// Writes the version of the library.
 pub(crate) fn version(room: &mut [u8]) -> Answer {
-    // SAFETY: a slice is what the library asks for.
+    // SAFETY: a slice meets the library's requirements.
     unsafe { township_version(room.as_mut_ptr(), room.len()) }
 }

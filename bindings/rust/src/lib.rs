@@ -1,9 +1,9 @@
-//! The acreage of land in a township of the United States rectangular survey.
+//! Acreage in the United States rectangular survey.
 //!
-//! Field notes make a plat, and a description by lots and aliquot parts has its acres on it: the
-//! exact area of the land, rounded once. Otherwise there is the numbered refusal of the first
-//! fault, at its place. What is answered is computed by the proved library of this repository, of
-//! which these are safe functions.
+//! A township's field notes make a plat. For a legal description by lots and aliquot parts, the
+//! plat gives the exact acreage of the land, rounded once, or the numbered refusal of the first
+//! error, with its location. The answers are computed by this repository's proved library; this
+//! crate wraps it in safe functions.
 //!
 //! ```
 //! # let notes = include_bytes!(concat!(env!("CARGO_MANIFEST_DIR"), "/../../samples/b1.csv"));
@@ -16,13 +16,13 @@
 //! # Ok::<(), township::Refused>(())
 //! ```
 //!
-//! In the examples the field notes are those of `samples/b1.csv`.
+//! The examples use the field notes in `samples/b1.csv`.
 //!
 //! # Memory and stack
 //!
-//! A call takes memory and gives it back before it returns. Where there is too little, it panics
-//! with the message `township: out of memory`. A thread's stack has to hold 256 KiB; the threads
-//! that Rust starts have 2 MiB, where nothing else is asked for.
+//! The library frees all the memory it allocates before it returns. If memory runs out, a function
+//! panics with the message `township: out of memory`. Each thread needs a stack of at least
+//! 256 KiB; by default, Rust gives the threads it spawns 2 MiB.
 #![deny(missing_docs)]
 #![deny(unsafe_code)]
 #![warn(clippy::all)]
@@ -47,7 +47,7 @@ pub use self::refused::{Refusal, Refused};
 pub use self::report::{Report, Tract};
 pub use self::township::{EastWest, NorthSouth, Township};
 
-/// The version of the library, as `1.0.0`.
+/// Returns the version of the library, such as `1.0.0`.
 ///
 /// ```
 /// assert_eq!(township::version().split('.').count(), 3);
@@ -56,7 +56,7 @@ pub fn version() -> String {
     text::accepted_text_by(ffi::version)
 }
 
-/// The examples in the README are tried beside those of the documentation.
+/// Runs the README's examples along with those in the documentation.
 #[cfg(doctest)]
 #[doc = include_str!("../README.md")]
 struct Readme;

@@ -9,36 +9,36 @@ use std::fmt;
 
 mod answers;
 
-/// How many section lines a township has.
+/// The number of section lines in a township.
 pub const LINES: usize = 84;
 
-/// The plat of a township: what its field notes come to, and all that acres are computed from.
+/// The plat of a township: the result of protracting its field notes, and the basis of every
+/// acreage.
 ///
-/// A plat is made by [`Plat::read`] from field notes, or by [`Plat::of_parts`]. It doesn't change,
-/// two plats of the same parts are equal, and several threads can use one at a time.
+/// To make a plat, call [`Plat::read`] with field notes, or [`Plat::of_parts`]. A plat is
+/// immutable, two plats with the same parts are equal, and several threads can use a plat at once.
 ///
-/// A description is a string or bytes; a string is taken as its UTF-8, and bytes may be any. Where
-/// a description is refused, a method gives [`Refused`].
+/// A description can be a string or any bytes; a string is read as UTF-8. If a description is
+/// refused, methods return [`Refused`].
 ///
 /// # Panics
 ///
-/// Where memory runs out, these functions panic with the message `township: out of memory`.
+/// If memory runs out, these functions panic with the message `township: out of memory`.
 #[derive(Clone, PartialEq, Eq, Hash)]
 pub struct Plat {
     parts: Parts,
 }
 
-/// No plat has these closing quarters: see [`Plat::of_parts`].
+/// The error for closing quarters that do not make a plat; see [`Plat::of_parts`].
 #[derive(Clone, Copy, Debug, PartialEq, Eq, Hash)]
 pub struct NoPlat;
 
 impl Plat {
-    /// Makes the plat of field notes (CSV, at most 65,536 bytes, as `docs/NOTES-FORMAT.md` has
-    /// them).
+    /// Makes the plat of field notes (CSV, at most 65,536 bytes; see `docs/NOTES-FORMAT.md`).
     ///
     /// # Errors
     ///
-    /// [`Refused`], with a number from 1 to 23, for notes that make no plat.
+    /// Returns [`Refused`], with a number from 1 to 23, if the notes do not make a plat.
     ///
     /// ```
     /// use township::Plat;
@@ -61,13 +61,15 @@ impl Plat {
         }
     }
 
-    /// Makes a plat of its parts: the township, and the last quarter mile of each section line, by
-    /// the line's index (`docs/NOTES-FORMAT.md` has the drawing), in thousandths of a chain.
+    /// Makes a plat from its parts: the township, and the last quarter mile of each section line.
+    ///
+    /// The quarter miles are in thousandths of a chain, in the order of the lines' indexes (see the
+    /// drawing in `docs/NOTES-FORMAT.md`).
     ///
     /// # Errors
     ///
-    /// [`NoPlat`] unless the lines that close, 0 to 6 and 47, 53, 59, 65, 71, 77, and 83, have
-    /// 5,000 to 25,000, and all others 20,000.
+    /// Returns [`NoPlat`] unless the quarter mile is 5,000 to 25,000 for each closing line (0 to 6
+    /// and 47, 53, 59, 65, 71, 77, and 83) and 20,000 for every other line.
     ///
     /// ```
     /// use township::{EastWest, NorthSouth, Plat, Township, LINES};
@@ -85,7 +87,7 @@ impl Plat {
             range: township.range(),
             east_west: township.east_west().code(),
         };
-        // Each call that takes a plat finds out whether it is one. This has little to do besides.
+        // Every call that takes a plat validates it. This call has little else to do.
         match ffi::acres(&parts, b"", ffi::EXACT).verdict() {
             Verdict::NoPlat => Err(NoPlat),
             Verdict::NoMemory => out_of_memory(),
@@ -93,12 +95,13 @@ impl Plat {
         }
     }
 
-    /// Where the township lies.
+    /// Returns the township's designation.
     pub fn township(&self) -> Township {
         Township::of_parts(&self.parts).expect("a plat has a township")
     }
 
-    /// The last quarter mile of each section line, by its index, in thousandths of a chain.
+    /// Returns the last quarter mile of each section line, by line index, in thousandths of a
+    /// chain.
     ///
     /// ```
     /// # let notes = include_bytes!(concat!(env!("CARGO_MANIFEST_DIR"), "/../../samples/b1.csv"));

@@ -6,27 +6,27 @@ use crate::text::text_by;
 use std::error::Error;
 use std::fmt;
 
-// What the library calls each text where it explains a refusal.
+// The name that the library uses for each text when it explains a refusal.
 pub(crate) const DESCRIPTION: &str = "description";
 pub(crate) const NOTES: &str = "notes";
 pub(crate) const LIST: &str = "tracts";
 
-/// What the library begins an explanation with.
+/// The beginning of every explanation.
 const PROGRAM: &str = "township: ";
 
-/// The number of a refusal and its place. It is written as `refused 67 at 19`.
+/// The number and location of a refusal, displayed as `refused 67 at 19`.
 #[derive(Clone, Copy, Debug, PartialEq, Eq, Hash)]
 pub struct Refusal {
-    /// What is wrong.
+    /// The number, which says what is wrong.
     pub number: u32,
-    /// Where.
+    /// The location.
     pub at: u32,
 }
 
-/// The numbered refusal of field notes, of a description, or of a list of tracts.
+/// The numbered refusal of field notes, a description, or a list of tracts.
 ///
-/// `docs/REFUSALS.md` says what each number means and what to do about it. It is written as the
-/// first line of its explanation.
+/// `docs/REFUSALS.md` explains what each number means and how to correct the input. A refusal is
+/// displayed as the first line of its explanation, without the program's name.
 ///
 /// ```
 /// # let notes = include_bytes!(concat!(env!("CARGO_MANIFEST_DIR"), "/../../samples/b1.csv"));
@@ -49,23 +49,22 @@ pub struct Refused {
     /// What is wrong: 1 to 11 and 21 to 23 for field notes, 41 to 44 and 61 to 67 for a
     /// description, 80 to 85 for a list of tracts.
     pub number: u32,
-    /// Where: a record counted from 1, the index of a section line, or a byte counted from 0. What
-    /// it counts depends on the number.
+    /// The location. Its meaning depends on the number: a record counted from 1, the index of a
+    /// section line, a byte counted from 0, or, if the text is too long, the limit in bytes.
     pub at: u32,
-    /// Of refusal 83 the tract's own: its place is a byte of that tract's description. Otherwise
-    /// `None`.
+    /// For refusal 83, the refusal of the tract's description. `None` for any other number.
     pub inner: Option<Refusal>,
-    /// The line, counted from 1. `None` for a fault that stands on no line, such as a record that
-    /// is missing.
+    /// The line, counted from 1. `None` if the error is not on any line: for example, a record is
+    /// missing.
     pub line: Option<u32>,
-    /// And the column, counted from 1 in characters.
+    /// The column, in characters, counted from 1. `None` if the line is.
     pub column: Option<u32>,
-    /// Some lines of text, as the program `township` shows them.
+    /// The explanation, in the form that the program `township` prints on standard error.
     pub explanation: String,
 }
 
 impl Refused {
-    /// The refusal for a fault, as a call of the library explains it. Panics where memory ran out.
+    /// Returns the refusal for a fault, with the library's explanation. Panics if memory runs out.
     pub(crate) fn explained(fault: Fault, explain: impl Fn(&mut [u8]) -> Answer) -> Refused {
         let (told, explanation) = text_by(explain);
         assert_eq!(
@@ -83,7 +82,7 @@ impl Refused {
         }
     }
 
-    /// What is wrong, without its place.
+    /// Returns what is wrong, without the location.
     ///
     /// ```
     /// # let notes = include_bytes!(concat!(env!("CARGO_MANIFEST_DIR"), "/../../samples/b1.csv"));
@@ -95,21 +94,21 @@ impl Refused {
     /// ```
     pub fn sentence(&self) -> String {
         let message = self.to_string();
-        // No place has a space in it, so the first colon with one behind it ends the place.
+        // A location contains no space, so it ends at the first colon followed by a space.
         match message.split_once(": ") {
             Some((_, sentence)) => sentence.to_owned(),
             None => message,
         }
     }
 
-    /// The first line of the explanation, without the program's name, where there is one.
+    /// Returns the first line of the explanation, if any, without the program's name.
     fn first_line(&self) -> Option<&str> {
         let line = self.explanation.lines().next()?;
         Some(line.strip_prefix(PROGRAM).unwrap_or(line)).filter(|line| !line.is_empty())
     }
 }
 
-/// A line or a column: the library says 0 where there is none.
+/// Converts a line or column from the library, which uses 0 for none.
 fn counted(from_one: u32) -> Option<u32> {
     (from_one > 0).then_some(from_one)
 }
@@ -149,7 +148,7 @@ mod tests {
         }
     }
 
-    /// What comes of an answer to the question why `OVERLAP` was refused.
+    /// Explains the refusal `OVERLAP` by an answer with these values.
     fn told(verdict: u32, number: u32, at: u32) -> Refused {
         let fault = Fault {
             refusal: OVERLAP,

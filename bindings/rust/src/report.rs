@@ -3,18 +3,18 @@
 use crate::acres::Acres;
 use std::fmt;
 
-/// A tract of a report, with its acres. It is written as `tract A: 39.18 acres`.
+/// A tract in a report, with its acreage. It is displayed as `tract A: 39.18 acres`.
 #[derive(Clone, Debug, PartialEq, Eq, Hash)]
 pub struct Tract {
-    /// Its name: 1 to 64 printable ASCII characters.
+    /// The name: 1 to 64 printable ASCII characters.
     pub name: String,
-    /// Its acres.
+    /// The acreage.
     pub acres: Acres,
 }
 
-/// The account of a list of tracts. Each figure is an exact area, rounded by itself.
+/// The report on a list of tracts. Each figure is an exact area, rounded independently.
 ///
-/// It is written as the text that [`Plat::report`](crate::Plat::report) gives.
+/// It is displayed as the text that [`Plat::report`](crate::Plat::report) returns.
 ///
 /// ```
 /// # let notes = include_bytes!(concat!(env!("CARGO_MANIFEST_DIR"), "/../../samples/b1.csv"));
@@ -32,14 +32,14 @@ pub struct Tract {
 pub struct Report {
     /// The tracts, in the order of the list.
     pub tracts: Vec<Tract>,
-    /// The acres of all land that is in a tract.
+    /// The acreage of all tracts together.
     pub total: Acres,
-    /// And of all other land in the township.
+    /// The acreage of all other land in the township.
     pub remaining: Acres,
 }
 
 impl Report {
-    /// The report that a text writes, or `None` where it is no report's.
+    /// Parses the text of a report. Returns `None` if the text is not a report.
     ///
     /// ```
     /// # let notes = include_bytes!(concat!(env!("CARGO_MANIFEST_DIR"), "/../../samples/b1.csv"));
@@ -52,7 +52,7 @@ impl Report {
     /// ```
     pub fn of_text(text: &str) -> Option<Report> {
         let lines: Vec<&str> = text.strip_suffix('\n')?.split('\n').collect();
-        // A name can have any printable character, so these two are known by their place.
+        // A name can contain any printable character, so position identifies these two lines.
         let (remaining, lines) = lines.split_last()?;
         let (total, tracts) = lines.split_last()?;
         Some(Report {
@@ -66,7 +66,7 @@ impl Report {
     }
 }
 
-/// The tract of a line. Its name can have a colon, and ends at the last one.
+/// Parses the line of a tract. The name can contain colons and ends at the last one.
 fn tract_of(line: &str) -> Option<Tract> {
     let (name, figure) = line.strip_prefix("tract ")?.rsplit_once(": ")?;
     Some(Tract {
@@ -75,12 +75,12 @@ fn tract_of(line: &str) -> Option<Tract> {
     })
 }
 
-/// The acres of a text such as `39.18 acres`.
+/// Parses a text such as `39.18 acres`.
 fn figure_of(text: &str) -> Option<Acres> {
     Acres::of_text(text.strip_suffix(" acres")?)
 }
 
-/// The list of tracts (CSV) with these names and descriptions; each field is quoted, as any may be.
+/// Returns the list of tracts (CSV) with these names and descriptions. Every field is quoted.
 pub(crate) fn list_of<N, D>(tracts: impl IntoIterator<Item = (N, D)>) -> Vec<u8>
 where
     N: AsRef<[u8]>,
@@ -96,7 +96,7 @@ where
     list
 }
 
-/// Puts a field in quotes, with each quote inside it doubled.
+/// Appends a field in quotes, with each quote inside it doubled.
 fn put_quoted(list: &mut Vec<u8>, field: &[u8]) {
     list.push(b'"');
     for &byte in field {

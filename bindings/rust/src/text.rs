@@ -1,15 +1,17 @@
-//! Texts that the library writes.
+//! Texts written by the library.
 
 use crate::answer::Verdict;
 use crate::ffi::Answer;
 
-/// What a first call has room for, in bytes: most texts, but for long canonical ones and long
+/// The buffer size for a first call, in bytes. It holds all but long canonical texts and long
 /// reports.
 const USUAL_ROOM: usize = 4096;
 
-/// The answer of a call that writes a text, and the text, which is empty where there is none.
+/// Calls a function that writes a text. Returns its answer and the text, which is empty if there is
+/// none.
 ///
-/// Where there is too little room the library says how much it takes, and is called once more.
+/// If the buffer is too small, the library reports the size it needs, and the function is called
+/// again.
 pub(crate) fn text_by(call: impl Fn(&mut [u8]) -> Answer) -> (Answer, String) {
     let mut usual = [0; USUAL_ROOM];
     let answer = call(&mut usual);
@@ -21,7 +23,7 @@ pub(crate) fn text_by(call: impl Fn(&mut [u8]) -> Answer) -> (Answer, String) {
     (answer, text_in(&enough, answer))
 }
 
-/// The text of a call that has nothing to refuse. Panics where memory ran out.
+/// Returns the text written by a call that cannot refuse. Panics if memory runs out.
 pub(crate) fn accepted_text_by(call: impl Fn(&mut [u8]) -> Answer) -> String {
     let (answer, text) = text_by(call);
     match answer.accepted() {
@@ -30,7 +32,7 @@ pub(crate) fn accepted_text_by(call: impl Fn(&mut [u8]) -> Answer) -> String {
     }
 }
 
-/// The text of an answer, in the room where it was written. All texts of the library are UTF-8.
+/// Returns the text of an answer from the buffer. All texts that the library writes are UTF-8.
 fn text_in(room: &[u8], answer: Answer) -> String {
     String::from_utf8_lossy(&room[..answer.text_length()]).into_owned()
 }

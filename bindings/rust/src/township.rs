@@ -1,26 +1,26 @@
-//! Where a township lies.
+//! The designation of a township.
 
 use crate::ffi::{self, Parts};
 use std::fmt;
 
-/// The greatest number of a township and of a range.
+/// The largest township or range number.
 const MOST: u8 = 99;
 
-/// On which side of the base line a township lies. It is written as one letter.
+/// The side of the base line on which a township lies. It is displayed as one letter.
 #[derive(Clone, Copy, Debug, PartialEq, Eq, Hash)]
 pub enum NorthSouth {
     /// North of the base line: `N`.
     North,
-    /// South of it: `S`.
+    /// South of the base line: `S`.
     South,
 }
 
-/// On which side of the principal meridian a range lies. It is written as one letter.
+/// The side of the principal meridian on which a range lies. It is displayed as one letter.
 #[derive(Clone, Copy, Debug, PartialEq, Eq, Hash)]
 pub enum EastWest {
     /// East of the principal meridian: `E`.
     East,
-    /// West of it: `W`.
+    /// West of the principal meridian: `W`.
     West,
 }
 
@@ -41,7 +41,7 @@ pub struct Township {
 }
 
 impl Township {
-    /// The township of these numbers and sides, or `None` where a number isn't 1 to 99.
+    /// Makes a designation. Returns `None` if a number is not 1 to 99.
     ///
     /// ```
     /// use township::{EastWest, NorthSouth, Township};
@@ -64,27 +64,27 @@ impl Township {
         })
     }
 
-    /// The township's number, 1 to 99.
+    /// Returns the township number, 1 to 99.
     pub fn number(self) -> u8 {
         self.number
     }
 
-    /// Whether the township lies north or south of the base line.
+    /// Returns the side of the base line on which the township lies.
     pub fn north_south(self) -> NorthSouth {
         self.north_south
     }
 
-    /// The range's number, 1 to 99.
+    /// Returns the range number, 1 to 99.
     pub fn range(self) -> u8 {
         self.range
     }
 
-    /// Whether the range lies east or west of the principal meridian.
+    /// Returns the side of the principal meridian on which the range lies.
     pub fn east_west(self) -> EastWest {
         self.east_west
     }
 
-    /// The township of a plat's parts, where they are one's.
+    /// Returns the township of a plat's parts, if they are valid.
     pub(crate) fn of_parts(parts: &Parts) -> Option<Township> {
         Township::new(
             parts.number,
@@ -104,7 +104,7 @@ impl NorthSouth {
         }
     }
 
-    /// The library's number for the side.
+    /// Returns the library's code for the side.
     pub(crate) fn code(self) -> u8 {
         match self {
             NorthSouth::North => ffi::NORTH,
@@ -122,7 +122,7 @@ impl EastWest {
         }
     }
 
-    /// The library's number for the side.
+    /// Returns the library's code for the side.
     pub(crate) fn code(self) -> u8 {
         match self {
             EastWest::East => ffi::EAST,
@@ -150,7 +150,7 @@ impl fmt::Display for EastWest {
 }
 
 impl fmt::Display for Township {
-    /// As a description's heading has it: `T. 2 N., R. 3 W.`.
+    /// Writes the designation as in the heading of a description: `T. 2 N., R. 3 W.`.
     fn fmt(&self, f: &mut fmt::Formatter<'_>) -> fmt::Result {
         let Township {
             number,

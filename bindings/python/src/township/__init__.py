@@ -1,7 +1,7 @@
-"""The acreage of land in a township of the United States rectangular survey.
+"""Acreage in the United States rectangular survey.
 
-Field notes make a plat, and a description by lots and aliquot parts has its acres on it: the exact area of the
-land, rounded once. Otherwise there is the numbered refusal of the first fault, at its place.
+A township's field notes make a plat. For a legal description by lots and aliquot parts, the plat gives the
+exact acreage of the land, rounded once, or the numbered refusal of the first error, with its location.
 
 >>> import township
 >>> plat = township.Plat.read(open("samples/b1.csv", "rb").read())
@@ -23,13 +23,13 @@ from ._refused import Refusal, Refused, failure_of
 __all__ = ["Plat", "Refusal", "Refused", "Report", "Section", "Township", "Tract", "version"]
 
 for _public in (Plat, Refusal, Refused, Report, Section, Township, Tract):
-    # As they are imported, so are they named in tracebacks and pickles.
+    # Tracebacks and pickles name each class as users import it.
     _public.__module__ = __name__
 del _public
 
 
 def version() -> str:
-    """The version of the library, as `1.0.0`.
+    """Return the version of the library, such as `1.0.0`.
 
     >>> township.version().count(".")
     2

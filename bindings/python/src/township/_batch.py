@@ -1,4 +1,4 @@
-"""The acres of each description of a list (CSV): the same list, with some more columns."""
+"""Adds columns with the acreage, or the refusal, of each description to a list (CSV)."""
 from __future__ import annotations
 
 import csv
@@ -17,23 +17,25 @@ ADDED = ("acres", "refusal", "at", "sentence")
 
 _CRLF = "\r\n"
 
-# The word for standard input, and the numbers of its file and of standard output's.
+# The argument that means standard input, and the file descriptors of standard input and output.
 _INPUT_WORD = b"-"
 _INPUT, _OUTPUT = 0, 1
 
 
 class Stopped(Exception):
-    """Why a batch came to no end; what was written is a front of the answer."""
+    """The reason that a batch stopped early; the output so far is the beginning of the answer."""
 
     def __init__(self, message: str, refused: bool = False) -> None:
         super().__init__(message)
-        #: Whether the field notes are refused; otherwise a file is at fault.
+        #: Whether the field notes were refused; otherwise, the error is in a file.
         self.refused = refused
 
 
 def run_batch(notes: bytes, listed: bytes, account: str) -> bool:
-    """Reads the notes and the list of these names, writes the answers to standard output, and says whether
-    all descriptions are accepted. Raises `Stopped`."""
+    """Read the notes and the list with these file names, and write the answers to standard output.
+
+    Return whether all descriptions are accepted. Raise `Stopped` if the batch cannot be completed.
+    """
     plat = _plat_in(notes)
     with _list_in(listed) as source, _output() as sink:
         rows = _rows(source, _shown(listed))
@@ -43,7 +45,7 @@ def run_batch(notes: bytes, listed: bytes, account: str) -> bool:
 
 
 def _plat_in(name: bytes) -> Plat:
-    """The plat of the field notes in a file."""
+    """Return the plat of the field notes in a file."""
     try:
         with open(name, "rb") as file:
             notes = file.read()
@@ -52,14 +54,14 @@ def _plat_in(name: bytes) -> Plat:
     try:
         return Plat.read(notes)
     except Refused as refused:
-        # The library calls the text `notes`; here it has a name.
+        # The library calls the text `notes`; show the file name instead.
         told = refused.explanation.rstrip("\n").replace(f": {NOTES.decode()}:", f": {_shown(name)}:", 1)
         raise Stopped(told or f"township: {_shown(name)}: {refused}", refused=True) from refused
 
 
 @contextmanager
 def _list_in(name: bytes) -> Iterator[TextIO]:
-    """The file of a list, as UTF-8: other bytes are kept as they are, and a byte order mark is left out."""
+    """Open the file of a list as UTF-8. Other bytes are preserved, and a byte order mark is skipped."""
     source = _INPUT if name == _INPUT_WORD else name
     try:
         file = open(
@@ -73,8 +75,10 @@ def _list_in(name: bytes) -> Iterator[TextIO]:
 
 @contextmanager
 def _output() -> Iterator[TextIO]:
-    """Standard output, as UTF-8 with the bytes of the list as they were. What was written before something
-    went wrong goes out too."""
+    """Open standard output as UTF-8, preserving other bytes of the list.
+
+    Everything written before an error is still output.
+    """
     with _writing():
         file = open(_OUTPUT, "w", encoding="utf-8", errors="surrogateescape", newline="", closefd=False)
     try:
@@ -85,7 +89,7 @@ def _output() -> Iterator[TextIO]:
 
 
 def _rows(source: IO[str], shown: str) -> Iterator[List[str]]:
-    """The records of a list, each with as many fields as the first; empty lines are none."""
+    """Yield the records of a list, each with as many fields as the first. Empty lines are skipped."""
     csv.field_size_limit(sys.maxsize)
     reader = csv.reader(source, strict=True)
     width = None
@@ -107,7 +111,7 @@ def _rows(source: IO[str], shown: str) -> Iterator[List[str]]:
 
 
 def _column_in(heading: Sequence[str], shown: str) -> int:
-    """Which column of a list has the descriptions."""
+    """Return the index of the column that contains the descriptions."""
     if heading.count(DESCRIPTION) != 1:
         raise Stopped(f"township: {shown}:1: the heading has to have one column `{DESCRIPTION}`")
     for name in ADDED:
@@ -124,12 +128,12 @@ def _write_answers(
     rows: Iterator[List[str]],
     sink: TextIO,
 ) -> bool:
-    """Writes the list with its answers, and says whether all descriptions are accepted."""
+    """Write the list with its answers. Return whether all descriptions are accepted."""
     write = csv.writer(_LineFeeds(sink), lineterminator=_CRLF).writerow
     kept, described = itertools.tee(rows)
     answers = plat.acres_of((row[column] for row in described), account)
     every = True
-    # The answers go first: the row that an answer is of is then there to be kept.
+    # Advance the answers first: `tee` has then already stored the row for each answer.
     with _writing():
         write([*heading, *ADDED])
     for answer, row in zip(answers, kept):
@@ -140,8 +144,11 @@ def _write_answers(
 
 
 class _LineFeeds:
-    """Ends each record by a line feed. The `csv` module is told to end them by CRLF, since it puts a field with
-    a carriage return in quotes only where that is one of the bytes that end a record."""
+    """Ends each record with a line feed.
+
+    The `csv` module itself ends records with CRLF, because it quotes a field that contains a carriage return
+    only if the record terminator contains one.
+    """
 
     def __init__(self, sink: TextIO) -> None:
         self._sink = sink
@@ -151,7 +158,7 @@ class _LineFeeds:
 
 
 def _added(answer: Union[Decimal, Refused]) -> List[str]:
-    """The fields that an answer adds to its row."""
+    """Return the fields that an answer adds to its row."""
     if isinstance(answer, Decimal):
         return [str(answer), "", "", ""]
     return ["", str(answer.number), str(answer.at), answer.sentence]
@@ -159,7 +166,7 @@ def _added(answer: Union[Decimal, Refused]) -> List[str]:
 
 @contextmanager
 def _writing() -> Iterator[None]:
-    """What goes wrong inside is that standard output can't be written."""
+    """Report any `OSError` in the block as a failure to write standard output."""
     try:
         yield
     except OSError as error:
@@ -175,6 +182,6 @@ def _fields(count: int) -> str:
 
 
 def _shown(name: bytes) -> str:
-    """A file's name in characters that can be seen."""
+    """Return a file name with its unprintable characters escaped."""
     text = "standard input" if name == _INPUT_WORD else os.fsdecode(name)
     return "".join(each if each.isprintable() else ascii(each)[1:-1] for each in text)

@@ -12,7 +12,7 @@ from ._plat import ACCOUNTS
 
 ALL_ACCEPTED = 0
 SOME_REFUSED = 1
-# argparse ends with status 2 itself where the command line is misused.
+# argparse itself exits with status 2 if the command line is not valid.
 NO_ANSWER = 3
 
 _BATCH = """\
@@ -37,7 +37,7 @@ exit status:
 
 
 def main(words: Optional[Sequence[str]] = None) -> int:
-    """Runs the command line of these words, or of the program's own, and gives the exit status."""
+    """Run the command line with these arguments, or with those of the process. Return the exit status."""
     arguments = _parser().parse_args(words)
     try:
         every = run_batch(arguments.notes, arguments.list, arguments.account)

@@ -1,26 +1,26 @@
-"""The figures of printed plats and of reports, read from the library's texts."""
+"""The figures in printed plats and reports, parsed from the library's texts."""
 from __future__ import annotations
 
 from decimal import Context, Decimal
 from typing import Dict, Iterable, NamedTuple, Tuple, Union
 
-#: Text as it is given: a `str` is taken as UTF-8.
+#: Input text: a `str` is encoded as UTF-8.
 Text = Union[str, bytes]
 
-# Numbers of 64 bits have at most 20 digits, so nothing is rounded, whatever the caller's own context is.
+# A 64-bit number has at most 20 digits, so nothing is rounded, whatever the caller's decimal context is.
 _scaleb = Context(prec=28).scaleb
 
 
 def acres_of_hundredths(hundredths: int) -> Decimal:
-    """Acres with two decimal places."""
+    """Return an acreage with two decimal places."""
     return _scaleb(hundredths, -2)
 
 
 def encoded(text: Text) -> bytes:
-    """The bytes of a text: bytes as they are, and a `str` in UTF-8.
+    """Return the bytes of a text: `bytes` unchanged, and a `str` in UTF-8.
 
-    Each `str` has bytes: bytes that Python escaped as it read them come back as they were, and other lone
-    surrogates become bytes that no description has, and are refused where they stand.
+    Every `str` can be encoded. Bytes that Python escaped with `surrogateescape` are restored. Other lone
+    surrogates become bytes that are not allowed in a description, which is then refused at their location.
     """
     if isinstance(text, bytes):
         return text
@@ -33,18 +33,18 @@ def encoded(text: Text) -> bytes:
 
 
 class Section(NamedTuple):
-    """A section of the printed plat. Each figure is an exact area, rounded by itself."""
+    """A section of the printed plat. Each figure is an exact area, rounded independently."""
 
-    #: 1 to 36.
+    #: The section number, 1 to 36.
     number: int
-    #: The acres of lot 1, lot 2, and so on: of four or seven lots, or of none.
+    #: The acreage of lot 1, lot 2, and so on. A section has four lots, seven lots, or none.
     lot_acres: Tuple[Decimal, ...]
-    #: The acres of the section.
+    #: The acreage of the section.
     total: Decimal
 
     @property
     def lots(self) -> Dict[int, Decimal]:
-        """The acres of each lot by its number.
+        """The acreage of each lot, by lot number.
 
         >>> plat.sections[7].lots[4]
         Decimal('39.03')
@@ -53,53 +53,56 @@ class Section(NamedTuple):
 
 
 class Tract(NamedTuple):
-    """A tract of a report, with its acres."""
+    """A tract in a report, with its acreage."""
 
     name: str
     acres: Decimal
 
 
 class Report(NamedTuple):
-    """The account of a list of tracts. Each figure is an exact area, rounded by itself."""
+    """The report on a list of tracts. Each figure is an exact area, rounded independently."""
 
-    #: The tracts in the order of the list.
+    #: The tracts, in the order of the list.
     tracts: Tuple[Tract, ...]
-    #: The acres of all land that is in a tract.
+    #: The acreage of all tracts together.
     total: Decimal
-    #: And of all other land in the township.
+    #: The acreage of all other land in the township.
     remaining: Decimal
 
 
 def sections_of(text: str) -> Tuple[Dict[int, Section], Decimal]:
-    """The sections of a printed plat by their numbers, and the township's total."""
+    """Return the sections of a printed plat, by section number, and the township's total."""
     *lines, last = text.splitlines()
     sections = map(_section_of, lines)
     return {section.number: section for section in sections}, Decimal(last.rpartition(" ")[2])
 
 
 def _section_of(line: str) -> Section:
-    """A section, from `sec. 7: lot 1 39.18, lot 2 39.13, lot 3 39.08, lot 4 39.03, total 636.40`."""
+    """Parse a line such as `sec. 7: lot 1 39.18, lot 2 39.13, lot 3 39.08, lot 4 39.03, total 636.40`."""
     head, _, figures = line.partition(": ")
     *lots, total = [Decimal(figure.rpartition(" ")[2]) for figure in figures.split(", ")]
     return Section(int(head.rpartition(" ")[2]), tuple(lots), total)
 
 
 def report_of(text: str) -> Report:
-    """The report that a text prints. A name can have any printable character, so the last two lines are
-    known by their place, and the end of a name by the last colon."""
+    """Parse the text of a report.
+
+    A name can contain any printable character, so the last two lines are identified by their position, and
+    the end of a name by the last colon in its line.
+    """
     *lines, total, remaining = text.splitlines()
     tracts = (_named_figure(line[len("tract ") :]) for line in lines)
     return Report(tuple(tracts), _named_figure(total).acres, _named_figure(remaining).acres)
 
 
 def _named_figure(line: str) -> Tract:
-    """What stands before the last colon, and the acres after it: of `A: 39.18 acres` they are A and 39.18."""
+    """Return the text before the last colon and the acreage after it: A and 39.18 for `A: 39.18 acres`."""
     name, _, acres = line.rpartition(": ")
     return Tract(name, Decimal(acres.partition(" ")[0]))
 
 
 def list_of(tracts: Iterable[Tuple[Text, Text]]) -> bytes:
-    """The list of tracts (CSV) with these names and descriptions; each field is quoted, as any may be."""
+    """Return the list of tracts (CSV) with these names and descriptions. Every field is quoted."""
     records = [b"name,description"]
     for name, description in tracts:
         records.append(_quoted(name) + b"," + _quoted(description))
@@ -107,5 +110,5 @@ def list_of(tracts: Iterable[Tuple[Text, Text]]) -> bytes:
 
 
 def _quoted(field: Text) -> bytes:
-    """A field in quotes, with each quote inside it doubled."""
+    """Return a field in quotes, with each quote inside it doubled."""
     return b'"' + encoded(field).replace(b'"', b'""') + b'"'

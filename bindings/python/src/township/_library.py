@@ -1,4 +1,4 @@
-"""The shared library: its structs and calls, as `include/township.h` declares them, and how it is found."""
+"""The shared library: its structs and functions, as declared in `include/township.h`, and its location."""
 from __future__ import annotations
 
 import ctypes
@@ -6,7 +6,7 @@ import os
 from ctypes import POINTER, c_char, c_char_p, c_size_t, c_uint8, c_uint32, c_uint64
 from typing import Callable, Tuple
 
-#: How many section lines a township has.
+#: The number of section lines in a township.
 LINES = 84
 
 # Verdicts.
@@ -18,13 +18,13 @@ NO_ACCOUNT = 4
 NO_ROOM = 5
 NO_MEMORY = 6
 
-#: The environment variable that names the library's file.
+#: The environment variable that gives the path of the library.
 VARIABLE = "TOWNSHIP_LIBRARY"
 
-#: Where the library is if no variable names it: in the package's own folder.
+#: The default path of the library: in the package's own folder.
 BESIDE = os.path.join(os.path.dirname(os.path.abspath(__file__)), "libtownship.so")
 
-#: Units of an area in an acre: square thousandths of a chain.
+#: The number of units in an acre. The unit of area is a square thousandth of a chain.
 UNITS_IN_ACRE = 10_000_000
 
 
@@ -64,7 +64,7 @@ class Area(ctypes.Structure):
 
 
 def _load() -> ctypes.CDLL:
-    """Loads the library that the environment names, or else the one beside the package."""
+    """Load the library that the environment variable names, or else the one in the package's folder."""
     path = os.environ.get(VARIABLE) or BESIDE
     try:
         return ctypes.CDLL(path)
@@ -74,15 +74,15 @@ def _load() -> ctypes.CDLL:
 
 _LIBRARY = _load()
 
-# `c_char_p` passes the memory of a `bytes` object as it is, with no copy; its length goes beside it, so that
-# bytes of zero are bytes like any others.
+# `c_char_p` passes the memory of a `bytes` object directly, without a copy. The length is passed separately,
+# so zero bytes are ordinary bytes.
 _PLAT = POINTER(Plat)
 _BYTES = (c_char_p, c_size_t)
 _ROOM = (POINTER(c_char), c_size_t)
 
 
 def _call(name: str, *types: type) -> Callable[..., Answer]:
-    """A call of the library that takes arguments of these types."""
+    """Return the library function with this name, declared with these argument types."""
     call = getattr(_LIBRARY, name)
     call.argtypes = types
     call.restype = Answer
@@ -100,14 +100,14 @@ explain_description = _call("township_explain_description", _PLAT, *_BYTES, *_BY
 explain_list = _call("township_explain_list", _PLAT, *_BYTES, *_BYTES, *_ROOM)
 version = _call("township_version", *_ROOM)
 
-#: What a first call has room for, in bytes: most texts, but for long canonical ones and long reports.
+#: The buffer size for a first call, in bytes. It holds all but long canonical texts and long reports.
 USUAL_ROOM = 4096
 
 
 def text_by(call: Callable[..., Answer], *arguments: object) -> Tuple[Answer, str]:
-    """The answer of a call that writes a text, and the text, which is empty where there is none.
+    """Call a function that writes a text. Return its answer and the text, which is empty if there is none.
 
-    Where there is too little room for it the library says how much it takes, and is called once more.
+    If the buffer is too small, the library reports the size it needs, and the function is called again.
     """
     room = USUAL_ROOM
     while True:

@@ -20,7 +20,7 @@ from ._figures import (
 )
 from ._refused import DESCRIPTION, LIST, NOTES, Refused, exception_of, failure_of
 
-#: The accounts by their names: what a whole lot counts.
+#: The accounts, by name: how a whole lot counts.
 ACCOUNTS = {"exact": 0, "plat": 1}
 
 _NORTH_SOUTH = ("N", "S")
@@ -28,19 +28,19 @@ _EAST_WEST = ("E", "W")
 
 
 class Township(NamedTuple):
-    """Where a township lies.
+    """The designation of a township, without its principal meridian.
 
     >>> print(plat.township)
     T. 2 N., R. 3 W.
     """
 
-    #: Its number, 1 to 99.
+    #: The township number, 1 to 99.
     number: int
-    #: The side of the base line: `N` or `S`.
+    #: `N` or `S` of the base line.
     north_south: str
-    #: Its range's number, 1 to 99.
+    #: The range number, 1 to 99.
     range: int
-    #: The side of the principal meridian: `E` or `W`.
+    #: `E` or `W` of the principal meridian.
     east_west: str
 
     def __str__(self) -> str:
@@ -48,15 +48,15 @@ class Township(NamedTuple):
 
 
 class Plat:
-    """The plat of a township: what its field notes come to, and all that acres are computed from.
+    """The plat of a township: the result of protracting its field notes, and the basis of every acreage.
 
-    A plat is made by `Plat.read` from field notes, or by `Plat.of_parts`. It doesn't change, and two plats of
-    the same parts are equal. It can be pickled, and used by several threads at a time; a thread's stack has
-    to hold 256 KiB.
+    To make a plat, call `Plat.read` with field notes, or `Plat.of_parts`. A plat is immutable, and two plats
+    with the same parts are equal. It can be pickled, and used from several threads at once; each thread needs
+    a stack of at least 256 KiB.
 
-    Descriptions are `str` or `bytes`; a `str` is taken as UTF-8, and bytes that were read with Python's
-    `surrogateescape` are taken as they were. Where a description is refused, a method raises `Refused`; where
-    memory runs out, `MemoryError`; and `ValueError` for an account other than `exact` and `plat`.
+    A description can be `str` or `bytes`. A `str` is encoded as UTF-8; bytes that were decoded with Python's
+    `surrogateescape` are restored. Methods raise `Refused` if a description is refused, `MemoryError` if
+    memory runs out, and `ValueError` for an account other than `exact` or `plat`.
     """
 
     __slots__ = ("_parts", "_plain", "_text", "_figures", "__weakref__")
@@ -71,7 +71,7 @@ class Plat:
 
     @classmethod
     def _of_struct(cls, parts: _library.Plat) -> "Plat":
-        """The plat of a struct, which nothing else may keep."""
+        """Make a plat of a struct, which the plat then owns."""
         plat = object.__new__(cls)
         plat._parts = parts
         plat._plain = bytes(parts)
@@ -81,9 +81,9 @@ class Plat:
 
     @classmethod
     def read(cls, notes: Text) -> "Plat":
-        """Makes the plat of field notes (CSV, at most 65,536 bytes, as `docs/NOTES-FORMAT.md` has them).
+        """Make the plat of field notes (CSV, at most 65,536 bytes; see `docs/NOTES-FORMAT.md`).
 
-        Raises `Refused`, with a number from 1 to 23, for notes that make no plat.
+        Raise `Refused`, with a number from 1 to 23, if the notes do not make a plat.
 
         >>> plat = township.Plat.read(open("samples/b1.csv", "rb").read())
         >>> plat.township
@@ -102,11 +102,12 @@ class Plat:
 
     @classmethod
     def of_parts(cls, township: Tuple[int, str, int, str], closing_quarters: Sequence[int]) -> "Plat":
-        """Makes a plat of its parts: the township, and the last quarter mile of each of the 84 section lines,
-        by the line's index (`docs/NOTES-FORMAT.md` has the drawing), in thousandths of a chain.
+        """Make a plat from its parts: the township, and the last quarter miles of its 84 section lines.
 
-        Lines that close, 0 to 6 and 47, 53, 59, 65, 71, 77, and 83, have 5,000 to 25,000; all others 20,000.
-        Raises `ValueError` for parts that no plat has.
+        The quarter miles are in thousandths of a chain, in the order of the lines' indexes (see the drawing
+        in `docs/NOTES-FORMAT.md`). For the closing lines, 0 to 6 and 47, 53, 59, 65, 71, 77, and 83, each
+        must be 5,000 to 25,000; for all other lines, 20,000. Raise `ValueError` for parts that do not make a
+        plat.
 
         >>> even = township.Plat.of_parts((2, "N", 3, "W"), [20_000] * 84)
         >>> even.total
@@ -120,7 +121,7 @@ class Plat:
 
     @property
     def township(self) -> Township:
-        """Where the township lies."""
+        """The township's designation."""
         parts = self._parts
         return Township(
             parts.number, _NORTH_SOUTH[parts.north_south], parts.range, _EAST_WEST[parts.east_west]
@@ -128,7 +129,7 @@ class Plat:
 
     @property
     def closing_quarters(self) -> Tuple[int, ...]:
-        """The last quarter mile of each section line, by its index, in thousandths of a chain.
+        """The last quarter mile of each section line, by line index, in thousandths of a chain.
 
         >>> plat.closing_quarters[:7]
         (20000, 20000, 20000, 20000, 20200, 20400, 20800)
@@ -137,7 +138,7 @@ class Plat:
 
     @property
     def text(self) -> str:
-        """The printed plat: the acres of each lot, of each section, and of the township.
+        """The printed plat: the acreage of each lot, of each section, and of the township.
 
         >>> print(plat.text.splitlines()[6])
         sec. 7: lot 1 39.18, lot 2 39.13, lot 3 39.08, lot 4 39.03, total 636.40
@@ -146,7 +147,7 @@ class Plat:
 
     @property
     def sections(self) -> Mapping[int, Section]:
-        """The sections of the printed plat by their numbers, 1 to 36.
+        """The sections of the printed plat, by section number, 1 to 36.
 
         >>> plat.sections[5].lots
         {1: Decimal('40.45'), 2: Decimal('40.55'), 3: Decimal('40.65'), 4: Decimal('40.75')}
@@ -157,7 +158,7 @@ class Plat:
 
     @property
     def total(self) -> Decimal:
-        """The acres of the township.
+        """The acreage of the township.
 
         >>> plat.total
         Decimal('23037.57')
@@ -165,10 +166,10 @@ class Plat:
         return self._printed_figures()[1]
 
     def acres(self, description: Text, account: str = "exact") -> Decimal:
-        """The acres of the land described, rounded once to hundredths, half up.
+        """Return the acreage of the land described, rounded once to hundredths, half up.
 
-        By the account `plat` each whole lot counts the acres that are printed of it, and other land its
-        nominal area.
+        With the account `plat`, each whole lot counts at the acreage printed on the plat, and other land at
+        its nominal area.
 
         >>> plat.acres("sec. 5, lots 1 and 2, S1/2NE1/4.")
         Decimal('161.00')
@@ -184,7 +185,7 @@ class Plat:
         return acres_of_hundredths(answer.hundredths)
 
     def area(self, description: Text, account: str = "exact") -> Fraction:
-        """The exact area of the land described, in acres; `acres` has it rounded.
+        """Return the exact area of the land described, in acres. `acres` returns it rounded.
 
         >>> plat.area("sec. 5, lot 1.")
         Fraction(809, 20)
@@ -197,7 +198,7 @@ class Plat:
         return Fraction(area.units_high << 64 | area.units_low, area.over * _library.UNITS_IN_ACRE)
 
     def normal(self, description: Text) -> str:
-        """The one canonical text of the land described: two descriptions of the same land have the same.
+        """Return the canonical description, which is the same for any two descriptions of the same land.
 
         >>> print(plat.normal("sec. 14, SE1/4, NE1/4, NW1/4."), end="")
         T. 2 N., R. 3 W.,
@@ -212,13 +213,15 @@ class Plat:
     def acres_of(
         self, descriptions: Iterable[Text], account: str = "exact"
     ) -> Iterator[Union[Decimal, Refused]]:
-        """The acres of many descriptions, in their order: of each what `acres` gives, or the `Refused` that it
-        raises. A refusal ends nothing.
+        """Iterate over the answers to many descriptions, in order.
 
-        Descriptions are taken one at a time as answers are asked for, so there may be any number of them. In
-        a column of a data frame a missing description is a number, and raises `TypeError`, as does all else
-        that is neither `str` nor `bytes`; `df["description"].fillna("")` makes it an empty text, which is
-        refused.
+        Each answer is the acreage that `acres` returns or the `Refused` that it raises. A refusal does not
+        end the iteration.
+
+        Descriptions are consumed one at a time as answers are requested, so there may be any number of them.
+        In a column of a data frame, a missing description is a number and raises `TypeError`, as does any
+        other value that is neither `str` nor `bytes`. `df["description"].fillna("")` replaces it with an
+        empty text, which is refused.
 
         >>> for answer in plat.acres_of(["sec. 5, lot 1.", "sec. 5, lot 5.", "sec. 36."]):
         ...     print(repr(answer) if isinstance(answer, Decimal) else answer.number)
@@ -231,7 +234,7 @@ class Plat:
         return self._each_acres(descriptions, _code_of(account))
 
     def _each_acres(self, descriptions: Iterable[Text], code: int) -> Iterator[Union[Decimal, Refused]]:
-        """What `acres_of` gives. All that is the same for each description is made once, before the loop."""
+        """Yield the answers of `acres_of`. Whatever does not depend on the description is computed once."""
         call = _library.acres
         parts = byref(self._parts)
         accepted = _library.ACCEPTED
@@ -247,11 +250,13 @@ class Plat:
             yield exception
 
     def report(self, tracts: Iterable[Tuple[Text, Text]]) -> Report:
-        """The account of tracts, each with a name and a description: at most 1,000, none of which overlap. A
-        name is 1 to 64 bytes of printable ASCII, and no two are the same.
+        """Return the report on tracts, each a name and a description.
 
-        Where the tracts are refused the places of `Refused` are those of the list that they make: the tract
-        of index k is record k + 2.
+        There may be at most 1,000 tracts, and they must not overlap. A name is 1 to 64 bytes of printable
+        ASCII, and each name must be unique.
+
+        If the tracts are refused, the location in `Refused` refers to the list that they make: the tract with
+        index k is record k + 2.
 
         >>> report = plat.report([("A", "sec. 7, lot 1."), ("B", "sec. 7, lot 4.")])
         >>> report.tracts
@@ -262,10 +267,10 @@ class Plat:
         return self.report_csv(list_of(tracts))
 
     def report_csv(self, tracts: Text) -> Report:
-        """The account of a list of tracts (CSV, at most 1,048,576 bytes, as `docs/TRACTS-FORMAT.md` has it).
+        """Return the report on a list of tracts (CSV, at most 1,048,576 bytes; see `docs/TRACTS-FORMAT.md`).
 
-        Raises `Refused` with a number from 80 to 85. For a tract whose description is refused that is 83, and
-        `inner` has the description's own refusal.
+        Raise `Refused`, with a number from 80 to 85, if the list is refused. If a tract's description is
+        refused, the number is 83, and `inner` contains the description's own refusal.
 
         >>> plat.report_csv(open("samples/tracts.csv", "rb").read()).total
         Decimal('78.20')
@@ -279,7 +284,7 @@ class Plat:
         return report_of(text)
 
     def _print(self) -> str:
-        """Prints the plat, and keeps the text."""
+        """Print the plat and cache the text."""
         answer, text = _library.text_by(_library.print_plat, byref(self._parts))
         if answer.verdict != _library.ACCEPTED:
             raise failure_of(answer.verdict)
@@ -287,14 +292,14 @@ class Plat:
         return text
 
     def _printed_figures(self) -> Tuple[Mapping[int, Section], Decimal]:
-        """The figures of the printed plat, which are kept."""
+        """Return the figures of the printed plat, which are cached."""
         if self._figures is None:
             sections, total = sections_of(self.text)
             self._figures = MappingProxyType(sections), total
         return self._figures
 
     def _exception_of(self, answer: _library.Answer, given: bytes) -> Exception:
-        """What to raise for a description that isn't accepted."""
+        """Return the exception for a description that is not accepted."""
         explain = _library.explain_description
         return exception_of(
             answer, explain, byref(self._parts), given, len(given), DESCRIPTION, len(DESCRIPTION)
@@ -314,7 +319,7 @@ class Plat:
 
 
 def _code_of(account: str) -> int:
-    """The library's number for an account."""
+    """Return the library's code for an account."""
     code = ACCOUNTS.get(account)
     if code is None:
         raise ValueError(f"there is no account {account!r}: it is 'exact' or 'plat'")
@@ -322,7 +327,7 @@ def _code_of(account: str) -> int:
 
 
 def _struct_of(township: Tuple[int, str, int, str], closing_quarters: Sequence[int]) -> _library.Plat:
-    """The struct of a plat's parts, each of which fits its field: ctypes would cut off what doesn't."""
+    """Return the struct of a plat's parts, checking that each fits its field: ctypes would truncate it."""
     number, north_south, range_number, east_west = township
     if len(closing_quarters) != _library.LINES:
         raise ValueError(f"a township has {_library.LINES} section lines, not {len(closing_quarters)}")

@@ -1,4 +1,4 @@
-"""Refusals, and the other ways in which a call can fail."""
+"""Refusals, and the other ways a call can fail."""
 from __future__ import annotations
 
 import re
@@ -6,27 +6,28 @@ from typing import NamedTuple, Optional
 
 from . import _library
 
-# What the library calls each text where it explains a refusal.
+# The name that the library uses for each text when it explains a refusal.
 DESCRIPTION = b"description"
 NOTES = b"notes"
 LIST = b"tracts"
 
-# Before an explanation's sentence stand the program, the text, and where there are some a line and a column.
+# An explanation begins with the program, the text, and, if there are any, the line and column; then the
+# sentence.
 _PROGRAM = "township: "
 _PLACE = re.compile(r"(?:description|notes|tracts)(?::[0-9]+){0,2}: ")
 
 
 class Refusal(NamedTuple):
-    """The number of a refusal and its place, as `refused 67 at 19` has them."""
+    """The number and location of a refusal, as in `refused 67 at 19`."""
 
     number: int
     at: int
 
 
 class Refused(Exception):
-    """The numbered refusal of field notes, of a description, or of a list of tracts.
+    """The numbered refusal of field notes, a description, or a list of tracts.
 
-    `docs/REFUSALS.md` says what each number means and what to do about it.
+    `docs/REFUSALS.md` explains what each number means and how to correct the input.
 
     >>> try:
     ...     plat.acres("sec. 14, NE1/4 and N1/2.")
@@ -48,16 +49,16 @@ class Refused(Exception):
     #: What is wrong: 1 to 11 and 21 to 23 for field notes, 41 to 44 and 61 to 67 for a description, 80 to 85
     #: for a list of tracts.
     number: int
-    #: Where: a record counted from 1, the index of a section line, or a byte counted from 0. What it counts
-    #: depends on the number. Bytes are those of the text in UTF-8.
+    #: The location. Its meaning depends on the number: a record counted from 1, the index of a section line,
+    #: a byte of the UTF-8 text counted from 0, or, if the text is too long, the limit in bytes.
     at: int
-    #: The line, counted from 1; None for a fault that stands on no line, such as a record that is missing.
+    #: The line, counted from 1. None if the error is not on any line: for example, a record is missing.
     line: Optional[int]
-    #: And the column, counted from 1 in characters.
+    #: The column, in characters, counted from 1. None if the line is.
     column: Optional[int]
-    #: Some lines of text, as the program `township` shows them.
+    #: The explanation, in the form that the program `township` prints on standard error.
     explanation: str
-    #: Of refusal 83 the tract's own: its place is a byte of that tract's description. Otherwise None.
+    #: For refusal 83, the refusal of the tract's description. None for any other number.
     inner: Optional[Refusal]
 
     def __init__(
@@ -69,7 +70,7 @@ class Refused(Exception):
         explanation: str = "",
         inner: Optional[Refusal] = None,
     ) -> None:
-        # All of it goes to the base class, which pickles an exception by what it was made of.
+        # The base class pickles an exception by its arguments, so it needs all of them.
         super().__init__(number, at, line, column, explanation, inner)
         self.number = number
         self.at = at
@@ -86,23 +87,23 @@ class Refused(Exception):
 
     @property
     def sentence(self) -> str:
-        """What is wrong, without its place."""
+        """What is wrong, without the location."""
         return _PLACE.sub("", str(self), count=1)
 
 
 def refused_by(answer: _library.Answer, explained: _library.Answer, explanation: str) -> Refused:
-    """The refusal of an answer, with what the library explained of it."""
+    """Return the exception for a refusal, with the library's explanation of it."""
     inner = None
     if answer.verdict == _library.TRACT_REFUSED:
         inner = Refusal(answer.inner_number, answer.inner_at)
-    # The line and the column are both 0 where the fault stands on no line.
+    # The line and column are both 0 if the error is not on any line.
     return Refused(
         answer.number, answer.at, explained.line or None, explained.column or None, explanation, inner
     )
 
 
 def failure_of(verdict: int) -> Exception:
-    """The exception for a verdict that is neither an answer nor a refusal."""
+    """Return the exception for a verdict that is neither an answer nor a refusal."""
     if verdict == _library.NO_MEMORY:
         return MemoryError("township: out of memory")
     if verdict == _library.NO_PLAT:
@@ -113,7 +114,7 @@ def failure_of(verdict: int) -> Exception:
 
 
 def exception_of(answer: _library.Answer, explain, *given: object) -> Exception:
-    """What to raise for an answer that isn't accepted: for a refusal, as the call `explain` tells of it."""
+    """Return the exception for an answer that is not accepted. `explain` is called to explain a refusal."""
     if answer.verdict not in (_library.REFUSED, _library.TRACT_REFUSED):
         return failure_of(answer.verdict)
     explained, text = _library.text_by(explain, *given)

@@ -1,4 +1,4 @@
-//! What a plat answers.
+//! The answers on a plat.
 
 use super::Plat;
 use crate::account::Account;
@@ -11,11 +11,11 @@ use crate::report::{list_of, Report};
 use crate::text::{accepted_text_by, text_by};
 
 impl Plat {
-    /// The acres of the land described, rounded once to hundredths, half up.
+    /// Returns the acreage of the land described, rounded once to hundredths, half up.
     ///
     /// # Errors
     ///
-    /// [`Refused`], with a number from 41 to 67.
+    /// Returns [`Refused`], with a number from 41 to 67, if the description is refused.
     ///
     /// ```
     /// # let notes = include_bytes!(concat!(env!("CARGO_MANIFEST_DIR"), "/../../samples/b1.csv"));
@@ -31,11 +31,11 @@ impl Plat {
         self.acres_by(description, Account::Exact)
     }
 
-    /// The acres of the land described, by an account.
+    /// Returns the acreage of the land described, by an account.
     ///
     /// # Errors
     ///
-    /// As for [`Plat::acres`], by either account.
+    /// The same as for [`Plat::acres`], with either account.
     ///
     /// ```
     /// # let notes = include_bytes!(concat!(env!("CARGO_MANIFEST_DIR"), "/../../samples/b1.csv"));
@@ -59,11 +59,11 @@ impl Plat {
         }
     }
 
-    /// The exact area of the land described, in acres; [`Plat::acres`] has it rounded.
+    /// Returns the exact area of the land described, in acres. [`Plat::acres`] returns it rounded.
     ///
     /// # Errors
     ///
-    /// As for [`Plat::acres`].
+    /// The same as for [`Plat::acres`].
     ///
     /// ```
     /// # let notes = include_bytes!(concat!(env!("CARGO_MANIFEST_DIR"), "/../../samples/b1.csv"));
@@ -75,11 +75,12 @@ impl Plat {
         self.area_by(description, Account::Exact)
     }
 
-    /// The exact area of the land described, by an account; [`Plat::acres_by`] has it rounded.
+    /// Returns the exact area of the land described, in acres, by an account. [`Plat::acres_by`]
+    /// returns it rounded.
     ///
     /// # Errors
     ///
-    /// As for [`Plat::acres`].
+    /// The same as for [`Plat::acres`].
     ///
     /// ```
     /// # let notes = include_bytes!(concat!(env!("CARGO_MANIFEST_DIR"), "/../../samples/b1.csv"));
@@ -101,12 +102,12 @@ impl Plat {
         }
     }
 
-    /// The one canonical text of the land described: two descriptions of the same land have the
-    /// same.
+    /// Returns the canonical description of the land. It is the same for any two descriptions of
+    /// the same land.
     ///
     /// # Errors
     ///
-    /// As for [`Plat::acres`].
+    /// The same as for [`Plat::acres`].
     ///
     /// ```
     /// # let notes = include_bytes!(concat!(env!("CARGO_MANIFEST_DIR"), "/../../samples/b1.csv"));
@@ -124,11 +125,11 @@ impl Plat {
         }
     }
 
-    /// The acres of many descriptions, in their order: of each what [`Plat::acres`] gives. A
-    /// refusal ends nothing.
+    /// Returns an iterator over the answers to many descriptions, in order. Each answer is the
+    /// result of [`Plat::acres`]. A refusal does not end the iteration.
     ///
-    /// Descriptions are taken one at a time as answers are asked for, so there may be any number of
-    /// them.
+    /// Descriptions are consumed one at a time as answers are requested, so there may be any number
+    /// of them.
     ///
     /// ```
     /// # let notes = include_bytes!(concat!(env!("CARGO_MANIFEST_DIR"), "/../../samples/b1.csv"));
@@ -157,7 +158,7 @@ impl Plat {
             .map(move |description| self.acres(description))
     }
 
-    /// The printed plat: the acres of each lot, of each section, and of the township.
+    /// Returns the printed plat: the acreage of each lot, of each section, and of the township.
     ///
     /// ```
     /// # let notes = include_bytes!(concat!(env!("CARGO_MANIFEST_DIR"), "/../../samples/b1.csv"));
@@ -172,14 +173,15 @@ impl Plat {
         accepted_text_by(|room| ffi::print_plat(&self.parts, room))
     }
 
-    /// The account of a list of tracts (CSV, at most 1,048,576 bytes, as `docs/TRACTS-FORMAT.md`
-    /// has it), as text: the acres of each tract, of all land that is in a tract, and of all other
-    /// land in the township. [`Report::of_text`] has its figures.
+    /// Returns the report on a list of tracts (CSV, at most 1,048,576 bytes; see
+    /// `docs/TRACTS-FORMAT.md`), as text: the acreage of each tract, of all tracts together, and of
+    /// all other land in the township. [`Report::of_text`] parses it.
     ///
     /// # Errors
     ///
-    /// [`Refused`], with a number from 80 to 85. For a tract whose description is refused that is
-    /// 83, and `inner` has the description's own refusal.
+    /// Returns [`Refused`], with a number from 80 to 85, if the list is refused. If a tract's
+    /// description is refused, the number is 83, and `inner` contains the description's own
+    /// refusal.
     ///
     /// ```
     /// # let notes = include_bytes!(concat!(env!("CARGO_MANIFEST_DIR"), "/../../samples/b1.csv"));
@@ -204,13 +206,14 @@ impl Plat {
         }
     }
 
-    /// The account of tracts, each with a name and a description: at most 1,000, none of which
-    /// overlap. A name is 1 to 64 bytes of printable ASCII, and no two are the same.
+    /// Returns the report on tracts, each a name and a description. There may be at most 1,000
+    /// tracts, and they must not overlap. A name is 1 to 64 bytes of printable ASCII, and each name
+    /// must be unique.
     ///
     /// # Errors
     ///
-    /// As for [`Plat::report`]. The places are those of the list that the tracts make: the tract of
-    /// index k is record k + 2.
+    /// The same as for [`Plat::report`]. Locations refer to the list that the tracts make: the
+    /// tract with index k is record k + 2.
     ///
     /// ```
     /// # let notes = include_bytes!(concat!(env!("CARGO_MANIFEST_DIR"), "/../../samples/b1.csv"));
@@ -236,7 +239,7 @@ impl Plat {
         Ok(Report::of_text(&text).expect("the library writes reports"))
     }
 
-    /// The refusal of a description on this plat, explained.
+    /// Returns the refusal of a description on this plat, with its explanation.
     fn description_refused(&self, fault: Fault, description: &[u8]) -> Refused {
         Refused::explained(fault, |room| {
             ffi::explain_description(&self.parts, description, DESCRIPTION, room)
