@@ -39,9 +39,9 @@ impl From<AllocError> for ReadFault {
     }
 }
 
-/// How many bytes are asked for at a time. Memory clears so few by wide stores, and many more a byte at a
-/// time.
-const PIECE: usize = 2_000;
+/// How many bytes are asked for at a time: a reader that fills every buffer is called 65 times for 65,536
+/// bytes, 64 times for their pieces and once for the end.
+const PIECE: usize = 1_024;
 
 /// How many bytes there is room for from the start: growing copies what was read so far.
 const ROOM: usize = 131_072;

@@ -4,5 +4,7 @@
 mod device;
 mod failing;
 mod fault;
+mod limits;
 mod notes;
+mod pieces;
 mod running;

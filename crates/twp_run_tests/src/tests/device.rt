@@ -4,10 +4,12 @@ use std::alloc::Global;
 use std::io;
 use std::io::{Error, ErrorKind, Read, Write};
 
-/// Gives bytes, and counts its calls.
+/// Gives one byte again and again, and then other bytes, and counts its calls.
 #[derive(Drop)]
 pub struct Reader<'a> {
-    /// Those that are left.
+    /// The byte, and how many more times it is given.
+    pub repeated: (u8, usize),
+    /// The bytes after it that are left.
     pub bytes: &'a [u8],
     /// How many it gives a call at most.
     pub most: usize,
@@ -18,9 +20,15 @@ pub struct Reader<'a> {
 }
 
 impl<'a> Reader<'a> {
-    /// Gives these bytes, all at once, and never fails.
+    /// Gives these bytes, fills every buffer, and never fails.
     pub fn new(bytes: &'a [u8]) -> Reader<'a> {
+        Reader::after((0, 0), bytes)
+    }
+
+    /// The same, with a byte before them that is given so many times: `usize::MAX` is without end.
+    pub fn after(repeated: (u8, usize), bytes: &'a [u8]) -> Reader<'a> {
         Reader {
+            repeated,
             bytes,
             most: usize::MAX,
             fails: (0, ErrorKind::Other),
@@ -36,11 +44,16 @@ impl Read for Reader<'_> {
         if self.calls == call {
             return Err(Error::from(kind));
         }
-        let count = buf.len().min(self.most).min(self.bytes.len());
+        let room = buf.len().min(self.most);
+        let (byte, times) = self.repeated;
+        let before = room.min(times);
+        buf[..before].fill(byte);
+        self.repeated = (byte, times - before);
+        let count = (room - before).min(self.bytes.len());
         let (front, rest) = self.bytes.split_at(count);
-        buf[..count].copy_from_slice(front);
+        buf[before..before + count].copy_from_slice(front);
         self.bytes = rest;
-        Ok(count)
+        Ok(before + count)
     }
 }
 

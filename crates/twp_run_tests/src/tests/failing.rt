@@ -1,5 +1,6 @@
 use crate::tests::device::{Reader, Writer};
-use crate::tests::running::{EXAMPLES, notes_behind, ran};
+use crate::tests::notes::notes_after;
+use crate::tests::running::{EXAMPLES, ran};
 use std::io::ErrorKind;
 use std::test::Fail;
 use twp_acres::{RunFault, Verdict};
@@ -7,33 +8,35 @@ use twp_acres::{RunFault, Verdict};
 /// The kinds of errors: the one that others may try again after, and another.
 const KINDS: [ErrorKind; 2] = [ErrorKind::Interrupted, ErrorKind::BrokenPipe];
 
-/// The calls that read the notes, of 500 bytes each: four give the 1,638 bytes of notes, and those
-/// before them, and one finds their end.
-const NOTES_CALLS: u32 = 5;
+/// The calls that read the notes, of 100 bytes each: 17 give the 1,638 bytes of notes, also with the
+/// 9 bytes before them, and one finds their end.
+const NOTES_CALLS: u32 = 18;
 
 /// A run whose reader fails, at whichever call, can't read, has written nothing, and calls neither
-/// reader again. Where none fails, or only behind the last call, it answers.
+/// reader again. Where neither fails before the run ends, it answers.
 #[test]
 fn ends_where_a_reader_fails(rt: HostRuntime) -> Result<(), Fail> {
     let alloc = rt.alloc();
     for example in EXAMPLES {
-        let text = notes_behind(alloc, example.front)?;
+        let text = notes_after(alloc, example.front, &[])?;
         let last = NOTES_CALLS.saturating_add(example.second_calls);
         for kind in KINDS {
             for call in 1..last.saturating_add(2) {
-                let mut notes = Reader::new(text.as_slice());
-                notes.most = 500;
+                let mut notes = Reader::new(text.as_bytes());
+                notes.most = 100;
                 notes.fails = (call, kind);
                 let mut second = Reader::new(example.second.as_bytes());
+                second.most = 3;
                 second.fails = (call.saturating_sub(NOTES_CALLS), kind);
                 let ended = ran(alloc, example.call, notes, second, Writer::new(alloc))?;
+                let made = call.min(last);
+                assert!(rt; ended.calls.0 == made.min(NOTES_CALLS));
+                assert!(rt; ended.calls.1 == made.saturating_sub(NOTES_CALLS));
                 if call <= last {
                     assert!(rt; ended.outcome == Err(RunFault::Read));
-                    assert!(rt; ended.calls == call);
                     assert!(rt; ended.taken.is_empty());
                 } else {
                     assert!(rt; ended.outcome == Ok(Verdict::Accepted));
-                    assert!(rt; ended.calls == last);
                     assert!(rt; ended.taken.len() == example.length);
                 }
             }
@@ -49,12 +52,12 @@ fn ends_where_a_reader_fails(rt: HostRuntime) -> Result<(), Fail> {
 fn leaves_a_front_where_the_writer_fails(rt: HostRuntime) -> Result<(), Fail> {
     let alloc = rt.alloc();
     for example in EXAMPLES {
-        let text = notes_behind(alloc, example.front)?;
+        let text = notes_after(alloc, example.front, &[])?;
         // A byte a call.
         let whole = ran(
             alloc,
             example.call,
-            Reader::new(text.as_slice()),
+            Reader::new(text.as_bytes()),
             Reader::new(example.second.as_bytes()),
             Writer::new(alloc),
         )?;
@@ -82,7 +85,7 @@ fn leaves_a_front_where_the_writer_fails(rt: HostRuntime) -> Result<(), Fail> {
                 let ended = ran(
                     alloc,
                     example.call,
-                    Reader::new(text.as_slice()),
+                    Reader::new(text.as_bytes()),
                     Reader::new(example.second.as_bytes()),
                     out,
                 )?;

@@ -1,4 +1,30 @@
-//! Notes of the even township, as in `samples/b0.csv`.
+//! Notes of the even township, as in `samples/b0.csv`, and of townships that differ from it in some
+//! records.
+use std::alloc::{AllocError, Global};
+
+/// A record of the even township's notes, and the record that replaces it.
+pub type Change = (&'static str, &'static str);
+
+/// What is different in the uneven township, as in `samples/b1.csv`: section 6 and the lines near it
+/// have longer or shorter closing half miles.
+pub const UNEVEN: [Change; 6] = [
+    ("N,4,5,40.00,80.00", "N,4,5,40.00,80.20"),
+    ("N,5,6,40.00,80.00", "N,5,6,40.00,80.40"),
+    ("N,6,,40.00,80.00", "N,6,,40.00,80.80"),
+    ("W,6,,40.00,80.00", "W,6,,40.00,79.20"),
+    ("W,6,7,40.00,80.00", "W,6,7,40.00,79.60"),
+    ("W,7,18,40.00,80.00", "W,7,18,40.00,79.50"),
+];
+
+/// What comes before the notes, and the even township's notes with these changes.
+pub fn notes_after(alloc: Global, front: &str, changes: &[Change]) -> Result<String, AllocError> {
+    let mut text = String::from_str(alloc, front)?;
+    text.push_str(NOTES)?;
+    for (record, replacement) in changes {
+        text = text.as_str().replace(alloc, *record, replacement)?;
+    }
+    Ok(text)
+}
 
 /// T. 2 N., R. 3 W., whose lines are all of 40 and 80 chains: 1,638 bytes, which are 32 of the
 /// heading, 10 of the township, 16 of each of the 84 lines, and of each of the 36 sections its

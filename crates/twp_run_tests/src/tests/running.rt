@@ -1,7 +1,6 @@
 //! Each run, over devices for tests.
 use crate::tests::device::{Reader, Writer};
-use crate::tests::notes::NOTES;
-use std::alloc::{AllocError, Global};
+use std::alloc::Global;
 use std::test::Fail;
 use twp_acres::{
     Account, RunFault, Verdict, run_acres, run_acres_as, run_normal, run_plat, run_report,
@@ -24,11 +23,11 @@ pub enum Call {
 #[derive(Clone, Copy)]
 pub struct Example {
     pub call: Call,
-    /// What stands before the notes: a description and its line feed, of joined input.
+    /// What comes before the notes: a description and its line feed, of joined input.
     pub front: &'static str,
     /// The second text.
     pub second: &'static str,
-    /// In how many calls it is read: one, and one more for its end.
+    /// In how many calls it is read: one for each three bytes, and one more for its end.
     pub second_calls: u32,
     pub length: usize,
 }
@@ -41,7 +40,8 @@ pub const EXAMPLES: [Example; 6] = [
         call: Call::Acres,
         front: "",
         second: "sec. 14.",
-        second_calls: 2,
+        // 3 + 3 + 2 bytes.
+        second_calls: 4,
         length: 13,
     },
     // 40.00 acres, and a line feed.
@@ -49,7 +49,8 @@ pub const EXAMPLES: [Example; 6] = [
         call: Call::ByPlat,
         front: "",
         second: "sec. 7, lot 1.",
-        second_calls: 2,
+        // 4 * 3 + 2 bytes.
+        second_calls: 6,
         length: 12,
     },
     // `sec. 1: ` is 8 bytes, `lot 1 40.00, ` 13, and `total 640.00` 13 with its line feed. So the
@@ -68,7 +69,8 @@ pub const EXAMPLES: [Example; 6] = [
         call: Call::Normal,
         front: "",
         second: "sec. 14, SE1/4, NE1/4, NW1/4.",
-        second_calls: 2,
+        // 9 * 3 + 2 bytes.
+        second_calls: 11,
         length: 40,
     },
     // `tract A: 640.00 acres`, `total: 640.00 acres` and `remaining: 22400.00 acres`: 22 + 20 + 26.
@@ -76,7 +78,8 @@ pub const EXAMPLES: [Example; 6] = [
         call: Call::Report,
         front: "",
         second: "name,description\nA,sec. 14.\n",
-        second_calls: 2,
+        // 9 * 3 + 1 bytes.
+        second_calls: 11,
         length: 68,
     },
     Example {
@@ -88,18 +91,11 @@ pub const EXAMPLES: [Example; 6] = [
     },
 ];
 
-/// The notes, and what stands before them.
-pub fn notes_behind(alloc: Global, front: &str) -> Result<Vec<u8>, AllocError> {
-    let mut text = Vec::from_slice(alloc, front.as_bytes())?;
-    text.extend_from_slice(NOTES.as_bytes())?;
-    Ok(text)
-}
-
-/// How a run ended, how often it called its readers, and what its writer took.
+/// How a run ended, how often it called each reader, and what its writer took.
 #[derive(Drop)]
 pub struct Ended {
     pub outcome: Result<Verdict, RunFault>,
-    pub calls: u32,
+    pub calls: (u32, u32),
     pub taken: Vec<u8>,
 }
 
@@ -124,7 +120,7 @@ pub fn ran(
     };
     Ok(Ended {
         outcome,
-        calls: notes.get().calls.saturating_add(second.get().calls),
+        calls: (notes.get().calls, second.get().calls),
         taken: out.get().taken.clone()?,
     })
 }
