@@ -1,5 +1,5 @@
 # What each command does, and when to use it, is said in CONTRIBUTING.md.
-.PHONY: run township try test e2e check bench lib install install-built install-lib man clean
+.PHONY: run township try test e2e check bugs bench lib install install-built install-lib man clean
 
 # Where `make install` puts the program, its man page, the completions, and the library with its header: in the
 # folders bin, share, lib and include. With DESTDIR they are put below another root.
@@ -28,6 +28,12 @@ e2e: township
 
 check:
 	rt all check
+
+# `make bugs CRATES='twp_grid twp_land'` tries those of these crates alone.
+CRATES =
+
+bugs:
+	@python3 scripts/bugs.py $(CRATES)
 
 lib:
 	@sh scripts/library.sh $(PREFIX)
