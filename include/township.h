@@ -46,7 +46,8 @@ extern "C" {
 #define TOWNSHIP_NO_PLAT 3u       /* the plat that was given is none */
 #define TOWNSHIP_NO_ACCOUNT 4u    /* the account that was given is none */
 #define TOWNSHIP_NO_ROOM 5u       /* the text has `length` bytes, and there is less room: none is written */
-#define TOWNSHIP_NO_MEMORY 6u     /* memory ran out */
+#define TOWNSHIP_NO_MEMORY 6u     /* memory ran out, and nothing was written: each call but township_version
+                                     may answer this */
 
 /* Accounts: what a whole lot counts. */
 #define TOWNSHIP_EXACT 0u   /* its exact area */
@@ -78,7 +79,9 @@ typedef struct township_answer {
     uint32_t at;           /* and its place: a record, a section line, or a byte */
     uint32_t inner_number; /* the refusal of a tract's description */
     uint32_t inner_at;
-    uint32_t line;         /* of an explanation: the line and column of the fault, from 1, or both 0 */
+    uint32_t line;         /* of an explanation: the line and column of the fault, from 1, or both 0; those of
+                              a description's refusal are the line and column of the byte `at`, or, if only
+                              white space follows, of the end of the text before it */
     uint32_t column;
     uint32_t reserved;     /* 0 */
     uint64_t hundredths;   /* of an acre, rounded once, half up */

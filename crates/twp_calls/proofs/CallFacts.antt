@@ -17,8 +17,7 @@ use Rattle.twp_calls.specs.Answers.{stopped, answer_of_fault, answer_of_verdict}
 use Rattle.twp_area.specs.declared.account.Account.{Account}
 use Rattle.twp_calls.specs.Answers.{ACCEPTED, bare}
 use Rattle.twp_calls.specs.Calls.{Answers, IsRefusedFor, IsRefusedList, refused_for, no_memory}
-use Rattle.twp_calls.specs.Calls.{OfDescription, OfDescriptionBy, OnPlat, ByAccount, account_of, on_plat}
-use Rattle.twp_calls.specs.Calls.{by_account}
+use Rattle.twp_calls.specs.Calls.{OfDescription, OfDescriptionBy, account_of, on_plat, by_account}
 use Rattle.twp_calls.specs.Calls.{IsPut, IsTextPut}
 use Rattle.twp_calls.specs.Explanations.{IsExplained, IsExplainedFault, IsOfAccount, IsOfFirstFault}
 use Rattle.twp_calls.specs.Answers.{IsRefused, verdict_answer}

@@ -1,7 +1,10 @@
 -- What the calls answer that explain refusals: the refusal as the other calls answer it, and beside it the
 -- line, the column and the text of an explanation of that refusal.
-use Rattle.std.specs.Prelude.{◌≡◌, ℕ, List, Option, Some, None}
+use Rattle.std.specs.Prelude.{◌≡◌, ℕ, List, Option, Some, None, min, length, drop}
+use Rattle.std.specs.List.{AllPass}
+use Rattle.twp_excerpt.specs.Spots.{line_of, column_of, is_white, end_of}
 use Rattle.twp_excerpt.specs.declared.spot.Spot.{Spot}
+use Rattle.twp_grid.specs.Townships.{Designation}
 use Rattle.twp_grid.specs.declared.refusal.Refusal.{Refusal}
 use Rattle.twp_measure.specs.Areas.{Fraction}
 use Rattle.twp_plat.specs.Plats.{TownshipPlat}
@@ -12,6 +15,7 @@ use Rattle.twp_acres.specs.ReportAnswers.{IsAccountOf}
 use Rattle.twp_acres.specs.TractFaults.{IsFirstTractFault, refusal_of, verdict_of}
 use Rattle.twp_acres.specs.declared.tract_fault.TractFault.{TractFault}
 use Rattle.twp_acres.specs.declared.verdict.Verdict.{Verdict}
+use Rattle.twp_findings.specs.ShownPlaces.{TOO_LARGE}
 use Rattle.twp_findings.specs.declared.explanation.Explanation.{Explanation}
 use Rattle.twp_calls.specs.Answers.{ACCEPTED, bare, refused, verdict_answer}
 use Rattle.twp_calls.specs.Calls.{Answers, IsPut, OnPlat}
@@ -74,10 +78,30 @@ pub record IsOfArea (plat : TownshipPlat) (description : List ℕ) (answer : Tow
   pub has : HasAreaOn plat description Exact area
   pub answer_is : answer ≡ bare ACCEPTED
 
+-- This is the line and the column of a place in a text, or of the text's end.
+pub record IsLineAndColumn (text : List ℕ) (at line column : ℕ) : Type 0 where
+  pub line_is : line ≡ line_of text (min at (length text))
+  pub column_is : column ≡ column_of text (min at (length text))
+
+-- The line and the column where a description is refused: those of the refusal's place, or, if only
+-- white space follows, of the end of the text before that white space. Of a description that is too
+-- large nothing is said.
+pub data IsWhereRefused (text : List ℕ) (refusal : Refusal) (line column : ℕ) : Type 0 where
+  too_large : refusal.number ≡ TOO_LARGE → IsWhereRefused text refusal line column
+  at_its_place : IsLineAndColumn text refusal.at line column → IsWhereRefused text refusal line column
+  at_the_end : AllPass is_white (drop refusal.at text) → IsLineAndColumn text (end_of text) line column
+      → IsWhereRefused text refusal line column
+
+-- the refusal of the description is explained, with the line and the column of its place
+pub record IsExplainedWhereRefused (township : Designation) (description old new : List ℕ)
+    (answer : TownshipAnswer) : Type 0 where
+  pub explained : IsExplainedRefusal (IsNoDescription township description) old new answer
+  pub place : IsWhereRefused description explained.refusal answer.line answer.column
+
 abbrev pub ExplainsDescription : GivenPlat → List ℕ → List ℕ → List ℕ → TownshipAnswer → Type 0
 ExplainsDescription given description old new = OnPlat given (λ plat.
     Answers (IsOfArea plat description)
-    (IsExplainedRefusal (IsNoDescription plat.township description) old new))
+    (IsExplainedWhereRefused plat.township description old new))
 
 -- `township_explain_list`: nor of a list that has an account on the plat
 pub record IsOfAccount (plat : TownshipPlat) (list : List ℕ) (answer : TownshipAnswer)

@@ -107,7 +107,8 @@ pub fn township_version(text: &mut [u8]) -> TownshipAnswer
 
 /// A text by the name that was given for it, if that is one.
 fn given<'a>(name: &'a [u8], bytes: &'a [u8]) -> Given<'a>
-    ensures { result.bytes.now ≡ bytes.now }
+    ensures bytes { result.bytes.now ≡ bytes.now }
+    ensures first_line { result.first_line ≡ 1 }
 {
     let name = match str::from_utf8(name) {
         Ok(name) if !name.is_empty() => name,

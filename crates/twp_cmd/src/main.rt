@@ -7,5 +7,5 @@
 use std::process::ExitCode;
 
 fn main(rt: HostRuntime) -> ExitCode {
-    ExitCode::from(twp_program::run(&rt))
+    ExitCode::from(twp_program::run(&rt).status)
 }

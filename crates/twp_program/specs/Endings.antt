@@ -16,7 +16,7 @@ use Rattle.twp_acres.specs.declared.verdict.Verdict.{Verdict}
 use Rattle.twp_acres.specs.declared.verdict.RunFault.{RunFault}
 use Rattle.twp_acres.specs.declared.verdict.RunFault.TheVariants.{Read, Write, Memory}
 use Rattle.twp_input.specs.Joined.{joined_description, joined_notes}
-use Rattle.twp_program.specs.Statuses.{IsStatusOf, failing}
+use Rattle.twp_program.specs.Statuses.{failing}
 use Rattle.twp_command.specs.Tasks.{HasKindAt, IsFaultOf, IsTaskOf}
 use Rattle.twp_program.specs.declared.ending.Ending.{Ending}
 use Rattle.twp_program.specs.declared.ending.Ending.TheVariants.{Answered, Helps, Misused, Failed}
@@ -114,9 +114,3 @@ EndsWithoutWords other = ⊥
 abbrev pub EndsProgram : Ending → Type 0
 EndsProgram ending =
     ((words : List Text) × (1 < length words) × EndsAs words ending) ⊎ EndsWithoutWords ending
-
--- the status is that of such an ending
-pub record IsProgramStatus (status : ℕ) : Type 0 where
-  pub ending : Ending
-  pub ends : EndsProgram ending
-  pub status_is : IsStatusOf ending status

@@ -18,6 +18,15 @@ pub enum Ending {
     Failed(Failure),
 }
 
+/// How the program ended, and the status that it exits with.
+#[derive(Drop)]
+pub struct Ended {
+    /// How it ended.
+    pub ending: Ending,
+    /// The status of that ending.
+    pub status: u8,
+}
+
 /// Why the program has no answer.
 #[derive(Debug, Drop, Error)]
 pub enum Failure {

@@ -8,5 +8,5 @@ mod program;
 mod subcommand;
 mod telling;
 
-pub use ending::{Ending, Failure};
-pub use program::run;
+pub use ending::{Ended, Ending, Failure};
+pub use program::{run, run_words};

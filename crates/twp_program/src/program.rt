@@ -1,10 +1,10 @@
 //! The program over the host's capabilities, which `main` gives it.
 ghost use Rattle.std.specs.Prelude.{◌≡◌, map, string_bytes, IfErr, IfOk};
-ghost use Rattle.twp_program.specs.Endings.{EndsAs, EndsProgram, IsJoinedVerdict, IsProgramStatus};
+ghost use Rattle.twp_program.specs.Endings.{EndsAs, EndsProgram, IsJoinedVerdict};
 ghost use Rattle.twp_program.specs.Endings.{IsRunFailure, IsWordsFault};
 ghost use Rattle.twp_program.specs.Statuses.{IsStatusOf, words_fault};
 
-use crate::ending::{Ending, Failure, NO_ANSWER, outcome_of};
+use crate::ending::{Ended, Ending, Failure, NO_ANSWER, outcome_of};
 use crate::subcommand::run_task;
 use crate::telling::tell_joined;
 use std::env::Env;
@@ -16,11 +16,15 @@ use twp_command::read_task;
 use twp_grid::Device;
 use twp_input::{Kept, run_joined};
 
-/// Runs the program, reports on standard error why there is no answer, and gives the status.
-pub fn run<R: Env + Files + Input + Print + Eprint + AllocGlobal>(rt: &R) -> u8
-    ensures { IsProgramStatus result }
+/// Runs the program, and reports on standard error why there is no answer. The ending and its status
+/// are returned together.
+pub fn run<R: Env + Files + Input + Print + Eprint + AllocGlobal>(rt: &R) -> Ended
+    ensures ends { EndsProgram result.ending }
+    ensures status { IsStatusOf result.ending result.status }
 {
-    conclude(rt, &carry_out(rt))
+    let ending = carry_out(rt);
+    let status = conclude(rt, &ending);
+    Ended { ending, status }
 }
 
 /// Does what the words of the command line ask for, or answers standard input where there are none.
@@ -75,9 +79,9 @@ fn run_standard_input<R: Input + Print + Eprint + AllocGlobal>(rt: &R) -> Result
     outcome
 }
 
-/// Does what the words of a command line ask for.
+/// Does what the words of a command line ask for, the first of which is the program's name.
 #[inline(never)]
-fn run_words<R: Files + Print + Eprint + AllocGlobal>(rt: &R, words: Vec<String>) -> Ending
+pub fn run_words<R: Files + Print + Eprint + AllocGlobal>(rt: &R, words: Vec<String>) -> Ending
     ensures { EndsAs (map string_bytes words.items) result }
 {
     match read_task(rt.alloc(), words) {

@@ -3,8 +3,9 @@
 use Rattle.std.proofs.Common.{subst}
 use Rattle.twp_calls.specs.Calls.{accepted, refused_for, no_memory, on_plat}
 use Rattle.twp_acres.specs.Answers.{IsNoDescription}
-use Rattle.twp_calls.specs.Explanations.{IsTold}
-use Rattle.twp_calls.proofs.CallFacts.{refused_on, held_by}
+use Rattle.twp_calls.proofs.CallFacts.{held_by}
+use Rattle.twp_calls.proofs.PlaceFacts.{refused_where}
+use Rattle.twp_explain.specs.ToldPlaces.{IsToldWhereRefused}
 use Rattle.twp_calls.proofs.explaining.township_explain_description.Goals as goal
 
 pub returns-in-Ok-clause-answer : goal.returns-in-Ok-clause-answer
@@ -19,27 +20,18 @@ returns-in-Err-Failed-clause-answer c =
 pub returns-in-Ok-Some-clause-answer : goal.returns-in-Ok-Some-clause-answer
 returns-in-Ok-Some-clause-answer c =
     on_plat c.in-Some.plat c.in-Some.ensures
-    (refused_for (record {
-      refusal = c.in-Err-Refused.refusal;
-      first =
-          refused_on c.in-Some.plat.township c.args.description.now c.in-Err-Refused.field-0
-          c.in-Err-Refused.refusal c.in-Err-Refused.field-0-is c.in-Err-Refused.ensures;
-      explained = record {
-        explanation = c.in-Ok-Some.told;
-        is_such =
-            subst (λ bytes. IsNoDescription c.in-Some.plat.township bytes c.in-Ok-Some.told.refusal)
-            c.given.ensures
-            (subst (λ township. IsNoDescription township c.given.result.bytes.now c.in-Ok-Some.told.refusal)
-            c.township.ensures
-            (held_by (λ told. IsNoDescription c.township.result c.given.result.bytes.now told.refusal)
-            c.in-Ok-Some.field-0 c.in-Ok-Some.told c.in-Ok-Some.field-0-is c.in-Ok-Some.ensures.refusal));
-        told_is =
-            subst
-            (λ told.
-            IsTold told c.in-Ok-Some.told c.args.text.now c.put_explanation.new.text c.put_explanation.result)
-            c.of_refusal-refused.ensures c.put_explanation.ensures.told;
-      };
-    }))
+    (refused_for (refused_where c.in-Some.plat.township c.args.description.now c.args.text.now
+    c.put_explanation.new.text c.given.result c.in-Err-Refused.field-0 c.in-Err-Refused.refusal
+    c.in-Ok-Some.told
+    c.of_refusal-refused.result c.put_explanation.result c.in-Err-Refused.field-0-is c.in-Err-Refused.ensures
+    c.given.ensures.bytes c.given.ensures.first_line
+    (subst (λ township. IsNoDescription township c.given.result.bytes.now c.in-Ok-Some.told.refusal)
+    c.township.ensures
+    (held_by (λ told. IsNoDescription c.township.result c.given.result.bytes.now told.refusal)
+    c.in-Ok-Some.field-0 c.in-Ok-Some.told c.in-Ok-Some.field-0-is c.in-Ok-Some.ensures.refusal))
+    (held_by (IsToldWhereRefused c.given.result) c.in-Ok-Some.field-0 c.in-Ok-Some.told
+    c.in-Ok-Some.field-0-is c.in-Ok-Some.ensures.spot)
+    c.of_refusal-refused.ensures c.put_explanation.ensures.told))
 
 pub returns-in-Ok-None-clause-answer : goal.returns-in-Ok-None-clause-answer
 returns-in-Ok-None-clause-answer c =

@@ -31,7 +31,7 @@ returns-in-Ok-Some-clause-answer c =
         fault = c.in-Ok-Some.told.fault;
         first =
             subst (λ bytes. IsFirstTractFault c.in-Some.plat.township bytes c.in-Ok-Some.told.fault)
-            c.given.ensures
+            c.given.ensures.bytes
             (held_by (λ told. IsFirstTractFault c.in-Some.plat.township c.given.result.bytes.now told.fault)
             c.in-Ok-Some.field-0 c.in-Ok-Some.told c.in-Ok-Some.field-0-is c.in-Ok-Some.ensures.first);
         refusal_is =

@@ -16,7 +16,7 @@ returns-in-Ok-Some-clause-answer c =
       explained = record {
         explanation = c.in-Ok-Some.told;
         is_such =
-            subst (λ bytes. IsNoPlat bytes c.in-Ok-Some.told.refusal) c.given.ensures
+            subst (λ bytes. IsNoPlat bytes c.in-Ok-Some.told.refusal) c.given.ensures.bytes
             (held_by (λ told. IsNoPlat c.given.result.bytes.now told.refusal) c.in-Ok-Some.field-0
             c.in-Ok-Some.told c.in-Ok-Some.field-0-is c.in-Ok-Some.ensures.refusal);
         told_is =
