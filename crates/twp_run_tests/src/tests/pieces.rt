@@ -43,7 +43,7 @@ const ROWS: [Row; 15] = [
         verdict: Verdict::Accepted,
         answer: "40.45 acres\n",
     },
-    // Their exact areas, 38.70, 38.90 and 39.10 as rounded each, are 116.70891.. acres.
+    // Exactly 116.70891.. acres; the lots rounded separately, 38.70, 38.90 and 39.10, sum to 116.70.
     Row {
         call: Call::Acres,
         front: "",
@@ -52,7 +52,7 @@ const ROWS: [Row; 15] = [
         verdict: Verdict::Accepted,
         answer: "116.71 acres\n",
     },
-    // Four fields.
+    // Four fields, and not five.
     Row {
         call: Call::Acres,
         front: "",
@@ -61,7 +61,7 @@ const ROWS: [Row; 15] = [
         verdict: Verdict::Refused(Refusal { number: 4, at: 3 }),
         answer: "refused 4 at 3\n",
     },
-    // No run.
+    // `X` is not a run.
     Row {
         call: Call::Acres,
         front: "",
@@ -70,7 +70,7 @@ const ROWS: [Row; 15] = [
         verdict: Verdict::Refused(Refusal { number: 6, at: 3 }),
         answer: "refused 6 at 3\n",
     },
-    // No section.
+    // 37 is not a section.
     Row {
         call: Call::Acres,
         front: "",
@@ -97,7 +97,7 @@ const ROWS: [Row; 15] = [
         verdict: Verdict::Refused(Refusal { number: 8, at: 3 }),
         answer: "refused 8 at 3\n",
     },
-    // Four decimals.
+    // Four decimals are one too many.
     Row {
         call: Call::Acres,
         front: "",
@@ -155,7 +155,7 @@ const ROWS: [Row; 15] = [
         },
         answer: "refused 83 at 2\nrefused 67 at 19\n",
     },
-    // One field.
+    // The second tract has one field.
     Row {
         call: Call::Report,
         front: "",
