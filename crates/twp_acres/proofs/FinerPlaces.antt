@@ -1,7 +1,7 @@
 -- Where each place is cut into four, descriptions of land keep all that they had.
 use Rattle.std.proofs.Common.{◌*◌, refl, arith}
 use Rattle.twp_area.specs.PlatAccounts.{IsNominalShare}
-use Rattle.twp_area.proofs.FinerAreas.{same_area, same_plat_area}
+use Rattle.twp_area.proofs.FinerAreas.{position_of_four, same_area, same_plat_area, township_of_four}
 use Rattle.twp_grammar.proofs.FinerItems.{on_plat_finer, land_finer}
 use Rattle.twp_text.proofs.FinerTexts.{same_text}
 use Rattle.twp_acres.specs.FinerPlaces.{FinerPlacesKeepAll, FinerPlacesKeepPlatAreas, ThirtySecondsKeepAll}
@@ -11,6 +11,8 @@ pub keep_all : FinerPlacesKeepAll
 keep_all g fits = record {
   on_plat = λ township items on. on_plat_finer g township items fits on;
   land = λ township items places land. land_finer g township items places fits land;
+  sums = λ pieces places. township_of_four g pieces places fits;
+  places_are_four = position_of_four g fits;
   area = λ plat places area. same_area g plat places area fits;
   text = λ township places text. same_text g township places text fits;
 }

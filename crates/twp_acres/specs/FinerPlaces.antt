@@ -1,28 +1,32 @@
 -- What stays as it is where each place is cut into four, so that its column and its row have one
 -- binary digit more: what was described lies on the plat as before, and is the same land, with the
 -- same areas and the same canonical text.
-use Rattle.std.specs.Prelude.{◌↔◌, ℕ, suc, ◌≤◌, Bool, List}
+use Rattle.std.specs.Prelude.{◌≡◌, ◌↔◌, ℕ, suc, ◌*◌, ◌≤◌, Bool, List}
 use Rattle.twp_measure.specs.Areas.{Fraction}
 use Rattle.twp_grid.specs.Lots.{POSITIONS_ACROSS}
 use Rattle.twp_grid.specs.Places.{places_across}
 use Rattle.twp_grid.specs.Townships.{Designation}
 use Rattle.twp_land.specs.FinerLands.{finer_land}
 use Rattle.twp_plat.specs.Plats.{TownshipPlat}
-use Rattle.twp_area.specs.LandAreas.{IsLandArea}
+use Rattle.twp_area.specs.LandAreas.{IsLandArea, places_of_position, township_sum}
 use Rattle.twp_area.specs.PlatAccounts.{IsNominalShare, IsPlatArea}
 use Rattle.twp_grammar.specs.declared.item.Item.{Item}
 use Rattle.twp_grammar.specs.OnPlat.{AreOnPlat, IsLandOfItems}
 use Rattle.twp_text.specs.CanonicalText.{IsCanonicalText}
 
 -- From one number of digits to one digit more: items that lie on the plat without overlap still do,
--- and their land is the same, each place cut into four. A land's exact area is the same fraction,
--- and its canonical text is the same bytes.
+-- and their land is the same, each place cut into four. The sum over the finer places is four times
+-- the sum over the coarser ones, for any pieces and any set of places, and a position has four times
+-- as many places; so a land's exact area is the same fraction. Its canonical text is the same bytes.
 pub record StaysTheSame (g finer : ℕ) : Type 0 where
   pub on_plat : (township : Designation) (items : List Item)
       → AreOnPlat g township items → AreOnPlat finer township items
   pub land : (township : Designation) (items : List Item) (places : ℕ → ℕ → ℕ → Bool)
       → IsLandOfItems g township items places
       → IsLandOfItems finer township items (finer_land places)
+  pub sums : (pieces : ℕ → ℕ → ℕ → ℕ) (places : ℕ → ℕ → ℕ → Bool)
+      → township_sum finer pieces (finer_land places) ≡ 4 * township_sum g pieces places
+  pub places_are_four : places_of_position finer ≡ 4 * places_of_position g
   pub area : (plat : TownshipPlat) (places : ℕ → ℕ → ℕ → Bool) (area : Fraction)
       → IsLandArea g plat places area ↔ IsLandArea finer plat (finer_land places) area
   pub text : (township : Designation) (places : ℕ → ℕ → ℕ → Bool) (text : List ℕ)

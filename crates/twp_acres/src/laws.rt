@@ -93,7 +93,8 @@ pub fn one_report_answer()
 {}
 
 /// Where each place is cut into four, all that descriptions said stays: what lies on the plat without
-/// overlap still does, and is the same land, with the same exact area and the same canonical text.
+/// overlap still does, and is the same land, with the same exact area and the same canonical text. The
+/// sum over the finer places is four times the sum over the coarser ones.
 pub fn finer_places_keep_all()
     ensures { FinerPlacesKeepAll }
 {}

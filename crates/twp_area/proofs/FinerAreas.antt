@@ -24,7 +24,7 @@ use Rattle.twp_area.specs.PlatAccounts.{IsNominalShare, IsPlatArea}
 use Rattle.twp_area.proofs.AreaLaws.{some_places}
 
 -- a position has four times as many places
-position_of_four : (g : ℕ) → POSITIONS_ACROSS ≤ places_across g
+pub position_of_four : (g : ℕ) → POSITIONS_ACROSS ≤ places_across g
     → places_of_position (suc g) ≡ 4 * places_of_position g
 position_of_four g fits =
     ap (λ side. side * side) (position_twice g fits) ∙ square (places_to_position g)
@@ -49,7 +49,7 @@ section_of_four g pieces held fits =
     ap (λ f. total_over (whole_block (suc g)) f) (same_piece g pieces held fits)
     ∙ whole_finer g (piece_where_held g pieces held)
 
-township_of_four : (g : ℕ) (pieces : ℕ → ℕ → ℕ → ℕ) (places : ℕ → ℕ → ℕ → Bool)
+pub township_of_four : (g : ℕ) (pieces : ℕ → ℕ → ℕ → ℕ) (places : ℕ → ℕ → ℕ → Bool)
     → POSITIONS_ACROSS ≤ places_across g
     → township_sum (suc g) pieces (finer_land places) ≡ 4 * township_sum g pieces places
 township_of_four g pieces places fits =
