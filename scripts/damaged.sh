@@ -1,15 +1,15 @@
 #!/bin/sh
-# Runs ./township, or the program that is named, on 1,000 inputs that damaged.awk makes of good ones, most
-# of which it refuses. What becomes of standard error makes no difference: whether it goes to a file, goes
-# nowhere, or is closed, the status and standard output are those that the line of the input in
-# damaged-answers has. On standard error a refusal is explained, with no control characters, whatever the
-# input has; and nothing else is written there. The last line is 'N passed, 0 failed'.
+# Runs ./township, or the program that is named, on 1,000 inputs that damaged.awk makes of good ones, and checks the
+# form of each run. Status 0 goes with an answer and at most a note; status 1 goes with a refusal and its
+# explanation. An explanation begins with the program's name, the name of the refused file, and the line and the
+# column, where the refusal has them. It is UTF-8, contains no control characters, nor others that a terminal
+# doesn't show, whatever the input contains, and ends with a line feed. The answer and the status are the same
+# whether standard error goes to a file, goes nowhere, or is closed. The last line is 'N passed, 0 failed'.
 #
-# `sh scripts/damaged.sh PROGRAM answers` prints such lines as the program answers: the input's number, the
-# status, and the refusal, or the sum and the size of what else was written. Those of damaged-answers are of a
-# program that explained nothing.
+# `sh scripts/damaged.sh PROGRAM records` prints the program's answers as records for tests/c/cases.c, which
+# compares them with the library's answers for the same bytes; scripts/library_tests.sh calls both.
 set -u
-ulimit -f 2000
+ulimit -f 4000
 ulimit -t 20
 root=$(readlink -f "$(dirname "$0")/..")
 program=$(readlink -f "${1:-./township}")
@@ -18,10 +18,15 @@ trap 'rm -rf "$work"' EXIT
 cd "$work" || exit 1
 passed=0
 failed=0
+count=1000
 LC_ALL=C
 export LC_ALL
-awk -v count=1000 -v even="$root/samples/b0.csv" -v uneven="$root/samples/b1.csv" \
-    -f "$root/scripts/damaged.awk" > cases || exit 1
+awk -v count=$count -v even="$root/samples/b0.csv" -v uneven="$root/samples/b1.csv" \
+    -f "$root/scripts/damaged.awk" > cases
+if [ "$(wc -l < cases)" != $count ]; then
+    echo "FAILED: damaged.awk didn't make $count inputs" >&2
+    exit 1
+fi
 
 # Runs the program on a case: its number, and how.
 run() {
@@ -33,61 +38,98 @@ run() {
     esac
 }
 
-# A line of damaged-answers: the number, the status, and what is in the file `out`.
-answer() {
-    if [ "$2" = 1 ]; then
-        echo "$1 1 $(paste -s -d ' ' out)"
-    else
-        echo "$1 $2 $(cksum < out)"
-    fi
+# A case and its answer as a record. Of joined input the description ends at the first line feed.
+record() {
+    how=$2
+    case $how in
+        joined)
+            how=acres
+            sed 1q "$1.text" | tr -d '\n' > input
+            sed 1d "$1.text" > notes
+            ;;
+        plat)
+            : > input
+            cp "$1.notes" notes
+            ;;
+        *)
+            cp "$1.text" input
+            cp "$1.notes" notes
+            ;;
+    esac
+    printf 'damaged-%d %s %d %d %d\n' "$1" "$how" "$(wc -c < notes)" "$(wc -c < input)" "$(wc -c < out)"
+    cat notes input out
+    echo
 }
 
-if [ "${2-}" = answers ]; then
+if [ "${2-}" = records ]; then
     while read -r number how; do
         run "$number" "$how" > out 2> err
-        answer "$number" $?
+        record "$number" "$how"
     done < cases
     exit
 fi
 
-# Whether what the last run wrote to standard error is as it should be at its status.
-is_explained() {
-    case $1 in
-        0) [ ! -s err ] ;;
+# What a terminal doesn't show of what is no control character of ASCII: the others up to the no-break space, the soft
+# hyphen, spaces of odd widths, marks of direction, line separators, joiners, the byte order mark, and tags.
+printf '%b\n' '\0302[\0200-\0240\0255]' '\0342\0200[\0200-\0217\0250-\0257]' '\0342\0201[\0237-\0257]' \
+    '\0357\0273\0277' '\0363\0240' > unseen
+
+# Whether standard error is text that a terminal shows, in whole lines.
+is_shown() {
+    iconv -f UTF-8 -t UTF-8 err > lost 2>&1 && ! grep -q '[[:cntrl:]]' err && ! grep -qaf unseen err &&
+        [ -z "$(tail -c 1 err)" ]
+}
+
+# What the explanation of an answer begins with, of a case by its number and how it is run: a regular expression.
+front() {
+    number=${3#refused }
+    number=${number%% *}
+    file=$1.text
+    [ "$number" -gt 23 ] || file=$1.notes
+    [ "$2" != joined ] || file='standard input'
+    place=':[1-9][0-9]*'
+    case $number in
+        1 | 2 | 11 | 41 | 80) at= ;;
+        81) at="\\($place\\)\\{0,2\\}" ;;
+        4[2-4] | 6[1-7] | 83) at=$place$place ;;
+        *) at="$place\\($place\\)\\{0,1\\}" ;;
+    esac
+    echo "^township: $file$at: [^ ]"
+}
+
+# Whether the last run ended as it should: the case's number, how it was run, and its status.
+is_well_formed() {
+    answer=$(sed 1q out)
+    case $3 in
+        0)
+            echo "$answer" | grep -qv '^refused' || return
+            [ ! -s err ] || { sed 1q err | grep -q "^township: [^:]*:[1-9][0-9]*:[1-9][0-9]*: note: [^ ]" && is_shown; }
+            ;;
         1)
-            sed 1q err | grep -q '^township: .*: .' && ! grep -q '[[:cntrl:]]' err &&
-                [ -z "$(tail -c 1 err)" ]
+            echo "$answer" | grep -qx 'refused [1-9][0-9]* at [0-9]*' || return
+            sed 1q err | grep -q "$(front "$1" "$2" "$answer")" && is_shown
             ;;
         *) false ;;
     esac
 }
 
-while read -r number how && read -r wanted <&3; do
+while read -r number how; do
     run "$number" "$how" > out 2> err
     status=$?
-    found=$(answer "$number" "$status")
     run "$number" "$how" > closed 2>&-
     status_closed=$?
     run "$number" "$how" > nowhere 2> /dev/null
     status_nowhere=$?
-    if [ "$found" = "$wanted" ] && is_explained "$status" && cmp -s out closed && cmp -s out nowhere &&
+    if is_well_formed "$number" "$how" "$status" && cmp -s out closed && cmp -s out nowhere &&
         [ "$status_closed $status_nowhere" = "$status $status" ]; then
         passed=$((passed + 1))
         continue
     fi
     failed=$((failed + 1))
     echo "FAILED: damaged input $number, $how: statuses $status, $status_closed, $status_nowhere;"
-    echo 'wanted, found, and standard error:'
-    printf '%s\n%s\n' "$wanted" "$found"
+    echo 'standard output, and standard error:'
+    head -c 2000 out
     head -c 2000 err
-done < cases 3< "$root/scripts/damaged-answers"
-# As many answers are kept as there are cases.
-kept=$(wc -l < "$root/scripts/damaged-answers")
-if [ "$kept" = 1000 ] && [ "$((passed + failed)) $kept" = "$kept $(wc -l < cases)" ]; then
-    passed=$((passed + 1))
-else
-    failed=$((failed + 1))
-    echo 'FAILED: damaged-answers has other cases'
-fi
+done < cases
 echo "$passed passed, $failed failed"
 [ "$failed" = 0 ]

@@ -169,6 +169,21 @@ refuse_call 'Description::read' '' 'answered
 
 normal='T. 2 N., R. 3 W.,
 sec. 14, N1/2, SE1/4.'
+refuse_call 'spell' '' "answered
+$normal
+" spell parts
+# The northern row of places is written as the north halves of sixteen squares of four places, and these as their
+# quarters, from the east.
+printf 'sec. 14, N1/2N1/2N1/2N1/2N1/2.' > row
+parts_of_row=$(awk 'BEGIN {
+    split("NE1/4 NW1/4", corner, " ")
+    for (a = 1; a <= 2; a++) for (b = 1; b <= 2; b++) for (c = 1; c <= 2; c++) for (d = 1; d <= 2; d++)
+        printf "%sN1/2%s%s%s%s", (a + b + c + d > 4 ? ", " : ""), corner[d], corner[c], corner[b], corner[a]
+}')
+refuse_call 'spell' '' "answered
+T. 2 N., R. 3 W.,
+sec. 14, $parts_of_row.
+" spell row
 account='tract A: 39.18 acres
 tract B: 39.03 acres
 total: 78.20 acres

@@ -2,13 +2,16 @@
 # Builds the library for C, and tries it and what is built on it: from C and from C++, under memcheck, from four
 # threads, with memory refused, as it is installed, by the packages for Python and for Rust, and by the examples
 # of many descriptions. The worked cases for each of them are those of scripts/answered, or of the zip that
-# TOWNSHIP_CASES names. A test whose tool is missing is skipped, and named in a line 'skipped: NAME';
-# scripts/needs.sh lists the packages to install. The last line is 'N passed, 0 failed'. With the word `proved` the
-# library is built over what `rt ci` has just proved.
+# TOWNSHIP_CASES names; and on damaged inputs the library answers as the program does. A test whose tool is missing is
+# skipped, and named in a line 'skipped: NAME'; scripts/needs.sh lists the packages to install. The last line is
+# 'N passed, 0 failed'. With the word `proved` the library is built over what `rt ci` has just proved, and the
+# program is the one that it built.
 set -u
 root=$(readlink -f "$(dirname "$0")/..")
 cd "$root" || exit 1
 proved=${1:-}
+program=township
+[ "$proved" != proved ] || program=crates/twp_cmd/out/twp_cmd
 work=$(mktemp -d)
 trap 'rm -rf "$work"' EXIT
 passed=0
@@ -106,13 +109,21 @@ if has "$compiler"; then
     else
         skip 'memcheck: no valgrind'
     fi
+    try 'the test of cases compiles' "$compiler" -std=c11 $flags -o "$work/cases" tests/c/cases.c tests/c/check.c \
+        tests/c/area.c lib/libtownship.a
     if [ -n "${PYTHON:-}" ]; then
-        try 'the test of cases compiles' "$compiler" -std=c11 $flags -o "$work/cases" tests/c/cases.c \
-            tests/c/check.c tests/c/area.c lib/libtownship.a
         "$PYTHON" tests/c/case_records.py "$TOWNSHIP_CASES" > "$work/records" 2> "$work/lost"
         count 'worked cases from C' sh -c '"$1" < "$2"' sh "$work/cases" "$work/records"
     else
         skip 'worked cases from C: no Python to read them'
+    fi
+    # Damaged inputs, for which the library has to answer as the program does.
+    if [ -x "$program" ]; then
+        try 'the program on damaged inputs' sh -c 'sh scripts/damaged.sh "$1" records > "$2"' sh "$program" \
+            "$work/damaged"
+        count 'damaged inputs from C' sh -c '"$1" < "$2"' sh "$work/cases" "$work/damaged"
+    else
+        skip "damaged inputs from C: the program isn't built ($program)"
     fi
 else
     skip "the library from C: no C compiler ($compiler)"

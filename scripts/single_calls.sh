@@ -86,6 +86,17 @@ done << 'END'
 2|sec 1, W1/2SW1/4NE1/4E1/2S1/2W1/2N1/2SW1/4SE1/4NW1/4S1/2of N1/2
 END
 
+# The canonical texts of lands in T. 2 N., R. 3 W., and what is wrong with descriptions that name no land there.
+while IFS='|' read -r told text; do
+    printf '%s' "$text" > text
+    is_told "$(printf "$told")" spell text
+done << 'END'
+answered\nT. 2 N., R. 3 W.,\nsec. 14, N1/2, SE1/4.|sec. 14, SE1/4, NE1/4, NW1/4.
+answered\nT. 2 N., R. 3 W.,\nsec. 1, all;\nsec. 6, lots 1, 3, 4, 5.|sec. 6, lots 5, 1, 3 thru 4; sec. 1.
+the aliquot part at 8 holds land of a lot|sec. 5, N1/2.
+the description goes wrong at 8: here could stand a part of the section, or another section's number|sec. 14,
+END
+
 # Lengths that are none.
 while IFS='|' read -r length told; do
     is_told "$told" write-length "$length" 0

@@ -7,7 +7,8 @@
  * NAME is what the case is called. KIND is `acres`, `by-plat` (acres by the printed plat), `plat`, `normal`, or
  * `report`. NOTES, INPUT and ANSWER are numbers of bytes: of the field notes; of the description or the list of
  * tracts, which is none for `plat`; and of the answer that is wanted, as the program `township` writes it. A line
- * feed ends a case, behind its bytes. tests/c/case_records.py writes this form.
+ * feed ends a case, behind its bytes. tests/c/case_records.py writes this form, and so does scripts/damaged.sh, with
+ * the program's answers as those that are wanted.
  *
  * Beside the answer it compares the exact area of each land that has acres, rounded, and the verdict on each
  * refusal that is explained. The last line is `N passed, M failed`.

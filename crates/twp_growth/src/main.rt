@@ -8,6 +8,7 @@
 #![tactic(auto)]
 
 mod reading;
+mod spelling;
 mod telling;
 mod writing;
 
@@ -28,6 +29,7 @@ fn main(rt: HostRuntime) -> io::Result<ExitCode> {
     let text = fs::read(&rt, input.as_str())?;
     match call.as_str() {
         "read-notes" => reading::read_notes(&rt, text.as_slice())?,
+        "spell" => spelling::spell_land(&rt, text.as_slice())?,
         _ => reading::read_description(&rt, text.as_slice())?,
     }
     Ok(ExitCode::SUCCESS)

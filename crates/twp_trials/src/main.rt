@@ -1,0 +1,41 @@
+//! Tries calls that `township` doesn't make, or doesn't show by themselves, and prints what each
+//! answered. The file `stdout` beside `src/` has the lines that are expected. They were worked out
+//! by hand; where the calculation is more than a look, it is in a comment where the call is made.
+//! Standard input is the field notes of the uneven township, `samples/b1.csv`.
+#![tactic(auto)]
+
+mod blocks;
+mod descriptions;
+mod figures;
+mod fronts;
+mod lands;
+mod mixed;
+mod words;
+
+use std::io;
+use std::process::ExitCode;
+use twp_grid::Device;
+use twp_notes::Notes;
+use twp_plat::Plat;
+
+/// The plat of the field notes on standard input.
+fn plat_of_input(rt: &HostRuntime) -> Option<Plat> {
+    let mut input = Device::new(rt.reader());
+    let notes = Notes::read(rt.alloc(), &mut input).ok()?;
+    Plat::protract(&notes).ok()
+}
+
+fn main(rt: HostRuntime) -> io::Result<ExitCode> {
+    let Some(plat) = plat_of_input(&rt) else {
+        eprintln!(rt; "twp_trials: standard input has no notes of a plat")?;
+        return Ok(ExitCode::from(2));
+    };
+    blocks::try_blocks(&rt)?;
+    lands::try_counts(&rt)?;
+    lands::try_both_kinds(&rt)?;
+    figures::try_figures(&rt, &plat)?;
+    words::try_words(&rt)?;
+    descriptions::try_descriptions(&rt, &plat)?;
+    fronts::try_fronts(&rt, &plat)?;
+    Ok(ExitCode::SUCCESS)
+}
