@@ -19,7 +19,7 @@ pub fn try_blocks(rt: &HostRuntime) -> io::Result<()> {
             rt.print(name)?;
             rt.print(") x ")?;
             rt.print(times)?;
-            tell(rt, "", quartered(corner, times))?;
+            print_block(rt, "", quartered(corner, times))?;
         }
     }
     for (name, side) in [
@@ -30,12 +30,12 @@ pub fn try_blocks(rt: &HostRuntime) -> io::Result<()> {
     ] {
         rt.print("Block::whole().quarter(NE) x 5, then half(")?;
         rt.print(name)?;
-        tell(rt, ")", half_of_place(side))?;
+        print_block(rt, ")", half_of_place(side))?;
     }
     try_lots(rt)
 }
 
-/// A quarter of the whole section, of this the same quarter, and so on, so many times.
+/// A corner's quarter of the whole section, the same quarter of this one, and so on, so many times.
 fn quartered(corner: Corner, times: u8) -> Option<Block> {
     let mut block = Block::whole();
     for _ in 0..times {
@@ -56,13 +56,13 @@ fn try_lots(rt: &HostRuntime) -> io::Result<()> {
     for lot in 1..9u8 {
         rt.print("Block::of_lot(section 6, lot ")?;
         rt.print(lot)?;
-        tell(rt, ")", Block::of_lot(section, lot))?;
+        print_block(rt, ")", Block::of_lot(section, lot))?;
     }
     Ok(())
 }
 
 /// Ends a line with a block.
-fn tell(rt: &HostRuntime, call_end: &str, block: Option<Block>) -> io::Result<()> {
+fn print_block(rt: &HostRuntime, call_end: &str, block: Option<Block>) -> io::Result<()> {
     rt.print(call_end)?;
     let Some(block) = block else {
         return rt.println(": None");

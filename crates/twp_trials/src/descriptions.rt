@@ -1,6 +1,6 @@
 //! Descriptions resolved to a land of each kind, and the lands' areas and canonical texts.
 
-use crate::figures::tell_area;
+use crate::figures::print_area;
 use std::io;
 use std::io::Write;
 use twp_acres::{Stop, area_of};
@@ -84,17 +84,26 @@ pub fn try_descriptions(rt: &HostRuntime, plat: &Plat) -> io::Result<()> {
         rt.println("`)")?;
         match Description::read(rt.alloc(), text.as_bytes()) {
             Ok(description) => {
-                tell_land::<Grid>(rt, "Grid: ", plat, &description)?;
-                tell_land::<Lanes>(rt, "Lanes: ", plat, &description)?;
+                print_land::<Grid>(rt, "Grid: ", plat, &description)?;
+                print_land::<Lanes>(rt, "Lanes: ", plat, &description)?;
             }
             Err(fault) => rt.println(fault)?,
         }
     }
-    Ok(())
+    print_empty::<Grid>(rt, "Grid", plat)?;
+    print_empty::<Lanes>(rt, "Lanes", plat)
+}
+
+/// Prints how long the text of the empty land is, which no description names.
+fn print_empty<L: Land>(rt: &HostRuntime, kind: &str, plat: &Plat) -> io::Result<()> {
+    let text = spell(rt.alloc(), &L::empty(), plat.township())?;
+    rt.print(kind)?;
+    rt.print(": bytes of the empty land's text: ")?;
+    rt.println(text.len())
 }
 
 /// Prints the area and the text of the land that a description names, or its refusal.
-fn tell_land<L: Land>(
+fn print_land<L: Land>(
     rt: &HostRuntime,
     kind: &str,
     plat: &Plat,
@@ -107,7 +116,7 @@ fn tell_land<L: Land>(
             return rt.println(Stop::from(fault));
         }
     };
-    tell_area(rt, kind, &area_of(plat, &land))?;
+    print_area(rt, kind, &area_of(plat, &land))?;
     let text = spell(rt.alloc(), &land, plat.township())?;
     io::writer(rt).write_all(text.as_slice())
 }

@@ -15,7 +15,7 @@ use twp_plat::Plat;
 /// 390,250,000 square thousandths of a chain are 3,902.5 hundredths of an acre, a tie.
 pub fn try_figures(rt: &HostRuntime, plat: &Plat) -> io::Result<()> {
     let corner = plat.piece_area(Section::new(6).unwrap(), 3, 3);
-    tell_area(rt, "piece_area(section 6, column 3, row 3): ", &corner)?;
+    print_area(rt, "piece_area(section 6, column 3, row 3): ", &corner)?;
     let Some(tie) = Area::new(390_250_000, 1) else {
         return rt.println("no area");
     };
@@ -24,7 +24,7 @@ pub fn try_figures(rt: &HostRuntime, plat: &Plat) -> io::Result<()> {
 }
 
 /// Prints an exact area.
-pub fn tell_area(rt: &HostRuntime, lead: &str, area: &Area) -> io::Result<()> {
+pub fn print_area(rt: &HostRuntime, lead: &str, area: &Area) -> io::Result<()> {
     rt.print(lead)?;
     rt.print(area.units())?;
     rt.print(" units over ")?;

@@ -17,7 +17,7 @@ pub fn try_fronts(rt: &HostRuntime, plat: &Plat) -> io::Result<()> {
         rt.print("`: ")?;
         rt.println(answered_fronts(rt, plat, text.as_bytes()))?;
     }
-    tell_fronts(rt, plat)
+    print_fronts(rt, plat)
 }
 
 /// How many fronts of a text are accepted or refused.
@@ -36,7 +36,7 @@ fn answered_fronts(rt: &HostRuntime, plat: &Plat, text: &[u8]) -> u32 {
 /// corner, which begin no description; after `sec` there may be more. `sec. 1` and `sec. 14` are
 /// 640 acres, and an N after `sec. 14, ` may be a side. `NE` wants 1/4: a 1 alone at 11 goes wrong,
 /// and in `1/` the `/` at 12 is no token. The north-east quarter is 160 acres.
-fn tell_fronts(rt: &HostRuntime, plat: &Plat) -> io::Result<()> {
+fn print_fronts(rt: &HostRuntime, plat: &Plat) -> io::Result<()> {
     let text = SHORT.as_bytes();
     for length in 0..text.len() + 1 {
         rt.print("the first ")?;

@@ -13,13 +13,13 @@ const SPANS: u8 = 63;
 
 /// Counts the places of each section one by one.
 pub fn try_counts(rt: &HostRuntime) -> io::Result<()> {
-    tell_counts::<Grid>(rt, "Grid")?;
-    tell_counts::<Lanes>(rt, "Lanes")
+    print_counts::<Grid>(rt, "Grid")?;
+    print_counts::<Lanes>(rt, "Lanes")
 }
 
 /// Adds 200 blocks, and compares `count` with `holds`. Sections that were held wholly or not at all
 /// would show little.
-fn tell_counts<L: Land>(rt: &HostRuntime, kind: &str) -> io::Result<()> {
+fn print_counts<L: Land>(rt: &HostRuntime, kind: &str) -> io::Result<()> {
     let mut mixed = Mixed::new();
     let mut land = L::empty();
     for _ in 0..200u32 {

@@ -1,7 +1,7 @@
-//! Tries calls that `township` doesn't make, or doesn't show by themselves, and prints what each
-//! answered. The file `stdout` beside `src/` has the lines that are expected. They were worked out
-//! by hand; where the calculation is more than a look, it is in a comment where the call is made.
-//! Standard input is the field notes of the uneven township, `samples/b1.csv`.
+//! Tries calls that `township` doesn't make, or whose answers it doesn't show separately, and prints
+//! what each answered. The file `stdout` beside `src/` contains the expected lines, which were
+//! worked out by hand; each calculation is in a comment where the call is made. Standard input is
+//! the field notes of the uneven township, `samples/b1.csv`.
 #![tactic(auto)]
 
 mod blocks;
@@ -27,7 +27,7 @@ fn plat_of_input(rt: &HostRuntime) -> Option<Plat> {
 
 fn main(rt: HostRuntime) -> io::Result<ExitCode> {
     let Some(plat) = plat_of_input(&rt) else {
-        eprintln!(rt; "twp_trials: standard input has no notes of a plat")?;
+        eprintln!(rt; "twp_trials: standard input must be field notes that make a plat")?;
         return Ok(ExitCode::from(2));
     };
     blocks::try_blocks(&rt)?;

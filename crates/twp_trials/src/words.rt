@@ -27,7 +27,7 @@ pub fn try_words(rt: &HostRuntime) -> io::Result<()> {
         rt.print("): ")?;
         let words = words_of(rt, line)?;
         match read_task(rt.alloc(), words) {
-            Ok(task) => tell_task(rt, &task)?,
+            Ok(task) => print_task(rt, &task)?,
             Err(fault) => rt.println(name_of(&fault))?,
         }
     }
@@ -53,9 +53,9 @@ fn name_of(fault: &TaskFault) -> &'static str {
 }
 
 /// Prints a task and its files.
-fn tell_task(rt: &HostRuntime, task: &Task) -> io::Result<()> {
+fn print_task(rt: &HostRuntime, task: &Task) -> io::Result<()> {
     match task {
-        Task::Plat { notes } => tell_files(rt, "Plat of ", notes, None),
+        Task::Plat { notes } => print_files(rt, "Plat of ", notes, None),
         Task::Acres {
             notes,
             description,
@@ -65,20 +65,25 @@ fn tell_task(rt: &HostRuntime, task: &Task) -> io::Result<()> {
                 Account::Exact => "Acres, Exact, of ",
                 Account::Plat => "Acres, Plat, of ",
             };
-            tell_files(rt, lead, notes, Some(description))
+            print_files(rt, lead, notes, Some(description))
         }
-        Task::Normal { notes, description } => tell_files(
+        Task::Normal { notes, description } => print_files(
             rt,
             "Normal of ",
             notes,
             Some(description),
         ),
-        Task::Report { notes, tracts } => tell_files(rt, "Report of ", notes, Some(tracts)),
+        Task::Report { notes, tracts } => print_files(rt, "Report of ", notes, Some(tracts)),
     }
 }
 
 /// Prints the file of the notes, and the second file, if there is one.
-fn tell_files(rt: &HostRuntime, lead: &str, notes: &Name, second: Option<&Name>) -> io::Result<()> {
+fn print_files(
+    rt: &HostRuntime,
+    lead: &str,
+    notes: &Name,
+    second: Option<&Name>,
+) -> io::Result<()> {
     rt.print(lead)?;
     rt.print(notes.text())?;
     if let Some(second) = second {
