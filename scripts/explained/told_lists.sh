@@ -99,6 +99,19 @@ township: list.csv:3:1: tract `A`: `"` is no part of a description
     | ^^
   leave quotation marks out
 END
+# After the quotes: four bytes come before the `x`, eleven before the `9`.
+told_list 'name,description\nA,""x\n' 'refused 83 at 2
+refused 44 at 0' <<'END'
+township: list.csv:2:5: tract `A`: `x` can't stand here: here could stand `T.` of a heading, or `sec.`
+  2 | A,""x
+    |     ^
+END
+told_list 'name,description\nA,"sec. 4."9\n' 'refused 83 at 2
+refused 44 at 7' <<'END'
+township: list.csv:2:12: tract `A`: `9` can't stand here: the period before it ends the description
+  2 | A,"sec. 4."9
+    |            ^
+END
 told_list 'name,description\nA,sec. 14 &\n' 'refused 83 at 2
 refused 42 at 8' <<'END'
 township: list.csv:2:11: tract `A`: `&` is no part of a description
