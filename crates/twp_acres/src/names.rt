@@ -15,6 +15,15 @@ pub struct Names {
 }
 
 impl Names {
+    /// No name.
+    pub fn new(alloc: Global) -> Names
+        ensures { (name : List ℕ) → has_name result name ≡ false }
+    {
+        Names {
+            names: HashSet::new(alloc),
+        }
+    }
+
     /// No name, with room for so many.
     pub fn with_room(alloc: Global, room: usize) -> Result<Names, AllocError>
         ensures { IfOk result (λ names. (name : List ℕ) → has_name names name ≡ false) }

@@ -1,7 +1,8 @@
 //! The account of tracts, which grows by one tract after another.
-ghost use Rattle.std.specs.Prelude.{◌≡◌, ◌++◌, [], OnOk, IfErr};
+ghost use Rattle.std.specs.Prelude.{◌≡◌, ◌++◌, ℕ, List, [], false, OnOk, IfErr};
 ghost use Rattle.csv.specs.Records.{fields_of};
 ghost use Rattle.twp_land.specs.Lands.{no_places};
+ghost use Rattle.twp_acres.specs.steps.Names.{has_name};
 ghost use Rattle.twp_acres.specs.ReportAnswers.{tract_line};
 ghost use Rattle.twp_acres.specs.steps.TractTaking.{tally_of, AreTotals, TakesTract};
 ghost use Rattle.twp_acres.specs.steps.TractTaking.{IsTractRefused, fault_of_stop};
@@ -31,15 +32,15 @@ pub(crate) struct RunningAccount<L> {
 }
 
 impl<L: Land> RunningAccount<L> {
-    /// The account of no tract, which puts names into this set.
-    pub(crate) fn new(alloc: Global, plat: &Plat, names: Names) -> RunningAccount<L>
-        ensures names { result.names ≡ names }
+    /// The account of no tract.
+    pub(crate) fn new(alloc: Global, plat: &Plat) -> RunningAccount<L>
+        ensures names { (name : List ℕ) → has_name result.names name ≡ false }
         ensures land { L.places result.land ≡ no_places }
         ensures totals { AreTotals plat.now no_places result.totals }
         ensures text { result.text.items ≡ [] }
     {
         RunningAccount {
-            names,
+            names: Names::new(alloc),
             land: L::empty(),
             tract: L::empty(),
             totals: Totals::new(plat),

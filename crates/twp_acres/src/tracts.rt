@@ -39,11 +39,12 @@ pub fn account_of(alloc: Global, plat: &Plat, bytes: &[u8]) -> Result<Vec<u8>, T
     if !is_heading(&row) {
         return Err(TractFault::TractRow(1));
     }
-    let names = Names::with_room(
+    let mut account: RunningAccount<Lanes> = RunningAccount::new(alloc, plat);
+    // Set once the account is where it stays: to move it would copy its lands.
+    account.names = Names::with_room(
         alloc,
         min(bytes.len() / BYTES_TO_NAME, TRACTS_MOST as usize),
     )?;
-    let mut account: RunningAccount<Lanes> = RunningAccount::new(alloc, plat, names);
     take_tracts(alloc, plat, records, &mut row, &mut account)?;
     account.totals.write(&mut account.text)?;
     Ok(account.text)

@@ -32,4 +32,4 @@ pub take_tracts-requires-clause-empty : goal.take_tracts-requires-clause-empty
 take_tracts-requires-clause-empty c =
     let account = c.new-account.ensures in
     no_tally c.args.plat.now (records_left c.read.new.self) _
-    (λ name. rw account.names (c.in_ok-names.ensures name)) account.land account.totals account.text
+    c.in_ok-account.ensures account.land account.totals account.text
