@@ -7,9 +7,9 @@ PREFIX = /usr/local
 SHARE = $(DESTDIR)$(PREFIX)/share
 PROGRAM = township
 
+# The first answer is made while the proofs begin, since it keeps one processor busy for a minute.
 run:
-	@sh scripts/first_answer.sh
-	@sh scripts/build.sh
+	@sh scripts/first_answer.sh & sh scripts/build.sh && wait $$!
 	@cat samples/description.txt samples/b1.csv | ./township
 
 township:

@@ -124,7 +124,8 @@ township_answer township_report(const township_plat *plat, const uint8_t *list, 
  * Explain why field notes, a description or a list is refused: the same verdict, its line and column,
  * and some lines of text, as the program shows them; or TOWNSHIP_NO_ROOM. `name` is what the text calls
  * its file, in UTF-8; where it isn't UTF-8, or nothing, it is called `input`. Where nothing is refused
- * there is no text.
+ * there is no text. A text has at most 8 lines, and each line has at most 100 columns, not counting a name that is
+ * too long for the first line.
  */
 township_answer township_explain_notes(const uint8_t *notes, size_t notes_length, const uint8_t *name,
                                        size_t name_length, uint8_t *text, size_t room);

@@ -74,10 +74,11 @@ fi
 printf '%b\n' '\0302[\0200-\0240\0255]' '\0342\0200[\0200-\0217\0250-\0257]' '\0342\0201[\0237-\0257]' \
     '\0357\0273\0277' '\0363\0240' > unseen
 
-# Whether standard error is text that a terminal shows, in whole lines.
+# Whether standard error is text that a terminal shows, in at most 8 whole lines of at most 100 characters.
 is_shown() {
     iconv -f UTF-8 -t UTF-8 err > lost 2>&1 && ! grep -q '[[:cntrl:]]' err && ! grep -qaf unseen err &&
-        [ -z "$(tail -c 1 err)" ]
+        [ -z "$(tail -c 1 err)" ] && [ "$(wc -l < err)" -le 8 ] &&
+        ! LC_ALL=C.UTF-8 grep -q '.\{101\}' err
 }
 
 # What the explanation of an answer begins with, of a case by its number and how it is run: a regular expression.

@@ -73,12 +73,23 @@ feed() {
     done
 }
 
+# The explanation on standard input as the program shows it, in lines of at most 100 columns. In the rows a sentence
+# takes one line, however long it is.
+in_lines() {
+    cat > unwrapped
+    if grep -q '.\{101\}' unwrapped; then
+        perl -CSD "$root/scripts/wrapped.pl" < unwrapped
+    else
+        cat unwrapped
+    fi
+}
+
 # What is shown, the answer, and the words; what is told is on standard input. One run, on files.
 told() {
     what=$1
     printf '%s\n' "$2" > wanted
     shift 2
-    cat > wanted_err
+    in_lines > wanted_err
     "$program" "$@" < "$input" > out 2> err
     pass_if_same 'on files' $? kept
 }

@@ -14,6 +14,7 @@ needs='
     make             command make
     pkg-config       command pkg-config
     valgrind         command valgrind
+    perl-base        command perl
     bash             command bash
     zsh              command zsh
     mandoc           command mandoc

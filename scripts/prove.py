@@ -36,13 +36,14 @@ PROCESSES_MOST = 4
 
 
 def kit_rt():
-    """The kit's rt as a module, or None if it lacks what is used of it here."""
+    """The kit's rt as a module, or None if it lacks what is used of it here. Kits differ in it: some let the proofs of
+    several crates share their work, which is used if it is there."""
     path = os.path.realpath(shutil.which("rt") or sys.exit("there is no rt on the path: install the Rattle kit"))
     spec = importlib.util.spec_from_loader("rt", importlib.machinery.SourceFileLoader("rt", path))
     rt = importlib.util.module_from_spec(spec)
     try:
         spec.loader.exec_module(rt)
-        rt.share_work, rt.rtlib.guarded, rt.rtlib.crates_below, rt.rtlib.lock
+        rt.rtlib.guarded, rt.rtlib.crates_below, rt.rtlib.lock, rt.rtlib.Crate.build_rlib
     except (AttributeError, SyntaxError):
         return None
     return rt
@@ -142,7 +143,8 @@ def main():
     # Ctrl-C ends this process at once, and the kit's guard then ends the proofs.
     signal.signal(signal.SIGINT, signal.SIG_DFL)
     rt.rtlib.guarded()
-    rt.share_work(True)
+    if hasattr(rt, "share_work"):
+        rt.share_work(True)
     libraries = rt.rtlib.crates_below(str(ROOT / "crates" / sys.argv[1]))[:-1]
     # No other rt works in these folders until this process ends.
     held = rt.rtlib.lock(libraries)

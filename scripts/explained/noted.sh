@@ -6,7 +6,7 @@ noted() {
     what=$1
     printf '%s\nstatus 0\n' "$2" > wanted
     shift 2
-    cat > wanted_err
+    in_lines > wanted_err
     { "$program" "$@" 2> err; echo "status $?"; } > out
     { "$program" "$@" 2>&-; echo "status $?"; } > closed
     if cmp -s wanted out && cmp -s wanted closed && cmp -s wanted_err err; then

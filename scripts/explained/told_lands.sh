@@ -404,7 +404,7 @@ told_land 'secs. 1 to 36; secs. 1 to 36.' 'refused 67 at 21' <<'END'
 township: land.txt:1:22: this land was named before
   1 | secs. 1 to 36; secs. 1 to 36.
     |                      ^^^^^^^
-  `1 to 36` at 1:7 names it too: both hold sec. 1, all; sec. 2, all; sec. 3, all; and 33 sections more
+  `1 to 36` at 1:7 names it too: both hold sec. 1, all; sec. 2, all; sec. 3, all; sec. 4, all; sec. 5, all; sec. 6, all; sec. 7, all; sec. 8, all; sec. 9, all; sec. 10, all; sec. 11, all and 25 more
 END
 told_land 'sec. 5, lots 1 to 3, lot 2.' 'refused 67 at 25' <<'END'
 township: land.txt:1:26: this land was named before

@@ -57,10 +57,10 @@ told_list 'name,description\nA,sec. 14\n"B, or C","sec. 5,\nlots 1, 2; sec. 15"\
 township: list.csv:5: tract `D` holds land of tract `B, or C` (record 3): both hold sec. 5, lot 2; sec. 15, N1/2.
 END
 told_list 'name,description\nA,secs. 1 to 4.\nB,secs. 1 to 9.\n' 'refused 84 at 3' <<'END'
-township: list.csv:3: tract `B` holds land of tract `A` (record 2): both hold sec. 1, all; sec. 2, all; sec. 3, all; and 1 section more
+township: list.csv:3: tract `B` holds land of tract `A` (record 2): both hold sec. 1, all; sec. 2, all; sec. 3, all; sec. 4, all.
 END
 told_list 'name,description\nA,secs. 9 to 16.\nB,secs. 1 to 36.\n' 'refused 84 at 3' <<'END'
-township: list.csv:3: tract `B` holds land of tract `A` (record 2): both hold sec. 9, all; sec. 10, all; sec. 11, all; and 5 sections more
+township: list.csv:3: tract `B` holds land of tract `A` (record 2): both hold sec. 9, all; sec. 10, all; sec. 11, all; sec. 12, all; sec. 13, all; sec. 14, all; sec. 15, all; sec. 16, all.
 END
 told_list 'name,description\nA,"sec. 14, NE1/4 and N1/2."\n' 'refused 83 at 2
 refused 67 at 19' <<'END'
@@ -125,4 +125,34 @@ township: list.csv:2:112: tract `A`: `&` is no part of a description
   2 | ..                                                                                          &"
     |                                                                                             ^
   write and
+END
+
+# Long texts: equal tracts of the smallest places in four sections, of which as many as fit in 150 bytes are shown.
+# Of the 1,024 places of a section every second one is taken, as on a chessboard: 512 of each section. The first
+# five of these 2,048 end at byte 141.
+chessboard() {
+    awk 'BEGIN {
+        split("NE NW SW SE", corner)
+        for (a = 1; a <= 4; a++) for (b = 1; b <= 4; b++) for (c = 1; c <= 4; c++) for (d = 1; d <= 4; d++)
+            for (e = 1; e <= 3; e += 2)
+                printf ", %s1/4%s1/4%s1/4%s1/4%s1/4", corner[e], corner[d], corner[c], corner[b], corner[a]
+    }'
+}
+good
+for section in 8 9 10 11; do
+    [ "$section" = 8 ] || printf '; '
+    printf 'sec. %s' "$section"
+    chessboard
+done > board
+{ echo name,description; echo "A,\"$(cat board)\""; echo "B,\"$(cat board)\""; } > list.csv
+told 'equal tracts of the smallest places' 'refused 84 at 3' report notes.csv list.csv <<'END'
+township: list.csv:3: tract `B` holds land of tract `A` (record 2): both hold sec. 8, NE1/4NE1/4NE1/4NE1/4NE1/4, SW1/4NE1/4NE1/4NE1/4NE1/4, NE1/4NW1/4NE1/4NE1/4NE1/4, SW1/4NW1/4NE1/4NE1/4NE1/4, NE1/4SW1/4NE1/4NE1/4NE1/4 and 2043 more
+END
+
+# A name of 64 bytes, a field that escapes make longer than a line, and a file whose name takes most of the line.
+name=$(printf '%064d' 7)
+told_list "name,description\n$name,sec. 14 \n$name,sec. 15\n" 'refused 82 at 3' <<END
+township: list.csv:3: tract \`$name\` has the name of an earlier tract, record 2 on line 2
+  3 | $name,sec. 15
+    | $(printf '%s' "$name" | tr 0-9 '^')
 END

@@ -11,10 +11,10 @@ use itoa::Buffer;
 use std::alloc::AllocError;
 
 /// The most columns that a line of an excerpt takes.
-const COLUMNS: usize = 100;
+pub(crate) const COLUMNS: usize = 100;
 
 /// What stands where text was left out.
-const DOTS: &str = "..";
+pub(crate) const DOTS: &str = "..";
 
 /// Appends the line on which a span starts, behind the number that is given for it, and a line with
 /// carets below the span as far as it is on that line, at least one. Each of the two is ended by a
@@ -38,18 +38,18 @@ pub fn write_excerpt(text: &[u8], span: Span, line: u32, out: &mut String) -> Re
 
 /// What is kept of some bytes of a line.
 #[derive(Clone, Copy)]
-struct Part<'a> {
+pub(crate) struct Part<'a> {
     bytes: &'a [u8],
     /// Whether bytes were left out, for which two dots stand.
     cut: bool,
     /// The columns that the part takes, those of the dots with it.
-    columns: usize,
+    pub(crate) columns: usize,
 }
 
 impl<'a> Part<'a> {
     /// Appends the front of bytes, and dots where they go on.
     #[tactic(auto, using(crate::proofs::ShownFacts::adds_trans))]
-    fn write_front(&self, out: &mut String) -> Result<(), AllocError>
+    pub(crate) fn write_front(&self, out: &mut String) -> Result<(), AllocError>
         ensures { AddsShown (string_bytes out.old) (string_bytes out.new) }
     {
         write_in_line(self.bytes, out)?;
@@ -147,7 +147,7 @@ fn end_of_line(text: &[u8], start: usize, at: usize) -> usize
 }
 
 /// The front of some bytes that fits in so many columns, with the dots if it isn't all.
-fn front_of(bytes: &[u8], room: usize) -> Part<'_>
+pub(crate) fn front_of(bytes: &[u8], room: usize) -> Part<'_>
     requires { (2 ≤ room) × (room ≤ 100) }
     ensures fits { result.columns ≤ room }
     ensures dots { IsTrue result.cut → 2 ≤ result.columns }
@@ -293,7 +293,7 @@ fn push_many(character: char, count: usize, out: &mut String) -> Result<(), Allo
 }
 
 /// Appends a line feed.
-fn end_line(out: &mut String) -> Result<(), AllocError>
+pub(crate) fn end_line(out: &mut String) -> Result<(), AllocError>
     ensures safe { AddsLines (string_bytes out.old) (string_bytes out.new) }
     ensures feed { OnOk result (string_bytes out.new ≡ string_bytes out.old ++ 10 ∷ []) }
 {

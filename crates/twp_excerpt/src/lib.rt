@@ -6,7 +6,9 @@ mod escaped;
 mod excerpt;
 mod shown;
 mod spot;
+mod wrapped;
 
 pub use escaped::write_escaped;
 pub use excerpt::write_excerpt;
 pub use spot::{Span, Spot, end_of_text, first_size, spot_of};
+pub use wrapped::{columns_of, write_wrapped};

@@ -9,7 +9,7 @@ use csv::ByteRecord;
 use std::alloc::{AllocError, Global};
 use twp_acres::TractFault;
 use twp_excerpt::write_escaped;
-use twp_findings::{Finding, Given, Origin, Place, Stop};
+use twp_findings::{Finding, Given, Origin, Place, Stop, write_land};
 use twp_grid::{Refusal, Township};
 use twp_land::{Land, Lanes};
 use twp_notes::Records;
@@ -17,9 +17,6 @@ use twp_spell::spell;
 
 /// The number of the record after the heading, the first one of a tract.
 const FIRST_TRACT: u32 = 2;
-
-/// How many lines of land are told at most.
-const LINES_TOLD: usize = 3;
 
 /// What is told of a list of tracts that has a fault, on the plat of a township.
 #[inline(never)]
@@ -191,24 +188,4 @@ fn write_tract(listed: &Listed<'_>, text: &mut String) -> Result<(), AllocError>
     text.push_str("tract `")?;
     write_escaped(listed.field(0), text)?;
     text.push_str("`")
-}
-
-/// Appends the text of a land without its heading, on one line: all its sections, or the first ones
-/// and how many more there are.
-fn write_land(land: &[u8], text: &mut String) -> Result<(), AllocError> {
-    let Ok(land) = str::from_utf8(land) else {
-        return Ok(());
-    };
-    let count = land.lines().count().saturating_sub(1);
-    for (index, line) in land.lines().skip(1).take(LINES_TOLD).enumerate() {
-        if index > 0 {
-            text.push_str(" ")?;
-        }
-        text.push_str(line)?;
-    }
-    match count.saturating_sub(LINES_TOLD) {
-        0 => Ok(()),
-        1 => text.push_str(" and 1 section more"),
-        more => write!(text, " and {more} sections more"),
-    }
 }

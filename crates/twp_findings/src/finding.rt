@@ -5,11 +5,17 @@ ghost use Rattle.twp_findings.specs.Spots.{IsSpotAt, IsSpotOf};
 
 use crate::explanation::{Explanation, Given};
 use std::alloc::{AllocError, Global};
-use twp_excerpt::{Span, Spot, spot_of, write_escaped, write_excerpt};
+use twp_excerpt::{Span, Spot, columns_of, spot_of, write_escaped, write_excerpt, write_wrapped};
 use twp_grid::Refusal;
 
 /// The most bytes of a file in which places are told, which is more than any run reads.
 const MOST_BYTES: usize = 0x7FFF_FFFF;
+
+/// The most lines of a sentence. With as many of help and the two of an excerpt, a message takes 8.
+const SENTENCE_LINES: usize = 3;
+
+/// The most lines of what mends a fault or tells more of it.
+const HELP_LINES: usize = 3;
 
 /// Where in a file a fault is shown.
 #[derive(Clone, Copy, PartialEq, Eq)]
@@ -76,8 +82,7 @@ impl Finding {
         let (spot, mut text) = begin_message(alloc, file, self.place, self.sentence.as_str())?;
         if !self.help.is_empty() {
             text.push_str("  ")?;
-            text.push_str(self.help.as_str())?;
-            text.push_str("\n")?;
+            write_wrapped(self.help.as_str(), 2, HELP_LINES, &mut text)?;
         }
         Ok(Explanation {
             refusal: self.refusal,
@@ -108,8 +113,8 @@ pub fn begin_message(
         }
     }
     text.push_str(": ")?;
-    text.push_str(sentence)?;
-    text.push_str("\n")?;
+    let columns = columns_of(text.as_str());
+    write_wrapped(sentence, columns, SENTENCE_LINES, &mut text)?;
     show(file, place, spot, &mut text)?;
     Ok((spot, text))
 }

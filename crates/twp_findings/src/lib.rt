@@ -16,4 +16,5 @@ pub use explanation::{Explanation, Given, Note};
 pub use finding::{Finding, Place, Stop, begin_message};
 pub use note_faults::write_count;
 pub use origin::Origin;
+pub use places::write_land;
 pub use quoted::write_quoted;

@@ -13,8 +13,9 @@ use crate::origin::Origin;
 use crate::places::items::{
     begins_at, bytes_of, item_span, number_at, range_to, section_behind, section_of_number,
 };
+pub use crate::places::words::write_land;
 use crate::places::words::{
-    write_heading, write_lines, write_lots_held, write_lots_of, write_township, write_whole_lots,
+    write_heading, write_lots_held, write_lots_of, write_township, write_whole_lots,
 };
 use crate::quoted::write_quoted;
 use std::alloc::{AllocError, Global};
@@ -249,7 +250,7 @@ impl<'a> Described<'a> {
         if let Some(shared) = shared_land_text(alloc, self.description, self.township)? {
             if let Some(earlier) = items.get(shared.items.earlier) {
                 self.write_earlier(earlier, &mut help)?;
-                write_lines(&shared.text, &mut help)?;
+                write_land(&shared.text, &mut help)?;
             }
         }
         Ok(Told {

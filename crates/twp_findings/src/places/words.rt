@@ -1,4 +1,5 @@
 //! How townships, lots, and land are written in what is told of a fault.
+ghost use Rattle.std.specs.Prelude.{◌≤◌, length};
 
 use std::alloc::AllocError;
 use twp_excerpt::write_escaped;
@@ -6,8 +7,8 @@ use twp_grammar::Item;
 use twp_grid::{EastWest, NorthSouth, Section, Township, lot_count};
 use twp_marks::PartOfLots;
 
-/// The most sections that are named of a land.
-const NAMED: usize = 3;
+/// The most bytes of a land that are shown.
+const LAND_MOST: usize = 150;
 
 /// Appends the township of a heading.
 pub(crate) fn write_heading(item: &Item, out: &mut String) -> Result<(), AllocError> {
@@ -124,35 +125,50 @@ fn behind_first(text: &[u8], byte: u8) -> &[u8] {
     }
 }
 
-/// Appends the lines of a land's text, without its heading: up to three sections.
-pub(crate) fn write_lines(text: &[u8], out: &mut String) -> Result<(), AllocError> {
-    let lines = behind_first(text, b'\n');
-    let count = lines.iter().filter(|byte| **byte == b'\n').count();
-    let mut left = lines;
-    for index in 0..count.min(NAMED) {
+/// Appends the land of a canonical text on one line, without its heading. Of a long text the first sections,
+/// lots, and parts are shown, and how many more there are.
+pub fn write_land(text: &[u8], out: &mut String) -> Result<(), AllocError> {
+    let land = behind_first(text, b'\n').trim_ascii_end();
+    if land.len() <= LAND_MOST {
+        return write_on_one_line(land, out);
+    }
+    let shown = front_of_land(land);
+    write_on_one_line(&land[..shown], out)?;
+    // A comma is before each lot and each part, and before `all`.
+    let left = land[shown..].iter().filter(|byte| **byte == b',').count();
+    write!(out, " and {left} more")
+}
+
+/// The front of a long land that is shown: it ends after a section, a lot, or a part.
+fn front_of_land(land: &[u8]) -> usize
+    ensures { result ≤ length land.now }
+{
+    let mut front = 0;
+    let mut is_after_number = true;
+    for index in 0..land.len().min(LAND_MOST) {
+        match land[index] {
+            b';' => {
+                front = index;
+                is_after_number = true;
+            }
+            b',' if is_after_number => is_after_number = false,
+            b',' => front = index,
+            _ => {}
+        }
+    }
+    front
+}
+
+/// Appends lines with a space between them.
+fn write_on_one_line(text: &[u8], out: &mut String) -> Result<(), AllocError> {
+    let Ok(text) = str::from_utf8(text) else {
+        return Ok(());
+    };
+    for (index, line) in text.lines().enumerate() {
         if index > 0 {
             out.push_str(" ")?;
         }
-        let line = up_to_line_end(left);
-        write_escaped(line, out)?;
-        left = behind_first(left, b'\n');
+        out.push_str(line)?;
     }
-    write_more(count.saturating_sub(NAMED), out)
-}
-
-/// The first line.
-fn up_to_line_end(text: &[u8]) -> &[u8] {
-    match text.iter().position(|byte| *byte == b'\n') {
-        Some(index) => &text[..index],
-        None => text,
-    }
-}
-
-/// Appends how many sections more there are.
-fn write_more(count: usize, out: &mut String) -> Result<(), AllocError> {
-    match count {
-        0 => Ok(()),
-        1 => out.push_str(" and 1 section more"),
-        _ => write!(out, " and {} sections more", count),
-    }
+    Ok(())
 }
