@@ -1,19 +1,19 @@
 #!/bin/sh
 # Prints how many instructions the whole process of township takes, from its start to its end: on standard
-# input for the sample, for the longest that is refused, and for fine parts; for the commands on the sample;
-# for the spelling of fine parts and of half as many; for reports on 1,000 tracts and on 500; and for the
-# texts whose bytes cost the most to read; and for refused input of each kind. Beside each count stands its
-# ratio to the one in bench/expected, or `new` if there is none. Behind it stands how many times as many it
-# takes as it took before refusals were explained and line ends noted: bench/unexplained has that count, and how
-# many times as many there may be. The status is 1 if a ratio is over 1.02, if there are more times as many than
-# there may be, or if a row of these files is missing.
+# input for the sample, for the longest refused input, and for fine parts; for the commands on the sample;
+# for the spelling of fine parts and of half as many; for reports on 1,000 tracts and on 500; for the texts
+# whose bytes cost the most to read; and for refused input of each kind. Each count is followed by its ratio to
+# the one in bench/expected, or by `new` if there is none, and then by its ratio to the count from before
+# refusals were explained and line ends noted: bench/unexplained contains that count, and the largest ratio
+# allowed. The status is 1 if the first ratio is over 1.02, if the second is over the largest allowed, or if a
+# row of these files is missing.
 #
-# It builds ./township and measures that. A program that is named is measured as it is.
+# Builds ./township and measures that; a program that is named is measured as it is.
 set -eu
 [ $# -gt 0 ] || sh scripts/build.sh
 program=${1:-./township}
-# What is counted stands on standard input, or is named by words. The environment is left out, since each
-# of its variables is counted too.
+# The input to count is on standard input, or is named by words. The environment is left out, because each
+# of its variables would be counted too.
 count() {
     env -i PATH="$PATH" valgrind --tool=callgrind --callgrind-out-file=/dev/null "$program" "$@" \
         2>&1 >/dev/null | sed -n 's/.*Collected : *//p'
@@ -25,12 +25,12 @@ too_many_times=0
 found=0
 # The count of a row in a file, if it is there.
 kept() { awk -v name="$2" 'substr($0, index($0, " ") + 1) == name { print $1 }' "$1"; }
-# The count of a row before refusals were explained, and how many times as many it may take.
+# The count of a row from before refusals were explained, and the largest ratio to it that is allowed.
 before() {
     awk -v name="$1" '$0 == $1 " " $2 " " name { print $1, $2 }' bench/unexplained
 }
-# A row: its name, its count, what else is shown of it, and the count of the whole process, where that is
-# another.
+# A row: its name, its count, anything else to show with it, and the count of the whole process, if that is
+# different.
 row() {
     expected=$(kept bench/expected "$1")
     ratio=new
@@ -88,7 +88,7 @@ quarters='
     }' | tee "$work/parts"
     cat samples/b1.csv
 } > "$work/squares"
-# The same of places: each of two sections, 2,048 of them.
+# The same for places: each place of two sections, 2,048 in all.
 {
     awk "$quarters"'BEGIN {
         for (s = 8; s <= 9; s++) {
@@ -100,7 +100,7 @@ quarters='
     cat samples/b1.csv
 } > "$work/places"
 # A chessboard: every other square of 2.5 acres of the 25 sections without lots, of which no two can be
-# joined; or every other place of the first six of them. A side of a section has so many squares.
+# joined; or every other place of the first six of them. The number is that of squares along a section's side.
 chessboard() {
     awk -v across="$1" -v last="$2" 'BEGIN {
         quarter[0, 0] = "SE\xc2\xbc"; quarter[1, 0] = "SW\xc2\xbc"
@@ -131,8 +131,8 @@ awk "$quarters"'BEGIN {
 }' > "$work/place-tracts"
 head -n 501 "$work/tracts" > "$work/half-of-tracts"
 # The same tracts with names of 64 bytes, which fall into one place of a hashed set; and with names that
-# differ from them in that alone. bench/colliding-names has the 13 bytes by which each differs from the
-# others: five of a count, and eight that undo, in the hasher's first step, what the count changed.
+# differ from them only in that. bench/colliding-names contains the 13 bytes by which each differs from the
+# others: five of a count, and eight that undo, in the hasher's first step, the change that the count made.
 names() {
     awk -v part="$1" 'NR == FNR { end[NR] = $0; next }
         FNR == 1 { print; next }
@@ -145,7 +145,7 @@ names() {
 }
 names end > "$work/colliding"
 names count > "$work/long-names"
-# A list of 1,000 tracts near its limit, each of six squares in words, on a line of its own each.
+# A list of 1,000 tracts near the size limit, each of six squares in words, each on its own line.
 awk 'BEGIN {
     print "name,description"
     for (n = 0; n < 1000; n++) {
@@ -198,7 +198,7 @@ row 'report of 1,000 tracts with names that collide in a hashed set' \
     "$(count report samples/b1.csv "$work/colliding")"
 row 'report of the sample' "$(count report samples/b1.csv samples/tracts.csv)"
 row 'help' "$(count --help)"
-# Refused input: what is edited of the samples, or a short text.
+# Refused input: an edit of the samples, or a short text.
 echo
 heading 'refused' ''
 refused_land() {
@@ -228,7 +228,7 @@ row 'refused 84, the last of 1,000 tracts' "$(count report samples/b1.csv "$work
 # The longest joined input of places, of which the last overlaps.
 (sed '$s/\.$/, NE1\/4./' "$work/parts"; cat samples/b1.csv) > "$work/overlap"
 row 'refused 67, the last of 2,816 squares, on standard input' "$(count < "$work/overlap")"
-# 65,536 bytes of $1 and then $2 again and again, filled up with spaces.
+# 65,536 bytes: $1, then $2 repeated, then spaces to fill.
 text() {
     awk -v front="$1" -v again="$2" 'BEGIN {
         text = front
@@ -237,7 +237,7 @@ text() {
     }'
 }
 nothing=$(count acres samples/b1.csv "$work/empty")
-# One row of `acres` on such a text, less `acres` on an empty one; and what is left for each byte.
+# One row for `acres` on such a text, less `acres` on an empty one; and the difference per byte.
 byte_row() {
     text "$2" "$3" > "$work/text"
     more=$(($(count acres samples/b1.csv "$work/text") - nothing))

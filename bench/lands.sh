@@ -1,7 +1,7 @@
 #!/bin/sh
-# Builds twp_bench and prints how many instructions 1,000 calls of each kind take on a land of 200 mixed
-# blocks, over `Grid` and over `Lanes`: what the whole process takes, less what it takes just to make the
-# same land and the same 1,000 sections and blocks. `take` is `meets` and then `add` of one block.
+# Builds twp_bench and prints how many instructions 1,000 calls of each kind take on a `Land` of 200 mixed
+# blocks, over `Grid` and over `Lanes`: the count of the whole process, less the count for only making the
+# same `Land` and the same 1,000 sections and blocks. `take` is `meets` and then `add` of one block.
 set -eu
 (cd crates/twp_bench && rt run -- lanes count 10 > /dev/null)
 program=crates/twp_bench/out/twp_bench

@@ -1,17 +1,17 @@
 #!/bin/sh
 # Prints how many instructions a call of the library takes: notes to a plat, and on a kept plat descriptions of one
-# part, of a lot or two and a part in two sections, and of 50 and 100 parts. It is what 2,000 calls take less what
-# 1,000 take, by valgrind's callgrind. Beside it stand the count of bench/expected-library and the ratio to that; the
-# status is 1 if a ratio is over 1.02, or if the last 50 parts take over 1.05 times what the 49 before them take. Then
-# how many descriptions are answered a second on one core, from C and from Python. It builds lib/ by `make lib`, unless
-# the first word is `built`.
+# part, of a lot or two and a part in two sections, and of 50 and 100 parts. A count is that of 2,000 calls less that
+# of 1,000, by valgrind's callgrind. Beside it are the count in bench/expected-library and the ratio of the two; the
+# status is 1 if a ratio is over 1.02, or if the last 50 parts take over 1.05 times as many as the 49 before them. It
+# then prints how many descriptions are answered per second on one core, from C and from Python. It builds lib/ as
+# `make lib` does, unless the first word is `built`.
 set -eu
 [ "${1:-}" = built ] || sh scripts/library.sh > /dev/null
 work=$(mktemp -d)
 trap 'rm -rf "$work"' EXIT
 "${CC:-cc}" -std=c11 -O2 -Wall -Wextra -Werror -Iinclude -o "$work/library" bench/library.c lib/libtownship.a
-# The C library clears and copies large regions by one instruction, which callgrind counts once for each byte. It is
-# told to do so by wide stores: each instruction counts once.
+# The C library clears and copies large regions by one instruction, which callgrind counts once for each byte. This
+# makes it use wide stores instead, so that each instruction counts once.
 once=glibc.cpu.x86_rep_stosb_threshold=1000000:glibc.cpu.x86_rep_movsb_threshold=1000000
 count() {
     env -i PATH="$PATH" GLIBC_TUNABLES="$once" valgrind --tool=callgrind --callgrind-out-file=/dev/null \

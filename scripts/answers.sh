@@ -1,7 +1,7 @@
 #!/bin/sh
-# Runs ./township, or the program that is named, on the rows of the folder `answered`, and compares its answer
-# and its status: those of a text that is accepted or refused. Each row has columns with bars between; the
-# first lines of each file say what they are. The last line is 'N passed, 0 failed'.
+# Runs ./township, or the program that is named, on the rows in the folder `answered`, and compares its answer
+# and its status, for texts that are accepted and texts that are refused. The columns of a row are separated by
+# bars; the first lines of each file describe them. The last line is 'N passed, 0 failed'.
 set -u
 ulimit -f 4000
 ulimit -t 20
@@ -16,7 +16,7 @@ cp "$root/samples/b1.csv" uneven
 passed=0
 failed=0
 
-# Runs the program with these words; its answer has to be in the file `wanted`.
+# Runs the program with these words; its answer must be that in the file `wanted`.
 answers() {
     "$program" "$@" > out 2> err
     status=$?
@@ -36,7 +36,7 @@ fail() {
     echo "FAILED: $1"
 }
 
-# The rows of a file without what is said of them, and a text as printf writes it, in a file.
+# The rows of a file without their comments, and a text as printf writes it, in a file.
 rows_of() { grep -v '^#' "$rows/$1"; }
 written() { printf "$1" > "$2"; }
 
@@ -53,7 +53,7 @@ described() {
 described acres
 described acres-by-plat --account plat
 
-# What is written is spelled as it is.
+# A canonical text is spelled the same again.
 rows_of normal > these
 while IFS='|' read -r answer text; do
     written "T. 2 N., R. 3 W.,\n$answer\n" wanted
@@ -100,7 +100,7 @@ while IFS='|' read -r answer words second number record; do
     answers $words notes land
 done < these
 
-# A section line with other distances.
+# A section line with different distances.
 rows_of half-miles > these
 while IFS='|' read -r answer index quarter corner; do
     text="line $index: $quarter $corner"
@@ -151,7 +151,7 @@ plat_of 'the records from the last one'
 awk -F, -v OFS=, 'NR > 2 && $3 != "" { was = $2; $2 = $3; $3 = was } { print }' uneven > notes
 plat_of 'the sections in the other order'
 
-# Each byte by itself. White space and a T, which begins a heading, are read to their end; other letters, digits and
+# Each byte alone. White space and a T, which begins a heading, are read to the end; other letters, digits and
 # signs are tokens that begin no description; and any other byte begins no token.
 awk 'BEGIN {
     for (byte = 0; byte < 256; byte++) {
@@ -168,8 +168,8 @@ while read -r text answer; do
     answers acres even land
 done < these
 
-# A token of each class that a sentence can have, and a word of none, behind fronts of sentences: where it may
-# follow, the text goes wrong after it, if at all; otherwise it goes wrong at it.
+# A token of each class that a sentence can contain, and a word of no class, after beginnings of sentences: if it
+# may follow, any fault is after it; otherwise the fault is at it.
 tokens='sec lot all and to inclusive of the t r n e ne 1/2 1/4 1 , ; : . x'
 rows_of fronts > these
 while IFS='|' read -r front follow; do

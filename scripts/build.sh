@@ -1,6 +1,6 @@
 #!/bin/sh
-# Proves the program with the crates that it stands on, builds it, and leaves it as ./township. Shows how far the
-# proofs are; if one fails, shows all that rt printed.
+# Proves the program and the crates that it depends on, builds it, and leaves it as ./township. Shows the progress of
+# the proofs; if one fails, shows everything that rt printed.
 set -eu
 cd "$(dirname "$0")/.."
 echo 'township is proved before it is built: some minutes the first time, seconds after that.'

@@ -2,8 +2,8 @@
 # Runs ./township, or the program that is named, on 1,000 inputs that damaged.awk makes of good ones, and checks the
 # form of each run. Status 0 goes with an answer and at most a note; status 1 goes with a refusal and its
 # explanation. An explanation begins with the program's name, the name of the refused file, and the line and the
-# column, where the refusal has them. It is UTF-8, contains no control characters, nor others that a terminal
-# doesn't show, whatever the input contains, and ends with a line feed. The answer and the status are the same
+# column, if the refusal has them. Whatever the input contains, the explanation is UTF-8, contains no characters that
+# a terminal does not show, and ends with a line feed. The answer and the status are the same
 # whether standard error goes to a file, goes nowhere, or is closed. The last line is 'N passed, 0 failed'.
 #
 # `sh scripts/damaged.sh PROGRAM records` prints the program's answers as records for tests/c/cases.c, which
@@ -38,7 +38,7 @@ run() {
     esac
 }
 
-# A case and its answer as a record. Of joined input the description ends at the first line feed.
+# A case and its answer as a record. In joined input, the description ends at the first line feed.
 record() {
     how=$2
     case $how in
@@ -69,8 +69,8 @@ if [ "${2-}" = records ]; then
     exit
 fi
 
-# What a terminal doesn't show of what is no control character of ASCII: the others up to the no-break space, the soft
-# hyphen, spaces of odd widths, marks of direction, line separators, joiners, the byte order mark, and tags.
+# Characters that a terminal does not show, other than ASCII control characters: the rest up to the no-break space,
+# the soft hyphen, spaces of odd widths, direction marks, line separators, joiners, the byte order mark, and tags.
 printf '%b\n' '\0302[\0200-\0240\0255]' '\0342\0200[\0200-\0217\0250-\0257]' '\0342\0201[\0237-\0257]' \
     '\0357\0273\0277' '\0363\0240' > unseen
 
@@ -81,7 +81,7 @@ is_shown() {
         ! LC_ALL=C.UTF-8 grep -q '.\{101\}' err
 }
 
-# What the explanation of an answer begins with, of a case by its number and how it is run: a regular expression.
+# The beginning of the explanation of an answer, for a case by its number and how it is run: a regular expression.
 front() {
     number=${3#refused }
     number=${number%% *}

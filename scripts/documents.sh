@@ -1,7 +1,7 @@
 #!/bin/sh
-# Tries what the documents say on ./township, or on the program that is named: their commands, their
+# Tests what the documents say against ./township, or the program that is named: their commands, their
 # examples of refusals and of descriptions, the indexes and names that they give, and the README's counts.
-# What is tried is read out of the documents. The last line is 'N passed, 0 failed'.
+# All of it is read from the documents. The last line is 'N passed, 0 failed'.
 set -u
 ulimit -f 2000
 ulimit -t 20
@@ -16,7 +16,7 @@ cd "$work" || exit 1
 passed=0
 failed=0
 
-# Compares the files `wanted` and `found`, and shows them where they differ.
+# Compares the files `wanted` and `found`, and shows them if they differ.
 same() {
     if cmp -s wanted found; then
         passed=$((passed + 1))
@@ -28,7 +28,7 @@ same() {
     head -c 2000 found
 }
 
-# Two numbers are the same and not 0: so many were there to be read, and so many were read.
+# Two numbers must be the same and not 0: how many there were to read, and how many were read.
 all_read() {
     echo "$2" > wanted
     echo "$3" > found
@@ -36,8 +36,8 @@ all_read() {
     same "$1"
 }
 
-# Runs the program with these words: its output and its status are `found`, and what it has on standard error,
-# but for the explanation of a refusal, which there has to be.
+# Runs the program with these words: `found` is its output, its status, and its standard error, except for the
+# explanation of a refusal, which must be there.
 run() {
     { "$program" "$@" 2> errors; echo "status $?"; } > found
     if grep -q '^status 1$' found; then
@@ -55,9 +55,9 @@ ended() {
 }
 
 # The commands of a document, each on an indented line after a dollar sign, and what they print, on the
-# indented lines below it. They are run one after another in a folder of their own. What is told on standard
-# error of a refusal, or noted, stands in a document only where the command has `2>&1`. A third word is a
-# file that stands in the folder as notes.csv.
+# indented lines below it. They are run one after another in a folder of their own. A document shows the
+# explanation of a refusal, or a note, only if the command contains `2>&1`. A third word is a file that is in
+# the folder as notes.csv.
 commands() {
     rm -rf folder shown
     mkdir folder shown
@@ -85,8 +85,8 @@ for document in README.md docs/BATCH.md docs/DESCRIPTIONS.md docs/NOTES-FORMAT.m
     commands "$document" "$root/$document"
 done
 
-# The man page is the one that its template and docs/ make, and is well formed. It has the refusals of
-# docs/REFUSALS.md once each, and its examples are run as the documents' commands.
+# The man page is the one that its template and docs/ make, and is well formed. It contains each refusal of
+# docs/REFUSALS.md once, and its examples are run like the documents' commands.
 page=$root/man/township.1
 : > wanted
 sh "$root/scripts/man_page.sh" --check > found 2>&1
@@ -113,7 +113,7 @@ sed -n -e '/^[.]Bd/,/^[.]Ed/{ s/^[^.]/    &/; p; }' \
     "$page.in" > examples
 commands man/township.1 examples "$uneven"
 
-# A list of so many tracts, at most 1,024, each another of the smallest places, of section 8.
+# A list of the given number of tracts, at most 1,024, each a different smallest place of section 8.
 tracts() {
     awk -v count="$1" 'BEGIN {
         split("NE1/4 NW1/4 SW1/4 SE1/4", corners, " ")
@@ -125,8 +125,8 @@ tracts() {
     }'
 }
 
-# The input that an example names, where record numbers are those of a sample: a description, a record in the
-# place of the sample's or after its last, the sample without a record, or so much of something.
+# The input that an example names, with the record numbers of a sample: a description, a record in the place
+# of the sample's or after its last, the sample without a record, or a given amount of something.
 input_of() {
     sample=$2
     words=${1#* }
@@ -170,8 +170,8 @@ $second"
     ended "$input" 1 "$answer"
 done < examples
 
-# What it offers to write in place of a refused description: in a row's last cell, whatever begins as a
-# description does. It is accepted.
+# The descriptions that it suggests in place of refused ones: in a row's last cell, any text that begins as a
+# description does. They must be accepted.
 sed -n 's/^| [4-6][0-9] |.*|\([^|]*\)|$/\1/p' "$docs/REFUSALS.md" |
     tr '`' '\n' | grep -E '^(secs?|T)[.] ' > offered
 all_read 'what docs/REFUSALS.md offers' "$(wc -l < offered)" "$(wc -l < offered)"
@@ -180,7 +180,7 @@ while read -r description; do
     ended "offered: $description" 0 "$(grep -x '[0-9]*[.][0-9][0-9] acres' found)"
 done < offered
 
-# Its tables have the numbers and the names of the code, and no other.
+# Its tables contain the numbers and the names in the code, and no others.
 find "$root/crates" -path '*/src/*' -name '*.rt' -exec \
     sed -n 's/^ *[A-Za-z]*Fault::\([A-Za-z]*\).* => (\([0-9][0-9]*\), .*/\2 \1/p' {} + |
     sort > in_code
@@ -205,8 +205,8 @@ sed -n '/^    tract /,/^$/s/^    //p' "$docs/TRACTS-FORMAT.md" > account
 run report "$uneven" list
 ended 'the list of docs/TRACTS-FORMAT.md' 0 "$(cat account)"
 
-# The drawing of docs/NOTES-FORMAT.md, as how a record names each section line, in both orders of its
-# sections, and the line's index: a north-run line stands between two sections of a row, a west-run line
+# The drawing of docs/NOTES-FORMAT.md, as the names that a record gives each section line, in both orders of
+# its sections, and the line's index: a north-run line is between two sections of a row, and a west-run line is
 # between two rows.
 awk '
     function line(run, a, b, at) {
@@ -234,7 +234,7 @@ awk '
             for (i = 1; i <= 6; i++) line("W", section[tier - 1, i], section[tier, i], west_run[tier, i])
     }
 ' "$docs/NOTES-FORMAT.md" > drawn
-# Without a record of the sample its line is missing, whose index is the drawn one. Line k is in record k + 3.
+# If a record of the sample is left out, its line is missing, with the index in the drawing. Line k is record k + 3.
 sed 1,2d "$even" > records
 number=2
 while read -r record; do

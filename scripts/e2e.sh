@@ -1,11 +1,11 @@
 #!/bin/sh
-# Runs ./township, or the program that is named, as people do: on files, pipes, folders, and devices. It
-# compares the status, standard output, and standard error of each run. Beside it, each by its own script, are
-# tried worked answers, the largest input, what the documents say, what is installed, the explanations of
-# refusals, the program's limits, refused growths of memory, and single calls; twp_growth is found in its crate, or
-# is named second. The last line counts all: 'N passed, 0 failed'.
+# Runs ./township, or the program that is named, as people do: on files, pipes, folders, and devices. Compares
+# the status, standard output, and standard error of each run. At the same time, separate scripts test worked
+# answers, the largest input, the documents, the installation, the explanations of refusals, the program's
+# limits, refused growths of memory, and single calls; twp_growth is taken from its crate, or is named second.
+# The last line counts all tests: 'N passed, 0 failed'.
 set -u
-# A program that goes wrong fills no disk and doesn't run forever.
+# A faulty program must not fill the disk or run forever.
 ulimit -f 4000
 ulimit -t 20
 program=$(readlink -f "${1:-./township}")
@@ -17,7 +17,7 @@ cd "$work" || exit 1
 passed=0
 failed=0
 
-# Begins a script of its own, whose last line is 'N passed, M failed', beside the others.
+# Starts another script, whose last line is 'N passed, M failed', alongside the others.
 begun=0
 begin() {
     begun=$((begun + 1))
@@ -33,8 +33,8 @@ begin env -i PATH="$PATH" sh "$root/scripts/limits.sh" "$program"
 begin sh "$root/scripts/growths.sh" "$program" "$calls"
 begin sh "$root/scripts/single_calls.sh" "$calls"
 
-# Compares the last run: what it shows, its status, and what it wrote to standard output and standard
-# error, each without its last line feed.
+# Compares the last run: what it tests, its status, and its standard output and standard error, each
+# without its last line feed.
 ended() {
     what=$1 status=$2 wanted_status=$3
     text "$4" > wanted_out
@@ -46,8 +46,8 @@ ended() {
     fi
 }
 
-# The same of a run that refused its input: on standard error it explains the refusal, in lines of which the
-# first begins with the program's name. How it explains them is tried by scripts/explanations.sh.
+# The same for a run that refused its input: on standard error it explains the refusal, in lines of which the
+# first begins with the program's name. scripts/explanations.sh tests the explanations themselves.
 refused() {
     what=$1 status=$2 wanted_status=1
     text "$3" > wanted_out
@@ -59,7 +59,7 @@ refused() {
     fi
 }
 
-# Counts and shows a run that went wrong.
+# Counts and shows a failed run.
 fail() {
     failed=$((failed + 1))
     echo "FAILED: $what: status $status for $wanted_status; standard output, standard error:"
@@ -70,7 +70,7 @@ fail() {
 # A text as a program writes it: nothing, or ended by a line feed.
 text() { [ -z "$1" ] || printf '%s\n' "$1"; }
 
-# Runs the program with these words, and keeps what it writes.
+# Runs the program with these words, and keeps its output.
 run() { "$program" "$@" > out 2> err; }
 
 cp "$root/samples/b1.csv" n.csv
@@ -134,7 +134,7 @@ run plat /dev/stdin < edited; refused 'the plat of a device' $? 'refused 23 at 5
 sed '/^W,6,7,/d' "$root/samples/b0.csv" > lacking
 run plat lacking; refused 'the plat of a line too few' $? 'refused 11 at 53'
 
-# The canonical spelling, which is spelled as it is.
+# The canonical spelling, which is spelled the same again.
 printf 'sec. 14, SE1/4, NE1/4, NW1/4.' > parts
 run normal n.csv parts; ended 'normal' $? 0 'T. 2 N., R. 3 W.,
 sec. 14, N1/2, SE1/4.' ''
@@ -164,7 +164,7 @@ run report n.csv dos.csv; ended 'tracts with CRLF' $? 0 "$account" ''
 sed 1q t.csv > heading
 run report "$root/samples/b0.csv" heading; ended 'no tract' $? 0 'total: 0.00 acres
 remaining: 23040.00 acres' ''
-# Two places of 0.625 acres are 1.25, of 23,040.
+# Two places of 0.625 acres: 1.25 acres of 23,040.
 printf 'name,description\nA,"sec. 14, NE1/4NE1/4NE1/4NE1/4NE1/4."\n' > two
 echo 'B,"sec. 14, NW1/4NE1/4NE1/4NE1/4NE1/4."' >> two
 run report "$root/samples/b0.csv" two; ended 'two of the smallest places' $? 0 'tract A: 0.63 acres
@@ -190,7 +190,7 @@ many 1048576 x | run report n.csv /dev/stdin; refused 'as many bytes as may be' 
 echo 'C,' | cat t.csv - > third
 run report n.csv third; refused 'an empty description' $? 'refused 83 at 4
 refused 44 at 0'
-# A tract's name has at most 64 bytes, its description 65,536.
+# A tract's name is at most 64 bytes long, and its description 65,536.
 name=$(many 64 n)
 printf 'name,description\n%s,sec. 14.\n' "$name" | run report n.csv /dev/stdin
 ended 'the longest name' $? 0 "tract $name: 640.00 acres
@@ -206,7 +206,7 @@ refused 'a longer description' $? 'refused 83 at 2
 refused 41 at 65536'
 run report empty folder; refused 'no list is read after refused notes' $? 'refused 2 at 1'
 
-# Without a word: standard input.
+# With no arguments: standard input.
 run < joined; ended 'joined input' $? 0 '40.45 acres' ''
 cat joined | run; ended 'joined input on a pipe' $? 0 '40.45 acres' ''
 (cat d.txt; echo; sleep 1; cat n.csv) | run; ended 'a slow pipe' $? 0 '40.45 acres' ''
@@ -329,7 +329,7 @@ twice="error: the argument '--account <ACCOUNT>' cannot be used multiple times
 $acres_usage"
 run acres --account plat --account plat n.csv d.txt; ended 'an account twice' $? 2 '' "$twice"
 run acres --account=exact n.csv d.txt --account=plat; ended 'two accounts' $? 2 '' "$twice"
-# What is wrong with a value is told with the values.
+# An error in a value is reported with the values that are allowed.
 values="  [possible values: exact, plat]
 
 $more"
@@ -386,7 +386,7 @@ run -v; ended 'an unknown option' $? 2 '' "error: unexpected argument '-v' found
 $usage"
 . "$root/scripts/misused.sh"
 
-# Files that can't be opened: both are opened before the run, the first before the second.
+# Files that cannot be opened: both are opened before the run, the first before the second.
 run acres missing d.txt; ended 'missing notes' $? 3 '' 'township: cannot open missing'
 run acres n.csv gone; ended 'a missing description' $? 3 '' 'township: cannot open gone'
 run acres missing gone; ended 'both missing' $? 3 '' 'township: cannot open missing'
@@ -406,7 +406,7 @@ run report missing gone; ended 'both missing for report' $? 3 '' 'township: cann
 run report empty gone; ended 'a list opened before notes are refused' $? 3 '' 'township: cannot open gone'
 run report folder gone; ended 'a list opened before a folder is read' $? 3 '' 'township: cannot open gone'
 
-# What can't be read.
+# Input that cannot be read.
 run acres folder d.txt; ended 'a folder for notes' $? 3 '' 'township: cannot read'
 run acres n.csv folder; ended 'a folder for a description' $? 3 '' 'township: cannot read'
 run plat folder; ended 'a folder for a plat' $? 3 '' 'township: cannot read'
@@ -418,7 +418,7 @@ run acres "$bad_name" d.txt; ended 'a name that is no UTF-8' $? 3 '' 'township: 
 run report n.csv "$bad_name"; ended 'a list whose name is no UTF-8' $? 3 '' 'township: cannot read'
 run "$bad_name"; ended 'a subcommand that is no UTF-8' $? 3 '' 'township: cannot read'
 
-# What can't be written: a full device, closed standard output, and a pipe without a reader.
+# Output that cannot be written: a full device, closed standard output, and a pipe without a reader.
 broken='township: cannot write'
 : > out
 "$program" acres n.csv d.txt > /dev/full 2> err; ended 'acres, full' $? 3 '' "$broken"
@@ -437,7 +437,7 @@ broken='township: cannot write'
 "$program" --help >&- 2> err; ended 'help, closed' $? 3 '' "$broken"
 "$program" acres n.csv d.txt <&- >&- 2> err; ended 'both closed' $? 3 '' "$broken"
 mkfifo pipe
-# Its reader goes before the run begins.
+# Its reader exits before the run begins.
 unread() { (exec 3<> pipe 4> pipe 3>&-; exec "$program" "$@" >&4 2> err); }
 unread acres n.csv d.txt; ended 'acres, no reader' $? 3 '' "$broken"
 unread plat n.csv; ended 'plat, no reader' $? 3 '' "$broken"
@@ -446,15 +446,15 @@ unread normal n.csv parts; ended 'normal, no reader' $? 3 '' "$broken"
 unread < joined; ended 'joined, no reader' $? 3 '' "$broken"
 unread help; ended 'help, no reader' $? 3 '' "$broken"
 
-# Standard error may be lost, the status is not.
+# Standard error may be lost; the status must not be.
 : > err
 "$program" acres missing gone > out 2>&-; ended 'closed standard error' $? 3 '' ''
 "$program" acres missing gone > out 2> /dev/full; ended 'full standard error' $? 3 '' ''
 "$program" akres > out 2>&-; ended 'usage, closed standard error' $? 2 '' ''
 
-# Each file is opened in its turn and once: a pipe is opened by the program only while it is by the other
-# side, which opens the notes first, and takes the names away as soon as both are open. With three standard
-# streams the program may have no file open but these two.
+# Each file is opened in turn, and once: the program can open a pipe only while the other side has it open, and
+# that opens the notes first, and removes the names as soon as both are open. Besides the three standard
+# streams, the program may have only these two files open.
 in_turn() {
     subcommand=$1 second=$2
     rm -f first second
@@ -468,7 +468,7 @@ in_turn acres d.txt; ended 'acres opens its files in their turn' $? 0 '40.45 acr
 in_turn normal parts; ended 'normal opens its files in their turn' $? 0 "$(cat canonical)" ''
 in_turn report t.csv; ended 'report opens its files in their turn' $? 0 "$account" ''
 
-# What the other scripts counted.
+# The counts of the other scripts.
 wait
 tried=0
 while [ "$tried" -lt "$begun" ]; do

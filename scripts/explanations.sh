@@ -4,8 +4,8 @@
 # names; and with standard error closed, full, and a pipe that nobody reads: there the answer and the status
 # are the same. At the end it runs damaged.sh. The last line is 'N passed, 0 failed'.
 #
-# The rows stand in the folder `explained`: each is a refused file, and a call of one of the functions below
-# that begin with `explained`, with the explanation in a here-document.
+# The rows are in the folder `explained`: each is a refused file and a call of one of the functions below whose
+# names begin with `explained`, with the explanation in a here-document.
 set -u
 ulimit -f 4000
 ulimit -t 20
@@ -19,7 +19,7 @@ mkfifo unread
 passed=0
 failed=0
 
-# Good files, and where standard input comes from.
+# Valid files, and the source of standard input.
 good() {
     cp "$root/samples/b0.csv" notes.csv
     printf 'sec. 14.' > land.txt
@@ -27,7 +27,7 @@ good() {
     input=/dev/null
 }
 
-# The notes with another record of a number, the heading's being 1.
+# The notes with the record of a given number replaced; the heading is number 1.
 record() {
     good
     awk -v number="$1" -v text="$2" 'NR == number { $0 = text } { print }' "$root/samples/b0.csv" > notes.csv
@@ -39,7 +39,7 @@ added() {
     echo "$1" >> notes.csv
 }
 
-# A description, and a list of these records behind its heading: as printf writes them.
+# A description, and a list of these records after its heading, as printf writes them.
 land() {
     good
     printf "$1" > land.txt
@@ -49,7 +49,7 @@ list() {
     printf "name,description\n$1" > list.csv
 }
 
-# Counts a run: how it was made, its status, and whether its answer, and what it explains, are those wanted.
+# Counts a run: how it was made, its status, and whether its answer and its explanation are those wanted.
 pass_if_same() {
     if [ "$2" = 1 ] && cmp -s wanted out && { [ "$3" = lost ] || cmp -s wanted_err err; }; then
         passed=$((passed + 1))
@@ -84,7 +84,7 @@ in_lines() {
     fi
 }
 
-# What is shown, the answer, and the words; what is told is on standard input. One run, on files.
+# What is tested, the answer, and the words; the explanation is on standard input. One run, on files.
 told() {
     what=$1
     printf '%s\n' "$2" > wanted
@@ -94,7 +94,7 @@ told() {
     pass_if_same 'on files' $? kept
 }
 
-# The same in each way of running.
+# The same for each way of running.
 explained() {
     told "$@"
     shift 2
@@ -108,7 +108,7 @@ explained() {
     pass_if_same 'on pipes' $? kept
 }
 
-# Runs the program in a folder of FIFOs, and then ends who still waits to write.
+# Runs the program in a folder of FIFOs, and then ends the writers that are still waiting.
 on_pipes() {
     feed "$@"
     cat "$input" | (cd pipes && exec timeout 10 "$program" "$@") > out 2> err
@@ -118,7 +118,7 @@ on_pipes() {
     return $status
 }
 
-# Refused notes, by each subcommand; and on standard input, behind the line of a description.
+# Refused notes, with each subcommand; and on standard input, after the line of a description.
 explained_notes() {
     cat > explanation
     explained "plat: $1" "$2" plat notes.csv < explanation
@@ -133,7 +133,7 @@ explained_notes() {
     input=/dev/null
 }
 
-# The explanation of notes, as it is where they begin on line 2 of standard input.
+# The explanation of notes that begin on line 2 of standard input.
 moved_down() {
     awk '
         match($0, /^township: notes.csv:[0-9]+/) {
@@ -148,7 +148,7 @@ moved_down() {
     '
 }
 
-# A refused description of one line, by each subcommand that reads one; and on standard input.
+# A refused description of one line, with each subcommand that reads one; and on standard input.
 explained_land() {
     cat > explanation
     explained_lines "$1" "$2" < explanation
@@ -159,7 +159,7 @@ explained_land() {
     input=/dev/null
 }
 
-# The same of a description of some lines, which standard input can't have.
+# The same for a description of several lines, which standard input cannot contain.
 explained_lines() {
     cat > explanation_of_lines
     explained "acres: $1" "$2" acres notes.csv land.txt < explanation_of_lines
@@ -172,7 +172,7 @@ explained_list() {
     explained "report: $1" "$2" report notes.csv list.csv
 }
 
-# One run on a description, on notes with another record of a number, and on a list, all as printf writes them.
+# One run on a description, on notes with one record replaced, and on a list, all as printf writes them.
 told_land() {
     land "$1"
     told "$1" "$2" acres notes.csv land.txt
@@ -198,7 +198,7 @@ told_list() {
 . "$root/scripts/explained/told_notes.sh"
 . "$root/scripts/explained/told_lists.sh"
 
-# Counts what damaged.sh tries.
+# Counts the tests of damaged.sh.
 sh "$root/scripts/damaged.sh" "$program" > counted
 sed '$d' counted
 if tail -n 1 counted | grep -x '[0-9]* passed, [0-9]* failed' > last; then

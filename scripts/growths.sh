@@ -1,11 +1,11 @@
 #!/bin/sh
 # Refuses ./township, or the program that is named, one growth of its memory after another, in each of its
-# five ways of running; and so calls that read and write, which twp_growth, or the program that is named second,
-# makes alone. A run with a refused growth ends there, as out of memory: it has written nothing, and a call
-# leaves a vector as it was. Only what serves to explain a refusal is done without: where memory is refused
-# for the copy of what the program reads, or for the explanation, the answer and the status are the same, and
-# the explanation is whole or left out. The first run in which there is nothing to refuse gives the right
-# answer. The last line is 'N passed, 0 failed'.
+# five ways of running; and likewise calls that read and write, which twp_growth, or the program that is named
+# second, makes separately. A run with a refused growth ends there, as out of memory: it has written nothing, and
+# a call leaves a vector unchanged. Only explaining a refusal is optional: if memory is refused for the copy of
+# the program's input, or for the explanation, the answer and the status are the same, and the explanation is
+# complete or omitted. The first run in which there is nothing to refuse gives the right answer. The last line
+# is 'N passed, 0 failed'.
 set -u
 ulimit -f 2000
 ulimit -t 20
@@ -38,19 +38,19 @@ input=/dev/null
 # Whether a file is this one line.
 is_line() { { read -r line && [ "$line" = "$2" ] && ! read -r line && [ -z "$line" ]; } < "$1"; }
 
-# How a run ends that was refused memory: of the program, and of a call, which `wanted_refused` tells.
+# How a run must end that was refused memory: the program, and a call, whose output must be `wanted_refused`.
 program_is_refused() { [ "$status" = 3 ] && [ ! -s out ] && is_line err 'township: out of memory'; }
 call_is_refused() { [ "$status" = 0 ] && [ ! -s err ] && cmp -s wanted_refused out; }
 
-# How a run ends that was not: in the lines that are looked at, its output is `wanted`, and so is its status.
-# An explanation is `wanted_err`, which is empty where the input is accepted.
+# How a run must end that was not: in the lines that are compared, its output is `wanted`, and so is its status.
+# Its explanation is `wanted_err`, which is empty if the input is accepted.
 is_answer() { [ "$status" = "$wanted_status" ] && sed -n "$lines" out | cmp -s wanted -; }
 is_answered() { is_answer && cmp -s wanted_err err; }
 
-# How a run ends that did without: all the same, but the explanation may be left out.
+# How a run must end that did without some memory: the same, but the explanation may be omitted.
 is_answered_without() { is_answer && { [ ! -s err ] || cmp -s wanted_err err; }; }
 
-# Counts the last run, and shows it where it failed.
+# Counts the last run, and shows it if it failed.
 pass() { passed=$((passed + 1)); }
 fail() {
     failed=$((failed + 1))
@@ -59,7 +59,7 @@ fail() {
     head -c 2000 err
 }
 
-# Begins a count of the growths that are refused to a call or a run, and tells that of the one before: how
+# Starts counting the growths that a call or a run is refused, and prints the count of the previous one: how
 # many there were, and how many the program did without.
 of=
 begin() {
@@ -67,8 +67,8 @@ begin() {
     of=$1 refused=0 done_without=
 }
 
-# Runs a program with one growth refused after another, of those that count after so many writes. A growth
-# that was refused is the last one of its run, unless the program does without, as it does of so many.
+# Runs a program with one growth refused after another, counting from the given number of writes on. A refused
+# growth is the last one of its run, unless the program does without it, as it does for the given number of them.
 refuse_in_turn() {
     what=$1 is_refused=$2 writes=$3 spared=$4
     shift 4
@@ -92,15 +92,15 @@ refuse_in_turn() {
             return
         fi
     done
-    # Only what takes no memory may have nothing to refuse. Behind the answer the program does without all.
+    # Only a run that takes no memory may have nothing to refuse. After the answer, it can do without all.
     [ "$spared" != all ] || spared=$((growth - 1))
     if [ "$growth" -gt "$least" ] && [ "$without" = "$spared" ] && is_answered; then pass; else fail; fi
     refused=$((refused + growth - 1))
     [ "$without" = 0 ] || done_without=", $without of them done without"
 }
 
-# A run of the program that accepts its input, how many growths are for copies of what it reads, its answer,
-# and the words.
+# A run of the program that accepts its input, the number of growths for copies of its input, its answer, and
+# the words.
 refuse_program() {
     what=$1 copies=$2
     printf '%s\n' "$3" > wanted
@@ -110,8 +110,8 @@ refuse_program() {
     refuse_in_turn "township: $what" program_is_refused 0 "$copies" "$program" "$@"
 }
 
-# The same of a run that refuses its input, first up to its answer, and then behind it. What it explains is
-# what it explains of itself.
+# The same for a run that refuses its input, first up to its answer, and then after it. The explanation must be
+# the one that the program gives when no memory is refused.
 refuse_refusal() {
     refusal=$1 copies=$2
     printf '%s\n' "$3" > wanted
@@ -122,7 +122,7 @@ refuse_refusal() {
     refuse_in_turn "township, explained: $refusal" program_is_refused 1 all "$program" "$@"
 }
 
-# A call, what is told of it where memory is refused and where none is, and the words that name it.
+# A call, its output if memory is refused and if none is, and the words that name it.
 refuse_call() {
     what=$1
     printf 'calling\nout of memory\n%s' "$2" > wanted_refused
@@ -136,7 +136,7 @@ refuse_call() {
 lines=p
 least=1
 
-# What a vector has room for is written there first, so the growth may come at any byte.
+# A vector is first filled as far as it has room, so the growth may come at any byte.
 for room in 0 1 2 3 4; do
     refuse_call 'Length::write' 'held: ' 'answered
 held: 80.00' write-length 80 $room
@@ -209,7 +209,7 @@ awk 'BEGIN { print "name,description"; for (n = 1; n <= 20; n++) printf "%s,sec.
 refuse_program 'report of twenty tracts' 2 "$(awk 'BEGIN { for (n = 1; n <= 20; n++) printf "tract %s: 640.00 acres\n", n }')
 total: 12800.00 acres
 remaining: 10240.00 acres" report n.csv twenty
-# A copy has room for 131,072 bytes, and grows for more.
+# A copy begins with room for 131,072 bytes, and grows for more.
 (cat t.csv; head -c 200000 /dev/zero | tr '\0' '\n') > long.csv
 refuse_program 'report of a long list' 3 "$account" report uneven.csv long.csv
 input=joined

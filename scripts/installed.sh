@@ -1,6 +1,6 @@
 #!/bin/sh
-# Installs ./township, or the program that is named, into a folder of its own, and looks at what came there:
-# the files, and that the completions of the shells complete what they should. The last line is
+# Installs ./township, or the program that is named, into a folder of its own, and checks the result: the
+# files, and that the completions of the shells complete what they should. The last line is
 # 'N passed, 0 failed'.
 set -u
 ulimit -f 2000
@@ -13,7 +13,7 @@ cd "$work" || exit 1
 passed=0
 failed=0
 
-# Compares the files `wanted` and `found`, and shows them where they differ.
+# Compares the files `wanted` and `found`, and shows them if they differ.
 same() {
     if cmp -s wanted found; then
         passed=$((passed + 1))
@@ -25,7 +25,7 @@ same() {
     head -c 2000 found
 }
 
-# A make that calls this script passes it no words.
+# Take no options from a make that calls this script.
 unset MAKEFLAGS MFLAGS MAKELEVEL
 make -C "$root" --no-print-directory install-built PROGRAM="$program" DESTDIR="$work/there" PREFIX=/usr > lost
 there=$work/there/usr
@@ -48,7 +48,7 @@ echo '40.45 acres' > wanted
 "$there/bin/township" acres "$root/samples/b1.csv" "$root/samples/description.txt" > found 2>&1
 same 'the installed program'
 
-# A folder to complete names in.
+# A folder of names to complete.
 mkdir names names/deeds
 touch names/notes.csv names/tracts.csv names/land.txt 'names/my notes.csv'
 
@@ -118,7 +118,7 @@ else
     echo 'skipped: the completion of zsh, since there is no zsh here'
 fi
 
-# The completions have each subcommand that help lists, and the options of `acres`.
+# The completions contain each subcommand that help lists, and the options of `acres`.
 "$program" --help | sed -n '/^Commands:/,/^$/s/^  \([a-z]*\) .*/\1/p' | sort > wanted
 sed -n "s/^ *_township_words .* '\(.*\) --help'$/\1/p" "$root/completions/township.bash" |
     tr ' ' '\n' | sort > found

@@ -1,8 +1,8 @@
 #!/bin/sh
-# Runs ./township, or the program that is named, on the largest input that there may be, and on input that is one
-# more: field notes, descriptions, canonical texts, lists of tracts, names of tracts; and on input of many lengths, of
-# which none needs more memory than there is. It compares the answer and the status of each run, and how far it reads.
-# The last line is 'N passed, 0 failed'.
+# Runs ./township, or the program that is named, on the largest input that is allowed, and on input that is one byte
+# or one tract larger: field notes, descriptions, canonical texts, lists of tracts, names of tracts; and on input of
+# many lengths, none of which may run out of memory. Compares the answer and the status of each run, and how far it
+# reads. The last line is 'N passed, 0 failed'.
 set -u
 ulimit -f 4000
 ulimit -t 20
@@ -15,7 +15,7 @@ cd "$work" || exit 1
 passed=0
 failed=0
 
-# Runs the program with these words; it is to end with this status, and to answer what the file `wanted` has.
+# Runs the program with these words; it must end with this status, and its answer must be that in the file `wanted`.
 ends() {
     what=$1 wanted_status=$2
     shift 2
@@ -30,13 +30,13 @@ ends() {
     tail -c 1000 wanted
     tail -c 1000 out
 }
-# The same of an answer, and of a refusal, to the even township's notes and the file `input`, or another one.
+# The same for an answer, and for a refusal, to the even township's notes and the file `input`, or another file.
 is_answered() { printf '%b\n' "$2" > wanted; ends "$1" 0 "$3" "$even" "${4:-input}"; }
 is_refused() { printf '%b\n' "$2" > wanted; ends "$1" 1 "$3" "$even" "${4:-input}"; }
 many() { head -c "$1" /dev/zero | tr '\0' "$2"; }
 
-# Of the parts that quartering a section so many times gives, the one of this number, from 0: five times gives 1,024
-# places of five eighths of an acre, and four times 256 squares of 2.5 acres.
+# The part with the given number, from 0, of those that quartering a section the given number of times makes: five
+# times makes 1,024 places of five eighths of an acre, and four times 256 squares of 2.5 acres.
 parts='
     function part(number, times,   text) {
         for (; times > 0; times--) text = text corner[int(number / 4 ^ (times - 1)) % 4 + 1]
@@ -44,8 +44,8 @@ parts='
     }
     BEGIN { split("NE1/4 NW1/4 SW1/4 SE1/4", corner, " ") }'
 
-# A list of so many tracts, each another part of the sections from 8 on, and the tracts in its account, of so many
-# acres each.
+# A list of the given number of tracts, each a different part of the sections from 8 on, and the tracts in its
+# account, each with the given number of acres.
 tracts() {
     awk -v count="$1" -v times="$2" "$parts"'
         BEGIN {
@@ -57,7 +57,7 @@ tracts() {
 account_of() {
     awk -v count="$1" -v acres="$2" 'BEGIN { for (n = 0; n < count; n++) print "tract " n ": " acres " acres" }'
 }
-# 991 places have 619.375 acres of 23,040, a tie, and leave another one.
+# 991 places have 619.375 of 23,040 acres, a tie, and what remains is a tie too.
 for row in '990 5 0.63 618.75 22421.25' '991 5 0.63 619.38 22420.63' '992 5 0.63 620.00 22420.00' \
     '999 5 0.63 624.38 22415.63' '1000 5 0.63 625.00 22415.00' '1000 4 2.50 2500.00 20540.00'; do
     read -r count times acres total remaining << END
@@ -67,7 +67,7 @@ END
     (account_of "$count" "$acres"; printf 'total: %s acres\nremaining: %s acres\n' "$total" "$remaining") > wanted
     ends "$count tracts" 0 report "$even" input
 done
-# One more is refused, whatever it is: another place, one without a name, no tract.
+# One more is refused, whatever it is: another place, a tract without a name, or no tract at all.
 tracts 1001 5 > input
 is_refused '1,001 tracts' 'refused 85 at 1002' report
 (tracts 1000 5; echo ',sec. 12.') > input
@@ -86,7 +86,7 @@ for name in '' "$(many 65 '~')" 'A\177' 'A\037' '\303\251'; do
     is_refused "the name $name" 'refused 81 at 2' report
 done
 
-# A tract's description has 65,536 bytes at most, and a list 1,048,576; empty lines are no records.
+# A tract's description is at most 65,536 bytes long, and a list 1,048,576; empty lines are not records.
 (printf 'name,description\nA,sec. 14.'; many $((65536 - 8)) ' ') > input
 is_answered 'the longest description' "$(printf "$account" A)" report
 (printf 'name,description\nA,sec. 14.'; many $((65537 - 8)) ' ') > input
@@ -95,12 +95,12 @@ is_refused 'a longer description' 'refused 83 at 2\nrefused 41 at 65536' report
 is_answered 'the longest list' 'total: 0.00 acres\nremaining: 23040.00 acres' report
 (printf 'name,description\n'; many $((1048577 - 17)) '\n') > input
 is_refused 'a longer list' 'refused 80 at 1048576' report
-# What is told shows line 200,002 of a list of more bytes than the program's copy of it has room for from the start.
+# The explanation shows line 200,002 of a list that is longer than the room reserved for the program's copy of it.
 (printf 'name,description\n'; many 200000 '\n'; echo 'A,sec. 37.') > input
 is_refused 'a tract behind empty lines' 'refused 83 at 2\nrefused 62 at 5' report
 if grep -q '^township: input:200002:' err; then passed=$((passed + 1)); else failed=$((failed + 1)); fi
 
-# Field notes have 65,536 bytes at most. The even ones have 1,638, and empty lines are no records.
+# Field notes are at most 65,536 bytes long. The even ones have 1,638 bytes, and empty lines are not records.
 printf 'sec. 14.' > land
 mkdir folder
 echo '640.00 acres' > wanted
@@ -108,7 +108,7 @@ for length in $(seq 60000 41 65536) 65536; do
     (cat "$even"; many $((length - 1638)) '\n') > notes
     ends "notes of $length bytes" 0 acres notes land
 done
-# Whatever the bytes are, too many are refused first; and no second file is read, as this one can't be.
+# Whatever the bytes are, too many are refused first; and no second file is read: this one cannot be.
 (cat "$even"; many $((65537 - 1638)) '\n') > more
 many 65536 x > letters
 many 65537 x > more_letters
@@ -122,7 +122,7 @@ for subcommand in acres normal report plat; do
     ends "$subcommand: letters" 1 $subcommand letters "$@"
 done
 
-# A description has 65,536 bytes at most, and too many are refused before a byte that is no part of it.
+# A description is at most 65,536 bytes long, and too many bytes are refused before a byte that is not allowed in it.
 for subcommand in acres normal; do
     many 65536 ' ' > input
     is_refused "$subcommand: white space" 'refused 44 at 65536' $subcommand
@@ -134,8 +134,8 @@ for subcommand in acres normal; do
     done
 done
 
-# How far a run reads: one byte past a limit, and no second file where the notes make no plat. What is left in a pipe
-# is counted when the run has ended. Joined input without a line feed is read to 65,536 + 65,538 bytes.
+# How far a run reads: one byte past a limit, and no second file if the notes make no plat. The bytes left in a pipe
+# are counted after the run. Joined input without a line feed is read to 65,536 + 65,538 bytes.
 leaves() {
     what=$1 left=$2 count=$3 byte=$4
     shift 4
@@ -155,8 +155,8 @@ leaves 'joined input' $((200000 - 131074)) 200000 ' '
 leaves 'a description without a plat' 200000 200000 ' ' acres letters /dev/stdin
 leaves 'a list without a plat' 200000 200000 ' ' report letters /dev/stdin
 
-# Each length near the limit, and those of powers of two and beside them: a section and white space, and a list of
-# section 1 again and again, which is read whole before its second number, at 6 or behind a space at 7, is refused.
+# Each length near the limit, and powers of two and their neighbors: a section and white space, and a list that
+# repeats section 1, which is read whole before its second number, at 6, or after a space at 7, is refused.
 (printf 'sec. 14'; many 65536 ' ') > blank
 (printf 'sec 1'; yes ,1 | head -n 32768 | tr -d '\n') > odd
 (printf ' '; cat odd) > spaced
@@ -194,8 +194,8 @@ is_answered 'each place of two sections' '1280.00 acres' acres
 each_place 0 > twice
 is_refused 'one of them again' "refused 67 at $(cat at)" acres twice
 
-# The canonical text of a chessboard of these sections, of which the dark squares of this depth are held: of each
-# four the north-western and the south-eastern one, so that no half is full. The greatest quarter comes last.
+# The canonical text of a chessboard of these sections, which contains the dark squares of this depth: of each four,
+# the northwest and the southeast one, so that no half is full. The largest quarter comes last.
 chessboard() {
     awk -v sections="$1" -v depth="$2" '
         BEGIN {
@@ -216,7 +216,7 @@ chessboard() {
 }
 # A section has 128 dark squares of 20 bytes, with 127 times 2 between them, and with `sec. 14, ` and the end of
 # its line 2,825 bytes, or 2,824 with a number of one digit; the heading has 18. Of places it has 512 of 25 bytes,
-# and with what stands between and around them 13,833 or 13,832. A text of more than 65,536 is no description.
+# and 13,833 or 13,832 with the text between and around them. A text of more than 65,536 bytes is not a description.
 regular='8 9 10 11 12 13 14 15 16 17 20 21 22 23 24 25 26 27 28 29 32 33 34'
 for row in "64991:4:$regular" "70641:4:$regular 35 36" '55348:5:8 9 10 11' '69181:5:8 9 10 11 12'; do
     size=${row%%:*} rest=${row#*:}

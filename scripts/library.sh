@@ -1,14 +1,14 @@
 #!/bin/sh
 # Proves the library for C and builds it in lib/: libtownship.a, libtownship.so with its soname and links, and
-# township.pc, whose prefix is the first word (/usr/local). With `proved` as the second word the crates below
-# twp_c are taken as `rt ci` has just proved and left them, and twp_c alone is proved once more.
+# township.pc, whose prefix is the first word (/usr/local by default). With `proved` as the second word, the crates
+# below twp_c are used as `rt ci` has just proved and left them, and only twp_c is proved again.
 set -eu
 cd "$(dirname "$0")/.."
 prefix=${1:-/usr/local}
 kit=$(dirname "$(rt doc)")
 root=$PWD
 
-# `rt lib` proves the crates below by itself, even where `rt ci` has proved them: so rattle, which it calls.
+# `rt lib` proves the crates below again, even if `rt ci` has proved them: so call rattle, as it does.
 prove_over_proved() {
     set -- --extern "std=$kit/rlibs/std.rlib" -L "dependency=$kit/rlibs"
     for crate in $(sed -n 's/^twp_c staticlib: //p' crates.txt); do
@@ -38,7 +38,7 @@ fi
 }
 rm -rf lib lib.log
 mkdir lib
-# One object of all that is linked, in which only the library's calls can be seen from outside.
+# One object of everything that is linked, in which only the library's functions are visible from outside.
 ld -r -o lib/township.o --whole-archive crates/twp_c/out/libtwp_c.a --no-whole-archive "$kit/c/liblibc_c.a"
 objcopy --wildcard --keep-global-symbol='township_*' lib/township.o
 ar rcs lib/libtownship.a lib/township.o

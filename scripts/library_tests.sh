@@ -1,11 +1,11 @@
 #!/bin/sh
-# Builds the library for C, and tries it and what is built on it: from C and from C++, under memcheck, from four
+# Builds the library for C, and tests it and the packages built on it: from C and from C++, under memcheck, from four
 # threads, with memory refused, as it is installed, by the packages for Python and for Rust, and by the examples
-# of many descriptions. The worked cases for each of them are those of scripts/answered, or of the zip that
-# TOWNSHIP_CASES names; and on damaged inputs the library answers as the program does. A test whose tool is missing is
-# skipped, and named in a line 'skipped: NAME'; scripts/needs.sh lists the packages to install. The last line is
-# 'N passed, 0 failed'. With the word `proved` the library is built over what `rt ci` has just proved, and the
-# program is the one that it built.
+# of many descriptions. The worked cases for all of them are those of scripts/answered, or of the zip file that
+# TOWNSHIP_CASES names; on damaged inputs, the library must answer as the program does. A test whose tool is missing
+# is skipped, and named in a line 'skipped: NAME'; scripts/needs.sh lists the packages to install. The last line is
+# 'N passed, 0 failed'. With the word `proved`, the library is built from the crates that `rt ci` has just proved, and
+# the program is the one that it built.
 set -u
 root=$(readlink -f "$(dirname "$0")/..")
 cd "$root" || exit 1
@@ -29,14 +29,14 @@ has() { command -v "$1" > "$work/lost" 2>&1; }
 # The first Python that has these modules.
 python_with() { sh scripts/python_with.sh "$1"; }
 
-# A command that has to succeed.
+# A command that must succeed.
 try() {
     what=$1
     shift
     if "$@" > "$work/out" 2>&1; then pass; else fail "$what"; fi
 }
 
-# One that counts what it tries: its last line is 'N passed', and maybe ', M failed' and ', M skipped (NAMES)'.
+# One that counts its tests: its last line is 'N passed', possibly with ', M failed' and ', M skipped (NAMES)'.
 count() {
     what=$1
     shift
@@ -68,7 +68,7 @@ if ! sh scripts/library.sh /usr/local $proved > "$work/out" 2>&1; then
 fi
 version=$(sed -n 's/^Version: //p' lib/township.pc)
 
-# The worked cases, and a Python that can try the package with data frames, if there is one.
+# The worked cases, and a Python that can test the package with data frames, if there is one.
 if python=$(python_with pandas) || python=$(python_with sys); then
     if [ -z "${TOWNSHIP_CASES:-}" ]; then
         TOWNSHIP_CASES=$work/answered.zip
@@ -79,7 +79,7 @@ if python=$(python_with pandas) || python=$(python_with sys); then
     export PYTHON
 fi
 
-# What can be seen of the library from outside.
+# The symbols of the library that are visible from outside.
 sed -n 's/^township_answer \(township_[a-z_]*\)(.*/\1/p' include/township.h | sort > "$work/wanted"
 nm -D --defined-only lib/libtownship.so | sed 's/.* //' | sort > "$work/found"
 same 'the names that libtownship.so exports'
@@ -117,7 +117,7 @@ if has "$compiler"; then
     else
         skip 'worked cases from C: no Python to read them'
     fi
-    # Damaged inputs, for which the library has to answer as the program does.
+    # Damaged inputs, for which the library must answer as the program does.
     if [ -x "$program" ]; then
         try 'the program on damaged inputs' sh -c 'sh scripts/damaged.sh "$1" records > "$2"' sh "$program" \
             "$work/damaged"

@@ -1,12 +1,11 @@
 #!/bin/sh
 # Runs ./township, or the program that is named, with little stack and with little memory, in each of its five
-# ways of running, on input that it accepts and on input that it refuses: on little stack it gives the right
-# answer, and explains a refusal; and from the least memory in which the system can start it up to enough, in
-# steps of a page, it gives that answer or ends as out of memory. With too little for the explanation it
-# leaves that out. The last line is 'N passed, 0 failed'.
+# ways of running, on input that it accepts and on input that it refuses. With little stack, it must give the right
+# answer, and explain a refusal. From the least memory in which the system can start it up to enough, in steps of a
+# page, it must give that answer or end as out of memory; if there is too little for the explanation, it omits that.
+# The last line is 'N passed, 0 failed'.
 #
-# What the environment holds stands on the stack too: `env -i PATH="$PATH" sh scripts/limits.sh` tries the
-# program without any.
+# The environment is on the stack too: `env -i PATH="$PATH" sh scripts/limits.sh` tests the program without one.
 set -u
 ulimit -f 2000
 ulimit -t 20
@@ -32,14 +31,14 @@ lines=p
 # Whether a file is this one line.
 is_line() { { read -r line && [ "$line" = "$2" ] && ! read -r line && [ -z "$line" ]; } < "$1"; }
 
-# How a run ends that has memory enough, in the lines that are looked at; how one that hasn't; and how one
-# that has enough for its answer, and not for what explains it.
+# How a run must end that has enough memory, in the lines that are compared; how one that does not; and how one
+# that has enough for its answer, but not for the explanation.
 is_answer() { [ "$status" = "$wanted_status" ] && sed -n "$lines" out | cmp -s wanted -; }
 is_answered() { is_answer && cmp -s wanted_err err; }
 is_refused() { [ "$status" = 3 ] && [ ! -s out ] && is_line err 'township: out of memory'; }
 is_unexplained() { is_answer && [ ! -s err ]; }
 
-# Counts the last run, and shows it where it failed.
+# Counts the last run, and shows it if it failed.
 pass() { passed=$((passed + 1)); }
 fail() {
     failed=$((failed + 1))
@@ -49,7 +48,7 @@ fail() {
 }
 
 # The least memory in which the program starts: in which the loader maps it and its libraries, binds their
-# names and makes the first thread's storage. So traced it then lists the libraries, and nothing is run.
+# names, and makes the first thread's storage. When traced, the loader then lists the libraries and runs nothing.
 starts_in() { (ulimit -v "$1" && LD_TRACE_LOADED_OBJECTS=1 LD_BIND_NOW=1 exec "$program") > out 2> err; }
 least=1000
 until starts_in "$least" || [ "$least" -gt 100000 ]; do least=$((least + 32 * page)); done
@@ -78,7 +77,7 @@ more_and_more() {
         fi
         memory=$((memory + page))
     done 2> lost
-    # Some amount starts the program and is too little for it, and some is enough.
+    # Some amounts must start the program and be too little for it, and some must be enough.
     if [ "$enough" = 8 ] && [ "$refused" -gt 0 ]; then pass; else fail "$what in more and more memory"; fi
 }
 
@@ -88,7 +87,7 @@ limit() {
     limit_of 0 "$@"
 }
 
-# The same of input that is refused. What explains it is what explains it on much stack.
+# The same for input that is refused. The explanation must be the one that is given with plenty of stack.
 limit_refused() {
     what=$1 answer=$2
     shift 2
@@ -115,7 +114,7 @@ limit 'report' 'tract A: 39.18 acres
 tract B: 39.03 acres
 total: 78.20 acres
 remaining: 22959.37 acres' report n.csv t.csv
-# Of the plat's 37 lines the last, and how many they are.
+# The last of the plat's 37 lines, and their number.
 lines='37p;$='
 limit 'plat' 'township total 23037.57
 37' plat n.csv

@@ -1,26 +1,26 @@
 #!/bin/sh
-# Writes the man page, man/township.1, from its template, man/township.1.in. What docs/ has of it is taken from
-# there: a line of the template that is one of these names stands for
+# Writes the man page, man/township.1, from its template, man/township.1.in. Parts of it come from docs/: a line of
+# the template that is one of these names is replaced with
 #
 #     @PLACES@      what the place of a refusal counts (docs/REFUSALS.md)
 #     @REFUSALS@    the refusals, stage by stage: number, name, meaning, and what to do (docs/REFUSALS.md)
 #     @LINES@       the drawing of the section lines and their indexes (docs/NOTES-FORMAT.md)
 #
-# In what is shown as it is typed, marks that a typesetter would make nicer are kept as they are.
+# In text shown as it is typed, characters that a typesetter would replace with nicer ones are kept.
 #
-# With --check it writes nothing; where the page isn't what the template and docs/ make, it shows how they
+# With --check it writes nothing; if the page is not what the template and docs/ make, it shows how they
 # differ, and its status is 1.
 set -eu
 root=$(readlink -f "$(dirname "$0")/..")
 work=$(mktemp -d)
 trap 'rm -rf "$work"' EXIT
 
-# What the awk programs below share: a text as it is typed, a cell of a table, or a sentence, in mdoc.
+# Functions that the awk programs below share: they write a typed text, a cell of a table, or a sentence in mdoc.
 cat > "$work/cells" <<'END'
-# The text with a capital letter at its beginning.
+# The text, capitalized.
 function capital(text) { return toupper(substr(text, 1, 1)) substr(text, 2) }
 
-# The text with the names of the marks that would be made nicer.
+# The text with names for the characters that would be replaced with nicer ones.
 function typed(text) {
     gsub(/-/, "\\-", text)
     gsub(/\047/, "\\(aq", text)
@@ -30,8 +30,8 @@ function typed(text) {
     return text
 }
 
-# The text as one argument of a macro, and not as a macro or as a mark. Fractions have names of their own, so
-# that the page is ASCII.
+# The text as one argument of a macro, and not as a macro or punctuation. Fractions are written by name, so that
+# the page is ASCII.
 function argument(text) {
     gsub(/\\/, "\\e", text)
     gsub(/"/, "\\(dq", text)
@@ -43,7 +43,7 @@ function argument(text) {
     return text ~ / / ? "\"" text "\"" : text
 }
 
-# Lines of text. A full stop or an apostrophe at a beginning would be taken for a macro.
+# Lines of text. A period or an apostrophe at the beginning of a line would be taken for a macro.
 function lines(text, words, count, i, line) {
     count = split(text, words, " ")
     for (i = 1; i <= count; i++) {
@@ -54,7 +54,7 @@ function lines(text, words, count, i, line) {
     if (line != "") print line
 }
 
-# The section of the page for a document, or the code as it stands.
+# The section of the page for a document, or the code unchanged.
 function code(text) {
     if (text == "docs/NOTES-FORMAT.md") return "Sx FIELD NOTES"
     if (text == "docs/DESCRIPTIONS.md") return "Sx DESCRIPTIONS OF LAND"
@@ -62,7 +62,7 @@ function code(text) {
     return "Ql " argument(text)
 }
 
-# A sentence with code between backquotes. Marks that touch code stand in its macro.
+# A sentence with code between backquotes. Punctuation that touches code goes into its macro.
 function sentence(text, pieces, count, i, marks, macro) {
     if (text !~ /`[^`]*[.]`$/) text = text "."
     count = split(capital(text), pieces, "`")

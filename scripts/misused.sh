@@ -1,6 +1,6 @@
 # Rows of e2e.sh: command lines that are misused, and help.
 
-# Runs the program with words as a shell splits them; what it writes to standard error is on standard input.
+# Runs the program with words as a shell splits them; the expected standard error is on standard input.
 misused() {
     wanted=$(cat)
     eval "run $1"
@@ -124,7 +124,7 @@ Usage: township <COMMAND>
 For more information, try '--help'.
 END
 
-# Help is shown wherever it is asked for, also where the other words are misused.
+# Help is shown wherever it is requested, even if the other words are misused.
 plat_text="Print the acres of each lot, of each section, and of the whole township
 
 Usage: township plat <NOTES>
@@ -141,7 +141,7 @@ run acres n.csv --help; ended 'help behind one file' $? 0 "$acres_text" ''
 run report n.csv t.csv -h; ended 'help behind two files' $? 0 "$report_text" ''
 run --help akres; ended 'help before no subcommand' $? 0 "$help_text" ''
 
-# After `--` each word is a value, and so are a hyphen alone and the empty word.
+# After `--` each word is a value, as are a lone hyphen and the empty word.
 run acres -- --help -h; ended 'files called as options' $? 3 '' 'township: cannot open --help'
 run plat -- acres; ended 'a file called as a subcommand' $? 3 '' 'township: cannot open acres'
 run acres n.csv -- --; ended 'a file of two hyphens' $? 3 '' 'township: cannot open --'

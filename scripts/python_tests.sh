@@ -20,7 +20,7 @@ if [ -n "${TOWNSHIP_CASES:-}" ]; then
 fi
 export TOWNSHIP_LIBRARY
 export PYTHONPATH="$root/bindings/python/src"
-# Nothing is left behind in the sources.
+# Leave nothing in the sources.
 export PYTHONDONTWRITEBYTECODE=1
 cd "$root"
 exec "${PYTHON:-python3}" bindings/python/tests/run.py

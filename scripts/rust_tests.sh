@@ -1,7 +1,7 @@
 #!/bin/sh
 # Runs the tests, the examples and the lints of the Rust crate against lib/libtownship.a, or the library in
 # the folder that TOWNSHIP_LIB_DIR names, without the network. TOWNSHIP_CASES can name a zip of worked cases,
-# which takes Python (PYTHON can name another). What is compiled goes to CARGO_TARGET_DIR, or to a folder that
+# which takes Python (PYTHON can name another). Compiled files go to CARGO_TARGET_DIR, or to a folder that
 # is removed. The last line is 'N passed, M skipped', with the names of those that were skipped.
 set -eu
 root=$(readlink -f "$(dirname "$0")/..")
@@ -43,7 +43,7 @@ fi
 
 cargo test --offline --no-fail-fast -- $ignored > "$work/tests" 2>&1 || status=$?
 cat "$work/tests"
-# What doesn't compile has no result of its own, and counts as one that failed.
+# A test that does not compile has no result of its own, and counts as one failure.
 cat "$work/lints" "$work/tests" | awk -v status="$status" '
 /^test result: / { passed += $4; failed += $6; skipped += $8 }
 /^test .* \.\.\. ignored/ { names = names (names == "" ? "" : ", ") $2 }

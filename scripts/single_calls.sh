@@ -1,7 +1,7 @@
 #!/bin/sh
-# Makes single calls by twp_growth, or by the program that is named, which makes one and tells what it answered, and
-# compares what is told: values as they are written, and what is wrong with a length, field notes or a description
-# that is none, in words of which ./township shows few. The last line is 'N passed, 0 failed'.
+# Makes single calls with twp_growth, or the program that is named, which makes one and prints its answer, and
+# compares the output: values as they are written, and the messages for an invalid length, field notes, or description, few of
+# which ./township shows. The last line is 'N passed, 0 failed'.
 set -u
 ulimit -f 2000
 ulimit -t 20
@@ -17,12 +17,12 @@ failed=0
 cp "$root/samples/b0.csv" even
 cp "$root/samples/b1.csv" uneven
 
-# What is told, and the words that name the call. The last line may have no line feed.
+# The output, and the words that name the call. The last line may lack a line feed.
 is_told() {
     printf '%s\n' "$1" > wanted
     shift
     "$calls" "$@" > out 2> err
-    # An input that is none is told of by the call, or by the program, which then has nothing to call with.
+    # Invalid input is reported by the call, or by the program, which then has nothing to call with.
     cat out err | sed '/^calling$/d' > found
     [ -z "$(tail -c 1 found)" ] || echo >> found
     if cmp -s wanted found; then
@@ -35,8 +35,8 @@ is_told() {
     head -c 2000 found
 }
 
-# Lengths, behind what the vector held: whole chains in one digit or two, a zero in front, one decimal to three, the
-# longest one.
+# Lengths, after the old content of the vector: whole chains in one digit or two, a leading zero, one to three
+# decimals, and the longest one.
 while read -r length written; do
     is_told "answered
 held: $written" write-length "$length" 0
@@ -50,7 +50,7 @@ done << 'END'
 99.999 99.999
 END
 
-# Acres of hundredths, and those of the most that there may be.
+# Acres for hundredths, up to the largest number.
 while read -r hundredths written; do
     is_told "answered
 held: $written" write-acres "$hundredths" 0
@@ -62,7 +62,7 @@ done << 'END'
 18446744073709551615 184467440737095516.15
 END
 
-# Notes are written as the samples are; these are of the greatest numbers, with zeros in front and one decimal.
+# Notes are written as the samples are; these have the largest numbers, with leading zeros and one decimal.
 sed '2s/.*/T,99,S,99,E/; 3s/.*/N,01,,00.5,99.999/' even > far
 sed '2s/.*/T,99,S,99,E/; 3s/.*/N,1,,0.50,99.999/' even > far_written
 for notes in even uneven; do
@@ -86,7 +86,7 @@ done << 'END'
 2|sec 1, W1/2SW1/4NE1/4E1/2S1/2W1/2N1/2SW1/4SE1/4NW1/4S1/2of N1/2
 END
 
-# The canonical texts of lands in T. 2 N., R. 3 W., and what is wrong with descriptions that name no land there.
+# The canonical texts of land in T. 2 N., R. 3 W., and the messages for descriptions that name no land there.
 while IFS='|' read -r told text; do
     printf '%s' "$text" > text
     is_told "$(printf "$told")" spell text
@@ -97,7 +97,7 @@ the aliquot part at 8 holds land of a lot|sec. 5, N1/2.
 the description goes wrong at 8: here could stand a part of the section, or another section's number|sec. 14,
 END
 
-# Lengths that are none.
+# Invalid lengths.
 while IFS='|' read -r length told; do
     is_told "$told" write-length "$length" 0
 done << 'END'
@@ -114,7 +114,7 @@ done << 'END'
 005|a length has more than two digits before its point
 END
 
-# The even notes with another record of a number, with one more, and without one.
+# The even notes with one record replaced, with one more, and with one fewer.
 while IFS='|' read -r number record told; do
     awk -v number="$number" -v record="$record" '
         NR == number { $0 = record }
@@ -139,7 +139,7 @@ is_told 'the notes are empty: record 1 is `line,between,and,quarter,corner`' rea
 head -c 65537 /dev/zero > zeros
 is_told 'the notes have more than 65,536 bytes' read-notes zeros
 
-# Descriptions that are none. The place is counted by hand, and what could stand there is in the grammar.
+# Invalid descriptions. The place is counted by hand, and the tokens allowed there are in the grammar.
 is_told 'a description has more than 65536 bytes' read-description zeros
 while IFS='|' read -r text told; do
     printf '%s' "$text" > text
