@@ -1,7 +1,7 @@
 #!/bin/sh
 # Makes single calls with twp_growth, or the program that is named, which makes one and prints its answer, and
-# compares the output: values as they are written, and the messages for an invalid length, field notes, or description, few of
-# which ./township shows. The last line is 'N passed, 0 failed'.
+# compares the output: values as they are written, and the messages for an invalid length, field notes, or
+# description, few of which ./township shows. The last line is 'N passed, 0 failed'.
 set -u
 ulimit -f 2000
 ulimit -t 20
