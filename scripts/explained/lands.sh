@@ -262,7 +262,7 @@ township: land.txt:1:65535: `/` stands only in 1/2 and 1/4
     |                                                                                             ^
 END
 
-# Refusals of lands.
+# Refusals of land.
 land 'T. 2 N., R. 3 E., sec. 14.'
 explained_land 'another township' 'refused 61 at 0' <<'END'
 township: land.txt:1:1: this heading is of T. 2 N., R. 3 E.; the field notes are of T. 2 N., R. 3 W.
@@ -359,7 +359,7 @@ township: land.txt:3:16: this land was named before
   `E½NE¼` at 1:10 names it too: both hold sec. 14, SE1/4NE1/4.
 END
 
-# The name of a file, which is shown as safely as what is in it.
+# The name of a file, which is shown as safely as its contents.
 while read -r sign shown; do
     good
     printf 'sec. 37.' > "$(printf "land$sign.txt")"

@@ -1,7 +1,7 @@
-# Rows of explanations.sh: what is noted of accepted land, a line end between two steps of a part.
+# Rows of explanations.sh: notes on accepted descriptions, for a line end between two steps of a part.
 
-# Runs on files: what is shown, the answer, and the words; what is noted is on standard input. Where standard
-# error is closed, the answer and the status are the same.
+# Runs on files: what is tested, the answer, and the words; the note is on standard input. If standard error is
+# closed, the answer and the status are the same.
 noted() {
     what=$1
     printf '%s\nstatus 0\n' "$2" > wanted
@@ -18,8 +18,8 @@ noted() {
     cat wanted wanted_err out err closed
 }
 
-# The same of steps that are joined, with the words in `words`, the last of which is the file: what is shown, the
-# answer, the line and the column, both steps as they are usually written, the line as it is shown, its carets.
+# The same for steps that are joined, with the words in `words`, the last of which is the file: what is tested, the
+# answer, the line and the column, both steps in their usual spelling, the line as it is shown, and its carets.
 joined() {
     noted "$1" "$2" $words <<END
 township: ${words##* }:$3: note: $4$5 is read as one part, the $4 of the $5; a comma would make it two
@@ -28,8 +28,8 @@ township: ${words##* }:$3: note: $4$5 is read as one part, the $4 of the $5; a c
 END
 }
 
-# A line end is found wherever it stands among the bytes that are looked at together, in the last ones too,
-# where fewer are left. A comma before it makes two parts, of which nothing is noted. Of 136 columns 92 are shown.
+# A line end is found wherever it is among the bytes that are examined together, even in the last ones, when
+# fewer are left. A comma before it makes two parts, which get no note. Of 136 columns, 92 are shown.
 words='acres notes.csv land.txt'
 for front in $(seq 0 130); do
     for behind in 0 130; do
@@ -42,8 +42,8 @@ for front in $(seq 0 130); do
     done
 done
 
-# Each end of a step before each beginning of one: a step as it stands in the text, as it is usually written, and
-# how often what it takes goes into the rest, which is 640 acres at last; of the second its carets too.
+# Each end of a step before each beginning of one: a step as it is in the text, in its usual spelling, and the
+# number by which it divides the acreage, which begins at 640; for the second step also its carets.
 while read -r first usual_first part; do
     while read -r second usual_second part_of_it carets; do
         land "sec. 14, $first\n$second."
@@ -70,8 +70,8 @@ SW¼ SW1/4 4
 ne1/4 NE1/4 4
 ENDS
 
-# White space on both sides of a line end, where the second step stands, and what is shown before it, with _ for
-# a space.
+# White space on both sides of a line end, the location of the second step, and the text shown before it, with _
+# for a space.
 while IFS='|' read -r white place shown; do
     land "sec. 14, NE1/4${white}SE¼."
     joined "white space $white" '40.00 acres' "$place" NE1/4 SE1/4 \
@@ -88,7 +88,7 @@ done <<'ROWS'
  \n\t\n \r\n  |4:3|__
 ROWS
 
-# Where `of` stands between two steps, or no line end, nothing is noted; nor is it of two parts.
+# If `of` is between two steps, or there is no line end, there is no note; nor is there one for two parts.
 while IFS='|' read -r between acres; do
     land "sec. 14, NE1/4${between}SE1/4."
     noted "$between between two steps" "$acres acres" $words < /dev/null
@@ -101,11 +101,11 @@ done <<'ROWS'
  and\n|320.00
 ROWS
 
-# The first of several is told. 320, 20, and 40 acres.
+# The first of several is noted. 320, 20, and 40 acres.
 land 'sec. 14, N1/2,\n  S1/2 of the NE1/4 \r\n\n SE1/4,\n SW1/4\nSW1/4.'
 joined 'the first of two' '380.00 acres' 4:2 S1/2NE1/4 SE1/4 ' SE1/4,' ' ^^^^^'
 
-# The other ways of running. Of a list the first tract that has such a place is told. The tracts have 640, 40, and
+# The other ways of running. In a list, the first tract with such a place is noted. The tracts have 640, 40, and
 # 160 of 23,040 acres.
 land 'sec. 14, NE1/4\nSE1/4.'
 words='acres --account plat notes.csv land.txt'

@@ -1,12 +1,12 @@
-# Rows of explanations.sh: what is told of a refused description, in one run each.
+# Rows of explanations.sh: explanations of refused descriptions, in one run each.
 
-# Carets below a text of ASCII, one at least, behind as many spaces as another has characters.
+# Carets under an ASCII text, at least one, after as many spaces as another text has characters.
 carets() {
     printf "%${#1}s%s" '' "$(printf '%s' "${2:-^}" | tr -c '\n' '^')"
 }
 
-# A sign that can't stand where it does, in a line of ASCII: what stands before it, the sign, what stands after
-# it, what could stand there, and what mends it, if that is told.
+# An unexpected token or character in a line of ASCII: the text before it, the token, the text after it, what was
+# expected, and the repair, if one is given.
 told_at() {
     told_land "$1$2$3" "refused 44 at ${#1}" <<END
 township: land.txt:1:$((${#1} + 1)): \`$2\` can't stand here: here could stand $4
@@ -16,7 +16,7 @@ township: land.txt:1:$((${#1} + 1)): \`$2\` can't stand here: here could stand $
 END
 }
 
-# What is wrong, and what mends it.
+# Faults and their repairs.
 told_land 'secs. 14 & 15' 'refused 42 at 9' <<'END'
 township: land.txt:1:10: `&` is no part of a description
   1 | secs. 14 & 15
@@ -181,8 +181,8 @@ township: land.txt:1:1: `NENE` can't stand here: here could stand `T.` of a head
   name the section first, then its lots and parts
 END
 
-# Land before its section, at the beginning, behind a heading, and behind another section. Nothing is told of what
-# may be something else: section 2, land of the section before, or land outside of a section.
+# Land before its section, at the beginning, after a heading, and after another section. There is no advice if the
+# text may be something else: section 2, land of the section before, or land outside of a section.
 while IFS='|' read -r before sign after could advice; do
     told_at "$before" "$sign" "$after" "$could" "$advice"
 done <<'ROWS'
@@ -457,7 +457,7 @@ township: land.txt:1:27: this land was named before
   `1 thru 36` at 1:7 names it too: both hold sec. 36, SE1/4NE1/4.
 END
 
-# How lines are shown, and what is underlined: escapes, wide characters, tabs, ends of lines, and long lines.
+# How lines are shown and underlined: escapes, wide characters, tabs, ends of lines, and long lines.
 told_land 'sec. 14 é¡ÿ Ωж→ 山🌲 a "b" \047c\047 {d} ~ N½SW¼' 'refused 42 at 8' <<'END'
 township: land.txt:1:9: U+00E9 is no part of a description
   1 | sec. 14 é¡ÿ Ωж→ 山🌲 a "b" 'c' {d} ~ N½SW¼
@@ -640,7 +640,7 @@ township: land.txt:1:209: `&` is no part of a description
   write and
 END
 
-# A word that no description has, behind a front of each kind: what could stand there.
+# A word that no description contains, after a beginning of each kind: what was expected there.
 told_land ' x' 'refused 44 at 1' <<'END'
 township: land.txt:1:2: `x` can't stand here: here could stand `T.` of a heading, or `sec.`
   1 |  x

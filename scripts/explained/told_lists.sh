@@ -1,4 +1,4 @@
-# Rows of explanations.sh: what is told of a refused list of tracts, in one run each.
+# Rows of explanations.sh: explanations of refused lists of tracts, in one run each.
 
 told_list 'Name,description\n' 'refused 81 at 1' <<'END'
 township: list.csv:1: this isn't the heading `name,description`: field 1 is `Name`
@@ -77,7 +77,7 @@ township: list.csv:3:11: tract `B, or "C"`: this land was named before
   `NE1/4` at 3:1 names it too: both hold sec. 14, NE1/4.
 END
 
-# Descriptions where they stand in the file: in quotes, with doubled quotes, on a further line.
+# Descriptions in various places in the file: in quotes, with doubled quotes, on a further line.
 told_list 'name,description\nA,"sec. 14, ""N1/2""."\n' 'refused 83 at 2
 refused 42 at 9' <<'END'
 township: list.csv:2:13: tract `A`: `"` is no part of a description

@@ -1,4 +1,4 @@
-# Rows of explanations.sh: what is told of field notes with another record, in one run each.
+# Rows of explanations.sh: explanations of field notes with one record replaced, in one run each.
 
 told_record 1 'line,between,and,quarters,corner\n' 'refused 3 at 1' <<'END'
 township: notes.csv:1: this isn't the heading `line,between,and,quarter,corner`: field 4 is `quarters`
@@ -69,9 +69,9 @@ township: notes.csv:3: this record has 2 fields instead of 5
     |    ^
 END
 
-# Too few fields, and too many: a record's number, what of it stands before the underlined part, that part, what
-# stands after it, how many fields there are, and what mends it. Nothing is told where a number may be a distance
-# as well as a section, or decimals as well as a further column.
+# Too few fields, and too many: a record's number, the text before the underlined part, that part, the text after
+# it, the number of fields, and the repair. There is no advice if a number may be either a distance or a section, or
+# either decimals or a further column.
 while IFS='|' read -r number before marked after fields advice; do
     told_record "$number" "$before$marked$after\n" "refused 4 at $number" <<END
 township: notes.csv:$number: this record has $fields fields instead of 5
