@@ -92,8 +92,7 @@ typedef struct township_answer {
 
 /*
  * An exact area: `units` over `over`, in square thousandths of a chain (10,000,000 make an acre);
- * `over` is at least 1. The units are a 128-bit number, in two halves; it is less than
- * 10 to the 24th.
+ * `over` is at least 1. The units are a 128-bit number in two halves, less than 10 to the 24th.
  */
 typedef struct township_fraction {
     uint64_t units_low;
