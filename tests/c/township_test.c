@@ -315,8 +315,8 @@ static void explains_description(const township_plat *plat) {
 
 static void explains_list(const char *samples, const township_plat *plat) {
     bytes refused_tract = bytes_of(REFUSED_TRACT);
-    bytes after_quotes = bytes_of("name,description\nA,\"\"x\n");
-    bytes after_sentence = bytes_of("name,description\nA,\"sec. 4.\"9\n");
+    bytes after_quotes = bytes_of("name,description\nA,\"\"&\n");
+    bytes after_sentence = bytes_of("name,description\nA,\"sec. 4.\"&\n");
     bytes list = bytes_of_file(samples, "tracts.csv");
 
     check_text(explain_list, plat, refused_tract, explained(tract_refused(2, 67, 19), 2, 23, 0),
@@ -327,16 +327,16 @@ static void explains_list(const char *samples, const township_plat *plat) {
     check_no_text(explain_list, plat, list, bare(TOWNSHIP_ACCEPTED));
 
     /* What comes right after the closing quotation mark: four bytes before it on its line, and eleven. */
-    check_text(explain_list, plat, after_quotes, explained(tract_refused(2, 44, 0), 2, 5, 0),
-               "township: tracts.csv:2:5: tract `A`: `x` can't stand here: here could stand `T.` of a heading, or "
-               "`sec.`\n"
-               "  2 | A,\"\"x\n"
-               "    |     ^\n");
-    check_text(explain_list, plat, after_sentence, explained(tract_refused(2, 44, 7), 2, 12, 0),
-               "township: tracts.csv:2:12: tract `A`: `9` can't stand here: the period before it ends the "
-               "description\n"
-               "  2 | A,\"sec. 4.\"9\n"
-               "    |            ^\n");
+    check_text(explain_list, plat, after_quotes, explained(tract_refused(2, 42, 0), 2, 5, 0),
+               "township: tracts.csv:2:5: tract `A`: `&` is no part of a description\n"
+               "  2 | A,\"\"&\n"
+               "    |     ^\n"
+               "  write and\n");
+    check_text(explain_list, plat, after_sentence, explained(tract_refused(2, 42, 7), 2, 12, 0),
+               "township: tracts.csv:2:12: tract `A`: `&` is no part of a description\n"
+               "  2 | A,\"sec. 4.\"&\n"
+               "    |            ^\n"
+               "  write and\n");
     drop(refused_tract);
     drop(after_quotes);
     drop(after_sentence);
