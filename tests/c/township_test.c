@@ -315,6 +315,8 @@ static void explains_description(const township_plat *plat) {
 
 static void explains_list(const char *samples, const township_plat *plat) {
     bytes refused_tract = bytes_of(REFUSED_TRACT);
+    bytes after_quotes = bytes_of("name,description\nA,\"\"&\n");
+    bytes after_sentence = bytes_of("name,description\nA,\"sec. 4.\"&\n");
     bytes list = bytes_of_file(samples, "tracts.csv");
 
     check_text(explain_list, plat, refused_tract, explained(tract_refused(2, 67, 19), 2, 23, 0),
@@ -323,7 +325,21 @@ static void explains_list(const char *samples, const township_plat *plat) {
                "    |                       ^^^^\n"
                "  `NE1/4` at 2:13 names it too: both hold sec. 14, NE1/4.\n");
     check_no_text(explain_list, plat, list, bare(TOWNSHIP_ACCEPTED));
+
+    /* What comes right after the closing quotation mark: four bytes before it on its line, and eleven. */
+    check_text(explain_list, plat, after_quotes, explained(tract_refused(2, 42, 0), 2, 5, 0),
+               "township: tracts.csv:2:5: tract `A`: `&` is no part of a description\n"
+               "  2 | A,\"\"&\n"
+               "    |     ^\n"
+               "  write and\n");
+    check_text(explain_list, plat, after_sentence, explained(tract_refused(2, 42, 7), 2, 12, 0),
+               "township: tracts.csv:2:12: tract `A`: `&` is no part of a description\n"
+               "  2 | A,\"sec. 4.\"&\n"
+               "    |            ^\n"
+               "  write and\n");
     drop(refused_tract);
+    drop(after_quotes);
+    drop(after_sentence);
     drop(list);
 }
 

@@ -10,7 +10,7 @@ use twp_text::{Description, resolve, spell};
 
 /// Accepted and refused descriptions. An area is over 25,597,440,000 = 4 * 79,200 * 80,800, so an
 /// acre of it, 10,000,000 square thousandths of a chain, is 255,974,400,000,000,000 units.
-pub static DESCRIPTIONS: [&str; 40] = [
+pub static DESCRIPTIONS: [&str; 48] = [
     // 640 acres of a section in which no line is uneven.
     "sec. 14.",
     // The heights of section 5 run from 20.20 chains on the east to 20.40 on the west, at 20 chains
@@ -23,25 +23,31 @@ pub static DESCRIPTIONS: [&str; 40] = [
     // In section 6 a lot's doubled mean width times 80,800 and its doubled mean height times 79,200
     // are multiplied. Lot 1: 3,232,000,000 and 2 * 20,400 * 79,200 + 400 * 20,000 = 3,239,360,000.
     // Lot 3: the same width, and 2 * 20,400 * 79,200 + 400 * 100,000 = 3,271,360,000.
+    "sec. 6, lot 1.",
     "sec. 6, lot 3.",
     // Lots 5, 6 and 7 have the height 3,168,000,000, and the widths
     // 2 * 19,600 * 80,800 - 400 * 100,000 = 3,127,360,000, - 400 * 60,000 = 3,143,360,000, and
     // - 400 * 20,000 = 3,159,360,000: together 9,430,080,000.
     "sec. 6, lots 5, 6 and 7.",
     "sec. 6, lot 5.",
+    "sec. 6, lot 6.",
+    "sec. 6, lot 7.",
     // 3,111,040,000 times 3,287,040,000.
     "sec. 6, lot 4.",
     // 360 acres off the lots. Lots 1 to 3 have the heights 3,239,360,000, 3,255,360,000 and
     // 3,271,360,000, together 9,766,080,000, by 3,232,000,000.
     "Section 6: ALL",
+    "sec. 6.",
     // The widths of section 7 run from 19.50 chains on the south to 19.60 on the north, at 20 chains
     // from each other 19.50, 19.525, 19.55, 19.575 and 19.60: lots 1 to 4 have 39.175, 39.125, 39.075
     // and 39.025 acres, 156.40 together.
     "sec. 7, lot 4.",
     "sec. 7, lots 1 to 4, inclusive.",
     "sec. 7, lot 1.",
+    "sec. 7, lot 2.",
+    "sec. 7, lot 3.",
     "sec. 7, lots 1 and 4.",
-    // 80, 160 and 320 acres: the four quarters of four places of a section.
+    // 160, 160 and 320 acres.
     "sec. 14, S1/2N1/2, N1/2N1/2, and S1/2.",
     "sec. 5, N1/2.",
     "sec. 5, lot 5.",
@@ -49,12 +55,14 @@ pub static DESCRIPTIONS: [&str; 40] = [
     // 640 acres halved nine times, ten times, and five times; eleven times is too fine.
     "sec. 14, N1/2NE1/4NE1/4NE1/4NE1/4.",
     "sec. 14, NE1/4NE1/4NE1/4NE1/4NE1/4.",
+    "sec. 14, NW1/4NE1/4NE1/4NE1/4NE1/4.",
     "sec. 14, N1/2NE1/4NE1/4NE1/4NE1/4NE1/4.",
     "sec. 14, N1/2N1/2N1/2N1/2N1/2.",
     "sec. 14, SE1/4, NE1/4, NW1/4.",
     "sec. 14, NE1/4NE1/4NE1/4NE1/4.",
     "sec. 14, S½ of the NE¼",
     "T. 2 N., R. 3 E., sec. 14.",
+    "T. 2 N., R. 3 W., sec. 14.",
     "T2N R3W sec 14",
     "sec. 37.",
     "secs. 9 to 4.",

@@ -17,8 +17,9 @@ pub fn try_counts(rt: &HostRuntime) -> io::Result<()> {
     print_counts::<Lanes>(rt, "Lanes")
 }
 
-/// Adds 200 blocks, and compares `count` with `holds`. Sections that were held wholly or not at all
-/// would show little.
+/// Adds 200 blocks, and compares `count` with `holds`: of each of the 36 sections as a whole, and of
+/// each of their 36 * 1,024 = 36,864 places. Sections that were held wholly or not at all would show
+/// little.
 fn print_counts<L: Land>(rt: &HostRuntime, kind: &str) -> io::Result<()> {
     let mut mixed = Mixed::new();
     let mut land = L::empty();
@@ -27,6 +28,7 @@ fn print_counts<L: Land>(rt: &HostRuntime, kind: &str) -> io::Result<()> {
         land.add(section, mixed.block());
     }
     let mut equal = 0u32;
+    let mut equal_places = 0u32;
     let mut is_some_held_in_part = false;
     for number in 1..SECTIONS + 1 {
         let section = Section::new(number).unwrap();
@@ -34,6 +36,7 @@ fn print_counts<L: Land>(rt: &HostRuntime, kind: &str) -> io::Result<()> {
         if count == held(&land, section) {
             equal = equal.saturating_add(1);
         }
+        equal_places = equal_places.saturating_add(counted_places(&land, section));
         is_some_held_in_part |= 0 < count && count < PLACES;
     }
     rt.print(kind)?;
@@ -41,7 +44,28 @@ fn print_counts<L: Land>(rt: &HostRuntime, kind: &str) -> io::Result<()> {
     rt.println(is_some_held_in_part)?;
     rt.print(kind)?;
     rt.print(" after 200 adds: sections of which count is the number of places that are held: ")?;
-    rt.println(equal)
+    rt.println(equal)?;
+    rt.print(kind)?;
+    rt.print(" after 200 adds: places of which count is 1 if held, and 0 if not: ")?;
+    rt.println(equal_places)
+}
+
+/// Of how many places of a section `count` tells whether they are held. Places have the last 32
+/// numbers of spans, 32 to 63.
+fn counted_places<L: Land>(land: &L, section: Section) -> u32 {
+    let mut counted = 0u32;
+    for columns in SPANS / 2 + 1..SPANS + 1 {
+        for rows in SPANS / 2 + 1..SPANS + 1 {
+            let Some(place) = block_of(columns, rows) else {
+                continue;
+            };
+            let is_held = land.holds(section, place.column(), place.row());
+            if land.count(section, place) == u32::from(is_held) {
+                counted = counted.saturating_add(1);
+            }
+        }
+    }
+    counted
 }
 
 /// How many places of a section are held, by each place.
