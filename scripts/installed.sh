@@ -52,7 +52,7 @@ same 'the installed program'
 mkdir names names/deeds
 touch names/notes.csv names/tracts.csv names/land.txt 'names/my notes.csv'
 
-# What bash completes the last of these words with, in any order.
+# The completions that bash offers for the last of these words, in any order.
 cat > complete.bash << 'END'
 . "$1"
 shift
