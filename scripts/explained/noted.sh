@@ -22,7 +22,7 @@ noted() {
 # answer, the line and the column, both steps in their usual spelling, the line as it is shown, and its carets.
 joined() {
     noted "$1" "$2" $words <<END
-township: ${words##* }:$3: note: $4$5 is read as one part, the $4 of the $5; a comma would make it two
+township: ${words##* }:$3: note: $4$5 is read as one part, the $4 of the $5; if two parts were meant, write a comma after $4
   ${3%:*} | $6
     | $7
 END

@@ -292,7 +292,7 @@ static void explains_notes(const township_plat *plat, bytes notes) {
     bytes missing = without_lines(notes, "W,6,7,");
 
     check_text(explain_notes, plat, missing, refused(11, 53),
-               "township: notes.csv: no record of W,6,7 (section line 53)\n");
+               "township: notes.csv: missing record: W,6,7 (section line 53)\n");
     check_no_text(explain_notes, plat, notes, bare(TOWNSHIP_ACCEPTED));
     drop(missing);
 }
@@ -301,7 +301,7 @@ static void explains_notes(const township_plat *plat, bytes notes) {
     ":1:20: this land was named before\n"                                                                          \
     "  1 | " NAMED_TWICE "\n"                                                                                      \
     "    |                    ^^^^\n"                                                                              \
-    "  `NE1/4` at 1:10 names it too: both hold sec. 14, NE1/4.\n"
+    "  `NE1/4` at 1:10 overlaps it; both include sec. 14, NE1/4.\n"
 
 static void explains_description(const township_plat *plat) {
     bytes twice = bytes_of(NAMED_TWICE "\n");
@@ -323,7 +323,7 @@ static void explains_list(const char *samples, const township_plat *plat) {
                "township: tracts.csv:2:23: tract `A`: this land was named before\n"
                "  2 | A,\"" NAMED_TWICE "\"\n"
                "    |                       ^^^^\n"
-               "  `NE1/4` at 2:13 names it too: both hold sec. 14, NE1/4.\n");
+               "  `NE1/4` at 2:13 overlaps it; both include sec. 14, NE1/4.\n");
     check_no_text(explain_list, plat, list, bare(TOWNSHIP_ACCEPTED));
 
     /* What comes right after the closing quotation mark: four bytes before it on its line, and eleven. */

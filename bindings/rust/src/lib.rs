@@ -12,7 +12,7 @@
 //!
 //! let refused = plat.acres("sec. 5, N1/2.").unwrap_err();
 //! assert_eq!((refused.number, refused.at), (66, 8));
-//! assert_eq!(refused.sentence(), "this part holds land of lots, which are taken whole");
+//! assert_eq!(refused.sentence(), "this part includes lots; name the lots instead");
 //! # Ok::<(), township::Refused>(())
 //! ```
 //!

@@ -39,7 +39,7 @@ pub struct Refusal {
 /// township: description:1:20: this land was named before
 ///   1 | sec. 14, NE1/4 and N1/2.
 ///     |                    ^^^^
-///   `NE1/4` at 1:10 names it too: both hold sec. 14, NE1/4.
+///   `NE1/4` at 1:10 overlaps it; both include sec. 14, NE1/4.
 /// ");
 /// # Ok::<(), township::Refused>(())
 /// ```

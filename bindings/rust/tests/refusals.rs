@@ -79,7 +79,7 @@ fn explanation() {
             "township: description:1:20: this land was named before",
             "  1 | sec. 14, NE1/4 and N1/2.",
             "    |                    ^^^^",
-            "  `NE1/4` at 1:10 names it too: both hold sec. 14, NE1/4.",
+            "  `NE1/4` at 1:10 overlaps it; both include sec. 14, NE1/4.",
         ]
     );
 }
@@ -211,7 +211,7 @@ fn refusals_are_errors() {
         (
             b"".as_slice(),
             "sec. 5, lot 1.",
-            "notes: there are no field notes: they begin with `line,between,and,quarter,corner`",
+            "notes: the field notes are empty: they begin with `line,between,and,quarter,corner`",
         ),
     ] {
         let error = acres(notes, description).unwrap_err();

@@ -1,5 +1,5 @@
 //! The one thing that is noted of accepted input: a line that ends between two steps of an aliquot
-//! part. A line end is no comma, and who meant one loses land.
+//! part. A line break is not a comma; a user who meant one gets too little land.
 ghost use Rattle.std.specs.Prelude.{◌≤◌, length, IfOk, MatchOption};
 ghost use Rattle.twp_marks.specs.JoinedSteps.{HasNoJoinedStep, IsFirstJoinedStep};
 
@@ -93,7 +93,8 @@ fn sentence_of(alloc: Global, first: &[u8], second: &[u8]) -> Result<String, All
     write_steps(first, &mut text)?;
     text.push_str(" of the ")?;
     write_steps(second, &mut text)?;
-    text.push_str("; a comma would make it two")?;
+    text.push_str("; if two parts were meant, write a comma after ")?;
+    write_steps(first, &mut text)?;
     Ok(text)
 }
 

@@ -31,7 +31,7 @@ pub(crate) fn tell(
         finding.place = Place::Field(listed.span(listed.len().min(HEADING.len())));
         finding.sentence.push_str("this record has ")?;
         write_count(listed.len(), &mut finding.sentence)?;
-        finding.sentence.push_str(" instead of 2")?;
+        finding.sentence.push_str(", not 2")?;
     } else {
         finding.place = Place::Field(name_span(listed));
         write_name_fault(listed, &mut finding.sentence)?;
@@ -52,7 +52,7 @@ fn heading_place(listed: &Listed<'_>) -> usize {
 
 /// Appends what is no heading.
 fn write_heading_fault(listed: &Listed<'_>, text: &mut String) -> Result<(), AllocError> {
-    text.push_str("this isn't the heading `name,description`: ")?;
+    text.push_str("the heading must be `name,description`: ")?;
     if listed.len() != HEADING.len() {
         text.push_str("it has ")?;
         return write_count(listed.len(), text);
@@ -65,11 +65,11 @@ fn write_heading_fault(listed: &Listed<'_>, text: &mut String) -> Result<(), All
 /// Appends what is wrong with a tract's name.
 fn write_name_fault(listed: &Listed<'_>, text: &mut String) -> Result<(), AllocError> {
     match listed.field(0).len() {
-        0 => text.push_str("the name of the tract is empty"),
-        1..=64 => text.push_str("the name of the tract has a character that isn't printed ASCII"),
+        0 => text.push_str("the tract has no name"),
+        1..=64 => text.push_str("tract names may contain only printable ASCII characters"),
         length => write!(
             text,
-            "the name of the tract has {length} bytes, and at most 64 are allowed"
+            "the tract name has {length} bytes; at most 64 are allowed"
         ),
     }
 }
@@ -134,13 +134,16 @@ const HINTS: [Hint; 8] = [
         Sign::OneField(b'\t'),
         "save the file with commas between the fields",
     ),
-    Hint(Sign::SpacedQuotes, "take out the space before the quotes"),
-    Hint(Sign::Unquoted, "put the description in quotes"),
+    Hint(
+        Sign::SpacedQuotes,
+        "delete the space before the quotation marks",
+    ),
+    Hint(Sign::Unquoted, "put the description in quotation marks"),
     Hint(
         Sign::LongHeading,
-        "delete the columns behind the description",
+        "delete the columns after the description",
     ),
-    Hint(Sign::LongRecord, "delete what is behind the description"),
+    Hint(Sign::LongRecord, "delete everything after the description"),
     Hint(Sign::Accent, "write the letter without its accent"),
 ];
 

@@ -57,10 +57,10 @@ fn find_none(alloc: Global, fault: TractFault, refusal: Refusal) -> Result<Findi
     let mut sentence = String::new(alloc);
     let mut help = String::new(alloc);
     if let TractFault::TractRow(_) = fault {
-        sentence.push_str("the list has no record: it begins with `name,description`")?;
+        sentence.push_str("the list is empty: it begins with `name,description`")?;
     } else {
-        sentence.push_str("the list of tracts has more than 1,048,576 bytes")?;
-        help.push_str("split it in two")?;
+        sentence.push_str("the list of tracts is longer than 1,048,576 bytes")?;
+        help.push_str("split the list in two")?;
     }
     Ok(Finding {
         refusal,
@@ -76,7 +76,7 @@ fn tell_many(listed: &Listed<'_>, finding: &mut Finding) -> Result<(), AllocErro
 {
     write!(
         finding.sentence,
-        "there are more than 1,000 tracts: record {} is the first too many",
+        "there are more than 1,000 tracts: record {} is one too many",
         listed.number()
     )?;
     finding.help.push_str("split the list in two")
@@ -91,7 +91,7 @@ fn tell_name(alloc: Global, listed: &Listed<'_>, finding: &mut Finding) -> Resul
     write_tract(listed, &mut finding.sentence)?;
     finding
         .sentence
-        .push_str(" has the name of an earlier tract")?;
+        .push_str(" has the same name as an earlier tract")?;
     let number = first_named(alloc, listed)?;
     let Some(earlier) = Listed::numbered(alloc, listed.file, number)? else {
         return Ok(());
@@ -135,9 +135,7 @@ fn tell_description(
     let inner = match describe(alloc, &origin, listed.field(1), township) {
         Err(Stop::Found(inner)) => inner,
         Err(Stop::Memory) => return Err(AllocError),
-        Ok(()) => return finding
-            .sentence
-            .push_str(" has a description that is refused"),
+        Ok(()) => return finding.sentence.push_str(" has an invalid description"),
     };
     finding.sentence.push_str(": ")?;
     finding.sentence.push_str(inner.sentence.as_str())?;
@@ -149,7 +147,7 @@ fn tell_description(
         && listed.field(1).first() == Some(&b'"')
     {
         return finding.help.push_str(
-            "type the description without quotes; the spreadsheet adds them where they are needed",
+            "delete the quotation marks: the spreadsheet adds those that it needs",
         );
     }
     finding.help.push_str(inner.help.as_str())
@@ -170,15 +168,15 @@ fn tell_overlap(
     let mut common = Lanes::empty();
     let found = first_sharing_tract(alloc, listed.file.bytes, township, index, &mut common)?;
     let Some(earlier) = found else {
-        return finding.sentence.push_str(" holds land of an earlier tract");
+        return finding.sentence.push_str(" overlaps an earlier tract");
     };
     let number = earlier.saturating_add(FIRST_TRACT);
     let Some(earlier) = Listed::numbered(alloc, listed.file, number)? else {
-        return finding.sentence.push_str(" holds land of an earlier tract");
+        return finding.sentence.push_str(" overlaps an earlier tract");
     };
-    finding.sentence.push_str(" holds land of ")?;
+    finding.sentence.push_str(" overlaps ")?;
     write_tract(&earlier, &mut finding.sentence)?;
-    write!(finding.sentence, " (record {number}): both hold ")?;
+    write!(finding.sentence, " (record {number}); both include ")?;
     let land = spell(alloc, &common, township)?;
     write_land(land.as_slice(), &mut finding.sentence)
 }

@@ -110,7 +110,8 @@ pub(crate) fn write_fault(
         NotesFault::Run(_) => {
             write_quoted(record.text(field), out)?;
             out.push_str(
-                " isn't a run: a line runs `N` from its south end, or `W` from its east end",
+                " is not a direction: write `N` for a line that runs north from its south end, or `W` \
+                for one that runs west from its east end",
             )
         }
         NotesFault::Section(_) => write_section_fault(record, field, out),
@@ -127,7 +128,7 @@ fn write_heading_fault(
     field: usize,
     out: &mut String,
 ) -> Result<(), AllocError> {
-    out.push_str("this isn't the heading `line,between,and,quarter,corner`: ")?;
+    out.push_str("the heading must be `line,between,and,quarter,corner`: ")?;
     if record.len() == FIELDS {
         write!(out, "field {} is ", field.saturating_add(1))?;
         write_quoted(record.text(field), out)
@@ -141,7 +142,7 @@ fn write_heading_fault(
 fn write_columns_fault(record: &Record<'_>, out: &mut String) -> Result<(), AllocError> {
     out.push_str("this record has ")?;
     write_count(record.len(), out)?;
-    out.push_str(" instead of 5")
+    out.push_str(", not 5")
 }
 
 /// Appends how many fields there are.
@@ -161,11 +162,11 @@ fn write_township_fault(
 ) -> Result<(), AllocError> {
     write_quoted(record.text(field), out)?;
     out.push_str(match field {
-        0 => " isn't `T`: the township is written as `T,2,N,3,W`",
-        1 => " isn't the number of a township: 1 to 99, in one or two digits",
-        2 => " isn't `N` or `S`: the township is written as `T,2,N,3,W`",
-        3 => " isn't the number of a range: 1 to 99, in one or two digits",
-        _ => " isn't `E` or `W`: the township is written as `T,2,N,3,W`",
+        0 => " is not `T`: write the township as in `T,2,N,3,W`",
+        1 => " is not a township number: write 1 to 99, in one or two digits",
+        2 => " is not `N` or `S`: write the township as in `T,2,N,3,W`",
+        3 => " is not a range number: write 1 to 99, in one or two digits",
+        _ => " is not `E` or `W`: write the township as in `T,2,N,3,W`",
     })
 }
 
@@ -176,10 +177,10 @@ fn write_section_fault(
     out: &mut String,
 ) -> Result<(), AllocError> {
     if record.text(field).is_empty() {
-        return out.push_str("the section that the line is beside is missing");
+        return out.push_str("the section number is missing");
     }
     write_quoted(record.text(field), out)?;
-    out.push_str(" isn't a section: 1 to 36, in one or two digits")
+    out.push_str(" is not a section number: write 1 to 36, in one or two digits")
 }
 
 /// Appends that there is no line where a record names one.
@@ -194,7 +195,7 @@ fn write_no_line(record: &Record<'_>, out: &mut String) -> Result<(), AllocError
         write_escaped(record.text(1), out)?;
         return write!(out, " has no line on the township boundary that runs {way}");
     }
-    write!(out, "no line that runs {way} lies between sections ")?;
+    write!(out, "no line runs {way} between sections ")?;
     write_escaped(record.text(1), out)?;
     out.push_str(" and ")?;
     write_escaped(record.text(2), out)
@@ -216,9 +217,9 @@ fn write_length_fault(
     out.push_str(match fault {
         LengthFault::Empty if field == 3 => "the distance to the quarter corner is missing",
         LengthFault::Empty => "the distance to the section corner is missing",
-        LengthFault::BadDigit => " isn't a distance in chains, such as 40, 79.6, or 19.575",
+        LengthFault::BadDigit => " is not a distance in chains, such as 40, 79.6, or 19.575",
         LengthFault::TooManyPlaces => " has more than three digits after the decimal point",
-        LengthFault::TooLong => " isn't a distance in chains: it has more than two digits before \
+        LengthFault::TooLong => " is not a distance in chains: it has more than two digits before \
             the decimal point",
     })
 }
@@ -228,7 +229,7 @@ fn write_repeated(record: &Record<'_>, out: &mut String) -> Result<(), AllocErro
     let Some(line) = record.line() else {
         return Ok(());
     };
-    out.push_str("a second record of ")?;
+    out.push_str("duplicate record: ")?;
     write_names(line, out)?;
     write!(out, " (section line {})", line.index())
 }

@@ -60,16 +60,17 @@ fn whole_sentence(alloc: Global, fault: NotesFault) -> Result<String, AllocError
     match fault {
         NotesFault::TooLarge => {
             let text =
-                "the field notes have more than 65,536 bytes: 84 section lines take some 1,600";
+                "the field notes are longer than 65,536 bytes; 84 section lines take about 1,600";
             String::from_str(alloc, text)
         }
         NotesFault::Empty => {
             let text =
-                "there are no field notes: they begin with `line,between,and,quarter,corner`";
+                "the field notes are empty: they begin with `line,between,and,quarter,corner`";
             String::from_str(alloc, text)
         }
         NotesFault::Township => {
-            let text = "there is no township: the second record is one, as `T,2,N,3,W`";
+            let text =
+                "the township is missing: write it as the second record, such as `T,2,N,3,W`";
             String::from_str(alloc, text)
         }
         NotesFault::Missing(index) => missing(alloc, fault, index),
@@ -82,7 +83,7 @@ fn missing(alloc: Global, fault: NotesFault, index: u8) -> Result<String, AllocE
     let Some(line) = Line::at_index(index) else {
         return fault.to_string(alloc);
     };
-    let mut text = String::from_str(alloc, "no record of ")?;
+    let mut text = String::from_str(alloc, "missing record: ")?;
     write_names(line, &mut text)?;
     write!(text, " (section line {index})")?;
     Ok(text)
@@ -106,7 +107,11 @@ fn write_help(
                 return Ok(());
             };
             let at = line_at(notes, earlier.start());
-            write!(out, "record {} at line {at} returns it too", earlier.number)
+            write!(
+                out,
+                "record {} at line {at} also returns this line",
+                earlier.number
+            )
         }
         _ => Ok(()),
     }

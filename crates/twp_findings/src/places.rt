@@ -15,18 +15,22 @@ use crate::places::items::{
 };
 pub use crate::places::words::write_land;
 use crate::places::words::{
-    write_heading, write_lots_held, write_lots_of, write_township, write_whole_lots,
+    write_heading, write_lots_and_rest, write_lots_cut, write_lots_of, write_township,
+    write_whole_lots,
 };
 use crate::quoted::write_quoted;
 use std::alloc::{AllocError, Global};
 use twp_excerpt::Span;
-use twp_grammar::{Item, Steps};
-use twp_grid::{Refusal, Section, Township};
+use twp_grammar::{Item, Step, Steps};
+use twp_grid::{Refusal, Section, Side, Township};
 use twp_marks::{
     PartOfLots, Shared, chain_span, heading_span, part_of_lots, shared_land_text, token_span,
 };
 use twp_read::Description;
 use twp_resolve::PlaceFault;
+
+/// The most steps of a part that are counted: more halve a side of the section more than five times.
+const HALVINGS: usize = 10;
 
 /// A description that was read from a text, and the township that it should be of.
 #[derive(Drop)]
@@ -128,11 +132,11 @@ impl<'a> Described<'a> {
         ensures { IfOk result (λ told. EndsAs (IsHeadingSpan self.now.text.now at) told.end) }
     {
         let mut sentence = String::new(alloc);
-        sentence.push_str("this heading is of ")?;
+        sentence.push_str("this heading says ")?;
         if let Some(item) = self.item_at(at) {
             write_heading(item, &mut sentence)?;
         }
-        sentence.push_str("; the field notes are of ")?;
+        sentence.push_str("; the field notes are for ")?;
         write_township(self.township, &mut sentence)?;
         Ok(Told {
             end: heading_span(self.text, at as usize).end,
@@ -199,10 +203,12 @@ impl<'a> Described<'a> {
         ensures { IfOk result (λ told. EndsAs (IsChainSpan self.now.text.now at) told.end) }
     {
         let mut sentence = String::new(alloc);
-        sentence.push_str("this part is too fine: a side is halved five times at most")?;
+        sentence.push_str(
+            "this part is too small: a section's side can be halved at most five times",
+        )?;
         let mut help = String::new(alloc);
-        help.push_str("the finest part is a square of five eighths of an acre, ")?;
-        help.push_str("five quarters deep")?;
+        help.push_str("the smallest part is 0.625 acre, such as ")?;
+        help.push_str("NE1/4NE1/4NE1/4NE1/4NE1/4")?;
         Ok(Told {
             end: chain_span(self.text, at as usize).end,
             sentence,
@@ -210,15 +216,20 @@ impl<'a> Described<'a> {
         })
     }
 
-    /// An aliquot part that holds land of lots.
+    /// An aliquot part that includes land of lots.
     fn tell_part_of_lots(&self, alloc: Global, at: u32) -> Result<Told, AllocError>
         ensures { IfOk result (λ told. EndsAs (IsChainSpan self.now.text.now at) told.end) }
     {
         let mut sentence = String::new(alloc);
         let mut help = String::new(alloc);
         if let Some(part) = self.part_at(alloc, at)? {
-            write_whole_lots(part.lots.len(), &mut sentence)?;
-            write_lots_held(&part, &mut help)?;
+            let cuts_lots = self.cuts_lots(at);
+            write_whole_lots(part.lots.len(), cuts_lots, &mut sentence)?;
+            if cuts_lots {
+                write_lots_cut(&part, &mut help)?;
+            } else {
+                write_lots_and_rest(&part, &mut help)?;
+            }
         }
         Ok(Told {
             end: chain_span(self.text, at as usize).end,
@@ -227,7 +238,28 @@ impl<'a> Described<'a> {
         })
     }
 
-    /// The lots of which the aliquot part at a place holds land.
+    /// Whether the sides of the aliquot part at a place can cut a lot: whether one of the section's
+    /// sides is halved more than twice. Lots fill whole quarters of quarters.
+    fn cuts_lots(&self, at: u32) -> bool {
+        let Some(Item::Chain { steps, .. }) = self.item_at(at) else {
+            return false;
+        };
+        let mut across: u32 = 0;
+        let mut along: u32 = 0;
+        for index in 0..steps.len().min(HALVINGS) {
+            match steps.get(index) {
+                Some(Step::Half(Side::N | Side::S)) => along = along.saturating_add(1),
+                Some(Step::Half(_)) => across = across.saturating_add(1),
+                _ => {
+                    along = along.saturating_add(1);
+                    across = across.saturating_add(1);
+                }
+            }
+        }
+        along > 2 || across > 2
+    }
+
+    /// The lots that the aliquot part at a place includes, whole or in part.
     fn part_at(&self, alloc: Global, at: u32) -> Result<Option<PartOfLots>, AllocError> {
         let Some(section) = self.section_at(at) else {
             return Ok(None);
@@ -277,6 +309,6 @@ impl<'a> Described<'a> {
         if let Some(spot) = spot_in(&self.origin.file, self.origin.in_file(span.start)) {
             write!(out, " at {}:{}", spot.line, spot.column)?;
         }
-        out.push_str(" names it too: both hold ")
+        out.push_str(" overlaps it; both include ")
     }
 }

@@ -136,9 +136,8 @@ fn sentence(
 fn write_limits(length: i64, least: u32, most: u32, out: &mut String) -> Result<(), AllocError> {
     out.push_str(" is ")?;
     write_chains(length, out)?;
-    out.push_str(" chains: ")?;
+    out.push_str(" chains; allowed: ")?;
     write_chains(i64::from(least), out)?;
     out.push_str(" to ")?;
-    write_chains(i64::from(most), out)?;
-    out.push_str(" are allowed")
+    write_chains(i64::from(most), out)
 }

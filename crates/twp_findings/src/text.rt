@@ -9,7 +9,7 @@ mod character;
 
 use crate::finding::{Finding, Place};
 use crate::origin::Origin;
-use crate::text::character::write_no_part;
+use crate::text::character::write_not_allowed;
 use std::alloc::{AllocError, Global};
 use twp_excerpt::{Span, write_escaped};
 use twp_grammar::Expected;
@@ -45,7 +45,7 @@ pub fn find(
     })
 }
 
-/// What could stand where a fault of syntax is.
+/// What is expected where a fault of syntax is.
 fn expected(fault: TextFault) -> Option<Expected> {
     match fault {
         TextFault::Syntax { expected, .. } => Some(expected),
@@ -75,8 +75,8 @@ fn place(origin: &Origin<'_>, text: &[u8], sight: &Sight<'_>, fault: TextFault) 
 /// Appends what is wrong.
 fn write_sentence(sight: &Sight<'_>, fault: TextFault, out: &mut String) -> Result<(), AllocError> {
     match fault {
-        TextFault::TooLarge => out.push_str("the description has more than 65,536 bytes"),
-        TextFault::BadByte { .. } => write_no_part(sight.at.bytes, out),
+        TextFault::TooLarge => out.push_str("the description is longer than 65,536 bytes"),
+        TextFault::BadByte { .. } => write_not_allowed(sight.at.bytes, out),
         TextFault::BadNumber { .. } => {
             write_quoted(sight.at.bytes, out)?;
             out.push_str(" has more than four digits")
@@ -89,18 +89,22 @@ fn write_sentence(sight: &Sight<'_>, fault: TextFault, out: &mut String) -> Resu
 /// Appends what goes wrong at a token, or where a text ends.
 fn write_syntax(sight: &Sight<'_>, expected: Expected, out: &mut String) -> Result<(), AllocError> {
     if !sight.at.bytes.is_empty() {
-        out.push_str("`")?;
+        out.push_str("unexpected `")?;
         write_quoted(sight.at.bytes, out)?;
-        out.push_str("` can't stand here: ")?;
+        out.push_str(if expected == Expected::Nothing {
+            "`: the period before it ends the description"
+        } else {
+            "`; "
+        })?;
     } else if sight.before.bytes.is_empty() {
         out.push_str("the description is empty: ")?;
     } else {
-        out.push_str("the description ends too soon: ")?;
+        out.push_str("incomplete description: ")?;
     }
     if expected == Expected::Nothing {
-        return out.push_str("the period before it ends the description");
+        return Ok(());
     }
-    write!(out, "here could stand {}", expected)
+    write!(out, "expected {}", expected)
 }
 
 /// Appends a token, cut where it is long.

@@ -49,9 +49,9 @@ impl Slip {
     /// What is said of the mended distances.
     fn advice(self) -> &'static str {
         match self {
-            Slip::HalfMileAlone => "if the corner is measured from the quarter corner, write ",
-            Slip::Exchanged => "if the two distances are exchanged, write ",
-            Slip::OtherEnd => "if they are measured from where the line closes, write ",
+            Slip::HalfMileAlone => "if the second distance starts at the quarter corner, write ",
+            Slip::Exchanged => "if the two distances are swapped, write ",
+            Slip::OtherEnd => "if the distances start at the closing end of the line, write ",
         }
     }
 }
@@ -78,10 +78,11 @@ pub fn write_half_mile_hint(
         PlatFault::Irregular {
             half: HalfMile::First,
             ..
-        } => "a quarter corner stands some 40 chains from the start of its line",
-        PlatFault::Irregular { .. } => "its distances are measured from its start: a corner \
-            follows its quarter corner by some 40 chains",
-        _ => "the last quarter mile is what the line has beyond 20 chains after its quarter corner",
+        } => "the quarter corner should be about 40 chains from the start of the line",
+        PlatFault::Irregular { .. } => "both distances start at the same end of the line: the \
+            corner should be about 40 chains past the quarter corner",
+        _ =>
+            "the last quarter mile is the rest of the line beyond 20 chains past the quarter corner",
     })
 }
 

@@ -53,20 +53,16 @@ use Sign::{
 
 /// The rows, by the numbers of refusals.
 const HINTS: [Hint; 45] = [
-    Hint(
-        3,
-        Zeros,
-        "it has bytes 0, as UTF-16 has: save the file as UTF-8",
-    ),
+    Hint(3, Zeros, "the file looks like UTF-16: save it as UTF-8"),
     Hint(
         3,
         OneField(b';'),
-        "semicolons stand between the fields: save the file with commas",
+        "the fields are separated by semicolons: save the file with commas",
     ),
     Hint(
         3,
         OneField(b'\t'),
-        "tabs stand between the fields: save the file with commas",
+        "the fields are separated by tabs: save the file with commas",
     ),
     Hint(
         3,
@@ -76,9 +72,9 @@ const HINTS: [Hint; 45] = [
     Hint(
         3,
         SpacedHeading,
-        "spaces stand around the fields: take them out, in every record",
+        "spaces are significant: delete those around the fields, in every record",
     ),
-    Hint(3, CasedHeading, "write it all in lowercase"),
+    Hint(3, CasedHeading, "write the heading in lowercase"),
     Hint(
         3,
         Begins("sec."),
@@ -97,45 +93,45 @@ const HINTS: [Hint; 45] = [
     Hint(
         3,
         Says(0, "T"),
-        "the heading is missing: put it before this record",
+        "the heading is missing: add it before this record",
     ),
     Hint(
         3,
         Says(0, "N"),
-        "the heading is missing: put it at the top, and the township after it",
+        "the heading is missing: add it as the first record, and the township as the second",
     ),
     Hint(
         3,
         Says(0, "W"),
-        "the heading is missing: put it at the top, and the township after it",
+        "the heading is missing: add it as the first record, and the township as the second",
     ),
     Hint(
         4,
         OneField(b';'),
-        "semicolons stand between the fields: write commas",
+        "the fields are separated by semicolons: write commas",
     ),
     Hint(
         4,
         OneField(b'\t'),
-        "tabs stand between the fields: write commas",
+        "the fields are separated by tabs: write commas",
     ),
     Hint(
         4,
         Begins("T."),
-        "this is how a description has it: here it is written as `T,2,N,3,W`",
+        "this is the form for descriptions; in field notes, write `T,2,N,3,W`",
     ),
     Hint(
         4,
         NoNeighbor,
-        "on the township boundary the third field is empty, but has its comma",
+        "on the township boundary the third field is empty, but its comma is still required",
     ),
     Hint(
         4,
         CutDistances,
-        "a comma is no decimal sign here: write points, as in `40.00`",
+        "write decimal points instead of commas, as in `40.00`",
     ),
-    Hint(4, LongRecord, "delete what comes after the fifth field"),
-    Hint(5, Spaced, "a space counts here: take it out"),
+    Hint(4, LongRecord, "delete everything after the fifth field"),
+    Hint(5, Spaced, "spaces are significant here: delete the space"),
     Hint(5, Says(0, "t"), "write `T`"),
     Hint(5, Says(2, "n"), "write `N`"),
     Hint(5, Says(2, "s"), "write `S`"),
@@ -145,54 +141,54 @@ const HINTS: [Hint; 45] = [
     Hint(5, Says(4, "w"), "write `W`"),
     Hint(5, Says(4, "east"), "write `E`"),
     Hint(5, Says(4, "west"), "write `W`"),
-    Hint(
-        6,
-        Empty,
-        "a row without text, as a spreadsheet leaves it: delete it",
-    ),
-    Hint(6, Spaced, "a space counts here: take it out"),
+    Hint(6, Empty, "delete the empty row"),
+    Hint(6, Spaced, "spaces are significant here: delete the space"),
     Hint(6, Says(0, "n"), "write `N`"),
     Hint(6, Says(0, "w"), "write `W`"),
     Hint(6, Says(0, "north"), "write `N`"),
     Hint(6, Says(0, "west"), "write `W`"),
-    Hint(7, Spaced, "a space counts here: take it out"),
-    Hint(9, Spaced, "a space counts here: take it out"),
+    Hint(7, Spaced, "spaces are significant here: delete the space"),
+    Hint(9, Spaced, "spaces are significant here: delete the space"),
     Hint(
         9,
         Mile(5_280_000),
-        "the distances are feet: divide them by 66",
+        "the distances are in feet: divide them by 66",
     ),
     Hint(
         9,
         Mile(8_000_000),
-        "the distances are links: divide them by 100",
+        "the distances are in links: divide them by 100",
     ),
     Hint(
         9,
         Mile(1_609_344),
-        "the distances are meters: divide them by 20.1168",
+        "the distances are in meters: divide them by 20.1168",
     ),
     Hint(
         9,
         Mile(1_760_000),
-        "the distances are yards: divide them by 22",
+        "the distances are in yards: divide them by 22",
     ),
-    Hint(9, Mile(320_000), "the distances are rods: divide them by 4"),
+    Hint(
+        9,
+        Mile(320_000),
+        "the distances are in rods: divide them by 4",
+    ),
     Hint(
         9,
         DecimalComma,
-        "a comma is no decimal sign here: write a point",
+        "write a decimal point instead of the comma",
     ),
-    Hint(9, WithChains, "write the number alone"),
+    Hint(9, WithChains, "write only the number"),
     Hint(
         21,
         Mile(1_000),
-        "the distances are miles: multiply them by 80",
+        "the distances are in miles: multiply them by 80",
     ),
     Hint(
         21,
         Mile(1_609),
-        "the distances are kilometers: multiply them by 49.71",
+        "the distances are in kilometers: multiply them by 49.71",
     ),
 ];
 

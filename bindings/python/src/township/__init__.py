@@ -11,7 +11,7 @@ Decimal('161.00')
 ...     plat.acres("sec. 5, N1/2.")
 ... except township.Refused as refused:
 ...     print(refused.number, refused.at, refused)
-66 8 description:1:9: this part holds land of lots, which are taken whole
+66 8 description:1:9: this part includes lots; name the lots instead
 """
 from __future__ import annotations
 

@@ -91,7 +91,7 @@ class Plat:
         >>> township.Plat.read(b"")
         Traceback (most recent call last):
             ...
-        township.Refused: notes: there are no field notes: they begin with `line,between,and,quarter,corner`
+        township.Refused: notes: the field notes are empty: they begin with `line,between,and,quarter,corner`
         """
         given = encoded(notes)
         parts = _library.Plat()

@@ -43,7 +43,7 @@ class Refused(Exception):
     township: description:1:20: this land was named before
       1 | sec. 14, NE1/4 and N1/2.
         |                    ^^^^
-      `NE1/4` at 1:10 names it too: both hold sec. 14, NE1/4.
+      `NE1/4` at 1:10 overlaps it; both include sec. 14, NE1/4.
     """
 
     #: What is wrong: 1 to 11 and 21 to 23 for field notes, 41 to 44 and 61 to 67 for a description, 80 to 85

@@ -1,4 +1,4 @@
-//! How townships, lots, and land are written in what is told of a fault.
+//! How townships, lots, and land are written in explanations.
 ghost use Rattle.std.specs.Prelude.{◌≤◌, length};
 
 use std::alloc::AllocError;
@@ -71,25 +71,37 @@ pub(crate) fn write_lots_of(section: Section, out: &mut String) -> Result<(), Al
     write!(out, "section {} has lots 1 to {}", section.number(), count)
 }
 
-/// Appends that lots are taken whole.
-pub(crate) fn write_whole_lots(count: usize, out: &mut String) -> Result<(), AllocError> {
-    if count == 1 {
-        return out.push_str("this part holds land of a lot, which is taken whole");
-    }
-    out.push_str("this part holds land of lots, which are taken whole")
+/// Appends that a part includes lots, which have to be named instead, or that it cuts them.
+pub(crate) fn write_whole_lots(
+    count: usize,
+    cuts_lots: bool,
+    out: &mut String,
+) -> Result<(), AllocError> {
+    out.push_str(match (cuts_lots, count) {
+        (false, 1) => "this part includes a lot; name the lot instead",
+        (false, _) => "this part includes lots; name the lots instead",
+        (true, 1) => "this part cuts a lot; lots can only be named whole",
+        (true, _) => "this part cuts lots; lots can only be named whole",
+    })
 }
 
-/// Appends the lots of which a part holds land, and the rest of its land.
-pub(crate) fn write_lots_held(part: &PartOfLots, out: &mut String) -> Result<(), AllocError> {
-    out.push_str("it holds ")?;
+/// Appends what to write for a part that includes whole lots: its section, the lots, and the rest of
+/// its land.
+pub(crate) fn write_lots_and_rest(part: &PartOfLots, out: &mut String) -> Result<(), AllocError> {
+    write!(out, "write sec. {}, ", part.section.number())?;
     write_lots(&part.lots, out)?;
-    write!(out, " of section {}", part.section.number())?;
     if part.rest.is_empty() {
         return Ok(());
     }
-    out.push_str(", and ")?;
-    write_escaped(list_of_section(&part.rest), out)?;
-    out.push_str(" besides")
+    out.push_str(", ")?;
+    write_escaped(list_of_section(&part.rest), out)
+}
+
+/// Appends the lots that a part cuts.
+pub(crate) fn write_lots_cut(part: &PartOfLots, out: &mut String) -> Result<(), AllocError> {
+    out.push_str("it includes land of ")?;
+    write_lots(&part.lots, out)?;
+    write!(out, " of section {}", part.section.number())
 }
 
 /// Appends lots, as `lot 4`, or `lots 1, 2 and 3`.

@@ -1,4 +1,4 @@
-//! Characters and bytes that are no part of a description.
+//! Characters and bytes that are not allowed in a description.
 
 use bstr::decode_utf8;
 use std::alloc::AllocError;
@@ -10,7 +10,7 @@ struct Named {
     name: &'static str,
 }
 
-/// The names of characters that descriptions are found with.
+/// The names of characters that occur in copied descriptions.
 static NAMES: &[Named] = &[
     Named {
         code: '\u{A0}',
@@ -130,13 +130,13 @@ static NAMES: &[Named] = &[
     },
 ];
 
-/// Appends that a character, or a byte that is none, is no part of a description.
-pub(crate) fn write_no_part(bytes: &[u8], out: &mut String) -> Result<(), AllocError> {
+/// Appends that a character, or a byte that is none, is not allowed in a description.
+pub(crate) fn write_not_allowed(bytes: &[u8], out: &mut String) -> Result<(), AllocError> {
     if let b"/" = bytes {
-        return out.push_str("`/` stands only in 1/2 and 1/4");
+        return out.push_str("`/` is allowed only in 1/2 and 1/4");
     }
     write_name(bytes, out)?;
-    out.push_str(" is no part of a description")
+    out.push_str(" is not allowed in a description")
 }
 
 /// Appends a mark of ASCII as it is, any other character by its code, and a byte by its number.
@@ -150,7 +150,7 @@ fn write_name(bytes: &[u8], out: &mut String) -> Result<(), AllocError> {
         [byte] => write!(out, "byte 0x{:02X}", *byte),
         _ => match decode_utf8(bytes) {
             (Some(character), _) => write_character(character, out),
-            (None, _) => out.push_str("what stands here"),
+            (None, _) => out.push_str("this text"),
         },
     }
 }

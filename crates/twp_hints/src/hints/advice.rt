@@ -1,12 +1,17 @@
 //! The advice of a hint: its words, and in braces the signs of the text that stand in them.
 
+use crate::hints::joined::{Joined, joined_parts, write_usual};
 use crate::hints::sight::{Sight, Sign};
 use std::alloc::AllocError;
 use twp_excerpt::write_escaped;
 
+/// The beginning of advice on what lots and aliquot parts can't describe.
+const BEYOND: &str = "this can't be described by lots and aliquot parts of a regular township";
+
 /// Appends the advice. `{at}` is the refused sign, `{before}` the one before it, `{1}` to `{5}` are
-/// those after it; with `initial` after these, the first letter in uppercase. `{quarters}` are the
-/// quarters whose letters are the refused sign.
+/// those after it; with `initial` after these, the first letter in uppercase; with `quarters`, the
+/// quarters that have these letters. `{part}`, `{of}`, and `{next}` are the pieces of two parts with
+/// an `of` (`joined`). `{beyond}` says that lots and aliquot parts can't describe it.
 pub(crate) fn write_advice(
     advice: &str,
     sight: &Sight<'_>,
@@ -26,12 +31,27 @@ pub(crate) fn write_advice(
 
 /// Appends what has this name.
 fn write_named(name: &str, sight: &Sight<'_>, out: &mut String) -> Result<(), AllocError> {
-    if name == "quarters" {
-        return write_quarters(sight.at.bytes, out);
-    }
     match name.split_once(' ') {
-        Some((name, _)) => write_initial(sign_named(name, sight), out),
-        None => write_escaped(sign_named(name, sight).bytes, out),
+        Some((name, "quarters")) => return write_quarters(sign_named(name, sight).bytes, out),
+        Some((name, _)) => return write_initial(sign_named(name, sight), out),
+        None => {}
+    }
+    match name {
+        "beyond" => out.push_str(BEYOND),
+        "part" | "of" | "next" => write_piece(name, sight, out),
+        _ => write_escaped(sign_named(name, sight).bytes, out),
+    }
+}
+
+/// Appends a piece of two parts with an `of`.
+fn write_piece(name: &str, sight: &Sight<'_>, out: &mut String) -> Result<(), AllocError> {
+    let Some(Joined { part, of, next }) = joined_parts(sight) else {
+        return Ok(());
+    };
+    match name {
+        "part" => write_usual(part, out),
+        "of" => write_usual(of, out),
+        _ => write_usual(next, out),
     }
 }
 

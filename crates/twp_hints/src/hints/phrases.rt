@@ -1,23 +1,23 @@
-//! The hints for what stands between a heading and its sections.
+//! The hints for words between a heading and its sections.
 
 use crate::hints::sight::Sight;
 use twp_grammar::{Expected, Kind};
 use twp_read::Tokens;
 
-/// What stands where sections should: its names, of one word or of several that follow one another,
-/// and its hint. The first that fits is taken: what may be called after a state comes before the
-/// states.
+/// The names of what is found where sections should be, of one word or of several that follow one
+/// another, and the hint. The first that fits is taken: what may be called after a state comes
+/// before the states.
 const PHRASES: &str = "
-P M, PM, Mer, Meridian, Principal                                     | leave the meridian out
-County                                                                | leave the county out
-Alabama, Alaska, Arizona, Arkansas, California, Colorado, Florida     | leave the state out
-Idaho, Illinois, Indiana, Iowa, Kansas, Louisiana, Michigan           | leave the state out
-Minnesota, Mississippi, Missouri, Montana, Nebraska, Nevada           | leave the state out
-New Mexico, North Dakota, Ohio, Oklahoma, Oregon, South Dakota, Utah  | leave the state out
-Washington, Wisconsin, Wyoming                                        | leave the state out
+P M, PM, B M, BM, NMPM, Mer, Meridian, Principal                      | delete the meridian
+County                                                                | delete the county
+Alabama, Alaska, Arizona, Arkansas, California, Colorado, Florida     | delete the state
+Idaho, Illinois, Indiana, Iowa, Kansas, Louisiana, Michigan           | delete the state
+Minnesota, Mississippi, Missouri, Montana, Nebraska, Nevada           | delete the state
+New Mexico, North Dakota, Ohio, Oklahoma, Oregon, South Dakota, Utah  | delete the state
+Washington, Wisconsin, Wyoming                                        | delete the state
 ";
 
-/// The advice for what stands where sections should, up to the next of them, or nothing.
+/// The advice for words where sections should be, up to the next of them, or nothing.
 pub(crate) fn advice_for_phrase(sight: &Sight<'_>) -> &'static str {
     if sight.expected != Some(Expected::Sections) {
         return "";
@@ -32,8 +32,8 @@ pub(crate) fn advice_for_phrase(sight: &Sight<'_>) -> &'static str {
     ""
 }
 
-/// Whether words stand one after another at a refused place or after it, before the next sections.
-/// Full stops among them are passed over.
+/// Whether words follow one another at a refused place or after it, before the next sections.
+/// Periods among them are passed over.
 fn stands_in(name: &str, sight: &Sight<'_>) -> bool {
     let words = name.split_ascii_whitespace().count();
     let mut found = found_more(name, 0, sight.at.bytes);

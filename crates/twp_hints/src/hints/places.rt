@@ -1,5 +1,6 @@
 //! What could stand at a refused place, by the names that the tables have for it.
 
+use crate::hints::joined::joined_parts;
 use crate::hints::lands::is_of_next_section;
 use crate::hints::sight::{Sight, Sign};
 use crate::hints::signs::fits;
@@ -9,6 +10,9 @@ use twp_grammar::Expected;
 pub(crate) fn could_stand(name: &str, sight: &Sight<'_>) -> bool {
     if name.is_empty() {
         return true;
+    }
+    if name == "after-of" {
+        return joined_parts(sight).is_some();
     }
     match sight.expected {
         Some(expected) => is_named(name, expected, sight),
@@ -20,6 +24,7 @@ pub(crate) fn could_stand(name: &str, sight: &Sight<'_>) -> bool {
 fn is_named(name: &str, expected: Expected, sight: &Sight<'_>) -> bool {
     match name {
         "beginning" => expected == Expected::Beginning,
+        "sections" => expected == Expected::Sections,
         "first-section" => may_begin_first_section(expected, sight.before),
         "next-section" => expected == Expected::Sections && is_of_next_section(sight),
         "township-side" => expected == Expected::TownshipSide,
@@ -27,6 +32,8 @@ fn is_named(name: &str, expected: Expected, sight: &Sight<'_>) -> bool {
         "range" => expected == Expected::Range,
         "part" => may_begin_part(expected),
         "part-or-step" => may_begin_step(expected),
+        "more-steps" => expected == Expected::MoreStepsOrParts,
+        "all" => expected == Expected::All,
         "half" => expected == Expected::Half,
         "quarter" => expected == Expected::Quarter,
         "range-end" => is_after_range(expected),

@@ -6,17 +6,18 @@ ghost use Rattle.twp_grammar.specs.declared.kind.Kind.TheVariants.{BadByte};
 ghost use Rattle.twp_hints.specs.Sights.{shown_place, TakesSign};
 
 use twp_excerpt::{end_of_text, first_size};
-use twp_grammar::{Expected, Kind, Token};
+use twp_grammar::{Expected, Kind};
 use twp_grid::Refusal;
 use twp_read::Tokens;
 
-/// What stands somewhere in a text: a token, or a character that is no part of a description. It
-/// has no bytes where the text begins or ends.
+/// A token of a text, or a character that is not allowed in a description. It has no bytes where the
+/// text begins or ends.
 #[derive(Clone, Copy)]
 pub struct Sign<'a> {
     /// Its bytes.
     pub bytes: &'a [u8],
-    /// Whether it ends where the refused one begins.
+    /// Whether it ends where the refused one begins; of a sign after that, whether neither a comma
+    /// nor a period is between it and the sign before it.
     pub is_joined: bool,
 }
 
@@ -29,6 +30,10 @@ pub struct Sight<'a> {
     pub expected: Option<Expected>,
     /// Where the sign at the place begins in the text, or where the text ends but for white space.
     pub start: usize,
+    /// The text.
+    pub text: &'a [u8],
+    /// The text before that place.
+    pub ahead: &'a [u8],
     /// The sign before the place.
     pub before: Sign<'a>,
     /// The sign at the place.
@@ -54,6 +59,8 @@ impl<'a> Sight<'a> {
             } else {
                 at
             },
+            text,
+            ahead,
             before: last_sign(ahead),
             at: Sign {
                 bytes: sign,
@@ -63,17 +70,23 @@ impl<'a> Sight<'a> {
         }
     }
 
-    /// The sign this many signs after the refused one, from 0. Commas and full stops don't count.
+    /// The sign this many signs after the refused one, from 0. Commas and periods don't count.
     pub fn after(&self, index: usize) -> Sign<'a> {
         let mut left = index;
+        let mut is_joined = true;
         for token in Tokens::new(self.rest) {
             if matches!(token.kind, Kind::Comma | Kind::Stop) {
+                is_joined = false;
                 continue;
             }
             if left == 0 {
-                return apart(token);
+                return Sign {
+                    bytes: token.text,
+                    is_joined,
+                };
             }
             left -= 1;
+            is_joined = true;
         }
         NOTHING
     }
@@ -119,12 +132,4 @@ fn last_sign(bytes: &[u8]) -> Sign<'_> {
         };
     }
     last
-}
-
-/// The sign of a token somewhere behind the refused one.
-fn apart(token: Token<'_>) -> Sign<'_> {
-    Sign {
-        bytes: token.text,
-        is_joined: false,
-    }
 }

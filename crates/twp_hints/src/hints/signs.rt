@@ -1,6 +1,7 @@
 //! What a sign has to be for a hint to be given.
 
 use crate::hints::sight::Sign;
+use crate::numbers::number_in;
 
 /// Whether a sign is one of those that a column has, with white space between them. A column without
 /// any fits every sign.
@@ -20,12 +21,15 @@ fn is_named(name: &str, sign: Sign<'_>) -> bool {
         "<apart>" => !sign.is_joined,
         "<number>" => is_number(sign.bytes),
         "<word>" => is_word(sign.bytes),
+        "<above-36>" => is_above_sections(sign.bytes),
         "<quarters>" => are_quarters(sign.bytes),
+        "<next-quarters>" => sign.is_joined && are_quarters(sign.bytes),
         "<joined-side>" => sign.is_joined && is_among(SIDES, sign),
         "<joined-corner>" => sign.is_joined && is_among(CORNERS, sign),
         "<side>" => is_among(SIDES, sign),
         "<corner>" => is_among(CORNERS, sign),
         "<north-south>" => is_among("north south N S", sign),
+        "<next-north-south>" => sign.is_joined && is_among("north south N S", sign),
         "<east-west>" => is_among("east west E W", sign),
         "<side-word>" => is_among("north south east west", sign),
         "<corner-word>" => is_among("northeast northwest southwest southeast", sign),
@@ -75,6 +79,14 @@ fn is_byte(byte: u8, sign: Sign<'_>) -> bool {
 /// Whether there are digits, and nothing else.
 fn is_number(bytes: &[u8]) -> bool {
     !bytes.is_empty() && bytes.iter().all(|byte| byte.is_ascii_digit())
+}
+
+/// Whether this is a number above those of sections, as tracts and mineral surveys have.
+fn is_above_sections(bytes: &[u8]) -> bool {
+    match number_in(bytes) {
+        Some(number) => number > 36,
+        None => false,
+    }
 }
 
 /// Whether there are letters, and nothing else.

@@ -5,9 +5,9 @@
 //! ```
 //!
 //! A column that is empty fits anything. A sign has the texts that it may be, or their names in angle
-//! brackets (`signs`); the signs after the refused one are parted by `;`, and commas and full stops
+//! brackets (`signs`); the signs after the refused one are separated by `;`, and commas and periods
 //! among them are passed over. What could stand there has a name (`places`). In the advice, braces
-//! stand for signs of the text (`advice`). A line that begins with `#` tells what the next ones are.
+//! stand for signs of the text (`advice`). A line that begins with `#` says what the next ones are.
 
 use crate::hints::places::could_stand;
 use crate::hints::sight::Sight;
