@@ -80,7 +80,7 @@ class OfNotes(RefusalCase):
         refused = self.refused(township.Plat.read, b"".join(lines))
         self.assertEqual((refused.number, refused.at), (11, 53))
         self.assertEqual((refused.line, refused.column), (None, None))
-        self.assertEqual(refused.sentence, "no record of W,6,7 (section line 53)")
+        self.assertEqual(refused.sentence, "missing record: W,6,7 (section line 53)")
 
     def test_record_that_is_no_line(self):
         refused = self.refused(township.Plat.read, NOTES.replace(b"N,1,,", b"N,40,,"))

@@ -175,7 +175,7 @@ mod tests {
     fn sentence_comes_after_the_place() {
         for (line, sentence) in [
             ("description:1:20: this land: twice", "this land: twice"),
-            ("notes: no record of W,6,7", "no record of W,6,7"),
+            ("notes: missing record: W,6,7", "missing record: W,6,7"),
             ("tracts:2:23: tract `A`: twice", "tract `A`: twice"),
         ] {
             let refused = explained(&format!("township: {line}\n  1 | more: text\n"));

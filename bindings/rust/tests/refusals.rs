@@ -134,10 +134,10 @@ fn notes_without_a_line() {
     let refused = Plat::read(&notes_without("W,6,7,")).unwrap_err();
     assert_eq!(number_and_place(&refused), (11, 53));
     assert_eq!((refused.line, refused.column), (None, None));
-    assert_eq!(refused.sentence(), "no record of W,6,7 (section line 53)");
+    assert_eq!(refused.sentence(), "missing record: W,6,7 (section line 53)");
     assert_eq!(
         refused.explanation,
-        "township: notes: no record of W,6,7 (section line 53)\n"
+        "township: notes: missing record: W,6,7 (section line 53)\n"
     );
 }
 
