@@ -328,12 +328,12 @@ static void explains_list(const char *samples, const township_plat *plat) {
 
     /* What comes right after the closing quotation mark: four bytes before it on its line, and eleven. */
     check_text(explain_list, plat, after_quotes, explained(tract_refused(2, 42, 0), 2, 5, 0),
-               "township: tracts.csv:2:5: tract `A`: `&` is no part of a description\n"
+               "township: tracts.csv:2:5: tract `A`: `&` is not allowed in a description\n"
                "  2 | A,\"\"&\n"
                "    |     ^\n"
                "  write and\n");
     check_text(explain_list, plat, after_sentence, explained(tract_refused(2, 42, 7), 2, 12, 0),
-               "township: tracts.csv:2:12: tract `A`: `&` is no part of a description\n"
+               "township: tracts.csv:2:12: tract `A`: `&` is not allowed in a description\n"
                "  2 | A,\"sec. 4.\"&\n"
                "    |            ^\n"
                "  write and\n");
