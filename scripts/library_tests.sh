@@ -188,7 +188,7 @@ print(plat.acres("sec. 5, lots 1 and 2, S1/2NE1/4."))' > "$work/found" 2>&1
     cat > "$work/wanted" << END
 name,description,acres,refusal,at,sentence
 A,"sec. 5, lot 1.",40.45,,,
-B,"sec. 5, N1/2.",,66,8,"this part includes lots; name the lots instead"
+B,"sec. 5, N1/2.",,66,8,this part includes lots; name the lots instead
 status 1
 END
     {
