@@ -25,7 +25,7 @@ use Rattle.twp_acres.specs.declared.tract_fault.TractFault.{TractFault}
 use Rattle.twp_acres.specs.declared.tract_fault.TractFault.TheVariants as fault
 use Rattle.twp_acres.proofs.OneAnswer.{not_described}
 
--- a description that is refused is a tract's fault
+-- a refused description is a fault of its tract
 pub description_refused : (township : Designation) (fields : Fields) (tally : Tally) (number : ℕ)
     (stopped : Stop)
     → IsNamedAnew fields tally
@@ -34,11 +34,11 @@ pub description_refused : (township : Designation) (fields : Fields) (tally : Ta
 description_refused township fields tally number (stop.Refused inner) anew none = (refl, anew, none)
 description_refused township fields tally number (stop.Failed failed) anew is = tt
 
--- the next record isn't taken: what is answered is its first fault
+-- the next record is refused, for its first fault
 module _ (plat : TownshipPlat) (rows : List Fields) (count : ℕ) (tally : Tally)
     (before : IsTallyOf plat rows count tally) (within : count < length rows)
     (below : count < TRACTS_MOST) where
-  -- a name that the tally doesn't have isn't repeated
+  -- a name that is not in the tally is not repeated
   not_repeated : has_name tally.names (name_in (record_at rows count)) ≡ false → IsNameRepeated rows count → ⊥
   not_repeated anew repeated =
       cc
@@ -142,7 +142,7 @@ module _ (plat : TownshipPlat) (rows : List Fields) (count : ℕ) (tally : Tally
   refused_next fault.TractsTooLarge is = absurd is
   refused_next fault.TooManyTracts is = absurd is
 
--- more bytes than a list may have
+-- more bytes than a list can have
 pub large_first : (township : Designation) (bytes : List ℕ) → TRACTS_LIMIT < length bytes
     → IsFirstTractFault township bytes fault.TractsTooLarge
 large_first township bytes large =
@@ -156,7 +156,7 @@ large_first township bytes large =
 
 module _ (township : Designation) (bytes : List ℕ) (size : length bytes ≤ TRACTS_LIMIT)
     (heading_is : record_numbered (records_of bytes) 1 ≡ tracts_heading) where
-  -- of the tracts before no fault holds
+  -- the tracts before have no fault
   pub none_before : (index : ℕ) → AreTracts township (tract_records bytes) index
       → (other : TractFault) (at_tract : HasAtTract township (tract_records bytes) other)
       → at_tract.index < index → ⊥
@@ -185,7 +185,7 @@ module _ (township : Designation) (bytes : List ℕ) (size : length bytes ≤ TR
   number_is index fault.TooManyTracts has = absurd has
   number_is index fault.Memory has = absurd has
 
-  -- each fault is at the record too many, in the list's size, or at a tract
+  -- each fault is at the record beyond the limit, in the list's size, or at a tract
   data Where (other : TractFault) : Type 0 where
     too_many : record_of other ≡ TRACTS_MOST + 2 → Where other
     at_tract : HasAtTract township (tract_records bytes) other → Where other
@@ -265,7 +265,7 @@ module _ (township : Designation) (bytes : List ℕ) (size : length bytes ≤ TR
   first_refused fault.Memory next = tt
   first_refused fault.TractsTooLarge next = absurd (next.has)
 
--- the first of the records, and those after it
+-- the first record, and those after it
 pub record AreBehind (bytes : List ℕ) (fields : Fields) (rest : List Fields) : Type 0 where
   pub first : record_numbered (records_of bytes) 1 ≡ fields
   pub behind : tract_records bytes ≡ rest

@@ -10,7 +10,7 @@ use Rattle.std.proofs.lemmas.Cmp.{nat_list_eq_equiv}
 use Rattle.std.proofs.lemmas.Slice.Eq.{bytes_eq-Decides}
 use Rattle.arrayvec.specs.ArrayString.{ArrayString}
 
--- a name that isn't at some bytes is apart from one at them
+-- a name that some bytes do not spell differs from one that they do
 apart : (bytes other key : List ℕ) → bytes_eq bytes other ≡ false → bytes_eq bytes key ≡ true
     → bytes_eq other key ≡ false
 apart bytes other key differ same =
@@ -22,7 +22,7 @@ other_keys : (eq : ArrayString → ArrayString → Bool) (test : ArrayString →
 unfolding KeepsOthers
 other_keys eq test old new keeps = keeps
 
--- a set with one name more has it, and of other names what it had
+-- a set with one more name contains it, and otherwise the same names as before
 pub one_name_more : {S : Type 0} (name : ArrayString) (old new : HashSet ArrayString S)
     → UpdatesBy (λ x y. bytes_eq x.bytes y.bytes) (λ key. bytes_eq name.bytes key.bytes) old new true
     → (other : List ℕ)

@@ -1,4 +1,4 @@
--- What answers on a plat make of the answers of notes and a description, over plain values.
+-- How answers on a plat give the answers for notes and a description, over plain values.
 use Rattle.std.proofs.Common.{◌≡◌, ℕ, List, Bool, Option, Result, Ok, Err, subst}
 use Rattle.std.proofs.Common.{inl, inr, arith}
 use Rattle.std.specs.Prelude.{IfOk, IfErr}
@@ -32,13 +32,13 @@ use Rattle.twp_acres.specs.declared.verdict.Verdict.{Verdict}
 use Rattle.twp_acres.specs.declared.verdict.Verdict.TheVariants as verdict
 use Rattle.twp_acres.proofs.OneAnswer.{one_plat, one_land, not_described, not_platted}
 
--- a stop that is refused as a description, or is for want of memory
+-- a stop for a refused description, or because memory ran out
 pub stops_on : (township : Designation) (d : List ℕ) (by : Stop) → IfRefused by (IsNoDescription township d)
     → IfFailed by (λ fault. fault ≡ Memory) → StopsOn township d by
 stops_on township d (stop.Refused refusal) refused memory = refused
 stops_on township d (stop.Failed fault) refused memory = memory
 
--- where such a stop is answered only memory can run out
+-- with such a stop, the answer can only fail because memory runs out
 pub stop_memory : (township : Designation) (d : List ℕ) (by : Stop) (r : Result Answer RunFault)
     → StopsOn township d by → AnswersStop by r → IfErr r (λ fault. fault ≡ Memory)
 stop_memory township d (stop.Refused refusal) (Ok answer) is answers = tt
@@ -46,7 +46,7 @@ stop_memory township d (stop.Refused refusal) (Err fault) is answers = answers
 stop_memory township d (stop.Failed fault) (Ok answer) is answers = absurd answers
 stop_memory township d (stop.Failed fault) (Err answered) is answers = cc (answers, is)
 
--- and the answer is the refusal
+-- the answer is the refusal
 pub stop_refused : (Answers : AnswerRelation) (township : Designation) (d : List ℕ) (by : Stop)
     (r : Result Answer RunFault)
     → StopsOn township d by → AnswersStop by r
@@ -184,7 +184,7 @@ one_area_on d plat account area area' has has' =
     one_area_by account plat has'.places area area'
     (subst (λ p. IsAreaBy account PLACE_DIGITS plat p area) same has.area_is) has'.area_is
 
--- the answers on the plat of the notes are those of the notes and the description
+-- the answers on the plat of the notes are those for the notes and the description
 pub acres_answered : (account : Account) (notes d : List ℕ) (plat : TownshipPlat) (answer : List ℕ)
     (v : Verdict)
     → ArePlatted notes plat → IsAcresAnswerOn account plat d answer v
@@ -203,7 +203,7 @@ normal_answered notes d plat answer (verdict.Refused refusal) platted (refused, 
     (refusal_of_notes notes d plat refusal platted refused, is)
 normal_answered notes d plat answer (verdict.TractRefused at_ inner) platted is = absurd is
 
--- so the answer on what was read is that of the two texts
+-- so the answer for the texts that were read is that for the two texts
 pub answered_of_two : (first second : Option (List ℕ)) (GoesOn : List ℕ → Type 0) (unread : Type 0)
     (On : TownshipPlat → List ℕ → AnswerRelation) (Answers : List ℕ → List ℕ → AnswerRelation)
     (plat : TownshipPlat) (description : List ℕ) (r : Result Answer RunFault)

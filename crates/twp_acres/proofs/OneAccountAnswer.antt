@@ -1,4 +1,4 @@
--- Two texts have one answer by each account.
+-- The same two texts have only one answer by each account.
 use Rattle.std.proofs.Common.{◌≡◌, ℕ, Bool, List, ap, refl, subst, sym, ◌∙◌}
 use Rattle.twp_measure.proofs.RoundingFacts.{one_rounding}
 use Rattle.twp_grid.specs.Places.{PLACE_DIGITS}
@@ -15,7 +15,7 @@ use Rattle.twp_acres.specs.declared.verdict.Verdict.TheVariants.{Accepted, Refus
 use Rattle.twp_acres.proofs.OneAnswer.{not_land, one_acres, one_land, one_plat, one_refusal}
 use Rattle.twp_area.proofs.PlatLaws.{one_plat_area}
 
--- the land of a plat is rounded to one number of hundredths
+-- the plat area of land rounds to only one number of hundredths
 one_plat_hundredths : (plat : TownshipPlat) (places : ℕ → ℕ → ℕ → Bool) (h h' : ℕ)
     → ArePlatHundredthsOf plat places h → ArePlatHundredthsOf plat places h' → h ≡ h'
 one_plat_hundredths plat places h h' is is' =
@@ -23,7 +23,7 @@ one_plat_hundredths plat places h h' is is' =
     one_plat_area PLACE_DIGITS plat places is.area is'.area is.area_is is'.area_is in
     one_rounding is'.area h h' (rw area at is.rounded) is'.rounded
 
--- and so are two texts
+-- so the acres of two texts are unique
 one_plat_acres : (notes d : List ℕ) (h h' : ℕ) → HasPlatAcres notes d h → HasPlatAcres notes d h'
     → h ≡ h'
 one_plat_acres notes d h h' is is' =
@@ -43,7 +43,7 @@ one_acres_by : (account : Account) (notes d : List ℕ) (h h' : ℕ) → HasAcre
 one_acres_by Exact notes d h h' is is' = one_acres notes d h h' is is'
 one_acres_by Plat notes d h h' is is' = one_plat_acres notes d h h' is is'
 
--- an answer with acres is of land, so nothing of it is refused
+-- an answer with acres is for land, so nothing in it is refused
 not_refused : (account : Account) (notes d : List ℕ) (r : Refusal) (h : ℕ)
     → IsRefusal notes d r → HasAcresBy account notes d h → ⊥
 not_refused Exact notes d r h is has = not_land notes d r has.plat has.places is has.land

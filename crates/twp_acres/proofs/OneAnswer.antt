@@ -1,4 +1,4 @@
--- Two texts have one answer: each part of it is determined.
+-- The same two texts have only one answer: each part of it is determined.
 use Rattle.std.proofs.Common.{◌≡◌, ℕ, Bool, List, Some, Result, Ok, Err, refl, ap, subst, sym, ◌∙◌}
 use Rattle.std.proofs.Common.{inl, inr, arith}
 use Rattle.twp_measure.proofs.RoundingFacts.{one_rounding}
@@ -11,10 +11,10 @@ use Rattle.twp_plat.specs.Plats.{TownshipPlat, IsPlatOf}
 use Rattle.twp_plat.specs.PlatFaults as plat_faults
 use Rattle.twp_plat.specs.declared.fault.PlatFault.{PlatFault}
 use Rattle.twp_plat.proofs.OneAnswer as plats
-use Rattle.twp_text.specs.PlaceFaults as place_faults
+use Rattle.twp_resolve.specs.PlaceFaults as place_faults
 use Rattle.twp_resolve.specs.declared.place_fault.PlaceFault.{PlaceFault}
-use Rattle.twp_text.proofs.OneAnswer as texts
-use Rattle.twp_text.proofs.PlaceAnswers as lands
+use Rattle.twp_read.proofs.OneAnswer as texts
+use Rattle.twp_resolve.proofs.PlaceAnswers as lands
 use Rattle.twp_acres.specs.Answers.{ArePlatted, Describe, IsLandOnPlat, AreRefused, IsNoDescription}
 use Rattle.twp_acres.specs.Answers.{IsNoPlat, IsRefusal}
 use Rattle.twp_acres.specs.AcresAnswers.{AreHundredthsOf, HasAcres, IsAcresAnswer}
@@ -23,21 +23,21 @@ use Rattle.twp_acres.specs.declared.verdict.Verdict.{Verdict}
 use Rattle.twp_acres.specs.declared.verdict.Verdict.TheVariants.{Accepted, Refused, TractRefused}
 use Rattle.twp_area.proofs.AreaLaws.{one_land_area}
 
--- the plat of notes, and their fault
+-- the plat of notes, or their fault
 abbrev made : TownshipPlat → Result TownshipPlat PlatFault
 made plat = Ok plat
 
 abbrev unmade : PlatFault → Result TownshipPlat PlatFault
 unmade fault = Err fault
 
--- the land of items, and their fault
+-- the land of items, or their fault
 abbrev found : (ℕ → ℕ → ℕ → Bool) → Result (ℕ → ℕ → ℕ → Bool) PlaceFault
 found places = Ok places
 
 abbrev unfound : PlaceFault → Result (ℕ → ℕ → ℕ → Bool) PlaceFault
 unfound fault = Err fault
 
--- notes are one list of notes, and make one plat
+-- the same notes make only one plat
 pub one_plat : (notes : List ℕ) (plat plat' : TownshipPlat) → ArePlatted notes plat → ArePlatted notes plat'
     → plat ≡ plat'
 one_plat notes plat plat' are are' =
@@ -47,7 +47,7 @@ one_plat notes plat plat' are are' =
     are'.plat_is in
     cc both
 
--- a description is of one land
+-- a description names only one land
 pub one_land : (township : Designation) (description : List ℕ) (places places' : ℕ → ℕ → ℕ → Bool)
     → Describe township description places
     → Describe township description places' → places ≡ places'
@@ -58,7 +58,7 @@ one_land township description places places' is is' =
     lands.one_answer PLACE_DIGITS township is'.items (Ok places) (Ok places') land is'.land in
     cc both
 
--- the land of a plat is rounded to one number of hundredths
+-- the exact area of land rounds to only one number of hundredths
 pub one_hundredths : (plat : TownshipPlat) (places : ℕ → ℕ → ℕ → Bool) (h h' : ℕ)
     → AreHundredthsOf plat places h → AreHundredthsOf plat places h' → h ≡ h'
 one_hundredths plat places h h' is is' =
@@ -66,7 +66,7 @@ one_hundredths plat places h h' is is' =
     one_land_area PLACE_DIGITS (omega arith) plat places is.area is'.area is.area_is is'.area_is in
     one_rounding is'.area h h' (rw area at is.rounded) is'.rounded
 
--- two descriptions of one land have the same acres
+-- two descriptions of the same land have the same acres
 acres_of_land : (notes d : List ℕ) (h : ℕ) (plat : TownshipPlat) (places : ℕ → ℕ → ℕ → Bool)
     → IsLandOnPlat notes d plat places → HasAcres notes d h → AreHundredthsOf plat places h
 acres_of_land notes d h plat places land is =
@@ -81,12 +81,12 @@ one_acres notes d h h' is is' =
     one_hundredths is'.plat is'.places h h' (acres_of_land notes d h is'.plat is'.places is'.land is)
     is'.acres
 
--- notes that are refused are none
+-- bytes that are refused as notes are not notes
 not_both : (notes : List ℕ) (refusal : Refusal) (others : FieldNotes) → AreRefused notes refusal
     → AreNotes notes others → ⊥
 not_both notes refusal others is are = no_fault notes others is.fault are is.first.is
 
--- what makes no plat makes none
+-- bytes that make no plat do not make one
 pub not_platted : (notes : List ℕ) (refusal : Refusal) (plat : TownshipPlat) → IsNoPlat notes refusal
     → ArePlatted notes plat → ⊥
 not_platted notes refusal plat (inl is) are = not_both notes refusal are.notes is are.notes_are
@@ -97,7 +97,7 @@ not_platted notes refusal plat (inr is) are =
     (subst (λ n. plat_faults.IsFirstFault n is.fault) same is.first) in
     cc both
 
--- what is no description of land describes none
+-- bytes that are not a description of land describe none
 pub not_described : (township : Designation) (d : List ℕ) (refusal : Refusal) (places : ℕ → ℕ → ℕ → Bool)
     → IsNoDescription township d refusal
     → Describe township d places → ⊥
@@ -110,7 +110,7 @@ not_described township d refusal places (inr is) land =
     (subst (λ i. place_faults.IsFirstPlaceFault PLACE_DIGITS township i is.fault) same is.first) in
     cc both
 
--- what is refused is no land
+-- a refused description names no land
 pub not_land : (notes d : List ℕ) (refusal : Refusal) (plat : TownshipPlat) (places : ℕ → ℕ → ℕ → Bool)
     → IsRefusal notes d refusal → IsLandOnPlat notes d plat places → ⊥
 not_land notes d refusal plat places (inl none) land = not_platted notes refusal plat none land.platted
@@ -119,7 +119,7 @@ not_land notes d refusal plat places (inr is) land =
     not_described plat.township d refusal places
     (subst (λ (p : TownshipPlat). IsNoDescription p.township d refusal) same is.refused) land.described
 
--- one refusal of notes and plat is the first
+-- only one refusal of notes or plat is the first
 pub one_plat_refusal : (notes : List ℕ) (r r' : Refusal) → IsNoPlat notes r → IsNoPlat notes r' → r ≡ r'
 one_plat_refusal notes r r' (inl is) (inl is') =
     let same : is.fault ≡ is'.fault = one_first notes is.fault is'.fault is.first is'.first in
@@ -136,7 +136,7 @@ one_plat_refusal notes r r' (inr is) (inr is') =
     let refusals : Some r ≡ Some r' = sym is.refusal_is ∙ rw fault is'.refusal_is in
     cc refusals
 
--- one refusal of a description is the first
+-- only one refusal of a description is the first
 pub one_description_refusal : (township : Designation) (d : List ℕ) (r r' : Refusal)
     → IsNoDescription township d r → IsNoDescription township d r' → r ≡ r'
 one_description_refusal township d r r' (inl is) (inl is') =
@@ -156,7 +156,7 @@ one_description_refusal township d r r' (inr is) (inr is') =
     let refusals : Some r ≡ Some r' = sym is.refusal_is ∙ rw fault is'.refusal_is in
     cc refusals
 
--- one refusal is the first
+-- only one refusal is the first
 pub one_refusal : (notes d : List ℕ) (r r' : Refusal) → IsRefusal notes d r → IsRefusal notes d r' → r ≡ r'
 one_refusal notes d r r' (inl is) (inl is') = one_plat_refusal notes r r' is is'
 one_refusal notes d r r' (inl is) (inr is') = absurd (not_platted notes r is'.plat is is'.platted)
@@ -166,7 +166,7 @@ one_refusal notes d r r' (inr is) (inr is') =
     one_description_refusal is'.plat.township d r r'
     (subst (λ (p : TownshipPlat). IsNoDescription p.township d r) same is.refused) is'.refused
 
--- an answer with acres is of land, so nothing of it is refused
+-- an answer with acres is for land, so nothing in it is refused
 not_refused : (notes d : List ℕ) (r : Refusal) (h : ℕ) → IsRefusal notes d r → HasAcres notes d h → ⊥
 not_refused notes d r h is land = not_land notes d r land.plat land.places is land.land
 
@@ -187,7 +187,7 @@ one_answer notes description answer answer' (TractRefused at_ inner) verdict' is
 one_answer notes description answer answer' Accepted (TractRefused at_ inner) is is' = absurd is'
 one_answer notes description answer answer' (Refused r) (TractRefused at_ inner) is is' = absurd is'
 
--- the answer of a land, by the hundredths that it has
+-- the answer for land, by its hundredths
 of_land : (notes d d' a a' : List ℕ) (v v' : Verdict) (plat : TownshipPlat) (places : ℕ → ℕ → ℕ → Bool)
     → IsLandOnPlat notes d plat places → IsLandOnPlat notes d' plat places
     → IsAcresAnswer notes d a v → IsAcresAnswer notes d' a' v' → (a ≡ a') × (v ≡ v')

@@ -1,10 +1,11 @@
--- Two texts have one canonical text: they describe one land on one plat, and a land has one text.
+-- The same two texts have only one canonical text: they describe one land on one plat, and it has
+-- only one text.
 use Rattle.std.proofs.Common.{◌≡◌, ℕ, List, ap, refl, subst, sym, ◌∙◌}
 use Rattle.twp_grid.specs.Places.{PLACE_DIGITS}
 use Rattle.twp_grid.specs.declared.refusal.Refusal.{Refusal}
 use Rattle.twp_plat.specs.Plats.{TownshipPlat}
-use Rattle.twp_text.specs.CanonicalText.{IsCanonicalText}
-use Rattle.twp_text.proofs.CanonicalFacts.{one_text}
+use Rattle.twp_spell.specs.CanonicalText.{IsCanonicalText}
+use Rattle.twp_spell.proofs.CanonicalFacts.{one_text}
 use Rattle.twp_acres.specs.Answers.{Describe, IsRefusal}
 use Rattle.twp_acres.specs.NormalAnswers.{IsNormalForm, IsNormalAnswer}
 use Rattle.twp_acres.specs.declared.verdict.Verdict.{Verdict}
@@ -26,7 +27,7 @@ one_form notes d text text' is is' =
     let one = one_text PLACE_DIGITS is'.plat.township is'.places in
     one.2 text spelled' ∙ sym (one.2 text' is'.text_is)
 
--- what has a canonical text isn't refused
+-- texts with a canonical text are not refused
 not_refused : (notes d text : List ℕ) (r : Refusal) → IsRefusal notes d r → IsNormalForm notes d text → ⊥
 not_refused notes d text r is form = not_land notes d r form.plat form.places is form.land
 

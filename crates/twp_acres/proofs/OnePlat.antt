@@ -1,4 +1,4 @@
--- Notes have one printed plat: its figures are one, and so its text.
+-- Notes have only one printed plat: its figures are unique, and so is its text.
 use Rattle.std.proofs.Common.{◌≡◌, ◌==◌, ◌&&◌, ℕ, zero, suc, ◌-◌, ◌≤◌, List, ◌++◌, Bool, true}
 use Rattle.std.proofs.Common.{false, Some, ap, refl, subst, sym, ◌∙◌, arith, nat_le, nat_lt}
 use Rattle.std.proofs.lemmas.Bool.{ne_eqb}
@@ -18,7 +18,7 @@ use Rattle.twp_acres.specs.declared.verdict.Verdict.TheVariants.{Accepted, Refus
 use Rattle.twp_area.proofs.FigureFacts.{same_lot, same_section, same_township}
 use Rattle.twp_acres.proofs.OneAnswer.{one_plat, not_platted, one_plat_refusal}
 
--- texts that agree on the numbers from 1 on
+-- texts are the same if they agree on the numbers from 1 on
 texts_agree : (n : ℕ) (text text' : ℕ → List ℕ) → ((k : ℕ) → 1 ≤ k → k ≤ n → text k ≡ text' k)
     → texts_to n text ≡ texts_to n text'
 unfolding texts_to
@@ -27,12 +27,12 @@ texts_agree (suc n) text text' same =
     ap (λ t. t ++ text (suc n)) (texts_agree n text text' (λ k least most. same k least (omega arith)))
     ∙ ap (λ t. texts_to n text' ++ t) (same (suc n) (omega arith) (omega arith))
 
--- where a lot stands
+-- the place of a lot
 record Stands (section lot : ℕ) : Type 0 where
   place : ℕ × ℕ
   there : position_of_lot section lot ≡ Some place
 
--- each of a section's lots stands somewhere
+-- each of a section's lots has a place
 stands : (section lot : ℕ) → IsSection section → 1 ≤ lot → lot ≤ number_of_lots section → Stands section lot
 stands section lot range least most =
     let count : lot ≤ count_by_code section = rw (lot_count_is section range) at most in
@@ -51,7 +51,7 @@ stands section lot range least most =
       there = position_of_lot_is section lot range ∙ rw (some, within, is) refl;
     }
 
--- the figure of a lot is one
+-- a lot has only one figure
 one_lot : (plat : TownshipPlat) (figures figures' : PlatFigures) (section lot : ℕ) → AreFigures plat figures
     → AreFigures plat figures' → IsSection section
     → 1 ≤ lot → lot ≤ number_of_lots section → figures.lots section lot ≡ figures'.lots section lot
@@ -96,7 +96,7 @@ one_text plat figures figures' are are' =
     (λ section least most. one_line plat figures figures' section are are' (least, most)) in
     rw (lines, township) refl
 
--- a plat that is printed is made
+-- the notes of a printed plat make a plat
 made : (notes text : List ℕ) (r : Refusal) → IsPrintedPlat notes text → IsNoPlat notes r → ⊥
 made notes text r is none = not_platted notes r is.plat none is.platted
 

@@ -1,4 +1,4 @@
--- Notes and a list of tracts have one account, or one refusal.
+-- Notes and a list of tracts have only one account, or one refusal.
 use Rattle.std.proofs.Common.{◌≡◌, ℕ, ◌+◌, ◌<◌, List, [], length, get_or, Some, ap, refl, subst}
 use Rattle.std.proofs.Common.{sym, ◌∙◌, inl, inr, arith}
 use Rattle.std.proofs.lemmas.List.{ext_get_or}
@@ -23,7 +23,7 @@ use Rattle.twp_acres.proofs.OneAnswer.{one_description_refusal, not_platted}
 use Rattle.twp_acres.proofs.TractLands.{one_land_of_tracts}
 use Rattle.twp_acres.proofs.FirstTractFaults.{none_before}
 
--- a tract has one line
+-- a tract has only one line
 one_line : (plat : TownshipPlat) (fields : Fields) (line line' : List ℕ) → IsTractLine plat fields line
     → IsTractLine plat fields line' → line ≡ line'
 one_line plat fields line line' is is' =
@@ -43,7 +43,7 @@ one_lines plat rows lines lines' are are' =
     one_line plat (record_at rows index) (get_or lines index []) (get_or lines' index [])
     (are.each index within) (are'.each index within))
 
--- tracts have one account
+-- tracts have only one account
 one_account : (plat : TownshipPlat) (rows : List Fields) (text text' : List ℕ) → IsAccount plat rows text
     → IsAccount plat rows text' → text ≡ text'
 one_account plat rows text text' is is' =
@@ -82,7 +82,7 @@ not_faulty township bytes (fault.TractsOverlap n) list (inr is) =
 not_faulty township bytes fault.Memory list (inl none) = none
 not_faulty township bytes fault.Memory list (inr is) = is.has
 
--- faults at one record and turn are one
+-- faults at the same record and turn are the same
 same_fault : (township : Designation) (bytes : List ℕ) (one other : TractFault)
     → HasTractFault township bytes one → HasTractFault township bytes other
     → record_of one ≡ record_of other → turn_of one ≡ turn_of other → one ≡ other
@@ -115,7 +115,7 @@ same_fault township bytes (fault.TractRefused n inner) (fault.TractRefused n' in
     ap (λ k. fault.TractRefused k inner) at_ ∙ ap (λ r. fault.TractRefused n' r) same
 same_fault township bytes one other has has' at_ turn = absurd (omega arith)
 
--- of two faults, each at the other or after it
+-- two faults, neither of which comes before the other
 record AreOne (one other : TractFault) : Type 0 where
   at_ : record_of one ≡ record_of other
   turn : turn_of one ≡ turn_of other
@@ -127,14 +127,14 @@ neither_behind one other (inl less) (inr (at_, turn)) = absurd (omega arith)
 neither_behind one other (inr (at_, turn)) (inl more) = absurd (omega arith)
 neither_behind one other (inr (at_, turn)) (inr (at', turn')) = record { at_ = at_; turn = omega arith }
 
--- a list has one first fault
+-- only one fault of a list is the first
 one_first : (township : Designation) (bytes : List ℕ) (one other : TractFault)
     → IsFirstTractFault township bytes one → IsFirstTractFault township bytes other → one ≡ other
 one_first township bytes one other is is' =
     let same = neither_behind one other (is.first other is'.is) (is'.first one is.is) in
     same_fault township bytes one other is.is is'.is same.at_ same.turn
 
--- a list that is refused has one verdict
+-- a refused list has only one verdict
 one_list_refusal : (plat : TownshipPlat) (bytes answer answer' : List ℕ) (verdict verdict' : Verdict)
     → IsListRefused plat bytes answer verdict → IsListRefused plat bytes answer' verdict'
     → (answer ≡ answer') × (verdict ≡ verdict')

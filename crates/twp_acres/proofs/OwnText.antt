@@ -1,20 +1,21 @@
--- A canonical text that is given back is its own canonical text, or is too long to be a description.
+-- A canonical text that is used as a description is its own canonical text, or is too long to be a
+-- description.
 use Rattle.std.proofs.Common.{ℕ, ◌<◌, ◌≤◌, ◌≢◌, List, length, refl, subst, sym, inl, inr}
 use Rattle.twp_grid.specs.Places.{PLACE_DIGITS}
 use Rattle.twp_land.specs.Lands.{no_places}
 use Rattle.twp_plat.specs.Plats.{TownshipPlat}
-use Rattle.twp_text.specs.TextFaults.{TEXT_LIMIT}
+use Rattle.twp_read.specs.TextFaults.{TEXT_LIMIT}
 use Rattle.twp_read.specs.declared.fault.TextFault.TheVariants as text_fault
-use Rattle.twp_text.specs.ReadBack.{IsTownshipLand, HasTownshipNumbers}
-use Rattle.twp_text.proofs.DescribedLand.{names_some_place, is_of_township}
-use Rattle.twp_text.proofs.ReadBack.{read_back}
-use Rattle.twp_text.proofs.FirstTextFaults.{too_large_first}
+use Rattle.twp_spell.specs.ReadBack.{IsTownshipLand, HasTownshipNumbers}
+use Rattle.twp_resolve.proofs.DescribedLand.{names_some_place, is_of_township}
+use Rattle.twp_spell.proofs.ReadBack.{read_back}
+use Rattle.twp_read.proofs.FirstTextFaults.{too_large_first}
 use Rattle.twp_acres.specs.Answers.{ArePlatted, refusal_line}
 use Rattle.twp_acres.specs.NormalAnswers.{IsNormalForm, IsNormalAnswer}
 use Rattle.twp_acres.specs.NormalLaws.{too_large}
 use Rattle.twp_acres.specs.declared.verdict.Verdict.TheVariants.{Accepted, Refused}
 
--- field notes name the township by such numbers
+-- the numbers of the township in field notes are valid
 township_numbers : (notes : List ℕ) (plat : TownshipPlat) → ArePlatted notes plat
     → HasTownshipNumbers plat.township
 township_numbers notes plat platted =

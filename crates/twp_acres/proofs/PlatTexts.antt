@@ -10,12 +10,12 @@ pub no_texts : (text : ℕ → List ℕ) → texts_to 0 text ≡ []
 unfolding texts_to
 no_texts text = refl
 
--- one text more
+-- one more text
 pub texts_next : (n : ℕ) (text : ℕ → List ℕ) → texts_to (n + 1) text ≡ texts_to n text ++ text (n + 1)
 unfolding texts_to
 texts_next n text = let e : n + 1 ≡ suc n = omega arith in rw e refl
 
--- a text that grows by the texts of numbers after a name, and by an end
+-- the texts of numbers after a name, and an end
 pub texts_begin : (old name new : List ℕ) (text : ℕ → List ℕ) → new ≡ old ++ name
     → new ≡ old ++ (name ++ texts_to 0 text)
 texts_begin old name new text is = rw (no_texts text, append-nil name) is
@@ -35,12 +35,12 @@ pub texts_end : (old name texts now new total : List ℕ) → now ≡ old ++ (na
 texts_end old name texts now new total is is' =
     is' ∙ ap (λ t. t ++ total) is ∙ append_assoc old (name ++ texts) total
 
--- a fact that holds of each of some, where a result is Ok
+-- a fact that holds for every value, if a result is Ok
 pub on_ok : {T E : Type 0} (r : Result T E) (P Q : Type 0) → OnOk r P → (P → Q) → OnOk r Q
 on_ok (Ok x) P Q h f = f h
 on_ok (Err e) P Q h f = tt
 
--- the line of one number more
+-- the line of one more number
 pub lines_grow : (number : ℕ) (now new more : List ℕ) (text : ℕ → List ℕ) → 1 ≤ number
     → now ≡ texts_to (number - 1) text → new ≡ now ++ more → more ≡ text number
     → new ≡ texts_to (number + 1 - 1) text

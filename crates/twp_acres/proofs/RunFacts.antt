@@ -12,8 +12,8 @@ use Rattle.twp_acres.specs.Runs.{Reads, ReadsTwo, RunsOnPlat, Use, used}
 use Rattle.twp_grid.specs.Places.{PLACE_DIGITS}
 use Rattle.twp_grid.specs.Townships.{Designation}
 use Rattle.twp_grid.specs.declared.refusal.Refusal.{Refusal}
-use Rattle.twp_text.specs.TextFaults.{IsReadAs}
-use Rattle.twp_text.specs.PlaceFaults.{IsFirstPlaceFault}
+use Rattle.twp_read.specs.TextFaults.{IsReadAs}
+use Rattle.twp_resolve.specs.PlaceFaults.{IsFirstPlaceFault}
 use Rattle.twp_grammar.specs.declared.item.Item.{Item}
 use Rattle.twp_resolve.specs.declared.place_fault.PlaceFault.{PlaceFault}
 use Rattle.twp_acres.specs.Answers.{IsNoDescription, IsNoPlat, IsRefusal, MakePlat}
@@ -26,17 +26,17 @@ use Rattle.twp_acres.specs.declared.verdict.RunFault.TheVariants.{Memory, Read, 
 use Rattle.twp_acres.specs.declared.verdict.Verdict.{Verdict}
 use Rattle.twp_acres.proofs.OneAnswer.{not_platted}
 
--- the bytes that a device tells, or some where it tells none
+-- the known bytes of a device, or some bytes if they are not known
 pub some_bytes : (told : Option (List ℕ)) → Tells told (unwrap_or told [])
 some_bytes None = tt
 some_bytes (Some bytes) = refl
 
--- the bytes that are told are the only ones
+-- the known bytes are the only ones
 pub told_are : (told : Option (List ℕ)) (bytes other : List ℕ) → told ≡ Some bytes → Tells told other
     → other ≡ bytes
 told_are told bytes other is tells = sym (rw is at tells)
 
--- what holds of the bytes that were read holds of the told ones
+-- a fact about the bytes that were read is one about the known bytes
 pub told_one : (told : Option (List ℕ)) (bytes : List ℕ) (Holds : List ℕ → Type 0) → Reads told Holds
     → told ≡ Some bytes → Holds bytes
 told_one told bytes Holds read is = subst Holds (told_are told bytes read.bytes is read.tells) read.holds
@@ -53,7 +53,7 @@ pub if_ok : {T E : Type 0} (r : Result T E) (P Q : T → Type 0) → IfOk r P �
 if_ok (Ok x) P Q h f = f x h
 if_ok (Err e) P Q h f = tt
 
--- what the notes stop is refused of both texts
+-- if the notes stop a run, their refusal is that of both texts
 pub refused_of_notes : (n d : List ℕ) (is : Stop) → IfRefused is (IsNoPlat n) → IfRefused is (IsRefusal n d)
 refused_of_notes n d (stop.Refused refusal) none = inl none
 refused_of_notes n d (stop.Failed fault) none = tt
@@ -65,7 +65,7 @@ pub none_platted : (told : Option (List ℕ)) (n : List ℕ) (refusal : Refusal)
 none_platted told n refusal read is makes =
     not_platted n refusal makes.0 (told_one told n (λ bytes. IsNoPlat bytes refusal) read is) makes.1
 
--- so of notes that make a plat a run stops for a fault alone
+-- so if the notes make a plat, a run stops only for a fault
 pub plat_stops_by_fault : (told : Option (List ℕ)) (n : List ℕ) (by : Stop)
     → Reads told (λ bytes. IfRefused by (IsNoPlat bytes))
     → told ≡ Some n → MakePlat n → by ≢ stop.Failed Read → by ≢ stop.Failed Write → by ≢ stop.Failed Memory
@@ -76,7 +76,7 @@ plat_stops_by_fault told n (stop.Failed Read) read is makes not_read not_write n
 plat_stops_by_fault told n (stop.Failed Write) read is makes not_read not_write not_memory = not_write refl
 plat_stops_by_fault told n (stop.Failed Memory) read is makes not_read not_write not_memory = not_memory refl
 
--- items that don't lie on the plat stop the run by their refusal
+-- items that do not lie on the plat stop the run with their refusal
 pub stopped_by_places : (township : Designation) (d : List ℕ) (is : List Item) (fault : PlaceFault)
     (stopped : Stop)
     → IsReadAs d is
@@ -86,13 +86,13 @@ stopped_by_places township d is fault (stop.Refused refusal) read first by =
     inr (record { items = is; read = read; fault = fault; first = first; refusal_is = by })
 stopped_by_places township d is fault (stop.Failed failed) read first by = tt
 
--- and by nothing that failed
+-- they do not stop it for anything that failed
 pub places_never_fail : (fault : PlaceFault) (stopped : Stop) (Holds : RunFault → Type 0)
     → IsStopOfPlaces fault stopped → IfFailed stopped Holds
 places_never_fail fault (stop.Refused refusal) Holds by = tt
 places_never_fail fault (stop.Failed failed) Holds by = absurd by
 
--- an answer was written, or the beginning of it
+-- an answer was written, or a prefix of it
 pub written : (Answers : AnswerRelation) (old new : Option (List ℕ)) (text : List ℕ) (verdict : Verdict)
     (r : Result Verdict RunFault)
     → Answers text verdict
@@ -103,7 +103,7 @@ written Answers old new text verdict (Ok v) answer is whole front fault =
 written Answers old new text verdict (Err e) answer is whole front fault =
     rw fault (record { answer = text; verdict = verdict; answers = answer; front = front })
 
--- what the notes show of themselves holds of the told bytes
+-- if the known notes do not lead to the second text, it is not read
 pub unread_of : (first second : Option (List ℕ)) (bytes : List ℕ) (GoesOn : List ℕ → Type 0) (unread : Type 0)
     (Holds : List ℕ → List ℕ → Type 0)
     → ReadsTwo first second GoesOn unread Holds → first ≡ Some bytes → (GoesOn bytes → ⊥) → unread
@@ -120,25 +120,25 @@ pub write_answered : (r : Result Verdict RunFault) (failed : Bool) → IfErr r (
 write_answered (Ok v) failed by is = ((λ wrong. cc wrong), (λ fails. cc (sym is ∙ fails)))
 write_answered (Err e) failed by is = ((λ _. is), (λ _. ap Err by))
 
--- where the writer didn't fail there is a verdict
+-- if the writer did not fail, there is a verdict
 pub verdict_given : (r : Result Verdict RunFault) (failed : Bool) → failed ≡ is_err r → failed ≡ false
     → IsOkUnless r Memory
 verdict_given (Ok v) failed is holds = tt
 verdict_given (Err e) failed is holds = cc (sym is ∙ holds)
 
--- an answer that was written, or not, is no fault of a reader
+-- after an answer was made, no fault is that of a reader
 pub read_answered : (r : Result Verdict RunFault) → IfErr r (λ fault. fault ≡ Write) → IsErrOf r Read → ⊥
 read_answered (Ok v) by wrong = cc wrong
 read_answered (Err e) by wrong = cc (sym (ap Err by) ∙ wrong)
 
--- an answer that was made, and the fault of one that wasn't
+-- an answer that was made, and the fault of one that was not
 abbrev pub made : {T : Type 0} → T → Result T RunFault
 made answer = Ok answer
 
 abbrev pub unmade : {T : Type 0} → RunFault → Result T RunFault
 unmade fault = Err fault
 
--- a run that had an answer of two texts, and wrote it
+-- a run that had an answer for two texts, and wrote it
 pub run_on_plat : {T : Type 0} (answer : T) (Answers : List ℕ → List ℕ → AnswerRelation) (most : ℕ)
     (notes second out : Use) (unread : Type 0)
     (text : List ℕ) (verdict : Verdict) (r : Result Verdict RunFault)
@@ -176,7 +176,7 @@ run_on_plat answer Answers most notes second out unread text verdict r read read
           reads.second_exact n is-n makes notes_open second_open (λ wrong. cc wrong);
     }
 
--- what stops without an answer, and not by its writer, has written nothing
+-- a run that stops without an answer, but not because of its writer, has written nothing
 nothing_written : (Answers : AnswerRelation) (old : Option (List ℕ)) (fault : RunFault) → fault ≢ Write
     → IsRun Answers old old (Err fault)
 nothing_written Answers None Read not_write = tt
@@ -185,18 +185,18 @@ nothing_written Answers None Memory not_write = tt
 nothing_written Answers (Some bytes) Memory not_write = refl
 nothing_written Answers old Write not_write = absurd (not_write refl)
 
--- and where no device failed it stops because memory ran out
+-- if no device failed, it stops because memory ran out
 wants_memory : (fault : RunFault) → fault ≢ Read → fault ≢ Write → fault ≡ Memory
 wants_memory Read not_read not_write = absurd (not_read refl)
 wants_memory Write not_read not_write = absurd (not_write refl)
 wants_memory Memory not_read not_write = refl
 
--- where neither device failed
+-- neither device failed
 pub none_failed_of : (first second : Bool) → first ≡ false → second ≡ false → AnyFailed first second → ⊥
 none_failed_of first second first_open second_open (inl failed) = cc (first_open, failed)
 none_failed_of first second first_open second_open (inr failed) = cc (second_open, failed)
 
--- a run of two texts that stopped before it had an answer
+-- a run on two texts that stopped before it had an answer
 pub run_stopped : {T : Type 0} (Answers : List ℕ → List ℕ → AnswerRelation) (most : ℕ) (notes second : Use)
     (out : Option (List ℕ))
     (out_failed : Bool) (unread : Type 0) (fault : RunFault) (Holds : List ℕ → List ℕ → Type 0)
@@ -231,7 +231,7 @@ run_stopped Answers most notes second out out_failed unread fault Holds read rea
           reads.second_exact n is-n makes notes_open second_open (λ is. not_memory (ap Err (cc is)));
     }
 
--- what was answered is the one answer that there is
+-- the answer that was given is the only one
 pub answered : (Answers : AnswerRelation) (old new : Option (List ℕ)) (answer : List ℕ) (verdict : Verdict)
     (r : Result Verdict RunFault)
     → IsRun Answers old new r
@@ -241,7 +241,7 @@ answered Answers old new answer verdict (Ok v) is one =
     let same = one is.answer v is.answers in (same.1, subst (λ a. Appends old new a) same.0 is.appended)
 answered Answers old new answer verdict (Err e) is one = tt
 
--- where reading failed nothing was written
+-- if reading failed, nothing was written
 pub keeps_nothing : (Answers : AnswerRelation) (old : Option (List ℕ)) (fault : ReadFault)
     → IsRun Answers old old (Err (run_fault_of fault))
 keeps_nothing Answers None reading.Read = tt

@@ -1,4 +1,4 @@
--- What the stages of a run promise of their reading, from stage to stage, and how a stop is
+-- What the stages of a run promise about their reading, from stage to stage, and how a stop is
 -- answered; over plain values.
 use Rattle.std.proofs.Common.{◌≡◌, ◌≢◌, ℕ, ◌+◌, ◌≤◌, List, [], Option, Some, None, Result, Ok, Err}
 use Rattle.std.proofs.Common.{refl, ap, Bool, true, false, ◌↔◌, inl, inr, arith}
@@ -18,14 +18,14 @@ use Rattle.twp_acres.specs.declared.verdict.RunFault.TheVariants.{Memory, Read, 
 use Rattle.twp_acres.specs.declared.verdict.Verdict.TheVariants as verdict
 use Rattle.twp_acres.proofs.RunFacts.{plat_stops_by_fault, some_bytes}
 
--- what a stage had, and what stopped it
+-- a stage that has a value, and a stage that stopped
 abbrev pub had : {T E : Type 0} → T → Result T E
 had value = Ok value
 
 abbrev pub stopped : {T E : Type 0} → E → Result T E
 stopped by = Err by
 
--- an answer can't be read exactly where the stage before it couldn't
+-- an answer fails to read exactly if the stage before it did
 read_of_stop : {T : Type 0} (by : Stop) (r : Result Answer RunFault) (HasFailed : Type 0)
     → AnswersStop by r
     → IsErrOf (stopped {T = T} by) (stop.Failed Read) ↔ HasFailed → IsErrOf r Read ↔ HasFailed
@@ -37,7 +37,7 @@ read_of_stop (stop.Failed fault) (Ok answer) HasFailed is read = absurd is
 read_of_stop (stop.Failed fault) (Err answered) HasFailed is read =
     ((λ wrong. read.0 (cc (is, wrong))), (λ failed. cc (is, read.1 failed)))
 
--- nothing failed to write, if the stage didn't
+-- the answer does not fail to write if the stage did not
 write_of_stop : (by : Stop) (r : Result Answer RunFault) → AnswersStop by r → by ≢ stop.Failed Write
     → IfErr r (λ fault. fault ≢ Write)
 write_of_stop (stop.Refused refusal) (Ok answer) is no_write = tt
@@ -45,14 +45,14 @@ write_of_stop (stop.Refused refusal) (Err fault) is no_write = λ wrong. cc (is,
 write_of_stop (stop.Failed fault) (Ok answer) is no_write = absurd is
 write_of_stop (stop.Failed fault) (Err answered) is no_write = λ wrong. no_write (cc (is, wrong))
 
--- where memory didn't run out the stage didn't stop for it
+-- if memory did not run out, the stage did not stop because of memory
 memory_of_stop : {T : Type 0} (by : Stop) (r : Result Answer RunFault) → AnswersStop by r → r ≢ Err Memory
     → stopped {T = T} by ≢ Err (stop.Failed Memory)
 memory_of_stop (stop.Refused refusal) r is not_memory wrong = cc wrong
 memory_of_stop (stop.Failed fault) (Ok answer) is not_memory wrong = absurd is
 memory_of_stop (stop.Failed fault) (Err answered) is not_memory wrong = not_memory (cc (is, wrong))
 
--- the answer of a stop promises what the stage did that stopped, of one source
+-- the answer for a stop promises what the stage that stopped did, for one source
 pub stopped_up_to : {T : Type 0} (most : ℕ) (source : Use) (by : Stop) (r : Result Answer RunFault)
     → ReadsUpTo stop.Failed most source (stopped {T = T} by) → AnswersStop by r
     → ReadsUpTo same_fault most source r
@@ -63,7 +63,7 @@ stopped_up_to {T = T} most source by r reads is = record {
   exact = λ open_ not_memory. reads.exact open_ (memory_of_stop {T = T} by r is not_memory);
 }
 
--- and of the notes and a second text
+-- and for the notes and a second text
 pub stopped_on_plat : {T : Type 0} (most : ℕ) (notes second : Use) (unread : Type 0) (by : Stop)
     (r : Result Answer RunFault)
     → ReadsOnPlat stop.Failed most notes second unread (stopped {T = T} by) → AnswersStop by r
@@ -80,7 +80,7 @@ stopped_on_plat {T = T} most notes second unread by r reads is = record {
       reads.second_exact n told makes notes_open second_open (memory_of_stop {T = T} by r is not_memory);
 }
 
--- an answer that fails only because memory ran out
+-- an answer that can fail only because memory runs out
 memory_reads : (r : Result Answer RunFault) → IfErr r (λ fault. fault ≡ Memory) → IsErrOf r Read → ⊥
 memory_reads (Ok answer) memory wrong = cc wrong
 memory_reads (Err fault) memory wrong = cc (memory, wrong)
@@ -90,7 +90,7 @@ memory_writes : (r : Result Answer RunFault) → IfErr r (λ fault. fault ≡ Me
 memory_writes (Ok answer) memory = tt
 memory_writes (Err fault) memory = λ wrong. cc (memory, wrong)
 
--- and it promises what the stage did whose value it is made of
+-- it promises what the stage did that had the value it is made from
 pub accepted_up_to : {T : Type 0} (most : ℕ) (source : Use) (value : T) (r : Result Answer RunFault)
     → ReadsUpTo stop.Failed most source (had value) → IfErr r (λ fault. fault ≡ Memory)
     → ReadsUpTo same_fault most source r
@@ -117,7 +117,7 @@ accepted_on_plat most notes second unread value r reads memory = record {
       reads.second_exact n told makes notes_open second_open (λ wrong. cc wrong);
 }
 
--- the same of any value, and of any stop
+-- the same for any value and for any stop
 pub other_value : {T U : Type 0} (most : ℕ) (notes second : Use) (unread : Type 0) (value : T) (other : U)
     → ReadsOnPlat stop.Failed most notes second unread (had value)
     → ReadsOnPlat stop.Failed most notes second unread (had other)
@@ -147,12 +147,12 @@ other_stop most notes second unread by reads = record {
       reads.second_exact n told makes notes_open second_open (λ is. not_memory (ap Err (cc is)));
 }
 
--- of bytes that aren't read none is taken
+-- no bytes are taken from a source that is not read
 takes_nothing : (told : Option (List ℕ)) (most : ℕ) → TakesAtMost told told most
 takes_nothing None most = let least : 0 ≤ most = omega arith in ([], tt, least)
 takes_nothing (Some bytes) most = let least : 0 ≤ most = omega arith in ([], refl, least)
 
--- where the notes stop a run the second text isn't read
+-- if the notes stop a run, the second text is not read
 pub first_stopped : {T U : Type 0} (most : ℕ) (notes : Use) (second : Option (List ℕ)) (second_failed : Bool)
     (unread : Type 0) (by : Stop)
     → ReadsUpTo stop.Failed NOTES_MOST notes (stopped {T = T} by)
@@ -178,7 +178,7 @@ first_stopped {T = T} {U = U} most notes second second_failed unread by reads pl
     of_any (inl failed) = ap Err (cc (reads.read.1 failed))
     of_any (inr failed) = cc (second_open, failed)
 
--- where they make a plat it is
+-- if they make a plat, it is read
 pub second_read : {P T E : Type 0} (passed_on : RunFault → E) (most : ℕ) (notes second : Use)
     (unread : Type 0) (plat : P) (r : Result T E)
     → ReadsUpTo stop.Failed NOTES_MOST notes (had {E = Stop} plat) → ReadsUpTo passed_on most second r
@@ -198,7 +198,7 @@ second_read passed_on most notes second unread plat r first then =
     of_any (inl failed) = cc (first.read.1 failed)
     of_any (inr failed) = then.read.1 failed
 
--- what stopped a run is refused in its answer
+-- if a run stops with a refusal, the answer gives it
 pub refused_answer : (Is : Refusal → Type 0) (Answers : AnswerRelation) (by : Stop)
     (r : Result Answer RunFault)
     → IfRefused by Is → AnswersStop by r
@@ -210,7 +210,7 @@ refused_answer Is Answers (stop.Refused refusal) (Err fault) holds is answers = 
 refused_answer Is Answers (stop.Failed fault) (Ok answer) holds is answers = absurd is
 refused_answer Is Answers (stop.Failed fault) (Err answered) holds is answers = tt
 
--- so of two texts, the second of which may not be read
+-- so for two texts, the second of which may not be read
 pub refused_of_two : (first second : Option (List ℕ)) (GoesOn : List ℕ → Type 0) (unread : Type 0)
     (Is : List ℕ → List ℕ → Refusal → Type 0)
     (Answers : List ℕ → List ℕ → AnswerRelation) (by : Stop) (r : Result Answer RunFault)
@@ -250,7 +250,7 @@ refused_of_first first second GoesOn unread Is Answers by r read is answers left
   order = inr left;
 }
 
--- and so of one text
+-- and so for one text
 pub refused_of_one : (first : Option (List ℕ)) (Is : List ℕ → Refusal → Type 0)
     (Answers : List ℕ → AnswerRelation) (by : Stop)
     (r : Result Answer RunFault) → Reads first (λ n. IfRefused by (Is n)) → AnswersStop by r
@@ -263,7 +263,7 @@ refused_of_one first Is Answers by r read is answers = record {
   holds = refused_answer (Is read.bytes) (Answers read.bytes) by r read.holds is (answers read.bytes);
 }
 
--- a refusal is answered by its line, where there is memory
+-- the answer for a refusal is its line, unless memory runs out
 pub answers_refusal : (refusal : Refusal) (r : Result Answer RunFault)
     → IfOk r
     (λ answer. (answer.text.items ≡ refusal_line refusal) × (answer.verdict ≡ verdict.Refused refusal))

@@ -169,7 +169,7 @@ module _ (plat : TownshipPlat) (rows : List Fields) (count : ℕ) (old new : Tal
       ∙ ap (λ t. text_of before.lines ++ t) (sym (append-nil line))
       ∙ sym (flat_map-append (λ l. l) before.lines (line ∷ []))
 
-  -- the tally of one record more
+  -- the tally of one more record
   pub next_tally : IsTallyOf plat rows (count + 1) new
   next_tally = record {
     tracts = record { each = each; once = once; apart = apart };

@@ -1,4 +1,4 @@
--- The areas of what tracts have together, and of what they leave.
+-- The area of all tracts together, and of the land outside them.
 use Rattle.std.proofs.Common.{◌≡◌, ℕ, ◌+◌, ◌-◌, ◌*◌, ◌≤◌, ◌||◌, ◌&&◌, not, Bool, true, false, ap}
 use Rattle.std.proofs.Common.{refl, sym, ◌∙◌, subst, arith}
 use Rattle.twp_measure.specs.Areas.{Fraction}
@@ -29,7 +29,7 @@ rest_adds_up plat places area rest whole is others all =
     let within : area.units ≤ whole.units = left.0 in
     omega arith
 
--- where there is no place there is no area
+-- without places there is no area
 pub no_area : (plat : TownshipPlat) (pieces : ℕ → ℕ → ℕ → ℕ) → ArePieces plat pieces
     → IsLandArea PLACE_DIGITS plat no_places (record { units = 0; over = over_of plat })
 no_area plat pieces are =
@@ -39,7 +39,7 @@ no_area plat pieces are =
     section_none (pieces (before + 1)) (no_places (before + 1)) (λ column row. refl)) in
     record { pieces = pieces; are = are; over_is = refl; sum_is = sym sum }
 
--- where no place is taken, all are left
+-- if no place is taken, all remain
 pub all_left : other_places no_places ≡ township_places PLACE_DIGITS
 all_left = λ i section column row. same (township_places PLACE_DIGITS section column row) i
   where
@@ -47,7 +47,7 @@ all_left = λ i section column row. same (township_places PLACE_DIGITS section c
     same true = refl
     same false = refl
 
--- what is left of what was left
+-- the rest of the rest
 left_of_left : (places more : ℕ → ℕ → ℕ → Bool)
     → (λ section column row. other_places places section column row && not (more section column row))
     ≡ other_places (union places more)
@@ -60,8 +60,8 @@ left_of_left places more = λ i section column row.
     same true false b = refl
     same false a b = refl
 
--- a land that shares no place with those that are taken is no more than what is left, and leaves the rest of
--- it
+-- land that shares no place with the tracts so far is no larger than the remaining land, and leaves
+-- the rest of it
 pub taken_from : (plat : TownshipPlat) (places more : ℕ → ℕ → ℕ → Bool) (area rest : Fraction)
     → ¬ SharePlace places more
     → IsLandArea PLACE_DIGITS plat more area → IsLandArea PLACE_DIGITS plat (other_places places) rest
@@ -90,7 +90,7 @@ taken_from plat places more area rest apart is left =
     other true false is not_there = refl
     other false a is not_there = cc is
 
--- the figures without a tract
+-- the figures without tracts
 pub totals_none : (plat : TownshipPlat) (totals : Totals) → totals.total.units ≡ 0
     → totals.total.over ≡ over_of plat
     → IsLandArea PLACE_DIGITS plat (township_places PLACE_DIGITS) totals.remaining
@@ -107,7 +107,7 @@ totals_none plat totals none over_is all =
       remaining_is = subst (λ p. IsLandArea PLACE_DIGITS plat p totals.remaining) (sym all_left) all;
     }
 
--- the figures after a land was taken that shares no place with those before
+-- the figures after adding land that shares no place with the land before it
 pub totals_next : (plat : TownshipPlat) (places more : ℕ → ℕ → ℕ → Bool) (old new : Totals) (area : Fraction)
     → ¬ SharePlace places more
     → IsLandArea PLACE_DIGITS plat more area → AreTotals plat places old → TakesArea area old new

@@ -8,7 +8,7 @@ use Rattle.std.proofs.lemmas.Str.Ascii.{IsAscii-from_all}
 use Rattle.twp_notes.specs.Records.{Fields, field}
 use Rattle.twp_acres.specs.Tracts.{IsPrinted}
 
--- a record of two fields is these two
+-- a record with two fields consists of these two
 pub two_fields : (fields : Fields) (first second : List ℕ) → length fields ≡ 2 → field fields 0 ≡ first
     → field fields 1 ≡ second
     → fields ≡ first ∷ second ∷ []

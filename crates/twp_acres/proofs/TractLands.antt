@@ -9,7 +9,7 @@ use Rattle.twp_acres.specs.Answers.{Describe}
 use Rattle.twp_acres.specs.Tracts.{description_in, IsInTract, IsLandOfTracts}
 use Rattle.twp_acres.proofs.OneAnswer.{one_land}
 
--- an index is an earlier one, or the last
+-- an index is either earlier or the last
 pub earlier_or_last : (count index : ℕ) → index < count + 1 → (index < count) ⊎ (index ≡ count)
 earlier_or_last count index below = elim (cases_lt index count) [
   | inl earlier ↦ inl earlier
@@ -28,14 +28,14 @@ pub with_right : (a b : Bool) → b ≡ true → (a || b) ≡ true
 with_right true b is = refl
 with_right false b is = is
 
--- where there is no tract there is no place
+-- without tracts there are no places
 pub no_land : (township : Designation) (rows : List Fields) → IsLandOfTracts township rows 0 no_places
 no_land township rows section column row = (
   λ held. cc held,
   λ is. let below : is.index < 0 = is.within in absurd (omega arith),
 )
 
--- one tract more
+-- one more tract
 pub land_next : (township : Designation) (rows : List Fields) (count : ℕ) (places more : ℕ → ℕ → ℕ → Bool)
     → IsLandOfTracts township rows count places
     → Describe township (description_in (record_at rows count)) more
@@ -72,7 +72,7 @@ same_test true false P is is' = sym (is'.1 (is.0 refl))
 same_test false true P is is' = is.1 (is'.0 refl)
 same_test false false P is is' = refl
 
--- they have one land
+-- tracts have only one land
 pub one_land_of_tracts : (township : Designation) (rows : List Fields) (count : ℕ)
     (places places' : ℕ → ℕ → ℕ → Bool)
     → IsLandOfTracts township rows count places

@@ -21,7 +21,7 @@ use Rattle.twp_acres.proofs.TractLands.{no_land, land_next, one_land_of_tracts}
 abbrev units_to : (ℕ → Fraction) → ℕ → ℕ
 units_to areas count = total count (λ index. (areas index).units)
 
--- the land of the first so many tracts, whose area is the sum of theirs
+-- the land of the first tracts, up to this number, whose area is the sum of theirs
 record IsSummed (plat : TownshipPlat) (rows : List Fields) (areas : ℕ → Fraction) (count : ℕ) : Type 0 where
   places : ℕ → ℕ → ℕ → Bool
   land : IsLandOfTracts plat.township rows count places

@@ -1,5 +1,5 @@
--- The answer of the acreage run by an account: the acres of the land described, with whole lots by
--- their exact areas or by the acres that the plat prints, or the refusal.
+-- The answer of the acreage run by an account: the acres of the land described, with whole lots at
+-- their exact areas or at the acreage that the plat shows, or the refusal.
 use Rattle.std.specs.Prelude.{◌≡◌, ℕ, List, Bool}
 use Rattle.twp_measure.specs.Areas.{Fraction, IsRounded}
 use Rattle.twp_grid.specs.Places.{PLACE_DIGITS}
@@ -19,8 +19,8 @@ pub record ArePlatHundredthsOf (plat : TownshipPlat) (places : ℕ → ℕ → �
   pub area_is : IsPlatArea PLACE_DIGITS plat places area
   pub rounded : IsRounded area hundredths
 
--- the notes make a plat, the description is of land on it, and these are its hundredths of an acre
--- by the plat
+-- the notes make a plat, the description names land on it, and these are the land's hundredths of
+-- an acre by the plat
 pub record HasPlatAcres (notes description : List ℕ) (hundredths : ℕ) : Type 0 where
   pub plat : TownshipPlat
   pub places : ℕ → ℕ → ℕ → Bool
@@ -32,8 +32,8 @@ abbrev pub HasAcresBy : Account → List ℕ → List ℕ → ℕ → Type 0
 HasAcresBy Exact notes description hundredths = HasAcres notes description hundredths
 HasAcresBy Plat notes description hundredths = HasPlatAcres notes description hundredths
 
--- The acres of the land described, where the notes make a plat and the description's parts lie on
--- it without overlap. Otherwise the refusal of the first fault. By the exact account it is the
+-- The acres of the land described, if the notes make a plat and the description's parts lie on it
+-- without overlapping; otherwise the refusal of the first fault. By the exact account, this is the
 -- answer of the acreage run.
 abbrev pub IsAcresAnswerBy : Account → List ℕ → List ℕ → AnswerRelation
 IsAcresAnswerBy account notes description answer Accepted =

@@ -17,19 +17,20 @@ pub record AreHundredthsOf (plat : TownshipPlat) (places : ℕ → ℕ → ℕ �
   pub area_is : IsLandArea PLACE_DIGITS plat places area
   pub rounded : IsRounded area hundredths
 
--- the notes make a plat, the description is of land on it, and these are its hundredths of an acre
+-- the notes make a plat, the description names land on it, and these are the land's hundredths of
+-- an acre
 pub record HasAcres (notes description : List ℕ) (hundredths : ℕ) : Type 0 where
   pub plat : TownshipPlat
   pub places : ℕ → ℕ → ℕ → Bool
   pub land : IsLandOnPlat notes description plat places
   pub acres : AreHundredthsOf plat places hundredths
 
--- as `40.45 acres`
+-- the line of acres, such as `40.45 acres`
 abbrev pub acres_line : ℕ → List ℕ
 acres_line hundredths = acres_text hundredths ++ codes " acres" ++ line_feed ∷ []
 
--- The acres of the land described, where the notes make a plat and the description's parts lie on
--- it without overlap. Otherwise the refusal of the first fault.
+-- The acres of the land described, if the notes make a plat and the description's parts lie on it
+-- without overlapping; otherwise the refusal of the first fault.
 abbrev pub IsAcresAnswer : List ℕ → List ℕ → List ℕ → Verdict → Type 0
 IsAcresAnswer notes description answer Accepted =
     (hundredths : ℕ) × HasAcres notes description hundredths × (answer ≡ acres_line hundredths)

@@ -1,4 +1,4 @@
--- What the answer of a run stands on: the plat that field notes make, the land of a description on
+-- What the answers of runs rest on: the plat that field notes make, the land of a description on
 -- it, and the first fault of all other bytes.
 use Rattle.std.specs.Prelude.{◌≡◌, ◌⊎◌, ℕ, List, [], ◌∷◌, ◌++◌, Bool, Some, codes, decimal}
 use Rattle.twp_grid.specs.Places.{PLACE_DIGITS}
@@ -11,10 +11,10 @@ use Rattle.twp_notes.specs.declared.fault.NotesFault.{NotesFault}
 use Rattle.twp_plat.specs.Plats.{TownshipPlat, IsPlatOf}
 use Rattle.twp_plat.specs.PlatFaults as plat_faults
 use Rattle.twp_plat.specs.declared.fault.PlatFault.{PlatFault}
-use Rattle.twp_text.specs.TextFaults as text_faults
-use Rattle.twp_text.specs.TextFaults.{IsReadAs}
+use Rattle.twp_read.specs.TextFaults as text_faults
+use Rattle.twp_read.specs.TextFaults.{IsReadAs}
 use Rattle.twp_read.specs.declared.fault.TextFault.{TextFault}
-use Rattle.twp_text.specs.PlaceFaults as place_faults
+use Rattle.twp_resolve.specs.PlaceFaults as place_faults
 use Rattle.twp_grammar.specs.declared.item.Item.{Item}
 use Rattle.twp_resolve.specs.declared.place_fault.PlaceFault.{PlaceFault}
 
@@ -29,14 +29,14 @@ abbrev pub MakePlat : List ℕ → Type 0
 MakePlat bytes = (plat : TownshipPlat) × ArePlatted bytes plat
 
 -- The bytes are a description of this land: they are read as items that lie on the plat of the
--- township without overlap, and the land is the set of all places that they name.
+-- township without overlapping, and the land is the set of all places that they name.
 pub record Describe (township : Designation) (bytes : List ℕ) (places : ℕ → ℕ → ℕ → Bool)
     : Type 0 where
   pub items : List Item
   pub read : IsReadAs bytes items
   pub land : place_faults.IsLandOfItems PLACE_DIGITS township items places
 
--- the notes make the plat, and the description is of the land on it
+-- the notes make the plat, and the description names this land on it
 pub record IsLandOnPlat (notes description : List ℕ) (plat : TownshipPlat)
     (places : ℕ → ℕ → ℕ → Bool) : Type 0 where
   pub platted : ArePlatted notes plat
@@ -56,13 +56,14 @@ pub record MakeNoPlat (bytes : List ℕ) (refusal : Refusal) : Type 0 where
   pub first : plat_faults.IsFirstFault notes fault
   pub refusal_is : plat_faults.refusal_of fault ≡ Some refusal
 
--- the bytes are read as no items, for their first fault
+-- the bytes cannot be read as items, for their first fault
 pub record IsNoText (bytes : List ℕ) (refusal : Refusal) : Type 0 where
   pub fault : TextFault
   pub first : text_faults.IsFirstTextFault bytes fault
   pub refusal_is : text_faults.refusal_of fault ≡ Some refusal
 
--- the bytes are read as items that don't lie on the plat without overlap, for their first fault
+-- the bytes are read as items that do not lie on the plat without overlapping, for their first
+-- fault
 pub record DescribeNoLand (township : Designation) (bytes : List ℕ) (refusal : Refusal)
     : Type 0 where
   pub items : List Item
@@ -71,13 +72,13 @@ pub record DescribeNoLand (township : Designation) (bytes : List ℕ) (refusal :
   pub first : place_faults.IsFirstPlaceFault PLACE_DIGITS township items fault
   pub refusal_is : place_faults.refusal_of fault ≡ Some refusal
 
--- the bytes are no description of land on the plat: for the first fault of the text, or else of its
--- items
+-- the bytes are not a description of land on the plat: for the first fault of the text, or
+-- otherwise of its items
 abbrev pub IsNoDescription : Designation → List ℕ → Refusal → Type 0
 IsNoDescription township bytes refusal =
     IsNoText bytes refusal ⊎ DescribeNoLand township bytes refusal
 
--- the notes make a plat, and the description is of no land on it
+-- the notes make a plat, and the description names no land on that plat
 pub record IsNoLandOnPlat (notes description : List ℕ) (refusal : Refusal) : Type 0 where
   pub plat : TownshipPlat
   pub platted : ArePlatted notes plat
@@ -87,17 +88,18 @@ pub record IsNoLandOnPlat (notes description : List ℕ) (refusal : Refusal) : T
 abbrev pub IsNoPlat : List ℕ → Refusal → Type 0
 IsNoPlat notes refusal = AreRefused notes refusal ⊎ MakeNoPlat notes refusal
 
--- the refusal of the first stage that has one: notes, plat, the description's text, its items
+-- the refusal of the first stage that has one: the notes, the plat, the description's text, and its
+-- items
 abbrev pub IsRefusal : List ℕ → List ℕ → Refusal → Type 0
 IsRefusal notes description refusal =
     IsNoPlat notes refusal ⊎ IsNoLandOnPlat notes description refusal
 
--- as `refused 67 at 19`
+-- the line of a refusal, such as `refused 67 at 19`
 abbrev pub refusal_line : Refusal → List ℕ
 refusal_line refusal =
     codes "refused " ++ decimal refusal.number ++ codes " at " ++ decimal refusal.at
     ++ line_feed ∷ []
 
--- the refusal is one of these, and the answer is its line
+-- the refusal has this property, and the answer is its line
 abbrev pub AnswersRefusal : (Refusal → Type 0) → Refusal → List ℕ → Type 0
 AnswersRefusal Is refusal answer = Is refusal × (answer ≡ refusal_line refusal)

@@ -1,5 +1,5 @@
--- What stays as it is where each place is cut into four, so that its column and its row have one
--- binary digit more: what was described lies on the plat as before, and is the same land, with the
+-- Why nothing changes if each place is divided into four, so that its column and its row have one
+-- more binary digit: the land described lies on the plat as before, and is the same land, with the
 -- same areas and the same canonical text.
 use Rattle.std.specs.Prelude.{◌≡◌, ◌↔◌, ℕ, suc, ◌*◌, ◌≤◌, Bool, List}
 use Rattle.twp_measure.specs.Areas.{Fraction}
@@ -12,12 +12,13 @@ use Rattle.twp_area.specs.LandAreas.{IsLandArea, places_of_position, township_su
 use Rattle.twp_area.specs.PlatAccounts.{IsNominalShare, IsPlatArea}
 use Rattle.twp_grammar.specs.declared.item.Item.{Item}
 use Rattle.twp_grammar.specs.OnPlat.{AreOnPlat, IsLandOfItems}
-use Rattle.twp_text.specs.CanonicalText.{IsCanonicalText}
+use Rattle.twp_spell.specs.CanonicalText.{IsCanonicalText}
 
--- From one number of digits to one digit more: items that lie on the plat without overlap still do,
--- and their land is the same, each place cut into four. The sum over the finer places is four times
--- the sum over the coarser ones, for any pieces and any set of places, and a position has four times
--- as many places; so a land's exact area is the same fraction. Its canonical text is the same bytes.
+-- From one number of digits to one more: items that lie on the plat without overlapping still do,
+-- and their land is the same, with each place divided into four. The sum over the smaller places is
+-- four times the sum over the larger ones, for any pieces and any set of places, and a position has
+-- four times as many places; so the land's exact area is the same fraction. Its canonical text is
+-- the same bytes.
 pub record StaysTheSame (g finer : ℕ) : Type 0 where
   pub on_plat : (township : Designation) (items : List Item)
       → AreOnPlat g township items → AreOnPlat finer township items
@@ -33,17 +34,18 @@ pub record StaysTheSame (g finer : ℕ) : Type 0 where
       → IsCanonicalText g township places text
       ↔ IsCanonicalText finer township (finer_land places) text
 
--- and a land's plat area is the same
+-- the land's plat area is also the same
 abbrev pub KeepsPlatAreas : ℕ → ℕ → Type 0
 KeepsPlatAreas g finer = (plat : TownshipPlat) (places : ℕ → ℕ → ℕ → Bool) (area : Fraction)
     → IsPlatArea g plat places area ↔ IsPlatArea finer plat (finer_land places) area
 
--- where a section's side has as many places as positions or more, all stays with one digit more
+-- if a section's side has at least as many places as positions, everything stays the same with one
+-- more digit
 abbrev pub FinerPlacesKeepAll : Type 0
 FinerPlacesKeepAll = (g : ℕ) → POSITIONS_ACROSS ≤ places_across g → StaysTheSame g (suc g)
 
--- and plat areas do, where the nominal share of a place with one digit more is a whole number of
--- units, as it is up to seven digits
+-- plat areas also stay the same if the nominal share of a place with one more digit is a whole
+-- number of units, as it is up to seven digits
 abbrev pub FinerPlacesKeepPlatAreas : Type 0
 FinerPlacesKeepPlatAreas = (g share : ℕ) → POSITIONS_ACROSS ≤ places_across g
     → IsNominalShare (suc g) share → KeepsPlatAreas g (suc g)
@@ -56,7 +58,7 @@ DIGITS_OF_A_SIXTEENTH = 4
 abbrev pub DIGITS_OF_A_THIRTY_SECOND : ℕ
 DIGITS_OF_A_THIRTY_SECOND = 5
 
--- from places of 2.5 acres to places of 5/8 of an acre, all stays
+-- from places of 2.5 acres to places of 5/8 of an acre, everything stays the same
 abbrev pub ThirtySecondsKeepAll : Type 0
 ThirtySecondsKeepAll = StaysTheSame DIGITS_OF_A_SIXTEENTH DIGITS_OF_A_THIRTY_SECOND
     × KeepsPlatAreas DIGITS_OF_A_SIXTEENTH DIGITS_OF_A_THIRTY_SECOND

@@ -10,17 +10,17 @@ use Rattle.twp_acres.specs.NormalAnswers.{IsNormalAnswer}
 use Rattle.twp_acres.specs.Runs.{AnswerRelation}
 use Rattle.twp_acres.specs.declared.verdict.Verdict.{Verdict}
 
--- the relation is of one answer and one verdict at most
+-- the relation allows at most one answer and one verdict
 abbrev pub IsOne : AnswerRelation → Type 0
 IsOne Answers = (answer answer' : List ℕ) (verdict verdict' : Verdict)
     → Answers answer verdict → Answers answer' verdict'
     → (answer ≡ answer') × (verdict ≡ verdict')
 
--- field notes and a description have one answer and one verdict
+-- the same field notes and description always have one answer and one verdict
 abbrev pub OneAnswer : Type 0
 OneAnswer = (notes description : List ℕ) → IsOne (IsAcresAnswer notes description)
 
--- however a land is spelled, over the same notes it has one answer
+-- however land is described, it has only one answer with the same notes
 abbrev pub OneAnswerOfLand : Type 0
 OneAnswerOfLand = (notes description description' answer answer' : List ℕ)
     (verdict verdict' : Verdict) (plat : TownshipPlat) (places : ℕ → ℕ → ℕ → Bool)
@@ -29,15 +29,16 @@ OneAnswerOfLand = (notes description description' answer answer' : List ℕ)
     → IsAcresAnswer notes description' answer' verdict'
     → (answer ≡ answer') × (verdict ≡ verdict')
 
--- field notes have one printed plat, or one refusal
+-- the same field notes always have one printed plat, or one refusal
 abbrev pub OnePlatAnswer : Type 0
 OnePlatAnswer = (notes : List ℕ) → IsOne (IsPlatAnswer notes)
 
--- two texts, the field notes and the description, have one canonical text, or one refusal
+-- the same two texts, the field notes and the description, always have one canonical text, or one
+-- refusal
 abbrev pub OneNormalAnswer : Type 0
 OneNormalAnswer = (notes description : List ℕ) → IsOne (IsNormalAnswer notes description)
 
--- by each account, field notes and a description have one answer and one verdict
+-- by each account, the same field notes and description always have one answer and one verdict
 abbrev pub OneAnswerBy : Type 0
 OneAnswerBy = (account : Account) (notes description : List ℕ)
     → IsOne (IsAcresAnswerBy account notes description)

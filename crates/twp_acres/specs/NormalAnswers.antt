@@ -2,20 +2,20 @@
 use Rattle.std.specs.Prelude.{ℕ, List, Bool}
 use Rattle.twp_grid.specs.Places.{PLACE_DIGITS}
 use Rattle.twp_plat.specs.Plats.{TownshipPlat}
-use Rattle.twp_text.specs.CanonicalText.{IsCanonicalText}
+use Rattle.twp_spell.specs.CanonicalText.{IsCanonicalText}
 use Rattle.twp_acres.specs.Answers.{AnswersRefusal, IsLandOnPlat, IsRefusal}
 use Rattle.twp_acres.specs.declared.verdict.Verdict.{Verdict}
 use Rattle.twp_acres.specs.declared.verdict.Verdict.TheVariants.{Accepted, Refused, TractRefused}
 
--- the notes make a plat, the description is of land on it, and this is the land's canonical text
+-- the notes make a plat, the description names land on it, and this is the land's canonical text
 pub record IsNormalForm (notes description text : List ℕ) : Type 0 where
   pub plat : TownshipPlat
   pub places : ℕ → ℕ → ℕ → Bool
   pub land : IsLandOnPlat notes description plat places
   pub text_is : IsCanonicalText PLACE_DIGITS plat.township places text
 
--- The canonical text of the land described, where the notes make a plat and the description's parts
--- lie on it without overlap. Otherwise the refusal of the first fault.
+-- The canonical text of the land described, if the notes make a plat and the description's parts
+-- lie on it without overlapping; otherwise the refusal of the first fault.
 abbrev pub IsNormalAnswer : List ℕ → List ℕ → List ℕ → Verdict → Type 0
 IsNormalAnswer notes description answer Accepted = IsNormalForm notes description answer
 IsNormalAnswer notes description answer (Refused refusal) =

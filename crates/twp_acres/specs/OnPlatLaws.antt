@@ -1,4 +1,5 @@
--- Laws of the answers on a plat that is kept: of notes that make the plat they are the runs'.
+-- Laws of the answers on an existing plat: with notes that make the plat, they are the answers of
+-- the runs.
 use Rattle.std.specs.Prelude.{◌≡◌, ◌↔◌, ℕ, List}
 use Rattle.twp_measure.specs.Areas.{Fraction}
 use Rattle.twp_grid.specs.declared.refusal.Refusal.{Refusal}
@@ -10,7 +11,7 @@ use Rattle.twp_acres.specs.NormalAnswers.{IsNormalForm}
 use Rattle.twp_acres.specs.PlatAnswers.{IsPrintedPlat}
 use Rattle.twp_acres.specs.OnPlats.{HasAreaOn, HasAcresOn, HasNormalOn, IsTextOfPlat}
 
--- of any notes that make the plat the acres on it are those of the notes and the description
+-- with any notes that make the plat, the acres on it are those of the notes and the description
 abbrev pub AcresOnAreOfNotes : Type 0
 AcresOnAreOfNotes = (notes description : List ℕ) (plat : TownshipPlat) (account : Account)
     (hundredths : ℕ) → ArePlatted notes plat
@@ -23,24 +24,24 @@ NormalOnIsOfNotes = (notes description text : List ℕ) (plat : TownshipPlat)
     → ArePlatted notes plat
     → HasNormalOn plat description text ↔ IsNormalForm notes description text
 
--- and the text of the plat
+-- so is the text of the plat
 abbrev pub TextOfPlatIsOfNotes : Type 0
 TextOfPlatIsOfNotes = (notes text : List ℕ) (plat : TownshipPlat) → ArePlatted notes plat
     → IsTextOfPlat plat text ↔ IsPrintedPlat notes text
 
--- what is refused on the plat is what is refused of the notes and the description
+-- bytes are refused on the plat exactly as they are with the notes
 abbrev pub RefusalOnIsOfNotes : Type 0
 RefusalOnIsOfNotes = (notes description : List ℕ) (plat : TownshipPlat) (refusal : Refusal)
     → ArePlatted notes plat
     → IsNoDescription plat.township description refusal ↔ IsRefusal notes description refusal
 
--- what has an area on a plat is no bytes that are refused there
+-- bytes that have an area on a plat are not refused there
 abbrev pub AnsweredOrRefusedOn : Type 0
 AnsweredOrRefusedOn = (description : List ℕ) (plat : TownshipPlat) (account : Account)
     (area : Fraction) (refusal : Refusal) → HasAreaOn plat description account area
     → ¬ IsNoDescription plat.township description refusal
 
--- a description has one area on a plat by each account
+-- a description has only one area on a plat by each account
 abbrev pub OneAreaOn : Type 0
 OneAreaOn = (description : List ℕ) (plat : TownshipPlat) (account : Account)
     (area area' : Fraction) → HasAreaOn plat description account area

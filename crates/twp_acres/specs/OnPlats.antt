@@ -1,4 +1,4 @@
--- The answers on a plat that is kept: of the bytes of a description its acres, its area and its
+-- The answers on an existing plat: for the bytes of a description, its acres, its area, and its
 -- canonical text, or the first fault; and the text of the plat itself.
 use Rattle.std.specs.Prelude.{◌≡◌, ℕ, List, Bool, Result, Ok, Err}
 use Rattle.twp_measure.specs.Areas.{Fraction, IsRounded}
@@ -8,7 +8,7 @@ use Rattle.twp_plat.specs.Plats.{TownshipPlat}
 use Rattle.twp_area.specs.PlatAccounts.{IsAreaBy}
 use Rattle.twp_area.specs.PlatFigures.{PlatFigures, AreFigures}
 use Rattle.twp_area.specs.declared.account.Account.{Account}
-use Rattle.twp_text.specs.CanonicalText.{IsCanonicalText}
+use Rattle.twp_spell.specs.CanonicalText.{IsCanonicalText}
 use Rattle.twp_acres.specs.Answers.{Describe, IsNoDescription}
 use Rattle.twp_acres.specs.PlatAnswers.{plat_text}
 use Rattle.twp_acres.specs.declared.stop.Stop.{Stop}
@@ -42,14 +42,14 @@ pub record IsTextOfPlat (plat : TownshipPlat) (text : List ℕ) : Type 0 where
   pub are : AreFigures plat figures
   pub text_is : text ≡ plat_text figures
 
--- why there is no answer: the bytes are no description of land on the plat of the township, for
+-- why there is no answer: the bytes are not a description of land on the plat of the township, for
 -- their first fault, or memory ran out
 abbrev pub StopsOn : Designation → List ℕ → Stop → Type 0
 StopsOn township description (stop.Refused refusal) =
     IsNoDescription township description refusal
 StopsOn township description (stop.Failed fault) = fault ≡ run.Memory
 
--- what the bytes have on the plat, or why there is no answer
+-- the answer for the bytes on the plat, or why there is none
 abbrev pub AnswersOn : {T : Type 0} → (T → Type 0) → TownshipPlat → List ℕ → Result T Stop
     → Type 0
 AnswersOn Has plat description (Ok answer) = Has answer

@@ -1,5 +1,5 @@
--- The answer of the report run: the account of the tracts, or the refusal. Each figure is the
--- exact area of what it stands for, rounded once, in hundredths of an acre.
+-- The answer of the report run: the account of the tracts, or the refusal. Each figure is an exact
+-- area, rounded once, in hundredths of an acre.
 use Rattle.std.specs.Prelude.{◌≡◌, ◌⊎◌, ℕ, ◌<◌, ◌&&◌, Bool, not, List, [], ◌++◌, length}
 use Rattle.std.specs.Prelude.{Some, codes, slice_index_or}
 use Rattle.std.specs.List.{flat_map}
@@ -16,7 +16,7 @@ use Rattle.twp_acres.specs.declared.tract_fault.TractFault.{TractFault}
 use Rattle.twp_acres.specs.declared.verdict.Verdict.{Verdict}
 use Rattle.twp_acres.specs.declared.verdict.Verdict.TheVariants.{Accepted, Refused, TractRefused}
 
--- as `tract A: 39.18 acres`
+-- the line of a tract, such as `tract A: 39.18 acres`
 abbrev pub tract_line : List ℕ → ℕ → List ℕ
 tract_line name hundredths = codes "tract " ++ name ++ codes ": " ++ acres_line hundredths
 
@@ -28,7 +28,7 @@ pub record IsTractLine (plat : TownshipPlat) (fields : Fields) (line : List ℕ)
   pub acres : AreHundredthsOf plat places hundredths
   pub line_is : line ≡ tract_line (name_in fields) hundredths
 
--- the first so many of these records have these lines
+-- the first records, up to this number, have these lines
 pub record AreTractLines (plat : TownshipPlat) (rows : List Fields) (count : ℕ)
     (lines : List (List ℕ)) : Type 0 where
   pub count_is : length lines ≡ count
@@ -39,18 +39,18 @@ pub record AreTractLines (plat : TownshipPlat) (rows : List Fields) (count : ℕ
 abbrev pub text_of : List (List ℕ) → List ℕ
 text_of lines = flat_map (λ line. line) lines
 
--- all other places of the township
+-- all other places in the township
 abbrev pub other_places : (ℕ → ℕ → ℕ → Bool) → ℕ → ℕ → ℕ → Bool
 other_places places section column row =
     township_places PLACE_DIGITS section column row && not (places section column row)
 
--- as `total: 78.20 acres` and `remaining: 22959.37 acres`
+-- the lines of the totals, such as `total: 78.20 acres` and `remaining: 22959.37 acres`
 abbrev pub total_lines : ℕ → ℕ → List ℕ
 total_lines total remaining =
     codes "total: " ++ acres_line total ++ codes "remaining: " ++ acres_line remaining
 
--- The account of tracts on a plat: a line for each, and then the acres of all places that are in a
--- tract, and the acres of all others.
+-- The account of tracts on a plat: a line for each, then the acres of all places in at least one
+-- tract, and then the acres of all others.
 pub record IsAccount (plat : TownshipPlat) (rows : List Fields) (text : List ℕ) : Type 0 where
   pub lines : List (List ℕ)
   pub lines_are : AreTractLines plat rows (length rows) lines
@@ -67,14 +67,14 @@ pub record IsAccountOf (plat : TownshipPlat) (bytes text : List ℕ) : Type 0 wh
   pub list : IsTractList plat.township bytes
   pub account : IsAccount plat (tract_records bytes) text
 
--- the lines of the refusal of a list of tracts: one, or two where a tract's description is refused
+-- the lines of the refusal of a list of tracts: one, or two if a tract's description is refused
 abbrev pub refusal_lines : Verdict → List ℕ
 refusal_lines Accepted = []
 refusal_lines (Refused refusal) = refusal_line refusal
 refusal_lines (TractRefused at_ inner) =
     refusal_line (record { number = 83; at = at_ }) ++ refusal_line inner
 
--- the verdict is that on the first fault of the list, and these are its lines
+-- the verdict is for the first fault of the list, and these are its lines
 pub record IsListRefused (plat : TownshipPlat) (bytes answer : List ℕ) (verdict : Verdict)
     : Type 0 where
   pub tract_fault : TractFault
@@ -87,7 +87,7 @@ abbrev pub AnswersList : TownshipPlat → List ℕ → List ℕ → Verdict → 
 AnswersList plat bytes answer Accepted = IsAccountOf plat bytes answer
 AnswersList plat bytes answer other = IsListRefused plat bytes answer other
 
--- the notes make a plat, and this is the answer of the list of tracts on it
+-- the notes make a plat, and this is the answer for the list of tracts on it
 pub record IsAnswerOnPlat (notes tracts answer : List ℕ) (verdict : Verdict) : Type 0 where
   pub plat : TownshipPlat
   pub platted : ArePlatted notes plat
@@ -99,9 +99,9 @@ IsPlatRefused notes answer (Refused refusal) =
     AnswersRefusal (IsNoPlat notes) refusal answer
 IsPlatRefused notes answer other = ⊥
 
--- The account, where the notes make a plat and the list is one of tracts on it, of which no two
--- have a place in common. Otherwise the refusal of the first fault; where a tract's description is
--- refused itself, a second line has that refusal.
+-- The account, if the notes make a plat and the list is a list of tracts on it, no two of which
+-- share a place. Otherwise the refusal of the first fault; if a tract's description is itself
+-- refused, a second line gives that refusal.
 abbrev pub IsReportAnswer : List ℕ → List ℕ → List ℕ → Verdict → Type 0
 IsReportAnswer notes tracts answer verdict =
     IsPlatRefused notes answer verdict ⊎ IsAnswerOnPlat notes tracts answer verdict

@@ -1,4 +1,4 @@
--- What a run reads, and what it does to its writer.
+-- What a run reads, and what it writes.
 use Rattle.std.specs.Prelude.{◌≡◌, ◌≢◌, ◌⊎◌, ◌↔◌, ℕ, ◌+◌, ◌≤◌, Bool, true, false, List, length}
 use Rattle.std.specs.Prelude.{take, Option, Some, Result, Ok, Err, IfOk, IsErrOf, IsOkUnless}
 use Rattle.std.specs.Io.KnownBytes.{Appends, Keeps}
@@ -14,29 +14,28 @@ use Rattle.twp_acres.specs.declared.verdict.RunFault.TheVariants.{Read, Write, M
 abbrev pub AnswerRelation : Type 1
 AnswerRelation = List ℕ → Verdict → Type 0
 
--- known bytes grow by the first few of these, or by all
+-- a prefix of these bytes, or all of them, was appended to the known bytes
 pub record AppendsFront (old new : Option (List ℕ)) (bytes : List ℕ) : Type 0 where
   pub count : ℕ
   pub within : count ≤ length bytes
   pub appended : Appends old new (take count bytes)
 
--- the answer of the verdict was written whole
+-- the whole answer with this verdict was written
 pub record Writes (Answers : AnswerRelation) (old new : Option (List ℕ)) (verdict : Verdict)
     : Type 0 where
   pub answer : List ℕ
   pub answers : Answers answer verdict
   pub appended : Appends old new answer
 
--- an answer was begun, and what was written is its beginning
+-- a prefix of an answer was written
 pub record WritesFront (Answers : AnswerRelation) (old new : Option (List ℕ)) : Type 0 where
   pub answer : List ℕ
   pub verdict : Verdict
   pub answers : Answers answer verdict
   pub front : AppendsFront old new answer
 
--- What a run leaves in its writer: the whole answer at a verdict, which is the answer's; the
--- beginning of an answer where the writer failed; and nothing else where a reader failed or memory
--- ran out.
+-- What a run leaves in its writer: with a verdict, the whole answer that the verdict belongs to; a
+-- prefix of an answer if the writer failed; and nothing else if a reader failed or memory ran out.
 abbrev pub IsRun : AnswerRelation → Option (List ℕ) → Option (List ℕ)
     → Result Verdict RunFault → Type 0
 IsRun Answers old new (Ok verdict) = Writes Answers old new verdict
@@ -44,20 +43,19 @@ IsRun Answers old new (Err Write) = WritesFront Answers old new
 IsRun Answers old new (Err Read) = Keeps old new
 IsRun Answers old new (Err Memory) = Keeps old new
 
--- the run gave this verdict and wrote this answer, unless it ended by a fault
+-- the run gave this verdict and wrote this answer, unless it ended with a fault
 abbrev pub IsAnswered : Option (List ℕ) → Option (List ℕ) → List ℕ → Verdict
     → Result Verdict RunFault → Type 0
 IsAnswered old new answer verdict result =
     IfOk result (λ given. (given ≡ verdict) × Appends old new answer)
 
--- Of what a source had to give, these are the bytes: the told ones, where it tells them.
+-- These are the bytes that a source had to give: the known ones, if they are known.
 pub record Reads (told : Option (List ℕ)) (Holds : List ℕ → Type 0) : Type 0 where
   pub bytes : List ℕ
   pub tells : Tells told bytes
   pub holds : Holds bytes
 
--- The same of two sources, of which the second was read only where the first one's bytes go on to
--- it.
+-- The same for two sources, the second of which was read only if the bytes of the first allow it.
 pub record ReadsTwo (first second : Option (List ℕ)) (GoesOn : List ℕ → Type 0) (unread : Type 0)
     (Holds : List ℕ → List ℕ → Type 0) : Type 0 where
   pub first_bytes : List ℕ
@@ -71,40 +69,40 @@ pub record ReadsTwo (first second : Option (List ℕ)) (GoesOn : List ℕ → Ty
 abbrev pub AnyFailed : Bool → Bool → Type 0
 AnyFailed first second = (first ≡ true) ⊎ (second ≡ true)
 
--- What a call shows of a device: the bytes that it tells before the call and after it, which are
--- those that are left of a source and those that a sink has taken, and whether it has failed.
+-- How a call used a device: the known bytes before the call and after it, which are those left in a
+-- source and those taken by a sink, and whether it has failed.
 pub record Use : Type 0 where
   pub old : Option (List ℕ)
   pub new : Option (List ℕ)
   pub has_failed : Bool
 
--- a device that is used in this way
+-- a device that was used like this
 abbrev pub used : Option (List ℕ) → Option (List ℕ) → Bool → Use
 used old new has_failed = record { old = old; new = new; has_failed = has_failed }
 
--- What each run promises that reads field notes, and a second text of at most so many bytes only
--- where the notes make a plat.
+-- What each run promises that reads field notes and, only if the notes make a plat, a second text
+-- up to a limit of bytes.
 pub record RunsOnPlat (Answers : List ℕ → List ℕ → AnswerRelation) (most : ℕ)
     (notes second out : Use) (is_unread : Type 0) (result : Result Verdict RunFault) : Type 0 where
-  -- The answer to told texts; a verdict where no device fails and no memory is refused.
+  -- The answer for known texts; a verdict if no device fails and memory does not run out.
   pub told : (n s : List ℕ) → notes.old ≡ Some n → second.old ≡ Some s
       → IsRun (Answers n s) out.old out.new result
   pub answers : notes.has_failed ≡ false → second.has_failed ≡ false → out.has_failed ≡ false
       → IsOkUnless result Memory
-  -- The same whatever the devices tell of their bytes. The second text is read only where the
-  -- notes make a plat.
+  -- The same, whether or not the bytes of the devices are known. The second text is read only if
+  -- the notes make a plat.
   pub ran : ReadsTwo notes.old second.old MakePlat is_unread
       (λ n s. IsRun (Answers n s) out.old out.new result)
   pub unread : (n : List ℕ) → notes.old ≡ Some n → (MakePlat n → ⊥) → is_unread
   pub unread_after_fault : notes.has_failed ≡ true → is_unread
-  -- A fault of a device is answered exactly where that device failed in this call.
+  -- A device's fault is returned exactly if that device failed in this call.
   pub read : IsErrOf result Read ↔ AnyFailed notes.has_failed second.has_failed
   pub write : IsErrOf result Write ↔ (out.has_failed ≡ true)
-  -- Reading ends one byte past the limit, if not before.
+  -- Reading ends at most one byte past the limit.
   pub notes_most : TakesAtMost notes.old notes.new (NOTES_MOST + 1)
   pub second_most : TakesAtMost second.old second.new (most + 1)
-  -- It ends just there or at the end of the input, where no device fails and no memory is refused:
-  -- of the notes, and of the second text where they make a plat.
+  -- It ends exactly there or at the end of the input, if no device fails and memory does not run
+  -- out: for the notes, and for the second text if they make a plat.
   pub notes_exact : notes.has_failed ≡ false → result ≢ Err Memory
       → TakesFirst notes.old notes.new (NOTES_MOST + 1)
   pub second_exact : (n : List ℕ) → notes.old ≡ Some n → MakePlat n

@@ -1,4 +1,4 @@
--- Laws over accounts of tracts, and over their figures.
+-- Laws over accounts of tracts and their figures.
 use Rattle.std.specs.Prelude.{◌≡◌, ℕ, ◌+◌, ◌<◌, Bool, List, length}
 use Rattle.twp_measure.specs.Areas.{Fraction}
 use Rattle.twp_grid.specs.Places.{PLACE_DIGITS}
@@ -12,7 +12,7 @@ use Rattle.twp_acres.specs.Laws.{IsOne}
 use Rattle.twp_acres.specs.Tracts.{description_in, tract_records, IsTractList, IsLandOfTracts}
 use Rattle.twp_acres.specs.ReportAnswers.{other_places, IsReportAnswer}
 
--- the area of a set of places and that of all others are together the area of the whole township
+-- the area of a set of places and the area of all others add up to the area of the township
 abbrev pub RestAddsUp : Type 0
 RestAddsUp = (plat : TownshipPlat) (places : ℕ → ℕ → ℕ → Bool) (area rest whole : Fraction)
     → IsLandArea PLACE_DIGITS plat places area
@@ -26,13 +26,13 @@ pub record IsTractArea (plat : TownshipPlat) (fields : Fields) (area : Fraction)
   pub land : Describe plat.township (description_in fields) places
   pub area_is : IsLandArea PLACE_DIGITS plat places area
 
--- the areas of the first so many of these tracts
+-- the areas of the first of these tracts, up to this number
 pub record AreTractAreas (plat : TownshipPlat) (rows : List Fields) (count : ℕ)
     (areas : ℕ → Fraction) : Type 0 where
   pub each : (index : ℕ) → index < count
       → IsTractArea plat (record_at rows index) (areas index)
 
--- The area of all places that are in a tract of a list is the sum of the tracts' areas, exactly.
+-- The area of all places in at least one tract of a list is exactly the sum of the tracts' areas.
 abbrev pub TractsAddUp : Type 0
 TractsAddUp = (plat : TownshipPlat) (bytes : List ℕ) (areas : ℕ → Fraction)
     (places : ℕ → ℕ → ℕ → Bool) (area : Fraction)
@@ -42,6 +42,7 @@ TractsAddUp = (plat : TownshipPlat) (bytes : List ℕ) (areas : ℕ → Fraction
     → IsLandArea PLACE_DIGITS plat places area
     → area.units ≡ total (length (tract_records bytes)) (λ index. (areas index).units)
 
--- two texts, the field notes and the list of tracts, have one account, or one refusal
+-- the same two texts, the field notes and the list of tracts, always have one account, or one
+-- refusal
 abbrev pub OneReportAnswer : Type 0
 OneReportAnswer = (notes tracts : List ℕ) → IsOne (IsReportAnswer notes tracts)

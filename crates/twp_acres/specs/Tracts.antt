@@ -1,4 +1,4 @@
--- A list of tracts: the heading, and after it a record for each tract, with its name and the
+-- A list of tracts: the heading, and then a record for each tract, with its name and the
 -- description of its land. The layout is this project's.
 use Rattle.std.specs.Prelude.{◌≡◌, ◌≢◌, ◌↔◌, ℕ, ◌≤◌, ◌<◌, Bool, true}
 use Rattle.std.specs.Prelude.{List, [], ◌∷◌, length, drop, codes}
@@ -12,7 +12,7 @@ use Rattle.twp_acres.specs.Answers.{Describe}
 abbrev pub TRACTS_LIMIT : ℕ
 TRACTS_LIMIT = 1048576
 
--- the most tracts of a list
+-- the most tracts in a list
 abbrev pub TRACTS_MOST : ℕ
 TRACTS_MOST = 1000
 
@@ -39,7 +39,7 @@ description_in fields = field fields 1
 abbrev pub IsPrinted : ℕ → Type 0
 IsPrinted byte = (0x20 ≤ byte) × (byte ≤ 0x7E)
 
--- a name has some bytes and no more than it may have, each of them printable
+-- a name has at least one byte and no more than the limit, and each of them is printable
 pub record IsTractName (name : List ℕ) : Type 0 where
   pub some : 1 ≤ length name
   pub most : length name ≤ NAME_MOST
@@ -50,13 +50,13 @@ pub record IsTractRecord (fields : Fields) : Type 0 where
   pub columns : length fields ≡ 2
   pub name_is : IsTractName (name_in fields)
 
--- the record is a tract: its description is of this land on the plat of the township
+-- the record is a tract: its description names this land on the plat of the township
 pub record IsTract (township : Designation) (fields : Fields) : Type 0 where
   pub is_record : IsTractRecord fields
   pub places : ℕ → ℕ → ℕ → Bool
   pub land : Describe township (description_in fields) places
 
--- the lands of two tracts have a place in common
+-- the land of two tracts shares a place
 pub record Overlap (township : Designation) (fields other : Fields) : Type 0 where
   pub places : ℕ → ℕ → ℕ → Bool
   pub more : ℕ → ℕ → ℕ → Bool
@@ -64,8 +64,8 @@ pub record Overlap (township : Designation) (fields other : Fields) : Type 0 whe
   pub other_land : Describe township (description_in other) more
   pub shared : SharePlace places more
 
--- The first so many of these records are tracts with different names, and no place is in two of
--- them.
+-- The first of these records, up to this number, are tracts with different names, and no place is
+-- in two of them.
 pub record AreTracts (township : Designation) (rows : List Fields) (count : ℕ) : Type 0 where
   pub each : (index : ℕ) → index < count → IsTract township (record_at rows index)
   pub once : (earlier index : ℕ) → earlier < index → index < count
@@ -80,7 +80,7 @@ pub record IsTractList (township : Designation) (bytes : List ℕ) : Type 0 wher
   pub few : length (tract_records bytes) ≤ TRACTS_MOST
   pub tracts : AreTracts township (tract_records bytes) (length (tract_records bytes))
 
--- the place is in one of the first so many tracts
+-- the place is in one of the first tracts, up to this number
 pub record IsInTract (township : Designation) (rows : List Fields) (count section column row : ℕ)
     : Type 0 where
   pub index : ℕ
@@ -89,7 +89,7 @@ pub record IsInTract (township : Designation) (rows : List Fields) (count sectio
   pub land : Describe township (description_in (record_at rows index)) places
   pub held : places section column row ≡ true
 
--- the set of all places that are in one of the first so many tracts
+-- the set of all places in the first tracts, up to this number
 abbrev pub IsLandOfTracts : Designation → List Fields → ℕ → (ℕ → ℕ → ℕ → Bool) → Type 0
 IsLandOfTracts township rows count places = (section column row : ℕ)
     → (places section column row ≡ true) ↔ IsInTract township rows count section column row

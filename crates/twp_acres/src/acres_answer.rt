@@ -1,6 +1,7 @@
 //! The answer of the acreage run, by an account.
-ghost use Rattle.std.specs.Prelude.{◌≡◌, false, IfOk, IfErr};
-ghost use Rattle.twp_text.specs.TextFaults.{TEXT_LIMIT};
+ghost use Rattle.std.specs.Prelude.{◌≡◌, ℕ, List, Some, false, IfOk, IfErr};
+ghost use Rattle.twp_read.specs.Doubts.{HasNoDoubtfulPlace};
+ghost use Rattle.twp_read.specs.TextFaults.{TEXT_LIMIT};
 ghost use Rattle.twp_acres.specs.Answers.{MakePlat};
 ghost use Rattle.twp_acres.specs.AcresAnswers.{acres_line};
 ghost use Rattle.twp_acres.specs.AccountAnswers.{IsAcresAnswerBy};
@@ -9,21 +10,23 @@ ghost use Rattle.twp_acres.specs.steps.Stages.{ReadsOnPlat, same_fault};
 ghost use Rattle.twp_acres.specs.steps.OnPlatSteps.{IsAcresAnswerOn};
 
 use crate::answer::{Answer, answer_stop, write_acres_line};
-use crate::on_plat::acres_on;
+use crate::on_plat::acres_noting;
 use crate::stages::read_texts;
 use crate::verdict::{RunFault, Verdict};
 use std::alloc::Global;
 use twp_area::Account;
 use twp_grid::Source;
 use twp_plat::Plat;
+use twp_read::Clarity;
 
-/// The answer of field notes and a description. The description is read only where the notes make a
-/// plat.
+/// The answer for field notes and a description. The description is read only if the notes make a
+/// plat. Notes whether a place in the description may be doubtful.
 pub fn answer_of<N: Source, D: Source>(
     alloc: Global,
     notes: &mut N,
     description: &mut D,
     account: Account,
+    clarity: &mut Clarity,
 ) -> Result<Answer, RunFault>
     requires notes { N.has_failed notes.old ≡ false }
     requires description { D.has_failed description.old ≡ false }
@@ -36,31 +39,42 @@ pub fn answer_of<N: Source, D: Source>(
         MakePlat (description.new ≡ description.old)
         (λ n d. IfOk result (λ answer.
         IsAcresAnswerBy account n d answer.text.items answer.verdict)) }
+    ensures clear { (d : List ℕ) → D.remaining description.old ≡ Some d
+        → clarity.new ≡ Clarity.Clear → HasNoDoubtfulPlace d }
 {
+    *clarity = Clarity::Unclear;
     match read_texts(alloc, notes, description) {
-        Ok(read) => answer_on(alloc, &read.plat, read.description.as_slice(), account),
+        Ok(read) => answer_on(
+            alloc,
+            &read.plat,
+            read.description.as_slice(),
+            account,
+            clarity,
+        ),
         Err(stop) => answer_stop(alloc, stop),
     }
 }
 
-/// The answer of a description on a plat.
+/// The answer for a description on a plat.
 fn answer_on(
     alloc: Global,
     plat: &Plat,
     description: &[u8],
     account: Account,
+    clarity: &mut Clarity,
 ) -> Result<Answer, RunFault>
     ensures answer { IfOk result (λ answer.
         IsAcresAnswerOn account plat.now description.now answer.text.items answer.verdict) }
     ensures memory { IfErr result (λ fault. fault ≡ RunFault.Memory) }
+    ensures clear { clarity.new ≡ Clarity.Clear → HasNoDoubtfulPlace description.now }
 {
-    match acres_on(alloc, plat, description, account) {
+    match acres_noting(alloc, plat, description, account, clarity) {
         Ok(hundredths) => accept(alloc, hundredths),
         Err(stop) => answer_stop(alloc, stop),
     }
 }
 
-/// The answer of so many hundredths of an acre.
+/// The answer that accepts: the line of a number of hundredths of an acre.
 fn accept(alloc: Global, hundredths: u64) -> Result<Answer, RunFault>
     ensures answer { IfOk result (λ answer.
         (answer.text.items ≡ acres_line hundredths) × (answer.verdict ≡ Verdict.Accepted)) }

@@ -10,14 +10,14 @@ use std::alloc::{AllocError, Global};
 use twp_grid::Refusal;
 use twp_measure::write_acres;
 
-/// What a run answers.
+/// The answer of a run.
 #[derive(Drop)]
 pub struct Answer {
     pub text: Vec<u8>,
     pub verdict: Verdict,
 }
 
-/// The answer of a run that stopped: its refusal, or none where it failed.
+/// The answer of a run that stopped: its refusal, or no answer if it failed.
 #[tactic(auto, using(crate::proofs::StopFacts::answers_refusal))]
 pub fn answer_stop(alloc: Global, stop: Stop) -> Result<Answer, RunFault>
     ensures answer { AnswersStop stop result }
@@ -28,7 +28,7 @@ pub fn answer_stop(alloc: Global, stop: Stop) -> Result<Answer, RunFault>
     }
 }
 
-/// The answer of a refusal.
+/// The answer that refuses: the line of a refusal.
 fn refuse(alloc: Global, refusal: Refusal) -> Result<Answer, RunFault>
     ensures answer { IfOk result (λ answer.
         (answer.text.items ≡ refusal_line refusal) × (answer.verdict ≡ Verdict.Refused refusal)) }
@@ -42,7 +42,7 @@ fn refuse(alloc: Global, refusal: Refusal) -> Result<Answer, RunFault>
     })
 }
 
-/// Appends the line of a refusal, as `refused 67 at 19`.
+/// Appends the line of a refusal, such as `refused 67 at 19`.
 pub fn write_refusal(refusal: Refusal, text: &mut Vec<u8>) -> Result<(), AllocError>
     ensures ok { OnOk result (text.new.items ≡ text.old.items ++ refusal_line refusal) }
 {
@@ -54,7 +54,7 @@ pub fn write_refusal(refusal: Refusal, text: &mut Vec<u8>) -> Result<(), AllocEr
     text.extend_from_slice(b"\n")
 }
 
-/// Appends the line of so many hundredths of an acre, as `40.45 acres`.
+/// Appends the line of a number of hundredths of an acre, such as `40.45 acres`.
 pub fn write_acres_line(hundredths: u64, text: &mut Vec<u8>) -> Result<(), AllocError>
     ensures ok { OnOk result (text.new.items ≡ text.old.items ++ acres_line hundredths) }
 {

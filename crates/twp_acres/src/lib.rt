@@ -1,5 +1,5 @@
-//! The answers on a plat, and the runs: each reads field notes and what goes with them, has one of
-//! these answers, and writes it. The areas of lands come from `twp_area`.
+//! The answers on a plat, and the runs: each reads field notes, and for most runs a second text,
+//! finds the answer, and writes it. The areas of land come from `twp_area`.
 #![tactic(auto)]
 
 mod acres_answer;
@@ -23,7 +23,10 @@ mod writing;
 
 pub use on_plat::{account_on, acres_on, area_on, normal_on};
 pub use plat_answer::print_plat;
-pub use running::{run_acres, run_acres_as, run_normal, run_plat, run_report};
+pub use running::{
+    run_acres, run_acres_as, run_acres_noting, run_normal, run_normal_noting, run_plat, run_report,
+    run_report_noting,
+};
 pub use stages::read_plat;
 pub use stop::Stop;
 pub use tract_fault::{TRACTS_LIMIT, TRACTS_MOST, TractFault};

@@ -8,14 +8,14 @@ use arrayvec::ArrayString;
 use std::alloc::{AllocError, Global};
 use std::collections::HashSet;
 
-/// The names of tracts so far, by their bytes. A name takes no memory of its own.
+/// The names of the tracts so far, by their bytes. A name needs no allocation of its own.
 #[derive(Drop)]
 pub struct Names {
     names: HashSet<ArrayString<NAME_MOST>>,
 }
 
 impl Names {
-    /// No name.
+    /// No names.
     pub fn new(alloc: Global) -> Names
         ensures { (name : List ℕ) → has_name result name ≡ false }
     {
@@ -24,7 +24,7 @@ impl Names {
         }
     }
 
-    /// No name, with room for so many.
+    /// No names, with room for a number of them.
     pub fn with_room(alloc: Global, room: usize) -> Result<Names, AllocError>
         ensures { IfOk result (λ names. (name : List ℕ) → has_name names name ≡ false) }
     {
@@ -32,7 +32,7 @@ impl Names {
         Ok(Names { names })
     }
 
-    /// Adds a name, and says whether it is new.
+    /// Adds a name, and returns whether it is new.
     pub fn add(&mut self, name: &str) -> Result<bool, AllocError>
         requires { length name.now ≤ NAME_MOST }
         ensures is_new { IfOk result (λ is_new. is_new ≡ not (has_name self.old name.now)) }

@@ -1,6 +1,7 @@
 //! The answer of the spelling run.
-ghost use Rattle.std.specs.Prelude.{◌≡◌, false, IfOk, IfErr};
-ghost use Rattle.twp_text.specs.TextFaults.{TEXT_LIMIT};
+ghost use Rattle.std.specs.Prelude.{◌≡◌, ℕ, List, Some, false, IfOk, IfErr};
+ghost use Rattle.twp_read.specs.Doubts.{HasNoDoubtfulPlace};
+ghost use Rattle.twp_read.specs.TextFaults.{TEXT_LIMIT};
 ghost use Rattle.twp_acres.specs.Answers.{MakePlat};
 ghost use Rattle.twp_acres.specs.NormalAnswers.{IsNormalAnswer};
 ghost use Rattle.twp_acres.specs.Runs.{ReadsTwo, used};
@@ -8,19 +9,21 @@ ghost use Rattle.twp_acres.specs.steps.Stages.{ReadsOnPlat, same_fault};
 ghost use Rattle.twp_acres.specs.steps.OnPlatSteps.{IsNormalAnswerOn};
 
 use crate::answer::{Answer, answer_stop};
-use crate::on_plat::normal_on;
+use crate::on_plat::normal_noting;
 use crate::stages::read_texts;
 use crate::verdict::{RunFault, Verdict};
 use std::alloc::Global;
 use twp_grid::Source;
 use twp_plat::Plat;
+use twp_read::Clarity;
 
-/// The answer of field notes and a description: the canonical text of the land. The description is
-/// read only where the notes make a plat.
+/// The answer for field notes and a description: the canonical text of the land. The description is
+/// read only if the notes make a plat. Notes whether a place in the description may be doubtful.
 pub fn answer_of<N: Source, D: Source>(
     alloc: Global,
     notes: &mut N,
     description: &mut D,
+    clarity: &mut Clarity,
 ) -> Result<Answer, RunFault>
     requires notes { N.has_failed notes.old ≡ false }
     requires description { D.has_failed description.old ≡ false }
@@ -32,20 +35,29 @@ pub fn answer_of<N: Source, D: Source>(
     ensures answer { ReadsTwo (N.remaining notes.old) (D.remaining description.old)
         MakePlat (description.new ≡ description.old)
         (λ n d. IfOk result (λ answer. IsNormalAnswer n d answer.text.items answer.verdict)) }
+    ensures clear { (d : List ℕ) → D.remaining description.old ≡ Some d
+        → clarity.new ≡ Clarity.Clear → HasNoDoubtfulPlace d }
 {
+    *clarity = Clarity::Unclear;
     match read_texts(alloc, notes, description) {
-        Ok(read) => answer_on(alloc, &read.plat, read.description.as_slice()),
+        Ok(read) => answer_on(alloc, &read.plat, read.description.as_slice(), clarity),
         Err(stop) => answer_stop(alloc, stop),
     }
 }
 
-/// The answer of a description on a plat.
-fn answer_on(alloc: Global, plat: &Plat, description: &[u8]) -> Result<Answer, RunFault>
+/// The answer for a description on a plat.
+fn answer_on(
+    alloc: Global,
+    plat: &Plat,
+    description: &[u8],
+    clarity: &mut Clarity,
+) -> Result<Answer, RunFault>
     ensures answer { IfOk result (λ answer.
         IsNormalAnswerOn plat.now description.now answer.text.items answer.verdict) }
     ensures memory { IfErr result (λ fault. fault ≡ RunFault.Memory) }
+    ensures clear { clarity.new ≡ Clarity.Clear → HasNoDoubtfulPlace description.now }
 {
-    match normal_on(alloc, plat, description) {
+    match normal_noting(alloc, plat, description, clarity) {
         Ok(text) => Ok(Answer {
             text,
             verdict: Verdict::Accepted,

@@ -1,10 +1,11 @@
-//! The answers on a plat that is kept: each of a plat and the bytes of a description.
-ghost use Rattle.std.specs.Prelude.{IfOk, IfErr};
+//! The answers on an existing plat: each is for a plat and the bytes of a description.
+ghost use Rattle.std.specs.Prelude.{◌≡◌, IfOk, IfErr};
+ghost use Rattle.twp_read.specs.Doubts.{HasNoDoubtfulPlace};
 ghost use Rattle.twp_acres.specs.OnPlats.{AnswersOn, HasAcresOn, HasAreaOn, HasNormalOn};
 ghost use Rattle.twp_acres.specs.ReportAnswers.{IsAccountOf};
 ghost use Rattle.twp_acres.specs.TractFaults.{AnswersFault};
 
-use crate::stages::describe_into;
+use crate::stages::describe_noting;
 use crate::stop::Stop;
 use crate::tract_fault::{TRACTS_LIMIT, TractFault};
 use crate::tracts::account_of;
@@ -13,11 +14,12 @@ use twp_area::{Account, area_by};
 use twp_land::{Land, Lanes};
 use twp_measure::Area;
 use twp_plat::Plat;
-use twp_text::spell;
+use twp_read::Clarity;
+use twp_spell::spell;
 
-/// The acres of the land described on a plat, by an account: hundredths of an acre, the exact area
-/// rounded once, half up. `Stop::Refused` is the first fault of the description, at its byte;
-/// `Stop::Failed` is that memory ran out.
+/// The acres of the land described on a plat, by an account: the exact area in hundredths of an
+/// acre, rounded once, half up. `Stop::Refused` is the first fault of the description, at its byte;
+/// `Stop::Failed` means that memory ran out.
 pub fn acres_on(
     alloc: Global,
     plat: &Plat,
@@ -27,7 +29,23 @@ pub fn acres_on(
     ensures { AnswersOn (HasAcresOn plat.now description.now account)
         plat.now description.now result }
 {
-    let area = area_on(alloc, plat, description, account)?;
+    let mut clarity = Clarity::Unclear;
+    acres_noting(alloc, plat, description, account, &mut clarity)
+}
+
+/// The same, and notes whether a place in the description may be doubtful.
+pub(crate) fn acres_noting(
+    alloc: Global,
+    plat: &Plat,
+    description: &[u8],
+    account: Account,
+    clarity: &mut Clarity,
+) -> Result<u64, Stop>
+    ensures acres { AnswersOn (HasAcresOn plat.now description.now account)
+        plat.now description.now result }
+    ensures clear { clarity.new ≡ Clarity.Clear → HasNoDoubtfulPlace description.now }
+{
+    let area = area_noting(alloc, plat, description, account, clarity)?;
     Ok(area.hundredths())
 }
 
@@ -41,18 +59,49 @@ pub fn area_on(
     ensures { AnswersOn (HasAreaOn plat.now description.now account)
         plat.now description.now result }
 {
+    let mut clarity = Clarity::Unclear;
+    area_noting(alloc, plat, description, account, &mut clarity)
+}
+
+/// The same, and notes whether a place in the description may be doubtful.
+fn area_noting(
+    alloc: Global,
+    plat: &Plat,
+    description: &[u8],
+    account: Account,
+    clarity: &mut Clarity,
+) -> Result<Area, Stop>
+    ensures area { AnswersOn (HasAreaOn plat.now description.now account)
+        plat.now description.now result }
+    ensures clear { clarity.new ≡ Clarity.Clear → HasNoDoubtfulPlace description.now }
+{
     let mut land = Lanes::empty();
-    describe_into(alloc, &mut land, plat.township(), description)?;
+    describe_noting(alloc, &mut land, plat.township(), description, clarity)?;
     Ok(area_by(account, plat, &land))
 }
 
-/// The canonical text of the land described on a plat, or why there is none, as of `acres_on`.
+/// The canonical text of the land described on a plat, or why there is none, as for `acres_on`.
 pub fn normal_on(alloc: Global, plat: &Plat, description: &[u8]) -> Result<Vec<u8>, Stop>
     ensures { AnswersOn (λ text. HasNormalOn plat.now description.now text.items)
         plat.now description.now result }
 {
+    let mut clarity = Clarity::Unclear;
+    normal_noting(alloc, plat, description, &mut clarity)
+}
+
+/// The same, and notes whether a place in the description may be doubtful.
+pub(crate) fn normal_noting(
+    alloc: Global,
+    plat: &Plat,
+    description: &[u8],
+    clarity: &mut Clarity,
+) -> Result<Vec<u8>, Stop>
+    ensures text { AnswersOn (λ text. HasNormalOn plat.now description.now text.items)
+        plat.now description.now result }
+    ensures clear { clarity.new ≡ Clarity.Clear → HasNoDoubtfulPlace description.now }
+{
     let mut land = Lanes::empty();
-    describe_into(alloc, &mut land, plat.township(), description)?;
+    describe_noting(alloc, &mut land, plat.township(), description, clarity)?;
     Ok(spell(alloc, &land, plat.township())?)
 }
 

@@ -19,7 +19,7 @@ use twp_grid::{SECTIONS, Section, Source, lot_count};
 use twp_measure::{Area, write_acres};
 use twp_plat::Plat;
 
-/// The answer of field notes: the printed plat, or the refusal.
+/// The answer for field notes: the printed plat, or the refusal.
 pub fn answer_of<N: Source>(alloc: Global, notes: &mut N) -> Result<Answer, RunFault>
     requires { N.has_failed notes.old ≡ false }
     ensures reads { ReadsUpTo same_fault NOTES_MOST
@@ -34,7 +34,7 @@ pub fn answer_of<N: Source>(alloc: Global, notes: &mut N) -> Result<Answer, RunF
     }
 }
 
-/// The answer of a plat: its text.
+/// The answer that accepts: the text of a plat.
 fn accept(alloc: Global, plat: &Plat) -> Result<Answer, RunFault>
     ensures answer { IfOk result (λ answer. (answer.verdict ≡ Verdict.Accepted)
         × IsTextOfPlat plat.now answer.text.items) }
@@ -47,7 +47,8 @@ fn accept(alloc: Global, plat: &Plat) -> Result<Answer, RunFault>
     })
 }
 
-/// The text of a plat: of each section its lots' acres and its own, and then the township's.
+/// The text of a plat: for each section, the acreage of its lots and of the section, and at the end
+/// that of the township.
 pub fn print_plat(alloc: Global, plat: &Plat) -> Result<Vec<u8>, AllocError>
     ensures { IfOk result (λ text. IsTextOfPlat plat.now text.items) }
 {
@@ -83,7 +84,7 @@ fn write_section(
     write_total(area.hundredths(), text)
 }
 
-/// Appends a section's number, as `sec. 5: `.
+/// Appends a section's number, such as `sec. 5: `.
 fn write_section_name(section: Section, text: &mut Vec<u8>) -> Result<(), AllocError>
     ensures ok { OnOk result (text.new.items ≡ text.old.items ++ section_name section) }
 {
@@ -92,7 +93,7 @@ fn write_section_name(section: Section, text: &mut Vec<u8>) -> Result<(), AllocE
     text.extend_from_slice(b": ")
 }
 
-/// Appends a lot's number and its hundredths of an acre, as `lot 1 40.45, `.
+/// Appends a lot's number and its hundredths of an acre, such as `lot 1 40.45, `.
 fn write_lot(lot: u8, hundredths: u64, text: &mut Vec<u8>) -> Result<(), AllocError>
     ensures ok { OnOk result (text.new.items ≡ text.old.items ++ lot_text lot hundredths) }
 {
@@ -103,7 +104,8 @@ fn write_lot(lot: u8, hundredths: u64, text: &mut Vec<u8>) -> Result<(), AllocEr
     text.extend_from_slice(b", ")
 }
 
-/// Appends the hundredths of an acre of a whole, as `total 642.40`, and a line feed.
+/// Appends the hundredths of an acre of a section or of the township, such as `total 642.40`, and a
+/// line feed.
 fn write_total(hundredths: u64, text: &mut Vec<u8>) -> Result<(), AllocError>
     ensures ok { OnOk result (text.new.items ≡ text.old.items ++ total_text hundredths) }
 {

@@ -10,19 +10,20 @@ ghost use Rattle.twp_acres.specs.steps.Stages.{ReadsUpTo, ReadsOnPlat, same_faul
 use crate::answer::{Answer, answer_stop, write_refusal};
 use crate::stages::read_plat;
 use crate::tract_fault::{TRACTS_LIMIT, TractFault};
-use crate::tracts::account_of;
+use crate::tracts::account_noting;
 use crate::verdict::{RunFault, Verdict};
 use std::alloc::Global;
 use twp_grid::Source;
 use twp_notes::read_whole;
 use twp_plat::Plat;
+use twp_read::Clarity;
 
-/// The answer of field notes and a list of tracts. The list is read only where the notes make a
-/// plat.
+/// The answer for field notes and a list of tracts. The list is read only if the notes make a plat.
 pub fn answer_of<N: Source, T: Source>(
     alloc: Global,
     notes: &mut N,
     tracts: &mut T,
+    clarity: &mut Clarity,
 ) -> Result<Answer, RunFault>
     requires notes { N.has_failed notes.old ≡ false }
     requires tracts { T.has_failed tracts.old ≡ false }
@@ -35,16 +36,22 @@ pub fn answer_of<N: Source, T: Source>(
         MakePlat (tracts.new ≡ tracts.old)
         (λ n t. IfOk result (λ answer. IsReportAnswer n t answer.text.items answer.verdict)) }
 {
+    *clarity = Clarity::Unclear;
     match read_plat(alloc, notes) {
-        Ok(plat) => report_on(alloc, &plat, tracts),
+        Ok(plat) => report_on(alloc, &plat, tracts, clarity),
         Err(stop) => answer_stop(alloc, stop),
     }
 }
 
-/// The answer of a list of tracts on a plat.
-// Not inlined: otherwise its reader would be on the stack while the notes are read.
+/// The answer for a list of tracts on a plat.
+// Not inlined, because otherwise its reader would be on the stack while the notes are read.
 #[inline(never)]
-fn report_on<T: Source>(alloc: Global, plat: &Plat, tracts: &mut T) -> Result<Answer, RunFault>
+fn report_on<T: Source>(
+    alloc: Global,
+    plat: &Plat,
+    tracts: &mut T,
+    clarity: &mut Clarity,
+) -> Result<Answer, RunFault>
     requires { T.has_failed tracts.old ≡ false }
     ensures reads { ReadsUpTo same_fault TRACTS_LIMIT
         (used (T.remaining tracts.old) (T.remaining tracts.new) (T.has_failed tracts.new))
@@ -55,7 +62,7 @@ fn report_on<T: Source>(alloc: Global, plat: &Plat, tracts: &mut T) -> Result<An
     let Some(bytes) = read_whole(alloc, tracts, TRACTS_LIMIT as usize)? else {
         return refuse_list(alloc, TractFault::TractsTooLarge);
     };
-    match account_of(alloc, plat, bytes.as_slice()) {
+    match account_noting(alloc, plat, bytes.as_slice(), clarity) {
         Ok(text) => Ok(Answer {
             text,
             verdict: Verdict::Accepted,
@@ -64,7 +71,7 @@ fn report_on<T: Source>(alloc: Global, plat: &Plat, tracts: &mut T) -> Result<An
     }
 }
 
-/// The answer of a list that has a fault: its refusal, and on a second line that of a tract's
+/// The answer for a list that has a fault: its refusal, and on a second line that of a tract's
 /// description.
 fn refuse_list(alloc: Global, fault: TractFault) -> Result<Answer, RunFault>
     ensures answer { IfOk result (λ answer. (verdict_of fault ≡ Some answer.verdict)

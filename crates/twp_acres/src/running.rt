@@ -5,7 +5,8 @@ ghost use Rattle.twp_grid.specs.Devices.{TakesAtMost};
 ghost use Rattle.twp_grid.specs.declared.refusal.Refusal.{Refusal};
 ghost use Rattle.twp_notes.specs.FieldNotes.{NOTES_MOST};
 ghost use Rattle.twp_notes.specs.ReadBytes.{TakesFirst};
-ghost use Rattle.twp_text.specs.TextFaults.{TEXT_LIMIT};
+ghost use Rattle.twp_read.specs.Doubts.{HasNoDoubtfulPlace};
+ghost use Rattle.twp_read.specs.TextFaults.{TEXT_LIMIT};
 ghost use Rattle.twp_acres.specs.Answers.{IsRefusal, refusal_line};
 ghost use Rattle.twp_acres.specs.AcresAnswers.{HasAcres, IsAcresAnswer, acres_line};
 ghost use Rattle.twp_acres.specs.AccountAnswers.{IsAcresAnswerBy};
@@ -22,13 +23,14 @@ use crate::{acres_answer, normal_answer, plat_answer, report_answer};
 use std::alloc::Global;
 use twp_area::Account;
 use twp_grid::{Sink, Source};
+use twp_read::Clarity;
 
-/// Writes the acres of the land described, where the field notes make a plat and the parts of the
-/// description lie on it without overlap: the exact sum of interpolated areas over the land's
-/// places, rounded once to hundredths, half up, however the land is spelled. Otherwise it writes
+/// Writes the acres of the land described, if the field notes make a plat and the parts of the
+/// description lie on it without overlapping: the exact sum of interpolated areas over the land's
+/// places, rounded once to hundredths, half up, however the land is described. Otherwise it writes
 /// the numbered refusal of the first fault, at its place.
 ///
-/// The whole answer is made before its first byte is written.
+/// The whole answer is computed before its first byte is written.
 pub fn run_acres<N: Source, D: Source, W: Sink>(
     alloc: Global,
     notes: &mut N,
@@ -39,22 +41,23 @@ pub fn run_acres<N: Source, D: Source, W: Sink>(
     requires description { D.has_failed description.old ≡ false }
     requires out { W.has_failed out.old ≡ false }
 
-    // Of every two texts: the acres of the land described, where there is such a land ..
+    // For any two texts: the acres of the land described, if there is such land ..
     ensures acres { (n d : List ℕ)
         → N.remaining notes.old ≡ Some n → D.remaining description.old ≡ Some d
         → (hundredths : ℕ) → HasAcres n d hundredths
         → IsAnswered (W.contents out.old) (W.contents out.new)
         (acres_line hundredths) Verdict.Accepted result }
 
-    // .. and the numbered refusal of the first fault, at its place, where there is none.
+    // .. and the numbered refusal of the first fault, at its place, if there is none.
     ensures refusals { (n d : List ℕ)
         → N.remaining notes.old ≡ Some n → D.remaining description.old ≡ Some d
         → (refusal : Refusal) → IsRefusal n d refusal
         → IsAnswered (W.contents out.old) (W.contents out.new)
         (refusal_line refusal) (Verdict.Refused refusal) result }
 
-    // As each run of two texts: it gives one of the two answers, whatever the devices tell of their
-    // bytes; it answers a fault where a device has one; it reads no further than it has to.
+    // As for each run on two texts: it gives one of the two answers, whether or not the bytes of
+    // the devices are known; it returns a fault if a device fails; and it reads no further than
+    // necessary.
     ensures run { RunsOnPlat IsAcresAnswer TEXT_LIMIT
         (used (N.remaining notes.old) (N.remaining notes.new) (N.has_failed notes.new))
         (used (D.remaining description.old) (D.remaining description.new)
@@ -65,17 +68,43 @@ pub fn run_acres<N: Source, D: Source, W: Sink>(
     run_acres_as(alloc, notes, description, out, Account::Exact)
 }
 
-/// Writes the acres of the land described as `run_acres` does, with each whole lot by the account:
-/// by its exact area, or by the acres that the plat prints of it, which are rounded already; other
-/// land then counts with its nominal area (this project's rule).
+/// Writes the acres of the land described as `run_acres` does, but counts each whole lot by the
+/// account: at its exact area, or at the acreage that the plat shows for it, which is already
+/// rounded; then other land counts at its nominal area (this project's rule).
 ///
-/// The whole answer is made before its first byte is written.
+/// The whole answer is computed before its first byte is written.
 pub fn run_acres_as<N: Source, D: Source, W: Sink>(
     alloc: Global,
     notes: &mut N,
     description: &mut D,
     out: &mut W,
     account: Account,
+) -> Result<Verdict, RunFault>
+    requires notes { N.has_failed notes.old ≡ false }
+    requires description { D.has_failed description.old ≡ false }
+    requires out { W.has_failed out.old ≡ false }
+
+    // As for each run on two texts, with the acres by the account, or the refusal.
+    ensures run { RunsOnPlat (IsAcresAnswerBy account) TEXT_LIMIT
+        (used (N.remaining notes.old) (N.remaining notes.new) (N.has_failed notes.new))
+        (used (D.remaining description.old) (D.remaining description.new)
+        (D.has_failed description.new))
+        (used (W.contents out.old) (W.contents out.new) (W.has_failed out.new))
+        (description.new ≡ description.old) result }
+{
+    let mut clarity = Clarity::Unclear;
+    run_acres_noting(alloc, notes, description, out, account, &mut clarity)
+}
+
+/// Writes the acres of the land described as `run_acres_as` does, and notes whether the description may have
+/// a place that can be read in two ways.
+pub fn run_acres_noting<N: Source, D: Source, W: Sink>(
+    alloc: Global,
+    notes: &mut N,
+    description: &mut D,
+    out: &mut W,
+    account: Account,
+    clarity: &mut Clarity,
 ) -> Result<Verdict, RunFault>
     requires notes { N.has_failed notes.old ≡ false }
     requires description { D.has_failed description.old ≡ false }
@@ -88,16 +117,20 @@ pub fn run_acres_as<N: Source, D: Source, W: Sink>(
         (D.has_failed description.new))
         (used (W.contents out.old) (W.contents out.new) (W.has_failed out.new))
         (description.new ≡ description.old) result }
+
+    // What is noted as clear has no doubtful place.
+    ensures clear { (d : List ℕ) → D.remaining description.old ≡ Some d
+        → clarity.new ≡ Clarity.Clear → HasNoDoubtfulPlace d }
 {
-    let answer = acres_answer::answer_of(alloc, notes, description, account)?;
+    let answer = acres_answer::answer_of(alloc, notes, description, account, clarity)?;
     write_answer(out, &answer)
 }
 
-/// Writes the plat that field notes make: of each section its lots' acres and its own, and then
-/// the township's. Each figure is an exact area, rounded once. Where the notes make no plat it
-/// writes the numbered refusal of the first fault, at its place.
+/// Writes the plat that field notes make: for each section, the acreage of its lots and of the
+/// section, and at the end that of the township. Each figure is an exact area, rounded once. If the
+/// notes make no plat, it writes the numbered refusal of the first fault, at its place.
 ///
-/// The whole answer is made before its first byte is written.
+/// The whole answer is computed before its first byte is written.
 pub fn run_plat<N: Source, W: Sink>(
     alloc: Global,
     notes: &mut N,
@@ -106,27 +139,27 @@ pub fn run_plat<N: Source, W: Sink>(
     requires notes { N.has_failed notes.old ≡ false }
     requires out { W.has_failed out.old ≡ false }
 
-    // The printed plat of told notes, or the refusal; a verdict where no device fails and no
-    // memory is refused.
+    // The printed plat of known notes, or the refusal; a verdict if no device fails and memory does
+    // not run out.
     ensures told { (n : List ℕ) → N.remaining notes.old ≡ Some n
         → IsRun (IsPlatAnswer n) (W.contents out.old) (W.contents out.new) result }
     ensures answers { N.has_failed notes.new ≡ false → W.has_failed out.new ≡ false
         → IsOkUnless result RunFault.Memory }
 
-    // The same whatever the devices tell of their bytes.
+    // The same, whether or not the bytes of the devices are known.
     ensures ran { Reads (N.remaining notes.old) (λ n.
         IsRun (IsPlatAnswer n) (W.contents out.old) (W.contents out.new) result) }
 
-    // A fault of a device is answered exactly where that device failed in this call.
+    // A device's fault is returned exactly if that device failed in this call.
     ensures read { IsErrOf result RunFault.Read ↔ (N.has_failed notes.new ≡ true) }
     ensures write { IsErrOf result RunFault.Write ↔ (W.has_failed out.new ≡ true) }
 
-    // Reading ends one byte past the limit, if not before.
+    // Reading ends at most one byte past the limit.
     ensures most { TakesAtMost (N.remaining notes.old)
         (N.remaining notes.new) (NOTES_MOST + 1) }
 
-    // It ends just there or at the end of the input, where the reader doesn't fail and no memory is
-    // refused.
+    // It ends exactly there or at the end of the input, if the reader does not fail and memory does
+    // not run out.
     ensures exact { N.has_failed notes.new ≡ false → result ≢ Err RunFault.Memory
         → TakesFirst (N.remaining notes.old) (N.remaining notes.new) (NOTES_MOST + 1) }
 {
@@ -134,16 +167,41 @@ pub fn run_plat<N: Source, W: Sink>(
     write_answer(out, &answer)
 }
 
-/// Writes the canonical text of the land described: one text for each land, however it was
-/// spelled. Where the notes make no plat, or the description is of no land on it, it writes the
+/// Writes the canonical text of the land described: one text for the same land, however it was
+/// described. If the notes make no plat, or the description names no land on it, it writes the
 /// numbered refusal of the first fault, at its place.
 ///
-/// The whole answer is made before its first byte is written.
+/// The whole answer is computed before its first byte is written.
 pub fn run_normal<N: Source, D: Source, W: Sink>(
     alloc: Global,
     notes: &mut N,
     description: &mut D,
     out: &mut W,
+) -> Result<Verdict, RunFault>
+    requires notes { N.has_failed notes.old ≡ false }
+    requires description { D.has_failed description.old ≡ false }
+    requires out { W.has_failed out.old ≡ false }
+
+    // As for each run on two texts, with the canonical text of the land described, or the refusal.
+    ensures run { RunsOnPlat IsNormalAnswer TEXT_LIMIT
+        (used (N.remaining notes.old) (N.remaining notes.new) (N.has_failed notes.new))
+        (used (D.remaining description.old) (D.remaining description.new)
+        (D.has_failed description.new))
+        (used (W.contents out.old) (W.contents out.new) (W.has_failed out.new))
+        (description.new ≡ description.old) result }
+{
+    let mut clarity = Clarity::Unclear;
+    run_normal_noting(alloc, notes, description, out, &mut clarity)
+}
+
+/// Writes the canonical text of the land described as `run_normal` does, and notes whether the description
+/// may have a place that can be read in two ways.
+pub fn run_normal_noting<N: Source, D: Source, W: Sink>(
+    alloc: Global,
+    notes: &mut N,
+    description: &mut D,
+    out: &mut W,
+    clarity: &mut Clarity,
 ) -> Result<Verdict, RunFault>
     requires notes { N.has_failed notes.old ≡ false }
     requires description { D.has_failed description.old ≡ false }
@@ -156,23 +214,51 @@ pub fn run_normal<N: Source, D: Source, W: Sink>(
         (D.has_failed description.new))
         (used (W.contents out.old) (W.contents out.new) (W.has_failed out.new))
         (description.new ≡ description.old) result }
+
+    // What is noted as clear has no doubtful place.
+    ensures clear { (d : List ℕ) → D.remaining description.old ≡ Some d
+        → clarity.new ≡ Clarity.Clear → HasNoDoubtfulPlace d }
 {
-    let answer = normal_answer::answer_of(alloc, notes, description)?;
+    let answer = normal_answer::answer_of(alloc, notes, description, clarity)?;
     write_answer(out, &answer)
 }
 
-/// Writes the account of a list of tracts, where the field notes make a plat and the list is one
-/// of tracts on it: of each tract its acres, then those of all places that are in a tract, and
-/// then those of all others. Each figure is an exact area, rounded once. Otherwise it writes the
-/// numbered refusal of the first fault, and of a description that is refused the refusal in it, on
-/// a second line.
+/// Writes the account of a list of tracts, if the field notes make a plat and the list is a list of
+/// tracts on it: for each tract its acres, then those of all places in at least one tract, and then
+/// those of all others. Each figure is an exact area, rounded once. Otherwise it writes the
+/// numbered refusal of the first fault; if that is a refused description, a second line gives the
+/// refusal of the description.
 ///
-/// The whole answer is made before its first byte is written.
+/// The whole answer is computed before its first byte is written.
 pub fn run_report<N: Source, T: Source, W: Sink>(
     alloc: Global,
     notes: &mut N,
     tracts: &mut T,
     out: &mut W,
+) -> Result<Verdict, RunFault>
+    requires notes { N.has_failed notes.old ≡ false }
+    requires tracts { T.has_failed tracts.old ≡ false }
+    requires out { W.has_failed out.old ≡ false }
+
+    // As for each run on two texts, with the account of the list, or the refusal.
+    ensures run { RunsOnPlat IsReportAnswer TRACTS_LIMIT
+        (used (N.remaining notes.old) (N.remaining notes.new) (N.has_failed notes.new))
+        (used (T.remaining tracts.old) (T.remaining tracts.new) (T.has_failed tracts.new))
+        (used (W.contents out.old) (W.contents out.new) (W.has_failed out.new))
+        (tracts.new ≡ tracts.old) result }
+{
+    let mut clarity = Clarity::Unclear;
+    run_report_noting(alloc, notes, tracts, out, &mut clarity)
+}
+
+/// Writes the account of a list of tracts as `run_report` does, and notes whether a description in it may
+/// have a place that can be read in two ways.
+pub fn run_report_noting<N: Source, T: Source, W: Sink>(
+    alloc: Global,
+    notes: &mut N,
+    tracts: &mut T,
+    out: &mut W,
+    clarity: &mut Clarity,
 ) -> Result<Verdict, RunFault>
     requires notes { N.has_failed notes.old ≡ false }
     requires tracts { T.has_failed tracts.old ≡ false }
@@ -185,11 +271,11 @@ pub fn run_report<N: Source, T: Source, W: Sink>(
         (used (W.contents out.old) (W.contents out.new) (W.has_failed out.new))
         (tracts.new ≡ tracts.old) result }
 {
-    let answer = report_answer::answer_of(alloc, notes, tracts)?;
+    let answer = report_answer::answer_of(alloc, notes, tracts, clarity)?;
     write_answer(out, &answer)
 }
 
-/// Writes an answer, and gives its verdict.
+/// Writes an answer, and returns its verdict.
 fn write_answer<W: Sink>(out: &mut W, answer: &Answer) -> Result<Verdict, RunFault>
     requires { W.has_failed out.old ≡ false }
     ensures verdict { IfOk result (λ verdict. verdict ≡ answer.now.verdict) }

@@ -1,4 +1,4 @@
-//! The account of tracts, which grows by one tract after another.
+//! The account of tracts, which grows by one tract at a time.
 ghost use Rattle.std.specs.Prelude.{◌≡◌, ◌++◌, ℕ, List, [], false, OnOk, IfErr};
 ghost use Rattle.csv.specs.Records.{fields_of};
 ghost use Rattle.twp_land.specs.Lands.{no_places};
@@ -9,7 +9,7 @@ ghost use Rattle.twp_acres.specs.steps.TractTaking.{IsTractRefused, fault_of_sto
 
 use crate::answer::write_acres_line;
 use crate::names::Names;
-use crate::stages::describe_into;
+use crate::stages::describe_noting;
 use crate::stop::Stop;
 use crate::totals::Totals;
 use crate::tract::tract_of;
@@ -19,9 +19,10 @@ use std::alloc::{AllocError, Global};
 use twp_area::area_of;
 use twp_land::Land;
 use twp_plat::Plat;
+use twp_read::Clarity;
 
-/// What is known of the tracts so far. One land is kept and used for each tract in turn, so that no
-/// new one has to be made.
+/// The account of the tracts so far. One land is reused for each tract in turn, so that no new one
+/// has to be made.
 #[derive(Drop)]
 pub(crate) struct RunningAccount<L> {
     pub(crate) names: Names,
@@ -29,10 +30,12 @@ pub(crate) struct RunningAccount<L> {
     tract: L,
     pub(crate) totals: Totals,
     pub(crate) text: Vec<u8>,
+    /// Whether a place in a description so far may be doubtful.
+    pub(crate) clarity: Clarity,
 }
 
 impl<L: Land> RunningAccount<L> {
-    /// The account of no tract.
+    /// The account without tracts.
     pub(crate) fn new(alloc: Global, plat: &Plat) -> RunningAccount<L>
         ensures names { (name : List ℕ) → has_name result.names name ≡ false }
         ensures land { L.places result.land ≡ no_places }
@@ -45,10 +48,11 @@ impl<L: Land> RunningAccount<L> {
             tract: L::empty(),
             totals: Totals::new(plat),
             text: Vec::new(alloc),
+            clarity: Clarity::Clear,
         }
     }
 
-    /// Takes the tract of the record of this number.
+    /// Adds the tract of the record with this number.
     pub(crate) fn take(
         &mut self,
         alloc: Global,
@@ -68,14 +72,17 @@ impl<L: Land> RunningAccount<L> {
         if !self.names.add(tract.name)? {
             return Err(TractFault::NameRepeated(number));
         }
-        if let Err(stop) = describe_into(
+        let mut clarity = Clarity::Unclear;
+        if let Err(stop) = describe_noting(
             alloc,
             &mut self.tract,
             plat.township(),
             tract.description,
+            &mut clarity,
         ) {
             return Err(fault_of(stop, number));
         }
+        self.clarity = both(self.clarity, clarity);
         if self.land.meets_land(&self.tract) {
             return Err(TractFault::TractsOverlap(number));
         }
@@ -87,7 +94,17 @@ impl<L: Land> RunningAccount<L> {
     }
 }
 
-/// The fault of the record of this number, whose description stopped for this.
+/// Whether a place in one of two texts may be doubtful.
+fn both(first: Clarity, second: Clarity) -> Clarity
+    ensures { result ≡ Clarity.Clear → (first ≡ Clarity.Clear) × (second ≡ Clarity.Clear) }
+{
+    match first {
+        Clarity::Clear => second,
+        Clarity::Unclear => Clarity::Unclear,
+    }
+}
+
+/// The fault of the record with this number, whose description stopped for this reason.
 fn fault_of(stop: Stop, number: u32) -> TractFault
     ensures { result ≡ fault_of_stop stop number }
 {
@@ -97,7 +114,7 @@ fn fault_of(stop: Stop, number: u32) -> TractFault
     }
 }
 
-/// Appends a tract's name and its hundredths of an acre, as `tract A: 39.18 acres`.
+/// Appends a tract's name and its hundredths of an acre, such as `tract A: 39.18 acres`.
 fn write_tract(name: &str, hundredths: u64, text: &mut Vec<u8>) -> Result<(), AllocError>
     ensures ok { OnOk result (text.new.items ≡ text.old.items ++ tract_line name.now hundredths) }
 {

@@ -4,7 +4,8 @@ ghost use Rattle.std.specs.Prelude.{◌≡◌, false, IfOk, OnOk, IfErr};
 ghost use Rattle.twp_grid.specs.Places.{PLACE_DIGITS};
 ghost use Rattle.twp_notes.specs.FieldNotes.{NOTES_MOST};
 ghost use Rattle.twp_land.specs.WholeLots.{HasWholeLots};
-ghost use Rattle.twp_text.specs.TextFaults.{TEXT_LIMIT};
+ghost use Rattle.twp_read.specs.Doubts.{HasNoDoubtfulPlace};
+ghost use Rattle.twp_read.specs.TextFaults.{TEXT_LIMIT};
 ghost use Rattle.twp_acres.specs.Answers.{MakePlat};
 ghost use Rattle.twp_acres.specs.Runs.{Reads, ReadsTwo, used};
 ghost use Rattle.twp_acres.specs.PlatReading.{IsPlatted, ReadsUpTo};
@@ -20,17 +21,19 @@ use twp_grid::{Source, Township};
 use twp_land::Land;
 use twp_notes::{Notes, read_whole};
 use twp_plat::Plat;
-use twp_text::{Description, TEXT_LIMIT, TextFault, resolve_into};
+use twp_read::{Clarity, Description, TEXT_LIMIT, TextFault};
+use twp_resolve::resolve_into;
 
-/// What the runs of a description read: the plat of the notes, and the description's bytes.
+/// The texts that the runs on a description read: the plat of the notes, and the description's
+/// bytes.
 #[derive(Drop)]
 pub(crate) struct Texts {
     pub(crate) plat: Plat,
     pub(crate) description: Vec<u8>,
 }
 
-/// The plat of the notes that a source gives, or the first fault of the notes or of their lines.
-/// `Stop::Failed` is that the source failed, or that memory ran out.
+/// The plat of the notes from a source, or the first fault of the notes or of their lines.
+/// `Stop::Failed` means that the source failed, or that memory ran out.
 pub fn read_plat<N: Source>(alloc: Global, notes: &mut N) -> Result<Plat, Stop>
     requires { N.has_failed notes.old ≡ false }
     ensures reads { ReadsUpTo Failed NOTES_MOST
@@ -42,7 +45,7 @@ pub fn read_plat<N: Source>(alloc: Global, notes: &mut N) -> Result<Plat, Stop>
     Ok(Plat::protract(&notes)?)
 }
 
-/// The bytes of the description that a source gives, or its refusal where there are too many.
+/// The bytes of the description from a source, or the refusal if there are too many.
 fn read_description<D: Source>(alloc: Global, description: &mut D) -> Result<Vec<u8>, Stop>
     requires { D.has_failed description.old ≡ false }
     ensures reads { ReadsUpTo Failed TEXT_LIMIT
@@ -57,7 +60,7 @@ fn read_description<D: Source>(alloc: Global, description: &mut D) -> Result<Vec
     Ok(text)
 }
 
-/// Sets a land to that of a description, on the plat of a township. What it held before is gone.
+/// Sets `land` to that of a description, on the plat of a township. Its previous content is lost.
 pub fn describe_into<L: Land>(
     alloc: Global,
     land: &mut L,
@@ -68,12 +71,31 @@ pub fn describe_into<L: Land>(
     ensures land { IsDescribed (λ _. L.places land.new) township text.now result }
     ensures whole_lots { OnOk result (HasWholeLots PLACE_DIGITS (L.places land.new)) }
 {
-    let description = Description::read(alloc, text)?;
-    Ok(resolve_into(land, &description, township)?)
+    let mut clarity = Clarity::Unclear;
+    describe_noting(alloc, land, township, text, &mut clarity)
 }
 
-/// The plat of the notes that a source gives, and the bytes of the description that another source
-/// gives, which is read only where the notes make a plat.
+/// The same, and notes whether a place in the text may be doubtful.
+pub fn describe_noting<L: Land>(
+    alloc: Global,
+    land: &mut L,
+    township: Township,
+    text: &[u8],
+    clarity: &mut Clarity,
+) -> Result<(), Stop>
+    ensures memory { IfErr result (λ stop. IfFailed stop (λ fault. fault ≡ RunFault.Memory)) }
+    ensures land { IsDescribed (λ _. L.places land.new) township text.now result }
+    ensures whole_lots { OnOk result (HasWholeLots PLACE_DIGITS (L.places land.new)) }
+    ensures clear { clarity.new ≡ Clarity.Clear → HasNoDoubtfulPlace text.now }
+{
+    *clarity = Clarity::Unclear;
+    let noted = Description::read_noting(alloc, text)?;
+    *clarity = noted.clarity;
+    Ok(resolve_into(land, &noted.description, township)?)
+}
+
+/// The plat of the notes from one source, and the bytes of the description from another, which is
+/// read only if the notes make a plat.
 pub(crate) fn read_texts<N: Source, D: Source>(
     alloc: Global,
     notes: &mut N,

@@ -4,7 +4,8 @@ use thiserror::Error;
 use twp_grid::Refusal;
 use twp_notes::{NotesFault, ReadFault};
 use twp_plat::PlatFault;
-use twp_text::{PlaceFault, TextFault};
+use twp_read::TextFault;
+use twp_resolve::PlaceFault;
 
 /// Why there is no answer.
 #[derive(Clone, Copy, Debug, PartialEq, Eq, Error)]

@@ -7,7 +7,7 @@ use std::alloc::AllocError;
 use twp_measure::Area;
 use twp_plat::Plat;
 
-/// The area of all places that are in a tract so far, and that of all other places of the township.
+/// The area of all places in the tracts so far, and that of all other places in the township.
 #[derive(Drop)]
 pub(crate) struct Totals {
     total: Area,
@@ -22,7 +22,7 @@ impl Totals {
     ghost use Rattle.twp_plat.specs.Plats.{TownshipPlat};
     ghost use Rattle.twp_acres.specs.steps.TractTaking.{AreTotals, TakesArea, EndsAccount};
 
-    /// The figures without a tract: the whole township remains.
+    /// The figures without tracts: the whole township remains.
     pub(crate) fn new(plat: &Plat) -> Totals
         ensures { AreTotals plat.now no_places result }
     {
@@ -32,7 +32,7 @@ impl Totals {
         }
     }
 
-    /// Takes an area from what remains.
+    /// Subtracts an area from the remaining one.
     pub(crate) fn take(&mut self, area: &Area)
         requires over { area.now.over ≡ self.old.total.over }
         requires part { area.now.units ≤ self.old.remaining.units }
@@ -45,7 +45,7 @@ impl Totals {
         };
     }
 
-    /// Appends both figures, as `total: 78.20 acres` and `remaining: 22959.37 acres`.
+    /// Appends both figures, such as `total: 78.20 acres` and `remaining: 22959.37 acres`.
     pub(crate) fn write(&self, text: &mut Vec<u8>) -> Result<(), AllocError>
         ensures { OnOk result ((plat : TownshipPlat) (places : ℕ → ℕ → ℕ → Bool)
             → AreTotals plat places self.now

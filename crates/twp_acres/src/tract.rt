@@ -8,13 +8,13 @@ ghost use Rattle.twp_acres.specs.Tracts.{IsPrinted, IsTractName, IsTractRecord};
 use csv::ByteRecord;
 use twp_notes::field;
 
-/// How many fields each record has.
+/// The number of fields in each record.
 const FIELDS: usize = 2;
 
 /// The most bytes of a tract's name.
 pub(crate) const NAME_MOST: usize = 64;
 
-/// A tract's name, and the description of its land, which isn't read yet.
+/// A tract's name, and the description of its land, which has not been read yet.
 #[derive(Clone, Copy)]
 pub(crate) struct TractRecord<'a> {
     pub(crate) name: &'a str,
@@ -32,14 +32,14 @@ pub(crate) fn is_heading(row: &ByteRecord) -> bool
     is_text(field(row, 1), "description")
 }
 
-/// Whether the bytes are just this text.
+/// Whether the bytes are exactly this text.
 fn is_text(bytes: &[u8], text: &str) -> bool
     ensures { IsTrue result ↔ (bytes.now ≡ text.now) }
 {
     bytes == text.as_bytes()
 }
 
-/// The tract of a record, if it is a tract's.
+/// The tract of a record, if the record is a tract's.
 pub(crate) fn tract_of(row: &ByteRecord) -> Option<TractRecord<'_>>
     ensures { MatchOption result (¬ (IsTractRecord (fields_of row.now)))
         (λ tract. IsTractRecord (fields_of row.now)
@@ -58,7 +58,7 @@ pub(crate) fn tract_of(row: &ByteRecord) -> Option<TractRecord<'_>>
     })
 }
 
-/// The name that bytes are, if a tract may have it.
+/// The name with these bytes, if a tract can have it.
 fn name_of(bytes: &[u8]) -> Option<&str>
     ensures { MatchOption result (¬ (IsTractName bytes.now))
         (λ name. IsTractName bytes.now × (name.now ≡ bytes.now)) }

@@ -3,37 +3,37 @@ use std::alloc::{AllocError, AllocFailed};
 use thiserror::Error;
 use twp_grid::Refusal;
 
-/// The most bytes of a list of tracts, which is also the place of the refusal of more.
+/// The most bytes of a list of tracts, which is also the place in the refusal of a larger one.
 pub const TRACTS_LIMIT: u32 = 1_048_576;
 
-/// The most tracts of a list.
+/// The most tracts in a list.
 pub const TRACTS_MOST: u32 = 1_000;
 
-/// Why bytes are no list of tracts on a plat. Records are numbered from 1, as `csv` gives them,
-/// and the first one is the heading; the layout of the list is this project's rule.
+/// Why bytes are not a list of tracts on a plat. Records are numbered from 1, as `csv` returns
+/// them, and the first one is the heading; the layout of the list is this project's rule.
 #[derive(Clone, Copy, Debug, PartialEq, Eq, Error)]
 pub enum TractFault {
-    /// 80, at the limit: there are more bytes than a list may have.
+    /// 80, at the limit: there are more bytes than a list can have.
     #[error("the list of tracts has more than 1,048,576 bytes")]
     TractsTooLarge,
-    /// 81, at the record: it isn't a name and a description, or record 1 isn't the heading.
+    /// 81, at the record: it is not a name and a description, or record 1 is not the heading.
     #[error("record {0} isn't a name of 1 to 64 printed ASCII characters and a description")]
     TractRow(u32),
-    /// 82, at the record: an earlier tract has its name.
+    /// 82, at the record: an earlier tract has the same name.
     #[error("record {0} has the name of an earlier tract")]
     NameRepeated(u32),
-    /// 83, at the record: its description is refused itself.
+    /// 83, at the record: its description is itself refused.
     #[error("record {at} has a description that is refused: {} at {}", inner.number, inner.at)]
     TractRefused {
-        /// The record.
+        /// The number of the record.
         at: u32,
         /// The refusal of its description, with a place in the description.
         inner: Refusal,
     },
-    /// 84, at the record: a place of the tract is in an earlier one.
+    /// 84, at the record: a place of the tract is in an earlier tract.
     #[error("record {0} has a place that an earlier tract has")]
     TractsOverlap(u32),
-    /// 85, at the first record too many.
+    /// 85, at the first record beyond the limit.
     #[error("there are more than 1,000 tracts")]
     TooManyTracts,
     /// Memory ran out.
@@ -45,7 +45,7 @@ impl TractFault {
     ghost use Rattle.std.specs.Prelude.{◌≡◌};
     ghost use Rattle.twp_acres.specs.TractFaults.{refusal_of, verdict_of};
 
-    /// The number of the fault and its place. None for `Memory`.
+    /// The number of the fault and its place. `None` for `Memory`.
     pub fn refusal(&self) -> Option<Refusal>
         ensures { result ≡ refusal_of self.now }
     {
@@ -62,7 +62,7 @@ impl TractFault {
     }
 
     /// The verdict on a list that has the fault: its refusal, with that of a tract's description
-    /// beside it. None for `Memory`.
+    /// beside it. `None` for `Memory`.
     pub fn verdict(&self) -> Option<Verdict>
         ensures { result ≡ verdict_of self.now }
     {

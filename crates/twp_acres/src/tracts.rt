@@ -1,4 +1,4 @@
-//! The list of tracts, taken into an account record by record.
+//! The list of tracts, added to an account record by record.
 ghost use Rattle.std.specs.Prelude.{◌≤◌, length, OnOk, IfOk, IfErr};
 ghost use Rattle.twp_notes.specs.Records.{records_left, IsReading};
 ghost use Rattle.twp_acres.specs.Tracts.{TRACTS_LIMIT, TRACTS_MOST};
@@ -16,11 +16,12 @@ use std::cmp::min;
 use twp_land::{Land, Lanes};
 use twp_notes::Records;
 use twp_plat::Plat;
+use twp_read::Clarity;
 
-/// The number of the record after the heading, the first one of a tract.
+/// The number of the record after the heading, which is the first record of a tract.
 const FIRST_TRACT: u32 = 2;
 
-/// There is room from the start for one name for each of this many bytes: most tracts take more.
+/// Room is reserved at the start for one name for each of this many bytes; most tracts take more.
 const BYTES_TO_NAME: usize = 32;
 
 /// The text of the account of a list of tracts on a plat, or the list's first fault. The list is
@@ -30,7 +31,22 @@ pub fn account_of(alloc: Global, plat: &Plat, bytes: &[u8]) -> Result<Vec<u8>, T
     ensures account { IfOk result (λ text. IsAccountOf plat.now bytes.now text.items) }
     ensures fault { IfErr result (AnswersFault plat.now.township bytes.now) }
 {
-    // Borrowed where it is made: to move it would copy its buffers.
+    let mut clarity = Clarity::Unclear;
+    account_noting(alloc, plat, bytes, &mut clarity)
+}
+
+/// The same, and notes whether a place in a description of the list may be doubtful.
+pub(crate) fn account_noting(
+    alloc: Global,
+    plat: &Plat,
+    bytes: &[u8],
+    clarity: &mut Clarity,
+) -> Result<Vec<u8>, TractFault>
+    requires { length bytes.now ≤ TRACTS_LIMIT }
+    ensures account { IfOk result (λ text. IsAccountOf plat.now bytes.now text.items) }
+    ensures fault { IfErr result (AnswersFault plat.now.township bytes.now) }
+{
+    // Borrowed where it is made, because moving it would copy its buffers.
     let records = &mut Records::new(alloc, bytes);
     let mut row = ByteRecord::new(alloc);
     if !records.read(&mut row)? {
@@ -40,18 +56,19 @@ pub fn account_of(alloc: Global, plat: &Plat, bytes: &[u8]) -> Result<Vec<u8>, T
         return Err(TractFault::TractRow(1));
     }
     let mut account: RunningAccount<Lanes> = RunningAccount::new(alloc, plat);
-    // Set once the account is where it stays: to move it would copy its lands.
+    // Set after the account is in its final place, because moving it would copy its lands.
     account.names = Names::with_room(
         alloc,
         min(bytes.len() / BYTES_TO_NAME, TRACTS_MOST as usize),
     )?;
     take_tracts(alloc, plat, records, &mut row, &mut account)?;
+    *clarity = account.clarity;
     account.totals.write(&mut account.text)?;
     Ok(account.text)
 }
 
-/// Takes the tracts of the records that are left, which come after the heading, into an account of
-/// no tract.
+/// Adds the tracts of the remaining records, which come after the heading, to an account without
+/// tracts.
 fn take_tracts<L: Land>(
     alloc: Global,
     plat: &Plat,

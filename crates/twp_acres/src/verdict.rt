@@ -3,16 +3,16 @@ use thiserror::Error;
 use twp_grid::Refusal;
 use twp_notes::ReadFault;
 
-/// What a run answered, beside the text that it wrote.
+/// The verdict of a run, apart from the text that it wrote.
 #[derive(Clone, Copy, PartialEq, Eq)]
 pub enum Verdict {
     /// The input was accepted.
     Accepted,
     /// The input was refused, for its first fault.
     Refused(Refusal),
-    /// An account was refused for a tract whose description was refused itself.
+    /// An account was refused for a tract whose description was itself refused.
     TractRefused {
-        /// The tract's record, the heading's being 1.
+        /// The tract's record; that of the heading is 1.
         at: u32,
         /// The refusal of its description, with a place in the description.
         inner: Refusal,

@@ -1,4 +1,4 @@
--- Runs of letters, of digits and of other bytes at the start of bytes.
+-- Runs of letters, of digits, and of other bytes at the start of bytes.
 use Rattle.std.proofs.Common.{◌≡◌, ℕ, ◌+◌, ◌<◌, Bool, true, false, cond, ◌&&◌, List, [], ◌∷◌, ◌++◌, length}
 use Rattle.std.proofs.Common.{take, drop, refl, ap, ◌∙◌, arith, one-add}
 use Rattle.std.specs.Char.{is_ascii_alphabetic, is_ascii_digit}
@@ -8,7 +8,7 @@ use Rattle.std.proofs.lemmas.List.Sums.{AllPass-from_list_all, list_all-from_All
 use Rattle.std.proofs.lemmas.List.Folds.{length-prefix_len}
 use Rattle.twp_grammar.specs.Tokens.{is_white, begins_with, IsWholeRun}
 
--- which bytes a byte isn't
+-- a byte of one class is not in another
 pub letter_no_digit : (byte : ℕ) → is_ascii_digit byte ≡ true → is_ascii_alphabetic byte ≡ false
 letter_no_digit byte h = grind (arith, nat_tests)
 
@@ -37,7 +37,7 @@ pub run_of : (p : ℕ → Bool) (text rest : List ℕ) → IsWholeRun p text res
     → prefix_len p (text ++ rest) ≡ length text
 run_of p text rest run = run_len p text rest (list_all-from_AllPass p text run.all) run.ends
 
--- the run at the start of bytes is a whole one
+-- the run at the start of bytes is complete
 pub front_passes : (p : ℕ → Bool) (bytes : List ℕ) → list_all p (take (prefix_len p bytes) bytes) ≡ true
 front_passes p [] = refl
 front_passes p (byte ∷ bytes) = step p byte bytes (p byte) refl (front_passes p bytes)

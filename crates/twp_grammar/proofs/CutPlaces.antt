@@ -1,4 +1,4 @@
--- The places of what cuts leave of a section.
+-- The places that cuts leave of a section.
 use Rattle.std.proofs.Common.{◌≡◌, ℕ, zero, suc, ◌+◌, ◌^◌, ◌<◌, ◌≤◌, ◌&&◌, Bool, true, false, List, refl, inl}
 use Rattle.std.proofs.Common.{inr, arith, nat_lt, nat_le}
 use Rattle.std.proofs.Math.Nat.{pow-succ'}
@@ -11,7 +11,7 @@ use Rattle.twp_grid.specs.Spans.{Span, in_span, in_rectangle, whole_block}
 use Rattle.twp_grid.proofs.CutFacts.{within_span_of, rows_reached, columns_reached, rows_are_digits}
 use Rattle.twp_grid.proofs.CutFacts.{columns_are_digits}
 
--- a side of this many digits is more than one place where a digit is left
+-- a side with this many digits is more than one place if a digit is left
 pub more_left : (k : ℕ) → 1 < 2 ^ k → 0 < k
 more_left zero more = absurd (omega arith)
 more_left (suc k) more = omega arith
@@ -50,7 +50,7 @@ inside g column row place =
     let parts = and_parts (nat_lt column (2 ^ g)) (nat_lt row (2 ^ g)) place in
     (grind (arith, nat_tests, parts.0), grind (arith, nat_tests, parts.1))
 
--- a whole section has all places
+-- a whole section contains all its places
 pub whole_is_place : (column row : ℕ)
     → in_rectangle (whole_block PLACE_DIGITS) column row ≡ is_place PLACE_DIGITS column row
 whole_is_place column row = rw (along column, along row) refl

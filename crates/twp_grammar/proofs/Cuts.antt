@@ -1,4 +1,4 @@
--- The token that is cut off bytes is the one token that they begin with.
+-- The token that is split off bytes is the only token that they begin with.
 use Rattle.std.proofs.Common.{◌≡◌, ◌==◌, ℕ, zero, suc, ◌<◌, ◌≤◌, ◌⊎◌, Bool, true, false, cond, ◌&&◌, List, []}
 use Rattle.std.proofs.Common.{◌∷◌, ◌++◌, length, take, drop, slice_index, refl, sym, ap, subst, ◌∙◌, inl, inr}
 use Rattle.std.proofs.Common.{arith, le-leb, not}
@@ -26,7 +26,7 @@ use Rattle.twp_grammar.specs.Tokens.{a_semicolon, a_colon, a_stop, NoGoodToken, 
 use Rattle.twp_grammar.proofs.ByteRuns.{letter_no_digit, letter_no_space, digit_no_space, both, run_of}
 use Rattle.twp_grammar.proofs.ByteRuns.{front_run, starts_run}
 
--- a half or a quarter in digits is there where its three bytes are
+-- a half or a quarter in digits is present exactly if its three bytes are
 abbrev three : List ℕ → ℕ → Bool
 three bytes last = (slice_index bytes 0 == 49) && (slice_index bytes 1 == 47) && (slice_index bytes 2 == last)
 
@@ -63,7 +63,7 @@ no_begin bytes last h (more, e) =
     let there : three bytes last ≡ true = rw e (eq-eqb last last refl) in
     false≢true (sym h ∙ there)
 
--- a good token is the one that is cut
+-- a good token is the one that is split off
 pub record IsTheCut (text rest : List ℕ) (kind : Kind) : Type 0 where
   pub is : cut (text ++ rest) ≡ lexeme kind (length text)
   pub some : 0 < length text
@@ -174,7 +174,7 @@ the_good text rest kind (a_semicolon t e) =
 the_good text rest kind (a_colon t e) = rw (t, e) (record { is = refl; some = omega arith; no_space = refl })
 the_good text rest kind (a_stop t e) = rw (t, e) (record { is = refl; some = omega arith; no_space = refl })
 
--- what is cut is a good token, or one bad byte
+-- the token that is split off is good, or is one bad byte
 abbrev Cuts : List ℕ → Lexeme → Type 0
 Cuts bytes l =
     ((l.size ≤ length bytes) × IsGoodToken (take l.size bytes) (drop l.size bytes) l.kind)
@@ -274,7 +274,7 @@ cuts byte bytes =
     choose _ (is_ascii_alphabetic byte) _ _ (word_cuts byte bytes) (λ _.
     choose _ (is_ascii_digit byte) _ _ (digit_cuts byte bytes) (λ _. mark_cuts byte bytes))
 
--- no good token is a bad byte
+-- a good token is not a bad byte
 abbrev is_bad_byte : Kind → Bool
 is_bad_byte BadByte = true
 is_bad_byte _ = false
@@ -334,7 +334,7 @@ the_cut text rest kind (bad is_bad e) = rw (e, is_bad.is) (elim (cuts is_bad.byt
   | inr e' ↦ record { is = e'; some = omega arith; no_space = is_bad.no_space }
 ])
 
--- the token that is cut
+-- the token that is split off
 pub record IsFirstToken (bytes : List ℕ) (l : Lexeme) : Type 0 where
   pub some : 0 < l.size
   pub fits : l.size ≤ length bytes

@@ -1,5 +1,5 @@
--- What may follow a token by a grammar is a grammar again, its derivative by the token's class. Trees of the
--- derivative give trees of the grammar.
+-- The texts that may follow a token in a grammar form a grammar too, the grammar's derivative by
+-- the token's class. Trees of the derivative give trees of the grammar.
 use Rattle.std.proofs.Common.{◌≡◌, ◌==◌, ℕ, Bool, true, false, not, cond, ◌&&◌, List, [], ◌∷◌, ◌++◌, get_or}
 use Rattle.std.proofs.Common.{refl, sym, ap, subst, ◌∙◌, inl, inr, append_assoc}
 use Rattle.std.proofs.lemmas.Bool.{eqb-true}
@@ -15,7 +15,7 @@ use Rattle.twp_grammar.specs.Grammar.{other, bad_number, bad_byte, Value, class_
 use Rattle.twp_grammar.specs.Grammar.{nothing, one, ◌⨾◌, ◌∣◌, many}
 use Rattle.twp_grammar.specs.Items.{Leaf, token_of, ◌&◌, Tree, tokens}
 
--- the classes, and the number of each
+-- the classes, and a number for each
 abbrev pub classes : List Class
 classes =
     sec ∷ lot ∷ all ∷ and ∷ to ∷ inclusive ∷ of ∷ the ∷ t ∷ r ∷ north_south ∷ east_west ∷ corner ∷ half
@@ -132,7 +132,7 @@ kind_of_value Other = refl
 kind_of_value BadNumber = refl
 kind_of_value BadByte = refl
 
--- each token is a leaf of its class
+-- each token is a leaf with its class
 abbrev pub leaf_of : (token : Token) → Leaf (class_of token.kind)
 leaf_of token = record { value = value_of token.kind; text = token.text; at = token.at }
 
@@ -146,7 +146,7 @@ pub record Derives (g : Ebnf) (ts : List Token) : Type 0 where
   pub tree : Tree g
   pub spelled : tokens g tree ≡ ts
 
--- no tokens at all are derived
+-- the empty list of tokens is derived
 abbrev pub is_nullable : Ebnf → Bool
 is_nullable never = false
 is_nullable nothing = true
@@ -155,7 +155,7 @@ is_nullable (g ⨾ h) = is_nullable g && is_nullable h
 is_nullable (g ∣ h) = cond (is_nullable g) true (is_nullable h)
 is_nullable (many g) = true
 
--- no tokens at all are derived in one way at most, here and in each part
+-- the empty list of tokens is derived in at most one way, here and in each part
 abbrev pub has_one_empty : Ebnf → Bool
 has_one_empty never = true
 has_one_empty nothing = true
@@ -164,7 +164,7 @@ has_one_empty (g ⨾ h) = has_one_empty g && has_one_empty h
 has_one_empty (g ∣ h) = has_one_empty g && (has_one_empty h && not (is_nullable g && is_nullable h))
 has_one_empty (many g) = has_one_empty g && not (is_nullable g)
 
--- one after the other, and one or the other, with what is empty left out
+-- a sequence and an alternative, with empty parts left out
 abbrev pub seq : Ebnf → Ebnf → Ebnf
 seq never k = never
 seq nothing k = k
@@ -178,7 +178,7 @@ alt never h = h
 alt g never = g
 alt g h = g ∣ h
 
--- what may follow a token of the class
+-- the grammar of the texts that may follow a token of the class
 abbrev pub after : Class → Ebnf → Ebnf
 after c never = never
 after c nothing = never
@@ -210,7 +210,7 @@ derives_none (g ⨾ k) h =
 derives_none (g ∣ k) h = none_of_either g k (is_nullable g) refl h (derives_none g) (derives_none k)
 derives_none (many g) h = record { tree = []; spelled = refl }
 
--- trees of a sequence, taken apart
+-- trees of a sequence, split
 with_parts : (g k : Ebnf) (P : List Token → Type 0) (v : Tree (g ⨾ k))
     → ((x : Tree g) (y : Tree k) → P (tokens g x ++ tokens k y)) → P (tokens (g ⨾ k) v)
 with_parts g k P (x & y) use_parts = use_parts x y
@@ -275,7 +275,7 @@ from_alt (many x) (g ⨾ h) ts d = d
 from_alt (many x) (g ∣ h) ts d = d
 from_alt (many x) (many g) ts d = d
 
--- what the derivative derives, the grammar derives after the token
+-- if the derivative derives some tokens, the grammar derives them after the token
 abbrev TakesOn : Ebnf → Type 0
 TakesOn g =
     (c : Class) (leaf : Leaf c) (ts : List Token) → Derives (after c g) ts → Derives g (token_of c leaf ∷ ts)

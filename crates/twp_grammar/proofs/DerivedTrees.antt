@@ -1,4 +1,4 @@
--- Trees by what may follow a token, and the trees that they make with that token before them again.
+-- Trees of a derivative, and the trees that they give with the token before them again.
 use Rattle.std.proofs.Common.{◌≡◌, Bool, true, false, cond, ◌⊎◌, ◌∷◌, ◌++◌, refl, sym, ap, ◌∙◌, inl, inr}
 use Rattle.std.proofs.Common.{append_assoc}
 use Rattle.twp_grid.specs.declared.township.NorthSouth.TheVariants as ns
@@ -14,7 +14,7 @@ use Rattle.twp_grammar.specs.Grammar.{◌⨾◌, ◌∣◌, many}
 use Rattle.twp_grammar.specs.Items.{Leaf, Then, ◌&◌, Tree, tokens}
 use Rattle.twp_grammar.proofs.Derivatives.{is_nullable, seq, alt, after, derives_none}
 
--- the value of a token that is of the class
+-- the value of a token of the class
 abbrev value_at : (c : Class) → Kind → Value c
 value_at sec k = tt
 value_at lot k = tt
@@ -47,7 +47,7 @@ value_at bad_byte k = tt
 abbrev leaf_at : (c : Class) → Token → Leaf c
 leaf_at c token = record { value = value_at c token.kind; text = token.text; at = token.at }
 
--- trees of one grammar stand for those of another: each comes from one of the same tokens
+-- trees of one grammar represent those of another: each comes from one with the same tokens
 pub record StandFor (g h : Ebnf) : Type 0 where
   pub into : Tree g → Tree h
   pub out : Tree h → Tree g
@@ -57,7 +57,7 @@ pub record StandFor (g h : Ebnf) : Type 0 where
 themselves : (g : Ebnf) → StandFor g g
 themselves g = record { into = λ v. v; out = λ v. v; back = λ v. refl; spelled = λ v. refl }
 
--- one or the other, where one of them has no trees
+-- an alternative in which one grammar has no trees
 abbrev only_left : (g : Ebnf) → Tree (g ∣ never) → Tree g
 only_left g (inl v) = v
 only_left g (inr none) = absurd none
@@ -95,7 +95,7 @@ alternatives never h = alone_right h
 alternatives g never = alone_left g
 alternatives g h = themselves (g ∣ h)
 
--- one after the other, where the first one has no trees, or no tokens
+-- a sequence in which the first grammar has no trees, or no tokens
 abbrev behind_never : (k : Ebnf) → Tree (never ⨾ k) → ⊥
 behind_never k (none & w) = none
 
@@ -109,7 +109,7 @@ behind_nothing_spelled : (k : Ebnf) (v : Tree (nothing ⨾ k))
     → tokens k (behind_nothing k v) ≡ tokens (nothing ⨾ k) v
 behind_nothing_spelled k (_ & w) = refl
 
--- two and one more, or one and two more
+-- two and one more, regrouped as one and two more
 abbrev with_two : (g h k : Ebnf) → Tree g → Tree (h ⨾ k) → Tree ((g ⨾ h) ⨾ k)
 with_two g h k x (y & z) = (x & y) & z
 
@@ -153,7 +153,7 @@ sequences (g ⨾ h) k =
     }
 sequences g k = themselves (g ⨾ k)
 
--- what may follow the token, and a derivation of that with the token before it again
+-- the derivative by a token, and a derivation in it with the token before it again
 abbrev pub either : {A B C : Type 0} → (A → C) → (B → C) → A ⊎ B → C
 either f g (inl x) = f x
 either f g (inr y) = g y
@@ -170,7 +170,7 @@ by_both g h k f u = join f ((sequences g h).into u)
 abbrev pub past : Token → Ebnf → Ebnf
 past token g = after (class_of token.kind) g
 
--- what may follow it in a sequence, whose first part may be nothing or not
+-- the derivative of a sequence whose first part may be empty
 abbrev pub past_first : Token → Ebnf → Ebnf → Ebnf
 past_first token g h = seq (past token g) h
 

@@ -1,5 +1,5 @@
--- The items of a description where each place is cut into four: what lies on the plat lies on it still, and
--- their land is the same.
+-- The items of a description when each place is divided into four: items on the plat remain on it,
+-- and their land is the same.
 use Rattle.std.proofs.Common.{◌≡◌, ◌==◌, ℕ, suc, ◌/◌, ◌≤◌, ◌&&◌, ◌||◌, Bool, true, false, List, [], ◌∷◌}
 use Rattle.std.proofs.Common.{IsSome, refl, sym, ap, subst, ◌∙◌, inl, inr, arith}
 use Rattle.std.proofs.Math.Path.{fun_ext}
@@ -18,7 +18,7 @@ use Rattle.twp_grammar.specs.ItemPlaces.{parts_of, land_of}
 use Rattle.twp_grammar.specs.OnPlat.{LiesOnPlat, AreOnPlat, IsLandOfItems}
 use Rattle.twp_grammar.proofs.Membership.{Among, among_contains}
 
--- what steps hold, where each place is one of the four that a greater place was cut into
+-- the places of steps when each place is one of the four that a larger place was divided into
 pub chain_coarser : (g : ℕ) (steps : List Step) (column row : ℕ) → AreWithin g (cuts_of steps)
     → in_chain (suc g) steps column row ≡ in_chain g steps (column / 2) (row / 2)
 chain_coarser g steps column row within =
@@ -34,7 +34,7 @@ within_greater k g steps more within =
     let columns = within.columns in
     record { rows = omega arith; columns = omega arith }
 
--- an aliquot part is no finer than places are
+-- an aliquot part is no smaller than a place
 abbrev IsInPlaces : ℕ → Item → Type 0
 IsInPlaces g (item.Chain steps at) = AreWithin g (cuts_of steps)
 IsInPlaces g other = Unit {0}
@@ -47,7 +47,7 @@ in_places g township section (item.Sections first last whole) lies = tt
 in_places g township section (item.Lots first last) lies = tt
 in_places g township section (item.All at) lies = tt
 
--- what an item names
+-- the places that an item names
 same_in_item : (g section : ℕ) (it : Item) (other column row : ℕ) → POSITIONS_ACROSS ≤ places_across g
     → IsInPlaces g it
     → in_item (suc g) section it other column row ≡ in_item g section it other (column / 2) (row / 2)

@@ -1,10 +1,10 @@
--- What stands in a list.
+-- Members of a list.
 use Rattle.std.proofs.Common.{◌≡◌, zero, suc, ◌⊎◌, List, [], ◌∷◌, ◌++◌, sym, inl, inr, arith, Bool, true}
 use Rattle.std.proofs.Common.{refl}
 use Rattle.std.specs.List.{Contains, list_any}
 use Rattle.std.proofs.lemmas.Bool.{cases_Bool}
 
--- a thing stands in a list
+-- a thing is in a list
 abbrev pub Among : {T : Type 0} → T → List T → Type 0
 Among thing [] = ⊥
 Among thing (first ∷ list) = (thing ≡ first) ⊎ Among thing list
@@ -22,7 +22,7 @@ contains_among thing (first ∷ list) (zero, within, is) = inl (sym is)
 contains_among thing (first ∷ list) (suc k, within, is) =
     inr (contains_among thing list (k, (omega arith), is))
 
--- a list after another
+-- a thing in two lists joined is in one of them
 pub among_either : {T : Type 0} (thing : T) (list more : List T) → Among thing (list ++ more)
     → Among thing list ⊎ Among thing more
 among_either thing [] more there = inr there
@@ -40,7 +40,7 @@ pub among_right : {T : Type 0} (thing : T) (list more : List T) → Among thing 
 among_right thing [] more there = there
 among_right thing (first ∷ list) more there = inr (among_right thing list more there)
 
--- a test that some thing of a list passes
+-- a test that some member of a list passes
 pub record Passes {T : Type 0} (test : T → Bool) (list : List T) : Type 0 where
   pub thing : T
   pub there : Among thing list

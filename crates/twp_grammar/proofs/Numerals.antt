@@ -26,14 +26,15 @@ list_all-is (c ∷ cs) = rw (list_all-is cs) refl
 own : IsNumeralModel (λ text. all_ascii_digits text ≡ true) (digits_value 10)
 own = numerals_by_value _ tells_all_ascii_digits
 
--- a test of each byte says whether all are digits
+-- testing each byte shows whether all are digits
 pub digits_tested : (text : List ℕ) → list_all is_ascii_digit text ≡ true → AllDigits 10 text
 digits_tested text h = own.to text (sym (list_all-is text) ∙ h)
 
 pub digits_test : (text : List ℕ) → AllDigits 10 text → list_all is_ascii_digit text ≡ true
 digits_test text h = list_all-is text ∙ own.from text h
 
--- One more digit: its byte is that of a digit, and the value is ten times the value so far and the digit.
+-- One more digit: its byte is that of a digit, and the new value is ten times the value so far,
+-- plus the digit.
 pub record OneMoreDigit (digits : List ℕ) (i v : ℕ) : Type 0 where
   pub byte : 48 ≤ get_or digits i 0
   pub value : 10 * v + (get_or digits i 0 - 48) ≡ digits_value 10 (take (i + 1) digits)
@@ -147,7 +148,7 @@ two_digits bytes first second e f h k l =
     (ap (λ v. lexeme (Number v) 2) (sym (two_in_value bytes h' k'))
     ∙ few_digits bytes 2 (two_in_bytes bytes h' k' l) (omega arith))
 
--- digits of which the second is one too are neither a half nor a quarter
+-- if the second of some digits is a digit too, they begin neither a half nor a quarter
 no_slash : (byte : ℕ) → is_ascii_digit byte ≡ true → (byte == 47) ≡ false
 no_slash byte h = ne_eqb byte 47 (λ (e : byte ≡ 47).
     let g : is_ascii_digit 47 ≡ true = subst (λ n. is_ascii_digit n ≡ true) e h in cc g)
@@ -166,5 +167,5 @@ two_or_more bytes h =
 
 pub ruleset digits_alone = (one_digit, two_or_more)
 
--- what digits at the start of a text are
+-- the token of the digits at the start of a text
 pub ruleset numbers = (digits_in_front, few_digits, many_digits)

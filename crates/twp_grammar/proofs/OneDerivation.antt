@@ -1,6 +1,6 @@
--- A sentence has one derivation. A derivation of a token and more by a grammar is made of one by the
--- grammar's derivative, so two of them are the same where those are; and no tokens at all have one
--- derivation.
+-- A sentence has only one derivation. In a grammar, a derivation of a token and more is made from
+-- one in the grammar's derivative, so two of them are the same if those are; and the empty list of
+-- tokens has only one derivation.
 use Rattle.std.proofs.Common.{◌≡◌, Bool, true, false, not, cond, ◌&&◌, List, [], ◌∷◌, ◌++◌, Option, Some}
 use Rattle.std.proofs.Common.{None, refl, sym, ap, subst, ◌∙◌, inl, inr}
 use Rattle.twp_grammar.specs.declared.state.State.{State}
@@ -19,13 +19,13 @@ use Rattle.twp_grammar.proofs.DerivedTrees.{StandFor, alternatives, sequences, e
 use Rattle.twp_grammar.proofs.DerivedTrees.{by_both, past, past_first, past_sequence, in_front, with_none}
 use Rattle.twp_grammar.proofs.DerivedTrees.{in_sequence, put}
 
--- the tree is made of one by another grammar, of these tokens
+-- the tree is made from one in another grammar, with these tokens
 record IsMade (g h : Ebnf) (make : Tree g → Tree h) (v : Tree h) (ts : List Token) : Type 0 where
   tree : Tree g
   spelled : tokens g tree ≡ ts
   back : make tree ≡ v
 
--- a derivation of a token and more is made of one of the rest
+-- a derivation of a token and more is made from a derivation of the rest
 abbrev IsStripped : (token : Token) (g : Ebnf) → Tree g → List Token → Type 0
 IsStripped token g v ts = IsMade (past token g) g (put token g) v ts
 
@@ -69,7 +69,7 @@ made_of_both g h k f x y =
       back = ap (join f) (stand.back (x & y));
     }
 
--- a token of the class has the leaf that it was made of
+-- a token of the class has the leaf that it was made from
 its_leaf : (c : Class) (leaf : Leaf c)
     → IsMade (past (token_of c leaf) (one c)) (one c) (put (token_of c leaf) (one c)) leaf []
 its_leaf sec leaf = record { tree = tt; spelled = refl; back = refl }
@@ -113,7 +113,7 @@ leaf_stripped c leaf token ts h =
     (subst (λ (u : Token). IsMade (past u (one c)) (one c) (put u (one c)) leaf []) is_token
     (its_leaf c leaf))
 
--- no tokens at all
+-- the empty list of tokens
 none_of_two : (ts us : List Token) → ts ++ us ≡ [] → (ts ≡ []) × (us ≡ [])
 none_of_two [] us h = (refl, h)
 none_of_two (token ∷ ts) us h = cc h
@@ -155,7 +155,7 @@ of_choice g h single =
     both (has_one_empty h) (not (is_nullable g && is_nullable h))
     (both (has_one_empty g) (has_one_empty h && not (is_nullable g && is_nullable h)) single).1
 
--- no tokens at all have one derivation
+-- the empty list of tokens has only one derivation
 one_empty : (g : Ebnf) → has_one_empty g ≡ true → (v w : Tree g) → tokens g v ≡ [] → tokens g w ≡ [] → v ≡ w
 one_empty never single v w e e' = absurd v
 one_empty nothing single v w e e' = refl
@@ -185,7 +185,7 @@ one_empty (many g) single (x ∷ xs) w e e' =
 one_empty (many g) single [] (x ∷ xs) e e' =
     absurd (some_tokens g single x (none_of_two (tokens g x) (tokens (many g) xs) e').0)
 
--- the first token is of the first tree
+-- the first token belongs to the first tree
 front_stripped : (g h : Ebnf) → Strips g → (token : Token) (us ts : List Token) (x : Tree g) (y : Tree h)
     → tokens g x ≡ token ∷ us → us ++ tokens h y ≡ ts
     → IsMade (past_first token g h) (g ⨾ h) (in_front token g h (put token g)) (x & y) ts
@@ -209,7 +209,7 @@ more_stripped g strips token us ts x xs first rest =
       back = made.back ∙ ap (λ a. a ∷ xs) behind.back;
     }
 
--- the first token is of the second tree
+-- the first token belongs to the second tree
 second_stripped : (g h : Ebnf) → has_one_empty g ≡ true → Strips h
     → (empty : is_nullable g ≡ true) (token : Token) (ts : List Token) (x : Tree g) (y : Tree h)
     → tokens g x ≡ [] → tokens h y ≡ token ∷ ts
@@ -291,7 +291,7 @@ stripped (many g) single token ts (x ∷ xs) first =
     many_stripped g single (stripped g (both (has_one_empty g) (not (is_nullable g)) single).0) token ts x xs
     (tokens g x) refl first
 
--- derivations of the same tokens are one
+-- derivations of the same tokens are the same
 abbrev HasOneTree : Ebnf → List Token → Type 0
 HasOneTree g ts = (v w : Tree g) → tokens g v ≡ ts → tokens g w ≡ ts → v ≡ w
 
@@ -316,7 +316,7 @@ one_derivation v w same =
     subst (λ (g : Ebnf). (a b : Tree g) → tokens g a ≡ tokens g b → a ≡ b) table.rest_at_start
     (λ a b e. one_of_rest (tokens (table.rest Start) b) Start a b e refl) v w same
 
--- a list of tokens is read as one list of items
+-- a list of tokens is read as only one list of items
 pub one_item_list : OneItemList
 one_item_list ts is is' has has' =
     let same : has.tree ≡ has'.tree = one_derivation has.tree has'.tree (has.spelled ∙ sym has'.spelled) in

@@ -1,4 +1,4 @@
--- A token that some state takes leads where its kind says.
+-- A token that some state accepts leads where its kind determines.
 use Rattle.std.proofs.Common.{◌≡◌, true, false, Option, Some, None, refl}
 use Rattle.std.specs.Option.{option_map, is_some}
 use Rattle.twp_grammar.specs.declared.state.State.{State}
@@ -33,7 +33,7 @@ part_begins _ h = refl
 
 pub ruleset part_goes_on = (chain_goes_on, part_begins)
 
--- a side that a step may begin with
+-- a direction that a step may begin with
 pub north_south_of_step : (s : State) → is_some (next s corner) ≡ true → Some past.Side ≡ next s north_south
 north_south_of_step past.SectionNumber h = refl
 north_south_of_step past.SectionComma h = refl
@@ -60,7 +60,7 @@ east_west_of_step past.Of h = refl
 east_west_of_step past.OfThe h = refl
 east_west_of_step _ h = cc h
 
--- where sections may begin, their word does
+-- where sections may begin, the word for them may
 pub sections_begin : (s : State) → is_some (next s sec) ≡ true → Some past.SectionWord ≡ next s sec
 sections_begin past.Start h = refl
 sections_begin past.RangeSide h = refl

@@ -1,4 +1,4 @@
--- Steps stand in two lists, of which the second is empty until the first is full.
+-- Steps are stored in two lists, and the second is empty until the first is full.
 use Rattle.std.proofs.Common.{◌≡◌, ℕ, zero, suc, ◌-◌, ◌<◌, ◌≤◌, List, [], ◌∷◌, ◌++◌, length, slice_get, refl}
 use Rattle.std.proofs.Common.{sym, ap, ◌∙◌, arith, append_assoc}
 use Rattle.std.proofs.lemmas.List.{append-nil}
@@ -30,6 +30,6 @@ in_more (step ∷ first) more (suc i) past =
     in_more first more i (omega arith)
     ∙ ap (λ n. slice_get more n) (let e : i - length first ≡ suc i - suc (length first) = omega arith in e)
 
--- where the first list isn't full, it has all of them
+-- if the first list is not full, it contains all of them
 pub all_first : (first more : List Step) → more ≡ [] → length first ≡ length (first ++ more)
 all_first first more none = sym (ap (λ xs. length (first ++ xs)) none ∙ ap length (append-nil first))

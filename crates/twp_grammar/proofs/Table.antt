@@ -1,4 +1,5 @@
--- The machine is the grammar's: in each state what it takes is what the grammar leaves to be read there.
+-- The machine agrees with the grammar: in each state it accepts the tokens that the grammar leaves
+-- to be read there.
 use Rattle.std.proofs.Common.{◌≡◌, ℕ, zero, suc, ◌<◌, ◌≤◌, Bool, true, false, ◌&&◌, List, [], ◌∷◌, Option}
 use Rattle.std.proofs.Common.{Some, None, length, get_or, refl, ap, subst, inl, inr, arith}
 use Rattle.std.specs.List.{list_all, list_any}
@@ -14,7 +15,7 @@ use Rattle.twp_grammar.specs.Expected.{told, named, expected_of, IsNamed}
 use Rattle.twp_grammar.proofs.Derivatives.{classes, place_of_class, class_at_place, same_class}
 use Rattle.twp_grammar.proofs.Derivatives.{same_class_tells, is_nullable, has_one_empty, both, after}
 
--- the state after some classes, read from Start
+-- the state after some classes, starting from Start
 after_all : Ebnf → List Class → Ebnf
 after_all g [] = g
 after_all g (c ∷ cs) = after_all (after c g) cs
@@ -113,7 +114,7 @@ way_out past.Step = []
 way_out past.Of = north_south ∷ half ∷ []
 way_out past.OfThe = north_south ∷ half ∷ []
 
--- what the grammar leaves to be read in a state
+-- the grammar of the tokens that remain to be read in a state
 unfoldable pub rest : State → Ebnf
 unfolding after_all
 rest s = after_all description (way_to s)
@@ -128,12 +129,12 @@ same (g ∣ h) (k ∣ l) = same g k && same h l
 same (many g) (many k) = same g k
 same _ _ = false
 
--- a token of the class leads to a state that has just what is left to be read, or it can't stand there
+-- a token of the class leads to the state for what remains after it, or cannot come next
 abbrev is_edge : State → Class → Option State → Bool
 is_edge s c None = same (after c (rest s)) never
 is_edge s c (Some s') = same (after c (rest s)) (rest s')
 
--- a final state has nothing left that must be read
+-- in a final state nothing remains that has to be read
 abbrev is_end : State → Bool → Bool
 is_end s true = is_nullable (rest s)
 is_end s false = true
@@ -144,7 +145,7 @@ leads_out None cs = false
 leads_out (Some s) [] = is_final s
 leads_out (Some s) (c ∷ cs) = leads_out (next s c) cs
 
--- a token that may follow is among the named ones
+-- a token that may follow is among the expected ones
 abbrev is_among : Class → Option State → List Class → Bool
 is_among c None cs = true
 is_among c (Some s) cs = list_any (λ d. same_class c d) cs
@@ -244,7 +245,7 @@ same_tells (g ∣ h) (k ∣ l) e =
 same_tells (many g) (many k) e = ap (λ x. many x) (same_tells g k e)
 same_tells _ _ e = cc e
 
--- what holds of all classes holds of each
+-- a fact about all classes holds for each
 of_each : (p : Class → Bool) (cs : List Class) (k : ℕ) → list_all p cs ≡ true → k < length cs
     → p (get_or cs k sec) ≡ true
 of_each p [] k each below = absurd (omega arith)
@@ -279,13 +280,13 @@ in_classes bad_byte = omega arith
 of_class : (p : Class → Bool) (c : Class) → list_all p classes ≡ true → p c ≡ true
 of_class p c each = rw class_at_place at (of_each p classes (place_of_class c) each (in_classes c))
 
--- a token that the machine takes leaves the grammar's derivative
+-- a token that the machine accepts leaves the grammar's derivative
 pub edge : (s s' : State) (c : Class) → next s c ≡ Some s' → after c (rest s) ≡ rest s'
 edge s s' c e =
     let found : is_edge s c (next s c) ≡ true = of_class (λ d. is_edge s d (next s d)) c (row s).edges in
     same_tells (after c (rest s)) (rest s') (subst (λ (o : Option State). is_edge s c o ≡ true) e found)
 
--- nor does the grammar derive one that it doesn't take
+-- the grammar derives no token that the machine does not accept
 pub no_edge : (s : State) (c : Class) → next s c ≡ None → after c (rest s) ≡ never
 no_edge s c e =
     let found : is_edge s c (next s c) ≡ true = of_class (λ d. is_edge s d (next s d)) c (row s).edges in
@@ -307,18 +308,18 @@ pub rest_at_start : rest past.Start ≡ description
 unfolding rest after_all
 rest_at_start = refl
 
--- no state takes a bad token
+-- no state accepts a bad token
 pub takes_no_bad_byte : (s : State) → next s bad_byte ≡ None
 takes_no_bad_byte s = (row s).no_byte
 
 pub takes_no_bad_number : (s : State) → next s bad_number ≡ None
 takes_no_bad_number s = (row s).no_number
 
--- no state takes an unknown word
+-- no state accepts an unknown word
 pub takes_no_other : (s : State) → next s other ≡ None
 takes_no_other s = (row s).no_word
 
--- what may follow in a state is named there
+-- every token that may follow in a state is expected there
 pub follows_named : (s s' : State) (c : Class) → next s c ≡ Some s'
     → list_any (λ d. same_class c d) (named (expected_of s)) ≡ true
 follows_named s s' c e =
@@ -326,7 +327,7 @@ follows_named s s' c e =
     of_class (λ d. is_among d (next s d) (named (expected_of s))) c (row s).names_all in
     subst (λ (o : Option State). is_among c o (named (expected_of s)) ≡ true) e found
 
--- what is reported in a state may follow there
+-- every token that is reported as expected in a state may follow there
 told_among : (s : State) (c : Class) (cs : List Class) → list_all (λ d. is_some (next s d)) cs ≡ true
     → IsNamed c cs → is_some (next s c) ≡ true
 told_among s c [] each is = absurd is

@@ -1,5 +1,5 @@
--- White space and then the token that is cut are what bytes begin with, and they begin with nothing else. So
--- bytes have one list of tokens.
+-- Bytes begin with white space and then the token that is split off, and with nothing else. So
+-- bytes have only one list of tokens.
 use Rattle.std.proofs.Common.{◌≡◌, ℕ, zero, suc, ◌+◌, ◌-◌, ◌<◌, ◌≤◌, false, List, [], ◌∷◌, ◌++◌, length, take}
 use Rattle.std.proofs.Common.{drop, refl, sym, ap, subst, ◌∙◌, arith, length-append, length-drop}
 use Rattle.std.proofs.Common.{length-take-le}
@@ -70,7 +70,7 @@ behind_spaces : (text : List ℕ) (from at : ℕ) → at ≡ from + spaces (drop
     → drop (spaces (drop from text)) (drop from text) ≡ drop at text
 behind_spaces text from at is = drop-drop (spaces (drop from text)) from text ∙ ap (λ n. drop n text) (sym is)
 
--- the token that is cut there
+-- the token that is split off there
 pub first_at : (text : List ℕ) (from at : ℕ) → at ≡ from + spaces (drop from text) → at < length text
     → IsFirstToken (drop at text) (cut (drop at text))
 first_at text from at is below =
@@ -118,7 +118,7 @@ none_in text from is =
     no_more (drop from text)
     (behind_spaces text from (length text) is ∙ drop_all (length text) text (omega arith))
 
--- what the bytes say of a token that they begin with
+-- facts about a token that the bytes begin with
 record IsStart (at : ℕ) (bytes : List ℕ) (token : Token) (rest : List ℕ) : Type 0 where
   left_is : drop (spaces bytes) bytes ≡ token.text ++ rest
   place : token.at ≡ at + spaces bytes
@@ -175,7 +175,7 @@ rest_is at bytes token rest s =
     ∙ ap (λ b. drop (length token.text) b) s.left_is
     ∙ drop-append_seam token.text rest)
 
--- bytes that are white space begin with no token
+-- bytes that are all white space begin with no token
 not_all_white : (at : ℕ) (bytes : List ℕ) (token : Token) (rest : List ℕ) → AllPass is_white bytes
     → IsStart at bytes token rest → ⊥
 not_all_white at bytes token rest white s =
@@ -188,7 +188,7 @@ not_all_white at bytes token rest white s =
     let longer : length token.text + length rest ≡ 0 = rw length-append at long in
     absurd (let some : 0 < length token.text = s.some in omega arith)
 
--- bytes are cut into tokens in one way
+-- bytes can be split into tokens in only one way
 pub one_token_list : (at : ℕ) (bytes : List ℕ) (tokens tokens' : List Token) → HasTokens at bytes tokens
     → HasTokens at bytes tokens' → tokens ≡ tokens'
 one_token_list at bytes [] [] has has' = refl
@@ -208,7 +208,7 @@ one_token_list at bytes (token ∷ tokens) (token' ∷ tokens') (rest, starts, m
     one_token_list (token.at + length token.text) rest tokens tokens' more others in
     ap (λ t. t ∷ tokens) (sym same) ∙ ap (λ ts. token' ∷ ts) ends
 
--- each list of bytes is cut into tokens
+-- each list of bytes can be split into tokens
 abbrev pub Cutting : ℕ → List ℕ → Type 0
 Cutting at bytes = (tokens : List Token) × HasTokens at bytes tokens
 

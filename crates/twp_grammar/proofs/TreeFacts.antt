@@ -1,4 +1,4 @@
--- The tokens of a tree, put before others; and the items that a sentence begins with.
+-- The tokens of a tree, put before others; and the first items of a sentence.
 use Rattle.std.proofs.Common.{◌≡◌, List, [], ◌∷◌, ◌++◌, refl, sym, ap, ◌∙◌, inl, inr, append_assoc, Bool}
 use Rattle.std.proofs.Common.{true, false, map}
 use Rattle.std.specs.List.{flat_map}

@@ -1,4 +1,4 @@
--- What could stand where a description goes wrong.
+-- What is expected at the place where a description is wrong.
 use Rattle.std.specs.Prelude.{◌≡◌, ◌⊎◌, List, [], ◌∷◌, ◌++◌}
 use Rattle.twp_grammar.specs.declared.expected.Expected.{Expected}
 use Rattle.twp_grammar.specs.declared.expected.Expected.TheVariants as expected
@@ -8,15 +8,15 @@ use Rattle.twp_grammar.specs.Grammar.{Class, sec, lot, all, and, to, inclusive, 
 use Rattle.twp_grammar.specs.Grammar.{north_south, east_west, corner, half, quarter, number, comma}
 use Rattle.twp_grammar.specs.Grammar.{semicolon, colon, stop}
 
--- a part: lots, an aliquot part, or all
+-- the beginning of a part: lots, an aliquot part, or all
 abbrev pub part_begins : List Class
 part_begins = lot ∷ north_south ∷ east_west ∷ corner ∷ all ∷ []
 
--- marks after which more of a list follows, another part, or nothing
+-- marks that are followed by more of a list, by another part, or by nothing
 abbrev pub marks : List Class
 marks = comma ∷ stop ∷ []
 
--- the classes of tokens that are reported: each of them can stand there
+-- the classes of tokens that are reported as expected: each can come next
 abbrev pub told : Expected → List Class
 told expected.Beginning = t ∷ sec ∷ []
 told expected.TownshipNumber = number ∷ []
@@ -49,7 +49,7 @@ told expected.MoreParts = and ∷ semicolon ∷ marks
 told expected.Step = north_south ∷ east_west ∷ corner ∷ []
 told expected.Nothing = []
 
--- the marks and words that can lead to them after some of the beginnings for which they are
+-- the marks and words that can come before them, after some of the beginnings for which they are
 -- reported
 abbrev pub leading : Expected → List Class
 leading expected.TownshipNumber = stop ∷ []
@@ -64,7 +64,7 @@ leading expected.Part = and ∷ []
 leading expected.Step = the ∷ []
 leading _ = []
 
--- what can stand there is of one of these classes
+-- every token that can come next belongs to one of these classes
 abbrev pub named : Expected → List Class
 named e = told e ++ leading e
 
@@ -73,7 +73,7 @@ abbrev pub IsNamed : Class → List Class → Type 0
 IsNamed class [] = ⊥
 IsNamed class (first ∷ rest) = (class ≡ first) ⊎ IsNamed class rest
 
--- what is named in each state
+-- what is expected in each state
 abbrev pub expected_of : State → Expected
 expected_of past.Start = expected.Beginning
 expected_of past.Township = expected.TownshipNumber

@@ -1,6 +1,6 @@
 -- The grammar of descriptions (the form of the Specifications for Descriptions of Land; the grammar
--- is this project's). It speaks of the classes of tokens alone: which number or which side it is
--- doesn't matter.
+-- is this project's). It is about classes of tokens only: the value of a number or of a direction
+-- makes no difference.
 use Rattle.std.specs.Prelude.{ℕ}
 use Rattle.twp_grid.specs.declared.township.NorthSouth.{NorthSouth as NorthOrSouth}
 use Rattle.twp_grid.specs.declared.township.EastWest.{EastWest as EastOrWest}
@@ -99,8 +99,8 @@ kind_of bad_byte _ = BadByte
 
 infixr 6 ◌⨾◌
 infixr 5 ◌∣◌
--- grammars: nothing at all, no tokens, a token of a class, one after the other, one or the other,
--- any number
+-- grammars: one without sentences, the empty list of tokens, one token of a class, a sequence, an
+-- alternative, or a repetition
 pub data Ebnf : Type 0 where
   never : Ebnf
   nothing : Ebnf
@@ -109,7 +109,7 @@ pub data Ebnf : Type 0 where
   ◌∣◌ : Ebnf → Ebnf → Ebnf
   many : Ebnf → Ebnf
 
--- what may be missing
+-- an optional part
 abbrev pub maybe : Ebnf → Ebnf
 maybe g = g ∣ nothing
 
@@ -129,15 +129,15 @@ through = one to ⨾ one number ⨾ maybe (maybe (one comma) ⨾ one inclusive)
 abbrev pub entry : Ebnf
 entry = one number ⨾ maybe through
 
--- what stands between two entries or two parts
+-- the separator between two entries or two parts
 abbrev pub separator : Ebnf
 separator = one comma ⨾ maybe (one and) ∣ one and
 
--- one entry or more
+-- one or more entries
 abbrev pub entries : Ebnf
 entries = entry ⨾ many (separator ⨾ entry)
 
--- entries that are not one number alone: a law says so
+-- entries that are not one number alone, as a law states
 abbrev pub several : Ebnf
 several = one number ⨾ (through ∣ separator ⨾ entry) ⨾ many (separator ⨾ entry)
 
@@ -145,11 +145,11 @@ several = one number ⨾ (through ∣ separator ⨾ entry) ⨾ many (separator �
 abbrev pub part : Ebnf
 part = one lot ⨾ entries ∣ chain ∣ one all
 
--- one part or more
+-- one or more parts
 abbrev pub parts : Ebnf
 parts = part ⨾ many (separator ⨾ part)
 
--- what may stand between the sections and what is taken of them
+-- the optional mark between the sections and the parts taken of them
 abbrev pub comma_or_colon : Ebnf
 comma_or_colon = maybe (one comma ∣ one colon)
 

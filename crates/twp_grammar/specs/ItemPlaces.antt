@@ -1,5 +1,5 @@
--- The places that the items of a description name. A place is one of its section's, by column from
--- the east and row from the south; g is how many binary digits each of both has.
+-- The places that the items of a description name. A place is given by its section, its column from
+-- the east, and its row from the south; g is the number of binary digits of a column or a row.
 use Rattle.std.specs.Prelude.{ℕ, ◌==◌, ◌&&◌, nat_le, Bool, true, false, List, [], ◌∷◌, Option, Some}
 use Rattle.std.specs.Prelude.{None, map}
 use Rattle.std.specs.List.{list_any}
@@ -17,7 +17,7 @@ abbrev pub cut_of : Step → Cut
 cut_of (Half side) = half side
 cut_of (Quarter corner) = quarter corner
 
--- An aliquot part's cuts, as it is written: the last step is taken first.
+-- The cuts of an aliquot part, in the order in which it is written: the last step is taken first.
 abbrev pub cuts_of : List Step → List Cut
 cuts_of steps = map cut_of steps
 
@@ -27,12 +27,12 @@ in_chain g steps column row =
     begins (columns_asked (cuts_of steps)) (binary g column)
     && begins (rows_asked (cuts_of steps)) (binary g row)
 
--- a lot of these numbers
+-- a lot with a number from first to last
 abbrev pub is_lot_from : ℕ → ℕ → Option ℕ → Bool
 is_lot_from first last None = false
 is_lot_from first last (Some lot) = nat_le first lot && nat_le lot last
 
--- of what an item names in its section, the places of one section
+-- whether an item of this section names the place at a section, a column, and a row
 abbrev pub in_item : ℕ → ℕ → Item → ℕ → ℕ → ℕ → Bool
 in_item g section (Heading number north_south range east_west at) other column row = false
 in_item g section (Sections first last true) other column row =
@@ -44,7 +44,7 @@ in_item g section (Chain steps at) other column row =
     (section == other) && in_chain g steps column row
 in_item g section (All at) other column row = section == other
 
--- an item, and the number of the section that it is of
+-- an item, and the number of the section that it belongs to
 pub record ItemOfSection : Type 0 where
   pub section : ℕ
   pub item : Item
@@ -54,12 +54,12 @@ abbrev pub item_places : ℕ → ItemOfSection → ℕ → ℕ → ℕ → Bool
 item_places g part section column row =
     is_place g column row && in_item g part.section part.item section column row
 
--- the section of what follows an item: lots, aliquot parts and `all` are of the section named last
+-- the section of the next item: lots, aliquot parts, and `all` belong to the section named last
 abbrev pub section_behind : ℕ → Item → ℕ
 section_behind section (Sections first last whole) = first.value
 section_behind section other = section
 
--- each item of a list with its section, where the list follows this section
+-- each item of a list with its section, if the list follows this section
 abbrev pub with_sections : ℕ → List Item → List ItemOfSection
 with_sections section [] = []
 with_sections section (item ∷ items) =
@@ -69,7 +69,7 @@ with_sections section (item ∷ items) =
 abbrev pub parts_of : List Item → List ItemOfSection
 parts_of items = with_sections 0 items
 
--- the land of items: all places that one of them names
+-- the land of items: all places that at least one of them names
 abbrev pub land_of : ℕ → List ItemOfSection → ℕ → ℕ → ℕ → Bool
 land_of g parts section column row = list_any (λ part. item_places g part section column row) parts
 

@@ -1,4 +1,5 @@
--- Derivation trees of the grammar, the tokens that one spells, and the items that are read off it.
+-- Derivation trees of the grammar, the tokens that a tree spells, and the items that are read from
+-- it.
 use Rattle.std.specs.Prelude.{ℕ, ◌⊎◌, List, [], ◌∷◌, ◌++◌, true, false, map}
 use Rattle.std.specs.List.{flat_map}
 use mathlib.Core.Logic.{inl, inr}
@@ -29,15 +30,15 @@ abbrev pub token_of : (class : Class) → Leaf class → Token
 token_of class leaf = record { kind = kind_of class leaf.value; text = leaf.text; at = leaf.at }
 
 infixr 6 ◌&◌
--- a tree and the one after it
+-- a tree and the tree after it
 pub data Then (A B : Type 0) : Type 0 where
   ◌&◌ : A → B → Then A B
 
--- what is read off the second
+-- the value that is read from the second tree
 abbrev pub behind : {A B C : Type 0} → (B → C) → Then A B → C
 behind read (_ & w) = read w
 
--- the derivations by a grammar
+-- the derivations in a grammar
 abbrev pub Tree : Ebnf → Type 0
 Tree never = ⊥
 Tree nothing = Unit {0}
@@ -56,16 +57,16 @@ tokens (g ∣ h) (inl v) = tokens g v
 tokens (g ∣ h) (inr w) = tokens h w
 tokens (many g) vs = flat_map (λ v. tokens g v) vs
 
--- a number as it was written, and where
+-- a number as it is written, and its place
 abbrev pub numeral : Leaf number → Numeral
 numeral leaf = record { value = leaf.value; at = leaf.at }
 
--- the half that N or S names in a chain
+-- the half that N or S means in a chain
 abbrev pub north_or_south : NorthOrSouth → Side
 north_or_south ns.N = N
 north_or_south ns.S = S
 
--- the half that E or W names in a chain
+-- the half that E or W means in a chain
 abbrev pub east_or_west : EastOrWest → Side
 east_or_west ew.E = E
 east_or_west ew.W = W
@@ -82,7 +83,7 @@ place_of_step (inl (inl side & _)) = side.at
 place_of_step (inl (inr side & _)) = side.at
 place_of_step (inr (corner & _)) = corner.at
 
--- a chain carries the place of its first token
+-- a chain has the place of its first token
 abbrev pub chain_item : Tree chain → Item
 chain_item (first & more) = Chain (step_of first ∷ map (behind step_of) more) (place_of_step first)
 
@@ -95,16 +96,16 @@ pub record Range : Type 0 where
 abbrev pub end_of : Tree through → Numeral
 end_of (_ & last & _) = numeral last
 
--- an entry is a range; of one number, the range from it to itself
+-- the range of an entry; that of one number is from the number to itself
 abbrev pub range_of : Tree entry → Range
 range_of (first & inl thru) = record { first = numeral first; last = end_of thru }
 range_of (only & inr _) = record { first = numeral only; last = numeral only }
 
--- the ranges of entries, in turn
+-- the ranges of entries, in order
 abbrev pub ranges_of : Tree entries → List Range
 ranges_of (first & more) = range_of first ∷ map (behind range_of) more
 
--- the ranges of several entries, in turn
+-- the ranges of several entries, in order
 abbrev pub ranges_of_several : Tree several → List Range
 ranges_of_several (first & inl thru & more) =
     record { first = numeral first; last = end_of thru } ∷ map (behind range_of) more
@@ -126,29 +127,29 @@ part_items (inl (_ & v)) = map lots_item (ranges_of v)
 part_items (inr (inl v)) = chain_item v ∷ []
 part_items (inr (inr word)) = All word.at ∷ []
 
--- the items of parts, in turn
+-- the items of parts, in order
 abbrev pub parts_items : Tree parts → List Item
 parts_items (first & more) = part_items first ++ flat_map (behind part_items) more
 
--- sections, and then their parts; an `all` after several sections makes no item
+-- sections, and then their parts; `all` after several sections is not an item
 abbrev pub group_items : Tree group → List Item
 group_items (inl (_ & _ & only & inl (_ & v))) =
     Sections (numeral only) (numeral only) false ∷ parts_items v
 group_items (inl (_ & _ & only & inr _)) = Sections (numeral only) (numeral only) true ∷ []
 group_items (inr (_ & _ & v & _)) = map whole_sections_item (ranges_of_several v)
 
--- a heading carries the place of its T
+-- a heading has the place of its T
 abbrev pub heading_item : Tree heading → Item
 heading_item (letter & _ & township & side & _ & _ & _ & _ & range & way & _) =
     Heading township.value side.value range.value way.value letter.at
 
--- the items of a description: its heading, and those of its groups in turn
+-- the items of a description: its heading, and those of its groups in order
 abbrev pub items : Tree description → List Item
 items (inl v & first & more & _) =
     heading_item v ∷ group_items first ++ flat_map (behind (behind group_items)) more
 items (inr _ & first & more & _) = group_items first ++ flat_map (behind (behind group_items)) more
 
--- the items begin with sections, after a heading or at once
+-- the items begin with sections, after a heading or immediately
 abbrev pub BeginWithSections : List Item → Type 0
 BeginWithSections (Heading _ _ _ _ _ ∷ Sections _ _ _ ∷ more) = Unit {0}
 BeginWithSections (Sections _ _ _ ∷ more) = Unit {0}

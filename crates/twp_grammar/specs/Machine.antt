@@ -1,5 +1,5 @@
--- The least machine that takes the sentences: what may follow a beginning of one. proofs/Table
--- shows that it is the grammar's.
+-- The smallest machine that accepts the sentences: which tokens may follow the beginning of one.
+-- proofs/Table shows that it agrees with the grammar.
 use Rattle.std.specs.Prelude.{Bool, true, false, Option}
 use Rattle.std.specs.Prelude.{Some, None}
 use Rattle.twp_grammar.specs.declared.state.State.{State}
@@ -151,7 +151,7 @@ is_final past.All = true
 is_final past.End = true
 is_final _ = false
 
--- one more step may follow in a chain of steps
+-- one more step may follow in a sequence of steps
 abbrev pub is_in_chain : State → Bool
 is_in_chain past.Step = true
 is_in_chain past.Of = true

@@ -1,4 +1,4 @@
--- Which lists of tokens are descriptions, and where one that isn't goes wrong; and which texts are
+-- Which lists of tokens are descriptions, and where one that is not goes wrong; and which texts are
 -- read as items.
 use Rattle.std.specs.Prelude.{◌≡◌, ℕ, ◌+◌, ◌≤◌, ◌<◌, List, ◌∷◌, ◌++◌, length, take}
 use Rattle.twp_grammar.specs.declared.item.Item.{Item}
@@ -6,7 +6,7 @@ use Rattle.twp_grammar.specs.Tokens.{Token, HasTokens}
 use Rattle.twp_grammar.specs.Grammar.{Class, class_of, description}
 use Rattle.twp_grammar.specs.Items as derived
 
--- the grammar derives the tokens, and these are the items
+-- the grammar derives the tokens, with these items
 pub record HasItems (tokens : List Token) (items : List Item) : Type 0 where
   pub tree : derived.Tree description
   pub spelled : derived.tokens description tree ≡ tokens
@@ -17,24 +17,24 @@ pub record IsSentence (tokens : List Token) : Type 0 where
   pub tree : derived.Tree description
   pub spelled : derived.tokens description tree ≡ tokens
 
--- the most tokens that a beginning of a sentence lacks
+-- the most tokens that the beginning of a sentence can need to become a sentence
 abbrev pub LONGEST_COMPLETION : ℕ
 LONGEST_COMPLETION = 7
 
--- a sentence begins with the tokens, and lacks no more than these few
+-- a sentence begins with the tokens, and at most that many more complete it
 abbrev pub IsFront : List Token → Type 0
 IsFront tokens =
     (more : List Token) × (length more ≤ LONGEST_COMPLETION) × IsSentence (tokens ++ more)
 
--- some sentence has a token of the class after the tokens
+-- a token of the class comes after these tokens in some sentence
 pub record MayFollow (tokens : List Token) (class : Class) : Type 0 where
   pub token : Token
   pub more : List Token
   pub of_class : class_of token.kind ≡ class
   pub sentence : IsSentence (tokens ++ token ∷ more)
 
--- the tokens before the i-th begin a sentence, and with it they begin none; or all of them begin
--- one, and are none
+-- the tokens before the i-th begin a sentence, but no sentence begins with them and the i-th; or i
+-- is the number of tokens, which begin a sentence but are not one
 pub record IsFault (tokens : List Token) (i : ℕ) : Type 0 where
   pub within : i ≤ length tokens
   pub before : IsFront (take i tokens)

@@ -1,4 +1,4 @@
--- What the bytes of a description are cut into: white space, and the texts of tokens.
+-- How the bytes of a description are split: into white space and the texts of tokens.
 use Rattle.std.specs.Prelude.{◌≡◌, ◌==◌, ◌||◌, ◌&&◌, ℕ, ◌+◌, ◌<◌, ◌≤◌, Bool, true, false, List, []}
 use Rattle.std.specs.Prelude.{◌∷◌, ◌++◌, Option, Some, None, length, if◌then◌else◌, codes}
 use Rattle.std.specs.Char.{is_ascii_alphabetic, is_ascii_digit}
@@ -15,33 +15,33 @@ use Rattle.twp_grammar.specs.declared.kind.Kind.TheVariants.{The, T, R, NorthSou
 use Rattle.twp_grammar.specs.declared.kind.Kind.TheVariants.{Half, Quarter, Number, Comma, Semicolon}
 use Rattle.twp_grammar.specs.declared.kind.Kind.TheVariants.{Colon, Stop, Other, BadNumber, BadByte}
 
--- a token: what it is, its bytes, and its place in the text
+-- a token: its kind, its bytes, and its place in the text
 pub record Token : Type 0 where
   pub kind : Kind
   pub text : List ℕ
   pub at : ℕ
 
--- a space, a tab, a line feed or a carriage return
+-- a space, a tab, a line feed, or a carriage return
 abbrev pub is_white : ℕ → Bool
 is_white byte = (byte == 32) || (byte == 9) || (byte == 10) || (byte == 13)
 
--- a word in lowercase letters, and what it is
+-- a word in lowercase letters, and its kind
 pub record Word : Type 0 where
   pub letters : List ℕ
   pub kind : Kind
 
--- a word of these letters, of this kind
+-- a word with these letters and this kind
 abbrev pub word : List ℕ → Kind → Word
 word letters kind = record { letters = letters; kind = kind }
 
--- the words of four letters or more that a description is made of
+-- the words of descriptions with four letters or more
 abbrev pub long_words : List Word
 long_words =
     word (codes "thru") To ∷ word (codes "lots") Lot ∷ word (codes "secs") Sec
     ∷ word (codes "section") Sec ∷ word (codes "sections") Sec ∷ word (codes "through") To
     ∷ word (codes "inclusive") Inclusive ∷ []
 
--- those of up to three letters
+-- the words of descriptions with up to three letters
 abbrev pub short_words : List Word
 short_words =
     word (codes "sec") Sec ∷ word (codes "lot") Lot ∷ word (codes "all") All
@@ -52,7 +52,7 @@ short_words =
     ∷ word (codes "e") (EastWest ew.E) ∷ word (codes "w") (EastWest ew.W)
     ∷ word (codes "t") T ∷ word (codes "r") R ∷ []
 
--- all words that a description is made of
+-- all words of descriptions
 abbrev pub words : List Word
 words = long_words ++ short_words
 
@@ -63,12 +63,12 @@ same_bytes [] (b ∷ bs) = false
 same_bytes (a ∷ text) [] = false
 same_bytes (a ∷ text) (b ∷ bs) = (a == b) && same_bytes text bs
 
--- what the letters are among these words
+-- the kind of these letters, if they are one of the words
 abbrev pub kind_among : List ℕ → List Word → Kind
 kind_among letters [] = Other
 kind_among letters (w ∷ ws) = if same_bytes letters w.letters then w.kind else kind_among letters ws
 
--- what a word is, whatever the case of its letters
+-- the kind of a word in letters of either case
 abbrev pub kind_of_word : List ℕ → Kind
 kind_of_word text = kind_among (str_to_ascii_lowercase text) words
 
@@ -77,7 +77,7 @@ abbrev pub begins_with : (ℕ → Bool) → List ℕ → Bool
 begins_with is_such [] = false
 begins_with is_such (byte ∷ bytes) = is_such byte
 
--- some such bytes, as many as stand there before the rest
+-- one or more bytes that pass the test, and all of those before the rest
 pub record IsWholeRun (is_such : ℕ → Bool) (text rest : List ℕ) : Type 0 where
   pub some : 0 < length text
   pub all : AllPass is_such text
@@ -87,14 +87,14 @@ pub record IsWholeRun (is_such : ℕ → Bool) (text rest : List ℕ) : Type 0 w
 abbrev pub Begins : List ℕ → List ℕ → Type 0
 Begins front bytes = (more : List ℕ) × (bytes ≡ front ++ more)
 
--- digits that are neither a half nor a quarter
+-- digits, unless they are the 1 of 1/2 or 1/4
 pub record IsNumber (text rest : List ℕ) : Type 0 where
   pub run : IsWholeRun is_ascii_digit text rest
   pub no_half : ¬ Begins (codes "1/2") (text ++ rest)
   pub no_quarter : ¬ Begins (codes "1/4") (text ++ rest)
 
--- the text, where the rest follows it, is a token of this kind and no bad byte; U+00BD is the bytes
--- C2 BD, and U+00BC is C2 BC
+-- the text, when the rest follows it, is a token of this kind other than a bad byte; U+00BD is the
+-- bytes C2 BD, and U+00BC is C2 BC
 pub data IsGoodToken (text rest : List ℕ) (kind : Kind) : Type 0 where
   a_word : IsWholeRun is_ascii_alphabetic text rest → kind ≡ kind_of_word text
       → IsGoodToken text rest kind
@@ -111,24 +111,24 @@ pub data IsGoodToken (text rest : List ℕ) (kind : Kind) : Type 0 where
   a_colon : text ≡ codes ":" → kind ≡ Colon → IsGoodToken text rest kind
   a_stop : text ≡ codes "." → kind ≡ Stop → IsGoodToken text rest kind
 
--- no token begins the bytes, unless it is a bad byte
+-- the bytes begin with no token other than a bad byte
 abbrev pub NoGoodToken : List ℕ → Type 0
 NoGoodToken bytes =
     (text rest : List ℕ) (kind : Kind) → bytes ≡ text ++ rest → ¬ IsGoodToken text rest kind
 
--- one byte that is no white space and that no other token can begin with
+-- one byte that is not white space, and that no other token can begin with
 pub record IsBadByte (text rest : List ℕ) : Type 0 where
   pub byte : ℕ
   pub is : text ≡ byte ∷ []
   pub no_space : is_white byte ≡ false
   pub no_token : NoGoodToken (text ++ rest)
 
--- the text, where the rest follows it, is a token of this kind
+-- the text, when the rest follows it, is a token of this kind
 pub data IsToken (text rest : List ℕ) (kind : Kind) : Type 0 where
   good : IsGoodToken text rest kind → IsToken text rest kind
   bad : IsBadByte text rest → kind ≡ BadByte → IsToken text rest kind
 
--- bytes that stand at a place begin with white space, if anything, and then with the token
+-- the bytes at a place begin with white space, if any, and then with the token
 pub record StartsWith (at : ℕ) (bytes : List ℕ) (token : Token) (rest : List ℕ) : Type 0 where
   pub space : List ℕ
   pub white : AllPass is_white space
@@ -136,14 +136,14 @@ pub record StartsWith (at : ℕ) (bytes : List ℕ) (token : Token) (rest : List
   pub place : token.at ≡ at + length space
   pub is : IsToken token.text rest token.kind
 
--- bytes that stand at a place are white space and the texts of these tokens in turn
+-- the bytes at a place consist of white space and the texts of these tokens, in order
 abbrev pub HasTokens : ℕ → List ℕ → List Token → Type 0
 HasTokens at bytes [] = AllPass is_white bytes
 HasTokens at bytes (token ∷ tokens) =
     (rest : List ℕ) × StartsWith at bytes token rest
     × HasTokens (token.at + length token.text) rest tokens
 
--- what is left of a text, and where it stands
+-- the rest of a text, and its place
 pub record Left : Type 0 where
   pub at : ℕ
   pub bytes : List ℕ
@@ -152,7 +152,7 @@ pub record Left : Type 0 where
 abbrev pub seen : Piece → Token
 seen token = record { kind = token.kind; text = token.text.now; at = token.at }
 
--- the next token of what is left, or None where that is white space
+-- the next token of the rest, or None if the rest is white space
 abbrev pub GivesToken : Left → Option Piece → Left → Type 0
 GivesToken left None after =
     AllPass is_white left.bytes

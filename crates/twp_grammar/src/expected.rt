@@ -1,19 +1,20 @@
 use std::fmt;
 
-/// What could stand where a description goes wrong, by what stands before it.
+/// The tokens that are expected at the place where a description is wrong, depending on the tokens
+/// before it.
 #[derive(Clone, Copy, PartialEq, Eq)]
 pub enum Expected {
     /// Before the first token.
     Beginning,
     /// After the `T` of a heading.
     TownshipNumber,
-    /// After the township's number.
+    /// After the number of the township.
     TownshipSide,
-    /// After the township's side.
+    /// After the direction of the township.
     Range,
     /// After the `R` of a heading.
     RangeNumber,
-    /// After the range's number.
+    /// After the number of the range.
     RangeSide,
     /// After a heading, or after the semicolon that ends a group.
     Sections,
@@ -49,7 +50,7 @@ pub enum Expected {
     LotOrPart,
     /// After the comma that follows the last number of a range of lots.
     InclusiveLotOrPart,
-    /// After the colon that follows one section, or what separates its parts.
+    /// After the colon that follows one section, or after a separator between its parts.
     Part,
     /// After the letter of a half.
     Half,
@@ -61,11 +62,12 @@ pub enum Expected {
     MoreParts,
     /// After `of`.
     Step,
-    /// After the last full stop.
+    /// After the final period.
     Nothing,
 }
 
-/// As it is told: an error that holds it needs the impl, and thirty names would be proved for nothing.
+/// Written as it is displayed. An error that contains it needs this impl, and deriving one for
+/// thirty names would have to be proved for no use.
 impl fmt::Debug for Expected {
     fn fmt<W: fmt::Write>(&self, f: &mut fmt::Formatter<W>) -> fmt::Result {
         fmt::Display::fmt(self, f)

@@ -6,16 +6,17 @@ use std::alloc::{AllocError, Global};
 use std::marker::Model;
 use twp_grid::{Corner, EastWest, NorthSouth, PLACE_DIGITS, Side};
 
-/// A number as it was written, and its place in the text.
+/// A number as it is written, and its place in the text.
 #[derive(Clone, Copy, Debug, PartialEq, Eq)]
 pub struct Numeral {
-    /// 0 to 9999. Whether the plat has such a section or lot is not judged here.
+    /// Its value, 0 to 9999. Whether the plat has a section or a lot with this number is not
+    /// checked here.
     pub value: u16,
     /// The offset of its first digit.
     pub at: u32,
 }
 
-/// A step of an aliquot part: which half, or which quarter, of what the steps after it name.
+/// A step of an aliquot part: a half or a quarter of the land that the steps after it name.
 #[derive(Clone, Copy, Debug, PartialEq, Eq)]
 pub enum Step {
     /// The half on this side.
@@ -24,18 +25,19 @@ pub enum Step {
     Quarter(Corner),
 }
 
-/// The north half fills the places of `Steps` that aren't used yet.
+/// The north half is the value in the unused places of `Steps`.
 impl Default for Step {
     fn default() -> Step {
         Step::Half(Side::N)
     }
 }
 
-/// The steps of the finest part by halves, each of which halves a side of the section.
+/// The number of steps of the smallest part if all are halves, each of which halves a side of the
+/// section.
 const FINEST_STEPS: usize = 2 * PLACE_DIGITS;
 
 /// The steps of an aliquot part, the smallest first, as they are written: `S1/2NE1/4` is the south
-/// half of the north-east quarter. As many as the finest part has take no memory of their own.
+/// half of the northeast quarter. Up to as many as the smallest part has, they need no allocation.
 #[derive(Debug, Drop)]
 pub struct Steps {
     first: ArrayVec<Step, FINEST_STEPS>,
@@ -57,7 +59,7 @@ impl Model for Steps {
 impl Steps {
     ghost use Rattle.twp_grid.specs.Cuts.{FINEST_CUTS};
 
-    /// No step yet.
+    /// No steps.
     #[inline(always)]
     pub fn none(alloc: Global) -> Steps
         ensures { result ≡ [] }
@@ -68,15 +70,14 @@ impl Steps {
         }
     }
 
-    /// How many steps there are.
+    /// The number of steps.
     pub fn len(&self) -> usize
         ensures { result ≡ length self.now }
     {
         self.first.len() + self.more.len()
     }
 
-    /// The first steps, which stand beside each other: all of them, or as many as the
-    /// finest part has.
+    /// The first steps, as a slice: all of them, or as many as the smallest part has.
     #[inline]
     #[tactic(auto, using(crate::proofs::StepFacts::in_first, crate::proofs::StepFacts::all_first))]
     pub fn first(&self) -> &[Step]
@@ -88,7 +89,7 @@ impl Steps {
         self.first.as_slice()
     }
 
-    /// The step at an index, counted from the smallest. None past the last.
+    /// The step at an index, counted from the smallest. `None` after the last.
     #[tactic(auto, using(crate::proofs::StepFacts::in_first, crate::proofs::StepFacts::in_more))]
     pub fn get(&self, index: usize) -> Option<Step>
         ensures { result ≡ slice_get self.now index }
@@ -101,8 +102,8 @@ impl Steps {
         }
     }
 
-    /// Adds the step of which the last one is a part. It can't fail where there are fewer steps than
-    /// the finest part has.
+    /// Adds the step that the last one is a part of. It cannot fail if there are fewer steps than
+    /// the smallest part has.
     #[inline(always)]
     #[tactic(auto, using(crate::proofs::StepFacts::push_first, crate::proofs::StepFacts::push_more))]
     pub fn push(&mut self, step: Step) -> Result<(), AllocError>
@@ -117,7 +118,7 @@ impl Steps {
         self.push_more(step)
     }
 
-    /// Adds a step after as many as the finest part has.
+    /// Adds a step when there are already as many as the smallest part has.
     #[cold]
     #[inline(never)]
     #[tactic(auto, using(crate::proofs::StepFacts::push_more))]
@@ -131,28 +132,28 @@ impl Steps {
     }
 }
 
-/// What a description names, one after another. Places are offsets in the text.
+/// One of the things that a description names, in order. Places are offsets in the text.
 #[derive(Debug, Drop)]
 pub enum Item {
-    /// The township that the description is of.
+    /// The township of the description.
     Heading {
         /// The township's number, 0 to 9999.
         number: u16,
-        /// The township's side of the base line.
+        /// The township's direction from the base line.
         north_south: NorthSouth,
         /// The range's number, 0 to 9999.
         range: u16,
-        /// The range's side of the principal meridian.
+        /// The range's direction from the principal meridian.
         east_west: EastWest,
         /// The place of its `T`.
         at: u32,
     },
-    /// The sections from `first` to `last`: whole, or the one section of which the parts that
-    /// follow are parts.
+    /// The sections from `first` to `last`: whole sections, or the one section that the following
+    /// parts belong to.
     Sections {
         /// The first section.
         first: Numeral,
-        /// The last one, which may be the first.
+        /// The last section, which may be the first.
         last: Numeral,
         /// Whether no parts follow.
         whole: bool,
@@ -161,7 +162,7 @@ pub enum Item {
     Lots {
         /// The first lot.
         first: Numeral,
-        /// The last one, which may be the first.
+        /// The last lot, which may be the first.
         last: Numeral,
     },
     /// An aliquot part of the section.

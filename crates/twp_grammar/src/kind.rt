@@ -1,10 +1,10 @@
 use twp_grid::{Corner, EastWest, NorthSouth};
 
 /// What a token of a description is. The words are those of the Specifications for Descriptions of
-/// Land, in uppercase or lowercase.
+/// Land, in uppercase or lowercase letters.
 #[derive(Clone, Copy, PartialEq, Eq)]
 pub enum Kind {
-    /// `sec`, `secs`, `section` or `sections`.
+    /// `sec`, `secs`, `section`, or `sections`.
     Sec,
     /// `lot` or `lots`.
     Lot,
@@ -12,7 +12,7 @@ pub enum Kind {
     All,
     /// `and`.
     And,
-    /// `to`, `thru` or `through`.
+    /// `to`, `thru`, or `through`.
     To,
     /// `inclusive`.
     Inclusive,
@@ -24,11 +24,11 @@ pub enum Kind {
     T,
     /// `r`, the range's letter.
     R,
-    /// `n` or `s`: the side of a base line, or a half.
+    /// `n` or `s`: a direction from a base line, or a half.
     NorthSouth(NorthSouth),
-    /// `e` or `w`: the side of a principal meridian, or a half.
+    /// `e` or `w`: a direction from a principal meridian, or a half.
     EastWest(EastWest),
-    /// `ne`, `nw`, `sw` or `se`: a quarter.
+    /// `ne`, `nw`, `sw`, or `se`: a quarter.
     Corner(Corner),
     /// `1/2` or U+00BD.
     Half,

@@ -1,24 +1,24 @@
-//! What holds of tokens, sentences and items as they are defined: each law is a contract, and its
-//! function has nothing to do.
+//! Laws of tokens, sentences, and items that follow from their definitions. Each law is a contract,
+//! and its function does nothing.
 ghost use Rattle.twp_grammar.specs.Laws.{HasTokenList, OneTokenList, OneItemList, OneDerivation};
 ghost use Rattle.twp_grammar.specs.Laws.{SeveralAreEntries};
 
-/// Every list of bytes is cut into tokens.
+/// Every list of bytes can be split into tokens.
 pub fn has_token_list()
     ensures { HasTokenList }
 {}
 
-/// Bytes are cut into tokens in one way.
+/// Bytes can be split into tokens in only one way.
 pub fn one_token_list()
     ensures { OneTokenList }
 {}
 
-/// A list of tokens is read as one list of items.
+/// A list of tokens is read as only one list of items.
 pub fn one_item_list()
     ensures { OneItemList }
 {}
 
-/// A sentence of the grammar has one derivation.
+/// A sentence of the grammar has only one derivation.
 pub fn one_derivation()
     ensures { OneDerivation }
 {}

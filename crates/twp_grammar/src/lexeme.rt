@@ -1,10 +1,10 @@
 use crate::kind::Kind;
 
-/// A token that begins at a place: its kind, and how many bytes it has.
+/// A token that begins at a place: its kind, and its length in bytes.
 #[derive(Clone, Copy, PartialEq, Eq)]
 pub struct Lexeme {
-    /// What the bytes are.
+    /// What the token is.
     pub kind: Kind,
-    /// How many they are.
+    /// How many bytes it takes.
     pub size: usize,
 }

@@ -1,5 +1,5 @@
-//! The grammar of descriptions: what their tokens and their items are, the machine that takes the
-//! sentences, and the definitions that reading, resolving and spelling share, with their laws.
+//! The grammar of descriptions: what their tokens and items are, the machine that accepts the
+//! sentences, and the definitions that reading, resolving, and spelling share, with their laws.
 #![tactic(auto)]
 
 mod expected;

@@ -6,13 +6,13 @@ ghost use Rattle.twp_grammar.specs.Expected.{expected_of};
 
 use crate::expected::Expected;
 
-/// What the tokens so far are the beginning of, named after the last of them. These are the states
-/// of the least machine that takes the sentences of the grammar.
+/// How far the tokens so far are into a description, named after the last token. These are the
+/// states of the smallest machine that accepts the sentences of the grammar.
 #[derive(Clone, Copy, PartialEq, Eq)]
 pub enum State {
     /// Before the first token.
     Start,
-    /// In a heading, as `T. 2 N., R. 3 W.,`.
+    /// In a heading, such as `T. 2 N., R. 3 W.,`.
     Township,
     TownshipStop,
     TownshipNumber,
@@ -33,7 +33,8 @@ pub enum State {
     SectionStop,
     SectionNumber,
     SectionComma,
-    /// In a list of sections, from its first `to` or `and`, or the number of its second entry, on.
+    /// In a list of sections, from its first `to` or `and` on, or from the number of its second
+    /// entry on.
     ListNumber,
     ListTo,
     ListLast,
@@ -61,17 +62,17 @@ pub enum State {
     Side,
     /// After the letters of a quarter.
     Corner,
-    /// After a whole step of an aliquot part.
+    /// After a complete step of an aliquot part.
     Step,
     Of,
     OfThe,
     All,
-    /// After the last full stop.
+    /// After the final period.
     End,
 }
 
 impl State {
-    /// What could stand after the tokens so far.
+    /// What is expected after the tokens so far.
     pub fn expected(self) -> Expected
         ensures { result ≡ expected_of self }
     {
@@ -131,7 +132,7 @@ impl State {
         )
     }
 
-    /// Whether one more step may follow in a chain of steps.
+    /// Whether one more step may follow in a sequence of steps.
     #[inline(always)]
     pub fn is_in_chain(self) -> bool
         ensures { result ≡ is_in_chain self }

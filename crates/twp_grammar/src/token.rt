@@ -1,12 +1,11 @@
 use crate::kind::Kind;
 
-/// A piece of a description: a word, a number, a half or a quarter, a mark, or what is none of
-/// these.
+/// A piece of a description: a word, a number, a half or a quarter, a mark, or something else.
 #[derive(Clone, Copy, PartialEq, Eq)]
 pub struct Token<'a> {
-    /// What the bytes are.
+    /// What the token is.
     pub kind: Kind,
-    /// The bytes of the token, a slice of the text that stands at `at`.
+    /// The bytes of the token: a slice of the text, at offset `at`.
     pub text: &'a [u8],
     /// The offset of its first byte in the text.
     pub at: usize,

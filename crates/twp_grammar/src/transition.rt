@@ -1,5 +1,5 @@
-//! What each kind of token leads to, by the state that it is read in: a method for each kind that
-//! several states take.
+//! The state that each kind of token leads to from a state, with a method for each kind that
+//! several states accept.
 
 ghost use Rattle.std.specs.Prelude.{◌≡◌};
 ghost use Rattle.std.specs.Option.{option_map};
@@ -12,7 +12,8 @@ use crate::kind::Kind;
 use crate::state::State;
 
 impl State {
-    /// What the tokens are the beginning of with one more, or None where they are of nothing.
+    /// The state after one more token. `None` if no description begins with the tokens so far and
+    /// this one.
     #[inline(always)]
     pub fn next(self, kind: Kind) -> Option<State>
         ensures { result ≡ next self (class_of kind) }
@@ -69,7 +70,7 @@ impl State {
         }
     }
 
-    /// The word that sections begin with.
+    /// The word before section numbers.
     #[inline(always)]
     #[tactic(auto, using(crate::proofs::StateFacts::sections_begin_there))]
     fn with_sections(self) -> Option<State>
@@ -217,7 +218,7 @@ impl State {
         }
     }
 
-    /// `and`, which may stand after a comma.
+    /// `and`, which may come after a comma.
     #[inline(always)]
     fn with_and(self) -> Option<State>
         ensures { result ≡ next self and }
@@ -253,7 +254,7 @@ impl State {
         }
     }
 
-    /// A full stop: of an abbreviation, or the last one.
+    /// A period: after an abbreviation, or the final one.
     #[inline(always)]
     fn with_stop(self) -> Option<State>
         ensures { result ≡ next self stop }
@@ -268,7 +269,7 @@ impl State {
         }
     }
 
-    /// What ends a group, which leads to the given state.
+    /// The end of a group, which leads to the given state.
     #[inline(always)]
     fn with_end(self, behind: State) -> Option<State>
         ensures { result ≡ option_map (λ _. behind) (next self semicolon) }

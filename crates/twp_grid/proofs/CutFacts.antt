@@ -1,4 +1,4 @@
--- What cuts reach, by the digits that they ask for.
+-- The rectangles that cuts reach, by the digits that they ask for.
 use Rattle.std.proofs.Common.{◌≡◌, ℕ, zero, suc, ◌+◌, ◌-◌, ◌*◌, ◌/◌, ◌%◌, ◌^◌, ◌<◌, ◌≤◌, ◌&&◌, true}
 use Rattle.std.proofs.Common.{false, List, [], ◌∷◌, ◌++◌, length, ap, refl, sym, ◌∙◌, inl, inr}
 use Rattle.std.proofs.Common.{arith, length-append}
@@ -16,7 +16,7 @@ use Rattle.twp_grid.specs.Cuts.Cut.{half, quarter}
 use Rattle.twp_grid.specs.declared.block.Side.TheVariants as side
 use Rattle.twp_grid.specs.declared.block.Corner.TheVariants as corner
 
--- a span of half the side, moved as its first digit says
+-- a span of half the side, in the half that its first digit gives
 abbrev moved : ℕ → Span → Span
 moved by span = record { start = by + span.start; len = span.len }
 
@@ -56,7 +56,7 @@ within_span_of (suc g) (suc zero ∷ asked) digits fits =
     omega (arith, pow-succ' 2 g)
 within_span_of (suc g) (suc (suc d) ∷ asked) digits fits = absurd (omega (arith, digits.0))
 
--- the halves of the span of some digits are those of one digit more
+-- the halves of a span of digits are the spans with one more digit
 lower_span_of : (g : ℕ) (asked : List ℕ) → length asked < g
     → lower_half (span_of g asked) ≡ span_of g (asked ++ 0 ∷ [])
 lower_span_of zero asked fits = absurd (omega arith)
@@ -70,7 +70,7 @@ upper_span_of (suc g) [] fits = same_span _ _ (omega (arith, pow-succ' 2 g)) (om
 upper_span_of (suc g) (d ∷ asked) fits =
     same_span _ _ (omega arith) refl ∙ ap (λ s. moved (d * 2 ^ g) s) (upper_span_of g asked (omega arith))
 
--- higher digits don't matter to the lower ones
+-- higher digits do not affect the lower ones
 binary_moved : (n times place : ℕ) → binary n (2 ^ n * times + place) ≡ binary n place
 binary_moved zero times place = refl
 binary_moved (suc n) times place =
@@ -118,7 +118,7 @@ in_span_above span place above = grind (arith, nat_tests)
 in_whole_span : (side place : ℕ) → place < side → in_span (record { start = 0; len = side }) place ≡ true
 in_whole_span side place below = grind (arith, nat_tests)
 
--- a span holds the places whose first digits are its own
+-- a span contains the places whose first digits are its own
 pub in_span_of : (g : ℕ) (asked : List ℕ) (place : ℕ) → AreDigits asked → length asked ≤ g → place < 2 ^ g
     → in_span (span_of g asked) place ≡ begins asked (binary g place)
 in_span_of g [] place digits fits below = in_whole_span (2 ^ g) place below
@@ -153,13 +153,13 @@ in_span_of (suc g) (suc zero ∷ asked) place digits fits below =
     ]
 in_span_of (suc g) (suc (suc d) ∷ asked) place digits fits below = absurd (omega (arith, digits.0))
 
--- no digit, or one
+-- one digit, or none
 abbrev IsDigitAtMost : List ℕ → Type 0
 IsDigitAtMost [] = Unit {0}
 IsDigitAtMost (d ∷ []) = d < 2
 IsDigitAtMost (d ∷ e ∷ more) = ⊥
 
--- what is left of a span where a digit is asked for, or none
+-- the rest of a span when one digit is asked for, or none
 abbrev narrowed : List ℕ → Span → Span
 narrowed [] span = span
 narrowed (zero ∷ more) span = lower_half span
@@ -253,7 +253,7 @@ columns_are_digits [] = tt
 columns_are_digits (cut ∷ before) =
     AreDigits-more (columns_asked before) (column_asked cut) (columns_are_digits before) (column_digit cut)
 
--- what cuts reach holds exactly the places whose first digits are as asked
+-- the rectangle that cuts reach contains exactly the places with the digits asked for
 pub held_as_asked : (g : ℕ) (cuts : List Cut) → AreWithin g cuts → (column row : ℕ) → IsPlace g column row
     → in_rectangle (reached g cuts) column row
     ≡ (begins (columns_asked cuts) (binary g column) && begins (rows_asked cuts) (binary g row))

@@ -1,4 +1,4 @@
--- Places where each is cut into four: their digits, their positions, and sums over them.
+-- Places that are each divided into four: their digits, their positions, and sums over them.
 use Rattle.std.proofs.Common.{◌≡◌, ◌==◌, ℕ, zero, suc, ◌+◌, ◌*◌, ◌/◌, ◌%◌, ◌^◌, ◌≤◌, ◌&&◌, List, [], ◌∷◌}
 use Rattle.std.proofs.Common.{◌++◌, length, nat_lt, refl, sym, ap, ◌∙◌, arith}
 use Rattle.std.proofs.Math.Nat.{pow-succ', div-div-eq-div-mul, div-one}
@@ -31,7 +31,7 @@ begins_longer (d ∷ asked) [] more fits = absurd (omega arith)
 begins_longer (d ∷ asked) (e ∷ digits) more fits =
     ap (λ b. (d == e) && b) (begins_longer asked digits more (omega arith))
 
--- one digit more doesn't matter where no more than the others are asked for
+-- one more digit makes no difference if only the other digits are asked for
 pub axis_coarser : (g : ℕ) (asked : List ℕ) (n : ℕ) → length asked ≤ g
     → begins asked (binary (suc g) n) ≡ begins asked (binary g (n / 2))
 axis_coarser g asked n fits =
@@ -95,7 +95,7 @@ over_finer s t m n f =
     four : (sum : ℕ) → 2 * (2 * sum) ≡ 4 * sum
     four sum = omega arith
 
--- the sum over the places of a section
+-- the sum over the places of a section, each term four times
 pub whole_finer : (g : ℕ) (f : ℕ → ℕ → ℕ)
     → total_over (whole_block (suc g)) (λ column row. f (column / 2) (row / 2))
     ≡ 4 * total_over (whole_block g) f
@@ -105,7 +105,7 @@ whole_finer g f =
     (pow-succ' 2 g)
     ∙ over_finer 0 0 (places_across g) (places_across g) f
 
--- the sum over those of a position
+-- the sum over the places of a position, each term four times
 pub position_finer : (g column row : ℕ) (f : ℕ → ℕ → ℕ) → POSITIONS_ACROSS ≤ places_across g
     → total_over (position_block (suc g) column row) (λ column row. f (column / 2) (row / 2))
     ≡ 4 * total_over (position_block g column row) f

@@ -8,7 +8,7 @@ use Rattle.twp_grid.specs.declared.line.Run.{Run}
 use Rattle.twp_grid.specs.declared.line.Run.TheVariants as run
 use Rattle.twp_grid.proofs.WindingFacts.{same_standing, same_number, section_at}
 
--- the sides of a section that stands at a row and a column
+-- the sides of a section at a row and a column
 abbrev pub HasSide : ℕ → ℕ → ℕ → Type 0
 HasSide row column index =
     (index ≡ north_run row column) ⊎ (index ≡ north_run row (column + 1)) ⊎ (index ≡ west_run row column)
@@ -19,7 +19,7 @@ side_at k row column index stands is =
     let same = same_standing k row column is.row is.column stands is.stands in
     rw (same.0, same.1) is.side
 
--- two sections that share a north-run line stand side by side in a row
+-- two sections that share a north-run line are side by side in a row
 pub share_north : (a b row column row' column' index : ℕ) → StandsAt a row column → StandsAt b row' column'
     → a ≢ b → IsSide a index → IsSide b index → index < 42
     → (row ≡ row')
@@ -56,7 +56,7 @@ only_standing k row column row' column' index stands only row_range column_range
     only there.0 (record { row = row'; column = column'; stands = there.1; side = side }) in
     same_standing there.0 row' column' row column there.1 (rw same stands)
 
--- where a line of the boundary stands
+-- the boundary lines of a section at a row and a column
 abbrev pub OnBoundary : ℕ → ℕ → ℕ → Type 0
 OnBoundary row column index =
     ((column ≡ 0) × (index ≡ north_run row 0)) ⊎ ((column ≡ 5) × (index ≡ north_run row 6))
@@ -112,10 +112,11 @@ pub closing_test : (index : ℕ) → IsClosing index → (index < 7) ⊎ ((42 �
 closing_test index (inl (meridian, range, is)) = inl (omega arith)
 closing_test index (inr (tier, range, is)) = inr (omega arith, omega arith)
 
--- a test of the index that recognizes the closing lines
+-- a test of the index for closing lines
 pub ruleset closing_lines = (closing_north, closing_west, closing_test)
 
--- there is one line between two sections, and one of each run beside a section of the boundary
+-- only one line lies between two sections, and only one of each run beside a section on the
+-- boundary
 pub one_line : (run : Run) (section : ℕ) (other : Option ℕ) (i j : ℕ) → IsLineOf run section other i
     → IsLineOf run section other j → i ≡ j
 one_line run.North a (Some b) i j is-i is-j =

@@ -1,4 +1,5 @@
--- What the code computes of lots is what the table has. The finitely many cases are computed.
+-- The lots that the code computes are those in the table. The cases are finitely many and are
+-- computed.
 use Rattle.std.proofs.Common.{◌≡◌, ◌==◌, ℕ, zero, suc, ◌+◌, ◌-◌, ◌<◌, ◌&&◌, ◌||◌, ◌⊎◌, ◌↔◌, Bool}
 use Rattle.std.proofs.Common.{true, false, List, [], ◌∷◌, Option, Some, None, refl, ap, inl, inr}
 use Rattle.std.proofs.Common.{arith, if◌then◌else◌, find, nat_le, nat_lt}
@@ -9,7 +10,7 @@ use Rattle.twp_grid.specs.Winding.{IsSection}
 use Rattle.twp_grid.specs.Lots.{Lot, lots, lot_at_position, position_of_lot, number_of_lots}
 use Rattle.twp_grid.specs.steps.WesternSections.{is_western_number}
 
--- the test holds of every number below n
+-- the test holds for every number below n
 unfoldable pub each : ℕ → (ℕ → Bool) → Bool
 each zero test = true
 each (suc n) test = test n && each n test
@@ -24,7 +25,7 @@ each_at (suc n) test k all below =
       | inr here ↦ let same : k ≡ n = omega arith in rw same parts.0
     ]
 
--- of three numbers
+-- the test holds for every three numbers below their bounds
 pub each_of_three : (l m n : ℕ) (test : ℕ → ℕ → ℕ → Bool) (i j k : ℕ)
     → each l (λ x. each m (λ y. each n (λ z. test x y z))) ≡ true → i < l → j < m → k < n → test i j k ≡ true
 each_of_three l m n test i j k all in-l in-m in-n =
@@ -124,7 +125,7 @@ position_below s n range in-n =
     in-n)
     (a_section s range))
 
--- no lot of the table lies outside the positions, and none has a number over 7
+-- no lot of the table lies outside the positions, and no lot has a number above 7
 abbrev within : Lot → Bool
 within l = nat_le l.column 3 && (nat_le l.row 3 && nat_le l.number 7)
 
@@ -152,7 +153,7 @@ pub lot_outside : (s c r : ℕ) → (3 < c) ⊎ (3 < r) → lot_at_position s c 
 unfolding lot_at_position
 lot_outside s c r out = rw (none_outside s c r lots lots_within out) refl
 
--- the lot at a position, by tests of the section
+-- the lot at a position, by tests on the section
 pub ruleset lot_at_position_is = (lot_at_is, lot_outside, lot_count_is)
 
 pub position_of_lot_is : (s n : ℕ) → IsSection s → position_of_lot s n ≡ position_by_code s n

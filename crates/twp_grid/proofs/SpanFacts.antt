@@ -24,7 +24,7 @@ multiple n times len some is =
     let same : times * len + 0 ≡ n = omega arith in
     rw same at rest
 
--- what a length divides, its half divides
+-- if a length divides something, so does half of it
 divided : (n len half : ℕ) → 0 < half → len ≡ 2 * half → n % len ≡ 0
     → (n % half ≡ 0) × ((n + half) % half ≡ 0)
 divided n len half some twice divides =

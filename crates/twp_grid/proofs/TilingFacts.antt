@@ -25,7 +25,7 @@ position_has_places (suc (suc g)) fits =
     let inner = pow-succ' 2 g in
     (omega arith, omega arith)
 
--- the span of a position holds what its quotient says
+-- the span of a position contains the numbers with its quotient
 in_position : (g position place : ℕ) → 0 < places_to_position g
     → in_span (position_span g position) place ≡ (position == position_along g place)
 in_position g position place some =
@@ -109,7 +109,7 @@ position_test : each 37
 unfolding each lots lot_at_position
 position_test = refl
 
--- each position is one lot or regular, never both
+-- each position is one lot or is regular, never both
 pub lot_or_regular : (section column row : ℕ) → IsSection section → IsPosition column row
     → ((lots_filling section column row ≡ 1) × (is_regular section column row ≡ false))
     ⊎ ((lots_filling section column row ≡ 0) × (is_regular section column row ≡ true))
@@ -121,7 +121,7 @@ lot_or_regular section column row range position =
     (a_section section range)
     )
 
--- of all terms, only the one of an index counts
+-- of all terms, only the one at an index counts
 total_picked : (n at : ℕ) (test : ℕ → Bool) → at < n
     → total n (λ k. one_where (test k && (k == at))) ≡ one_where (test at)
 unfolding total
@@ -191,7 +191,7 @@ regular_holding_is g section column row some range =
     ∙ total_picked 4 c' (λ along. is_regular section along up && (up == r')) range.0)
     ∙ total_picked 4 r' (λ up. is_regular section c' up) range.1
 
--- a section's lots and regular positions hold each of its places once
+-- a section's lots and regular positions contain each of its places exactly once
 pub held_once : (g : ℕ) → POSITIONS_ACROSS ≤ places_across g → (section column row : ℕ) → IsSection section
     → IsPlace g column row
     → lots_holding g section column row + regular_holding g section column row ≡ 1

@@ -6,7 +6,7 @@ pub total-zero : (f : ℕ → ℕ) → total 0 f ≡ 0
 unfolding total
 total-zero f = refl
 
--- one more number
+-- one more term
 pub total-next : (n : ℕ) (f : ℕ → ℕ) → total (n + 1) f ≡ total n f + f n
 unfolding total
 total-next n f = let e : n + 1 ≡ suc n = omega arith in rw e refl
@@ -24,7 +24,7 @@ total-le zero f g least = omega arith
 total-le (suc n) f g least =
     omega (arith, total-le n f g (λ k below. least k (omega arith)), least n (omega arith))
 
--- one term for all
+-- all terms equal
 pub total-same : (n c : ℕ) → total n (λ k. c) ≡ n * c
 unfolding total
 total-same zero c = omega arith
@@ -33,13 +33,13 @@ total-same (suc n) c = omega (arith, total-same n c)
 pub total-all_zero : (n : ℕ) (f : ℕ → ℕ) → ((k : ℕ) → k < n → f k ≡ 0) → total n f ≡ 0
 total-all_zero n f none = total-ext n f (λ k. 0) none ∙ (let e = total-same n 0 in omega arith)
 
--- the first term by itself
+-- the first term separately
 pub total-front : (n : ℕ) (f : ℕ → ℕ) → total (suc n) f ≡ f 0 + total n (λ k. f (k + 1))
 unfolding total
 total-front zero f = omega arith
 total-front (suc n) f = let e : n + 1 ≡ suc n = omega arith in omega (arith, total-front n f, ap f e)
 
--- two stretches
+-- two ranges, one after the other
 pub total-add : (m n : ℕ) (f : ℕ → ℕ) → total (m + n) f ≡ total m f + total n (λ k. f (m + k))
 unfolding total
 total-add m zero f = let e : m + 0 ≡ m = omega arith in rw e (omega arith)
@@ -56,7 +56,7 @@ unfolding total
 total-scale zero c f = omega arith
 total-scale (suc n) c f = omega (arith, total-scale n c f)
 
--- the order of two sums is free
+-- two sums can be exchanged
 pub total-swap : (m n : ℕ) (f : ℕ → ℕ → ℕ)
     → total m (λ i. total n (λ j. f i j)) ≡ total n (λ j. total m (λ i. f i j))
 unfolding total

@@ -1,4 +1,4 @@
--- A section's number and where it stands determine each other.
+-- A section's number and its row and column determine each other.
 use Rattle.std.proofs.Common.{◌≡◌, ℕ, ◌+◌, ◌-◌, ◌*◌, ◌/◌, ◌%◌, ◌<◌, ◌≢◌, ◌⊎◌, inl, inr, arith}
 use Rattle.twp_grid.specs.Winding.{IsSection, StandsAt}
 
@@ -23,7 +23,7 @@ same_standing k row column row' column' is is' = grind arith
 pub same_number : (k k' row column : ℕ) → StandsAt k row column → StandsAt k' row column → k ≡ k'
 same_number k k' row column is is' = grind arith
 
--- a section stands at each row and column
+-- there is a section at each row and column
 pub section_at : (row column : ℕ) → row < 6 → column < 6 → (k : ℕ) × StandsAt k row column
 section_at row column row_range column_range = elim (parity row) [
   | inl even ↦ (

@@ -1,15 +1,16 @@
--- What a contract sees of a device: its bytes, where they are known, and whether it has failed.
+-- The view that contracts have of a device: its bytes, if they are known, and whether it has
+-- failed.
 use Rattle.std.specs.Prelude.{◌≡◌, ℕ, ◌≤◌, List, length, Option, Some, None, ⊤, Bool}
 use Rattle.std.specs.Io.KnownBytes.{Consumes}
 use Rattle.twp_grid.specs.declared.device.Device.{Device}
 use Rattle.twp_grid.specs.declared.bytes.Bytes.{Bytes}
 
--- these are the bytes, where they are known
+-- these are the bytes, if they are known
 abbrev pub Tells : Option (List ℕ) → List ℕ → Type 0
 Tells None bytes = ⊤
 Tells (Some known) bytes = known ≡ bytes
 
--- of the bytes that are known, at most this many were taken
+-- at most this many of the known bytes were taken
 abbrev pub TakesAtMost : Option (List ℕ) → Option (List ℕ) → ℕ → Type 0
 TakesAtMost old new most = (taken : List ℕ) × Consumes old new taken × (length taken ≤ most)
 
@@ -21,6 +22,6 @@ inner_of device = device.inner
 abbrev pub device_failed : {T : Type 0} → Device T → Bool
 device_failed device = device.failed
 
--- the bytes that weren't read yet
+-- the bytes that are still to be read
 abbrev pub unread_bytes : Bytes → List ℕ
 unread_bytes bytes = bytes.unread.now

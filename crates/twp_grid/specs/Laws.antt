@@ -10,22 +10,23 @@ use Rattle.twp_grid.specs.Cuts.{Cut, rows_asked, columns_asked, AreWithin, reach
 use Rattle.twp_grid.specs.Tiling.{lots_filling, is_regular, lots_holding, regular_holding}
 use Rattle.twp_grid.specs.declared.line.Run.{Run}
 
--- a section stands at one row and column
+-- a section is at one row and column
 abbrev pub OneStanding : Type 0
 OneStanding = (number row column row' column' : ℕ)
     → StandsAt number row column → StandsAt number row' column' → (row ≡ row') × (column ≡ column')
 
--- one section stands at a row and column
+-- only one section is at a row and column
 abbrev pub OneSection : Type 0
 OneSection = (number number' row column : ℕ)
     → StandsAt number row column → StandsAt number' row column → number ≡ number'
 
--- one line of a run lies between two sections, or between a section and the township's outside
+-- only one line of a run lies between two sections, or between a section and the township's outside
 abbrev pub OneLine : Type 0
 OneLine = (run : Run) (section : ℕ) (other : Option ℕ) (line line' : ℕ)
     → IsLineOf run section other line → IsLineOf run section other line' → line ≡ line'
 
--- what cuts reach holds exactly the places whose first digits are as the cuts ask
+-- the rectangle that cuts reach contains exactly the places whose first digits are those that the
+-- cuts ask for
 abbrev pub HoldsWhatIsAsked : Type 0
 HoldsWhatIsAsked = (g : ℕ) (cuts : List Cut) → AreWithin g cuts
     → (column row : ℕ) → IsPlace g column row
@@ -38,15 +39,15 @@ HalvesAsAsked = (g : ℕ) (cuts : List Cut) → AreWithin g cuts
     → ((reached g cuts).columns.len ≡ 2 ^ (g - length (columns_asked cuts)))
     × ((reached g cuts).rows.len ≡ 2 ^ (g - length (rows_asked cuts)))
 
--- each place lies in one position of its section, where a side has as many places as positions or
--- more
+-- each place lies in one position of its section, if a side has at least as many places as
+-- positions
 abbrev pub OnePosition : Type 0
 OnePosition = (g : ℕ) → POSITIONS_ACROSS ≤ places_across g → (column row : ℕ) → IsPlace g column row
     → IsPosition (position_along g column) (position_along g row)
     × ((c r : ℕ) → (in_rectangle (position_block g c r) column row ≡ true)
     ↔ ((c ≡ position_along g column) × (r ≡ position_along g row)))
 
--- each position is filled by one lot and isn't regular, or by none and is
+-- each position is filled by one lot and is not regular, or is filled by none and is regular
 abbrev pub OneLotOrRegular : Type 0
 OneLotOrRegular = (section column row : ℕ) → IsSection section → IsPosition column row
     → ((lots_filling section column row ≡ 1) × (is_regular section column row ≡ false))
@@ -58,7 +59,7 @@ LotsMatchPositions = (section column row number : ℕ) → IsSection section
     → (lot_at_position section column row ≡ Some number)
     ↔ (position_of_lot section number ≡ Some (column, row))
 
--- a section's lots and regular positions hold each of its places once
+-- a section's lots and regular positions contain each of its places exactly once
 abbrev pub HeldOnce : Type 0
 HeldOnce = (g : ℕ) → POSITIONS_ACROSS ≤ places_across g
     → (section column row : ℕ) → IsSection section → IsPlace g column row

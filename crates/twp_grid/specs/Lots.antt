@@ -4,11 +4,11 @@
 use Rattle.std.specs.Prelude.{◌*◌, ℕ, ◌<◌, ◌==◌, ◌&&◌, List, [], ◌∷◌, Option, option_map}
 use Rattle.std.specs.Prelude.{find, count_by}
 
--- the positions along a side of a section
+-- the number of positions along a side of a section
 abbrev pub POSITIONS_ACROSS : ℕ
 POSITIONS_ACROSS = 4
 
--- the positions of a section
+-- the number of positions in a section
 abbrev pub POSITIONS : ℕ
 POSITIONS = POSITIONS_ACROSS * POSITIONS_ACROSS
 
@@ -58,6 +58,6 @@ position_of_lot section number =
     option_map (λ (l : Lot). (l.column, l.row))
     (find (λ (l : Lot). (l.section == section) && (l.number == number)) lots)
 
--- how many lots a section has
+-- the number of lots in a section
 unfoldable pub number_of_lots : ℕ → ℕ
 number_of_lots section = count_by (λ (l : Lot). l.section == section) lots

@@ -1,18 +1,19 @@
--- The places of a section, the smallest parts of it that a description names: each side of the
--- section is halved g times. A place's column is counted from the east and its row from the south.
+-- The places of a section, which are the smallest parts that a description can name: each side of
+-- the section is halved g times. A place's column is counted from the east and its row from the
+-- south.
 use Rattle.std.specs.Prelude.{ℕ, zero, suc, ◌/◌, ◌%◌, ◌^◌, ◌<◌, ◌==◌, ◌&&◌, nat_lt, Bool, true}
 use Rattle.std.specs.Prelude.{false, List, [], ◌∷◌}
 use Rattle.twp_grid.specs.Lots.{POSITIONS_ACROSS}
 
--- how many binary digits a place's column and row have today (this project's limit)
+-- how many binary digits a place's column and row have (this project's limit)
 abbrev pub PLACE_DIGITS : ℕ
 PLACE_DIGITS = 5
 
--- the places along a side of a section
+-- the number of places along a side of a section
 abbrev pub places_across : ℕ → ℕ
 places_across g = 2 ^ g
 
--- the places along a side of a position
+-- the number of places along a side of a position
 abbrev pub places_to_position : ℕ → ℕ
 places_to_position g = places_across g / POSITIONS_ACROSS
 
@@ -24,7 +25,7 @@ IsPlace g column row = (column < places_across g) × (row < places_across g)
 abbrev pub is_place : ℕ → ℕ → ℕ → Bool
 is_place g column row = nat_lt column (places_across g) && nat_lt row (places_across g)
 
--- the column of the position that places of this column belong to; the same for rows
+-- the column of the position that contains the places of this column; the same for rows
 abbrev pub position_along : ℕ → ℕ → ℕ
 position_along g place = place / places_to_position g
 
@@ -33,7 +34,7 @@ abbrev pub binary : ℕ → ℕ → List ℕ
 binary zero place = []
 binary (suc g) place = (place / 2 ^ g % 2) ∷ binary g place
 
--- the digits begin with those that are asked for
+-- the digits begin with those asked for
 abbrev pub begins : List ℕ → List ℕ → Bool
 begins [] digits = true
 begins (d ∷ asked) [] = false

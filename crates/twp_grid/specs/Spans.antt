@@ -2,24 +2,24 @@
 use Rattle.std.specs.Prelude.{◌≡◌, ℕ, ◌+◌, ◌*◌, ◌/◌, ◌%◌, ◌≤◌, ◌<◌, ◌&&◌, nat_le, nat_lt, Bool}
 use Rattle.twp_grid.specs.Places.{places_across, places_to_position}
 
--- columns or rows in succession: the first of them, and how many
+-- consecutive columns or rows: the first of them, and how many there are
 pub record Span : Type 0 where
   pub start : ℕ
   pub len : ℕ
 
--- this many from a first one
+-- a number of columns or rows from a first one
 abbrev pub span_from : ℕ → ℕ → Span
 span_from start len = record { start = start; len = len }
 
--- the span holds this column or row
+-- the span contains this column or row
 abbrev pub in_span : Span → ℕ → Bool
 in_span span place = nat_le span.start place && nat_lt place (span.start + span.len)
 
--- the half of the lesser numbers, in the east or the south
+-- the half with the smaller numbers, in the east or the south
 abbrev pub lower_half : Span → Span
 lower_half span = span_from span.start (span.len / 2)
 
--- the half of the greater numbers, in the west or the north
+-- the half with the larger numbers, in the west or the north
 abbrev pub upper_half : Span → Span
 upper_half span = span_from (span.start + span.len / 2) (span.len / 2)
 
@@ -31,7 +31,7 @@ whole_span g = span_from 0 (places_across g)
 abbrev pub position_span : ℕ → ℕ → Span
 position_span g position = span_from (position * places_to_position g) (places_to_position g)
 
--- The span is one of those that halving gives: it lies in the section, its length divides the
+-- The span is one of those that result from halving: it lies in the section, its length divides the
 -- section's side, and its start is a multiple of its length.
 pub record IsDyadic (g : ℕ) (span : Span) : Type 0 where
   pub some : 0 < span.len
@@ -44,11 +44,11 @@ pub record Rectangle : Type 0 where
   pub columns : Span
   pub rows : Span
 
--- these columns and rows
+-- the rectangle with these columns and rows
 abbrev pub rectangle : Span → Span → Rectangle
 rectangle columns rows = record { columns = columns; rows = rows }
 
--- the rectangle holds the place of this column and row
+-- the rectangle contains the place at this column and row
 abbrev pub in_rectangle : Rectangle → ℕ → ℕ → Bool
 in_rectangle block column row = in_span block.columns column && in_span block.rows row
 

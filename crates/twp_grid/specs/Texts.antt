@@ -1,4 +1,4 @@
--- What the texts of several layers have in common.
+-- Definitions that the texts of several layers share.
 use Rattle.std.specs.Prelude.{ℕ, List, codes}
 use Rattle.twp_grid.specs.declared.township.NorthSouth.{NorthSouth}
 use Rattle.twp_grid.specs.declared.township.NorthSouth.TheVariants as ns

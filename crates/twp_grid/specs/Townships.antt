@@ -1,5 +1,5 @@
--- How a township is named: so many townships north or south of a base line, so many ranges east or
--- west of a principal meridian.
+-- How a township is named: its number north or south of a base line, and the number of its range
+-- east or west of a principal meridian.
 use Rattle.std.specs.Prelude.{ℕ, ◌≤◌}
 use Rattle.twp_grid.specs.declared.township.NorthSouth.{NorthSouth}
 use Rattle.twp_grid.specs.declared.township.EastWest.{EastWest}
@@ -11,7 +11,7 @@ pub record Designation : Type 0 where
   pub range : ℕ
   pub east_west : EastWest
 
--- the designation of these four parts
+-- the designation with these four parts
 abbrev pub designation : ℕ → NorthSouth → ℕ → EastWest → Designation
 designation number north_south range east_west =
     record { number = number; north_south = north_south; range = range; east_west = east_west }

@@ -1,11 +1,12 @@
--- Where a township's sections stand (Manual of Surveying Instructions 2009, chapter 3).
+-- How a township's sections are numbered and arranged (Manual of Surveying Instructions 2009,
+-- chapter 3).
 use Rattle.std.specs.Prelude.{◌≡◌, ℕ, ◌+◌, ◌-◌, ◌*◌, ◌%◌, ◌≤◌, ◌<◌, ◌⊎◌}
 
--- the sections along a side of a township
+-- the number of sections along a side of a township
 abbrev pub SECTIONS_ACROSS : ℕ
 SECTIONS_ACROSS = 6
 
--- the sections of a township
+-- the number of sections in a township
 abbrev pub SECTION_COUNT : ℕ
 SECTION_COUNT = SECTIONS_ACROSS * SECTIONS_ACROSS
 
@@ -13,12 +14,12 @@ SECTION_COUNT = SECTIONS_ACROSS * SECTIONS_ACROSS
 abbrev pub WESTERN_COLUMN : ℕ
 WESTERN_COLUMN = SECTIONS_ACROSS - 1
 
--- the numbers of sections
+-- the valid section numbers
 abbrev pub IsSection : ℕ → Type 0
 IsSection number = (1 ≤ number) × (number ≤ SECTION_COUNT)
 
--- The number's section stands at this row from the north and this column from the east: an even row
--- is numbered from the east, an odd one from the west.
+-- The section with this number is at this row from the north and this column from the east: even
+-- rows are numbered from the east, odd rows from the west.
 pub record StandsAt (number row column : ℕ) : Type 0 where
   pub row_range : row < SECTIONS_ACROSS
   pub column_range : column < SECTIONS_ACROSS

@@ -25,18 +25,18 @@ pub enum Side {
 /// A corner of a section or of a part of it.
 #[derive(Clone, Copy, Debug, PartialEq, Eq)]
 pub enum Corner {
-    /// The north-east corner.
+    /// The northeast corner.
     NE,
-    /// The north-west corner.
+    /// The northwest corner.
     NW,
-    /// The south-west corner.
+    /// The southwest corner.
     SW,
-    /// The south-east corner.
+    /// The southeast corner.
     SE,
 }
 
 /// A rectangle of a section's places: the whole section, a position, and each half and quarter of a
-/// block, which are the aliquot parts (Specifications for Descriptions of Land). A place's column
+/// block; these are the aliquot parts (Specifications for Descriptions of Land). A place's column
 /// is counted from the east and its row from the south, from 0 to less than `PLACES_ACROSS`.
 #[derive(Clone, Copy, PartialEq, Eq)]
 pub struct Block {
@@ -68,7 +68,7 @@ impl Block {
         }
     }
 
-    /// The position at a column from the east and a row from the south, 0 to 3. None outside this
+    /// The position at a column from the east and a row from the south, 0 to 3. `None` outside this
     /// range.
     pub fn position(column: u8, row: u8) -> Option<Block>
         ensures { SomeIff result (IsPosition column row) (position_block PLACE_DIGITS column row) }
@@ -79,7 +79,7 @@ impl Block {
         })
     }
 
-    /// The position that a lot of a section fills. None where the section has no such lot.
+    /// The position that a lot of a section fills. `None` if the section has no such lot.
     pub fn of_lot(section: Section, lot: u8) -> Option<Block>
         ensures block { result
             ≡ option_map (λ (column, row). position_block PLACE_DIGITS column row)
@@ -91,7 +91,7 @@ impl Block {
         Block::position(column, row)
     }
 
-    /// The half toward a side. None where the side to be halved is one place.
+    /// The half toward a side. `None` if the side to be halved is one place.
     pub fn half(self, side: Side) -> Option<Block>
         ensures { SomeIff result (CanHalve self side) (half_of self side) }
     {
@@ -116,7 +116,7 @@ impl Block {
         })
     }
 
-    /// The quarter at a corner. None where a side is one place.
+    /// The quarter at a corner. `None` if a side is one place.
     pub fn quarter(self, corner: Corner) -> Option<Block>
         ensures { SomeIff result (CanQuarter self) (quarter_of self corner) }
     {

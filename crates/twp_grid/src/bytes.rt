@@ -2,7 +2,7 @@ ghost use Rattle.std.specs.Prelude.{◌≡◌};
 
 use crate::device::{DeviceFault, Source};
 
-/// Bytes in memory, to read. They never fail.
+/// Bytes in memory, as a source that never fails.
 #[derive(Clone, Copy)]
 pub struct Bytes<'a> {
     unread: &'a [u8],

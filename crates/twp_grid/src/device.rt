@@ -4,20 +4,20 @@ ghost use Rattle.std.specs.Io.KnownBytes.{ReadConsumes, WriteAppends, Keeps};
 
 use std::io::{Read, Write};
 
-/// A device has failed, for whatever reason: it takes and gives no more bytes.
+/// The fault of a device that has failed, for whatever reason. It takes and gives no more bytes.
 #[derive(Clone, Copy, Debug, PartialEq, Eq)]
 pub struct DeviceFault;
 
-/// What bytes are read from.
+/// A source of bytes to read.
 pub trait Source {
-    /// The bytes that are left to read, where they are known.
+    /// The bytes that are still to be read, if they are known.
     ghost remaining: { Self → Option (List ℕ) } = { λ _. None };
 
     /// Whether a call has failed.
     ghost has_failed: { Self → Bool };
 
-    /// Fills the start of a buffer, and returns how many bytes it filled. 0 for a buffer that has
-    /// room means the end of the input.
+    /// Fills the start of a buffer, and returns how many bytes it filled. If that is 0 although the
+    /// buffer has room, the input has ended.
     fn fill(&mut self, buffer: &mut [u8]) -> Result<usize, DeviceFault>
         requires { has_failed self.old ≡ false }
         ensures within { IfOk result (λ n. n ≤ length buffer.new) }
@@ -29,16 +29,16 @@ pub trait Source {
         ensures { result ≡ has_failed self.now };
 }
 
-/// What bytes are written to.
+/// A sink to write bytes to.
 pub trait Sink {
-    /// The bytes that were taken, where they are known.
+    /// The bytes taken so far, if they are known.
     ghost contents: { Self → Option (List ℕ) } = { λ _. None };
 
     /// Whether a call has failed.
     ghost has_failed: { Self → Bool };
 
-    /// Takes bytes at the start of a slice, at least one of a slice that isn't empty, and returns
-    /// how many. After a fault it took none.
+    /// Takes bytes at the start of a slice, and returns how many: at least one, unless the slice is
+    /// empty. If the call fails, it took none.
     fn put(&mut self, bytes: &[u8]) -> Result<usize, DeviceFault>
         requires { has_failed self.old ≡ false }
         ensures within { IfOk result (λ n. n ≤ length bytes.now) }
@@ -46,7 +46,7 @@ pub trait Sink {
         ensures bytes { WriteAppends (contents self.old) (contents self.new) result bytes.now }
         ensures fails { has_failed self.new ≡ is_err result };
 
-    /// Passes on what is held back.
+    /// Passes on the bytes that are buffered.
     fn flush(&mut self) -> Result<(), DeviceFault>
         requires { has_failed self.old ≡ false }
         ensures bytes { Keeps (contents self.old) (contents self.new) }

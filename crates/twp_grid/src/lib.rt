@@ -1,6 +1,6 @@
-//! The township's grid: its sections, the lines that are run between them, the lots of its closing
-//! sections, blocks of places in a section, its designation; and the devices that bytes are read
-//! from and written to.
+//! The township's grid: its sections, the section lines between them, the lots of its closing
+//! sections, the blocks of places in a section, and its designation; and the devices that bytes are
+//! read from and written to.
 #![tactic(auto)]
 
 mod block;

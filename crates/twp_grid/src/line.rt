@@ -6,7 +6,7 @@ ghost use Rattle.twp_grid.specs.Winding.{SECTIONS_ACROSS};
 use crate::section::{Section, Standing};
 use std::marker::Model;
 
-/// Which way a line is run, as its field notes are written.
+/// The direction in which a line is run, as its field notes give it.
 #[derive(Clone, Copy, PartialEq, Eq)]
 pub enum Run {
     /// From the south end to the north end.
@@ -15,7 +15,7 @@ pub enum Run {
     West,
 }
 
-/// How many section lines a township has.
+/// The number of section lines in a township.
 pub const LINES: usize = 84;
 
 /// One of a township's 84 section lines, each a mile, by its index: first the north-run lines,
@@ -44,8 +44,8 @@ impl Line {
     ghost use Rattle.twp_grid.specs.Lines.{LINES_ACROSS, IsLine, IsClosing, IsLineOf, north_run};
     ghost use Rattle.twp_grid.specs.Lines.{west_run};
 
-    /// The line between two different sections, in either order, or with None the line between a
-    /// section and the township's outside. None where there is no such line.
+    /// The line between two different sections, in either order, or with `None` the line between a
+    /// section and the township's outside. `None` if there is no such line.
     pub fn find(run: Run, section: Section, other: Option<Section>) -> Option<Line>
         ensures { Finds result (IsLineOf run section other) }
     {
@@ -55,7 +55,7 @@ impl Line {
         }
     }
 
-    /// The line between two sections that stand side by side.
+    /// The line between two sections that are side by side.
     #[tactic(auto, using(crate::proofs::LineFacts::shared_ends))]
     fn between(run: Run, section: Section, other: Section) -> Option<Line>
         ensures { Finds result (IsLineOf run section (Some other)) }
@@ -80,7 +80,7 @@ impl Line {
         }
     }
 
-    /// The line beside a section that stands at the township's boundary.
+    /// The line between a section on the township's boundary and the outside.
     fn on_boundary(run: Run, section: Section) -> Option<Line>
         ensures { Finds result (IsLineOf run section None) }
     {
@@ -121,7 +121,7 @@ impl Line {
         }
     }
 
-    /// The line of an index from 0 to 83.
+    /// The line with an index from 0 to 83.
     pub fn at_index(index: u8) -> Option<Line>
         ensures { SomeIff result (IsLine index) index }
     {
@@ -132,7 +132,7 @@ impl Line {
         }
     }
 
-    /// 0 to 83.
+    /// The index, 0 to 83.
     pub fn index(self) -> u8
         ensures value { result ≡ self }
         ensures range { IsLine result }
@@ -140,9 +140,9 @@ impl Line {
         self.index
     }
 
-    /// Whether errors of measurement are thrown into the line's last half mile: the north-run lines
-    /// of the northern row and the west-run lines of the western column (Manual of Surveying
-    /// Instructions 2009, chapter 3).
+    /// Whether excess or deficiency in measurement is thrown into the line's last half mile: the
+    /// north-run lines of the northern row and the west-run lines of the western column (Manual of
+    /// Surveying Instructions 2009, chapter 3).
     #[tactic(auto, using(crate::proofs::LineFacts::closing_lines))]
     pub fn is_closing(self) -> bool
         ensures { IsTrue result ↔ IsClosing self }
@@ -154,7 +154,7 @@ impl Line {
 
 ghost use Rattle.twp_grid.specs.Lines.{AreSides};
 
-/// A section's east, west, north and south line.
+/// A section's east, west, north, and south lines.
 pub fn sides(section: Section) -> [Line; 4]
     ensures { AreSides section result }
 {

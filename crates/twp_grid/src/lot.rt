@@ -9,9 +9,9 @@ use crate::section::Section;
 pub const POSITIONS_ACROSS: u8 = 4;
 
 /// The lot that fills a position of a section, if one does. The column is counted from the east and
-/// the row from the south, 0 to 3; outside this range there is none. Lots stand along the half
-/// miles that errors of measurement are thrown into (Manual of Surveying Instructions 2009, chapter
-/// 3).
+/// the row from the south, 0 to 3; outside this range there is none. Lots lie along the half miles
+/// into which excess or deficiency in measurement is thrown (Manual of Surveying Instructions 2009,
+/// chapter 3).
 #[tactic(auto, using(crate::proofs::LotFacts::lot_at_position_is))]
 pub fn lot_at(section: Section, column: u8, row: u8) -> Option<u8>
     ensures lot { result ≡ lot_at_position section column row }
@@ -30,7 +30,7 @@ pub fn lot_at(section: Section, column: u8, row: u8) -> Option<u8>
 }
 
 /// The position that a lot of a section fills: its column from the east and its row from the south.
-/// None where the section has no such lot.
+/// `None` if the section has no such lot.
 #[tactic(auto, using(crate::proofs::LotFacts::numbered_lots))]
 pub fn lot_place(section: Section, lot: u8) -> Option<(u8, u8)>
     ensures position { result ≡ position_of_lot section lot }
@@ -48,7 +48,7 @@ pub fn lot_place(section: Section, lot: u8) -> Option<(u8, u8)>
     Some((3, count - lot))
 }
 
-/// How many lots a section has: 0, 4 or 7.
+/// How many lots a section has: 0, 4, or 7.
 #[tactic(auto, using(crate::proofs::LotFacts::lot_count_is))]
 pub fn lot_count(section: Section) -> u8
     ensures count { result ≡ number_of_lots section }
@@ -61,7 +61,7 @@ pub fn lot_count(section: Section) -> u8
     }
 }
 
-/// Whether the section is of the northern row.
+/// Whether the section is in the northern row.
 fn is_northern(section: Section) -> bool
     ensures value { result ≡ nat_le section 6 }
     ensures range { IsSection section }
@@ -69,7 +69,7 @@ fn is_northern(section: Section) -> bool
     section.number() <= 6
 }
 
-/// Whether the section is of the western column.
+/// Whether the section is in the western column.
 fn is_western(section: Section) -> bool
     ensures { result ≡ is_western_number section }
 {

@@ -1,9 +1,9 @@
 /// A numbered refusal and its place: a record's number, a line's index, or an offset or a length in
-/// bytes, as the number's fault says.
+/// bytes, depending on the number.
 #[derive(Clone, Copy, Debug, PartialEq, Eq)]
 pub struct Refusal {
-    /// What is wrong, as `docs/REFUSALS.md` numbers it.
+    /// The refusal's number, as in `docs/REFUSALS.md`.
     pub number: u8,
-    /// Where it is wrong, in what the number's fault counts.
+    /// The place of the fault, in the unit that goes with the number.
     pub at: u32,
 }

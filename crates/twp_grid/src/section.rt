@@ -4,18 +4,19 @@ ghost use Rattle.twp_grid.specs.Winding.{SECTIONS_ACROSS, IsSection, StandsAt};
 
 use std::marker::Model;
 
-/// How many sections a township has.
+/// The number of sections in a township.
 pub const SECTIONS: u8 = 36;
 
-/// One of a township's 36 sections, by its number. The numbers wind back and forth: row 0 has 1 to
-/// 6 from the east, row 1 has 7 to 12 from the west, and so on to 36 in the south-east corner
+/// One of a township's 36 sections, by its number. The numbers wind back and forth: in row 0, 1 to
+/// 6 from the east; in row 1, 7 to 12 from the west; and so on to 36 in the southeast corner
 /// (Manual of Surveying Instructions 2009, chapter 3).
 #[derive(Clone, Copy, PartialEq, Eq)]
 pub struct Section {
     number: u8,
 }
 
-/// Where a section stands: its row is counted from the north and its column from the east, 0 to 5.
+/// The place of a section in its township: its row is counted from the north and its column from
+/// the east, 0 to 5.
 #[derive(Clone, Copy)]
 pub(crate) struct Standing {
     pub(crate) row: u8,
@@ -33,7 +34,7 @@ impl Model for Section {
 }
 
 impl Section {
-    /// The section of a number from 1 to 36.
+    /// The section with a number from 1 to 36.
     pub fn new(number: u8) -> Option<Section>
         ensures { SomeIff result (IsSection number) number }
     {
@@ -56,7 +57,7 @@ impl Section {
         }
     }
 
-    /// 1 to 36.
+    /// The section's number, 1 to 36.
     pub fn number(self) -> u8
         ensures value { result ≡ self }
         ensures range { IsSection result }

@@ -6,16 +6,16 @@ ghost use Rattle.twp_grid.specs.Places.{PLACE_DIGITS};
 use crate::lot::POSITIONS_ACROSS;
 use std::marker::Model;
 
-/// How often a side of a section is halved (this project's limit).
+/// How many times a side of a section can be halved (this project's limit).
 pub const PLACE_DIGITS: usize = 5;
 
-/// The places along a side of a section.
+/// The number of places along a side of a section.
 pub const PLACES_ACROSS: usize = 1 << PLACE_DIGITS;
 
-/// The places along a side of a position.
+/// The number of places along a side of a position.
 pub const PLACES_TO_POSITION: u8 = PLACES_ACROSS as u8 / POSITIONS_ACROSS;
 
-/// Columns or rows of places in succession, as halving a section's side gives them.
+/// Consecutive columns or rows of places, such as result from halving a section's side.
 #[derive(Clone, Copy, PartialEq, Eq)]
 pub(crate) struct Span {
     start: usize,
@@ -51,7 +51,7 @@ impl Span {
         }
     }
 
-    /// The columns or rows of a position, 0 to 3. None outside this range.
+    /// The columns or rows of a position, 0 to 3. `None` outside this range.
     pub(crate) fn position(position: u8) -> Option<Span>
         ensures { SomeIff result (position < POSITIONS_ACROSS)
             (position_span PLACE_DIGITS position) }
@@ -65,7 +65,7 @@ impl Span {
         })
     }
 
-    /// The half of the lesser numbers, in the east or the south. None for a single place.
+    /// The half with the smaller numbers, in the east or the south. `None` for a single place.
     pub(crate) fn lower(self) -> Option<Span>
         ensures { SomeIff result (1 < self.len) (lower_half self) }
     {
@@ -78,7 +78,7 @@ impl Span {
         })
     }
 
-    /// The half of the greater numbers, in the west or the north. None for a single place.
+    /// The half with the larger numbers, in the west or the north. `None` for a single place.
     pub(crate) fn upper(self) -> Option<Span>
         ensures { SomeIff result (1 < self.len) (upper_half self) }
     {
@@ -100,7 +100,7 @@ impl Span {
         self.start as u8
     }
 
-    /// How many, from 1 to `PLACES_ACROSS`.
+    /// How many columns or rows there are, from 1 to `PLACES_ACROSS`.
     pub(crate) fn len(self) -> u8
         ensures value { result ≡ self.len }
         ensures dyadic { IsDyadic PLACE_DIGITS self }

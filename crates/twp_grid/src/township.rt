@@ -8,7 +8,7 @@ use std::marker::Model;
 pub enum NorthSouth {
     /// North of the base line.
     N,
-    /// South of it.
+    /// South of the base line.
     S,
 }
 
@@ -17,12 +17,12 @@ pub enum NorthSouth {
 pub enum EastWest {
     /// East of the principal meridian.
     E,
-    /// West of it.
+    /// West of the principal meridian.
     W,
 }
 
-/// A township's designation, as T. 2 N., R. 3 W., without its principal meridian. Both numbers are
-/// 1 to 99 (this project's limit).
+/// A township's designation, such as T. 2 N., R. 3 W., without its principal meridian. Both numbers
+/// are 1 to 99 (this project's limit).
 #[derive(Clone, Copy, PartialEq, Eq)]
 pub struct Township {
     tier_number: u8,
@@ -51,7 +51,7 @@ impl Model for Township {
 impl Township {
     ghost use Rattle.twp_grid.specs.Townships.{designation, IsTownshipNumber};
 
-    /// None where a number is outside 1 to 99.
+    /// The township with these numbers and directions. `None` if a number is outside 1 to 99.
     pub fn new(
         number: u8,
         north_south: NorthSouth,

@@ -19,7 +19,7 @@ use Rattle.twp_grid.specs.Totals.{total, one_where}
 use Rattle.twp_land.specs.steps.BitLanes.{LANE_BITS}
 use Rattle.twp_grid.proofs.TotalFacts.{total-zero, total-ext, total-front}
 
--- a run of ones is a span
+-- consecutive ones are a span
 pub bit_of_ones : (span : Span) (i : ℕ)
     → bit_at (2 ^ (span.start + span.len) - 2 ^ span.start) i ≡ one_where (in_span span i)
 bit_of_ones span i = elim (cases_lt i span.start) [
@@ -36,7 +36,7 @@ bit_of_ones span i = elim (cases_lt i span.start) [
   ]
 ]
 
--- what all of them have in common is 0 where each is
+-- the bitwise or of zeros is 0
 pub or_of_zeros : (first : ℕ) (lanes : List ℕ) → first ≡ 0
     → ((i : ℕ) → i < length lanes → get_or lanes i 0 ≡ 0) → fold_l bit_or first lanes ≡ 0
 or_of_zeros first [] none each = none
@@ -71,7 +71,7 @@ sum_is_total (lane ∷ lanes) =
     later : (i : ℕ) → get_or (lane ∷ lanes) (i + 1) 0 ≡ get_or lanes i 0
     later i = let e : i + 1 ≡ suc i = omega arith in rw e refl
 
--- the ones of a number of this many digits
+-- the ones of a number with this many digits
 pub ones_are_total : (digits n : ℕ) → n < 2 ^ digits → count_ones n ≡ total digits (λ i. bit_at n i)
 ones_are_total zero n below =
     let none : n ≡ 0 = omega (arith, below) in
@@ -87,7 +87,7 @@ ones_are_total (suc digits) n below =
     later : (i : ℕ) → bit_at n (i + 1) ≡ bit_at (n / 2) i
     later i = let e : i + 1 ≡ suc i = omega arith in rw e (bit_at-suc n i)
 
--- a first one that passes, or none
+-- a first one that passes the test, or none
 pub some_or_none : (n : ℕ) (test : ℕ → Bool)
     → ((k : ℕ) × (k < n) × (test k ≡ true)) ⊎ ((k : ℕ) → k < n → test k ≡ false)
 some_or_none zero test = inr (λ k below. absurd (omega arith))
@@ -102,12 +102,12 @@ some_or_none (suc n) test = elim (cases_Bool (test n)) [
   ]
 ]
 
--- ones from the bit of a start on, as they are computed
+-- ones from the bit of a start on, as the code computes them
 abbrev pub computed_ones : ℕ → ℕ → ℕ
 computed_ones start len =
     (1 * 2 ^ len % 18446744073709551616 - 1) * 2 ^ start % 18446744073709551616
 
--- they are the ones from the start to the end, and fit a lane
+-- they are the ones from the start to the end, and fit in a lane
 pub shifted_ones : (start len : ℕ) → start + len ≤ LANE_BITS
     → computed_ones start len ≡ 2 ^ (start + len) - 2 ^ start
 shifted_ones start len within =
@@ -128,7 +128,7 @@ ones_fit_a_lane start len within =
     let most : 2 ^ (start + len) ≤ 2 ^ LANE_BITS = pow_mono {i = start + len} {j = LANE_BITS} within in
     omega (arith, shifted_ones start len within, most, pow_pos start, pow_pos (start + len))
 
--- lanes of no bits
+-- lanes without bits
 pub no_bit : (n column row : ℕ) → (bit_at (get_or (replicate n 0) row 0) column == 1) ≡ false
 no_bit zero column row = rw (bit_at-zero column) refl
 no_bit (suc n) column zero = rw (bit_at-zero column) refl

@@ -1,4 +1,4 @@
--- Blocks in a section, and sums over their places among all.
+-- Blocks in a section, and sums over their places among all places of the section.
 use Rattle.std.proofs.Common.{◌≡◌, ℕ, ◌+◌, ◌-◌, ◌<◌, ◌≤◌, Bool, true, false, nat_le, nat_lt, ap, refl, ◌∙◌}
 use Rattle.std.proofs.Common.{arith, min}
 use Rattle.std.proofs.Math.Nat.{min-zero}
@@ -10,7 +10,7 @@ use Rattle.twp_grid.specs.Totals.{total, one_where}
 use Rattle.twp_grid.proofs.TotalFacts.{total-ext, total-add, total-all_zero}
 use Rattle.twp_land.specs.Lands.{count_held}
 
--- where a block's places lie
+-- the block's places lie in the section
 pub record InSection (block : Rectangle) : Type 0 where
   pub rows : block.rows.start + block.rows.len ≤ places_across PLACE_DIGITS
   pub columns : block.columns.start + block.columns.len ≤ places_across PLACE_DIGITS
@@ -33,7 +33,7 @@ place_inside block column row lies inside =
         let under : n < span.start + span.len = grind (arith, nat_tests) in
         omega arith
 
--- a sum of which only a span's terms count
+-- a sum in which only the terms of a span count
 total_of_span : (n : ℕ) (span : Span) (f g : ℕ → ℕ) → span.start + span.len ≤ n
     → ((k : ℕ) → k < span.len → f (span.start + k) ≡ g k)
     → ((k : ℕ) → in_span span k ≡ false → f k ≡ 0) → total n f ≡ total span.len g

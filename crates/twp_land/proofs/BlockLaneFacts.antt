@@ -1,4 +1,4 @@
--- The lanes of a block: of each row the columns, where the block has the row.
+-- The lanes of a block: in each of its rows, the bits of its columns.
 use Rattle.std.proofs.Common.{◌≡◌, ◌==◌, ℕ, zero, suc, ◌+◌, ◌-◌, ◌*◌, ◌^◌, ◌<◌, ◌≤◌, ◌&&◌, Bool, true, false}
 use Rattle.std.proofs.Common.{List, [], ◌∷◌, length, get_or, ap, refl, sym, ◌∙◌, arith, replicate, map, cond}
 use Rattle.std.proofs.Common.{w32}
@@ -18,7 +18,7 @@ use Rattle.twp_land.specs.steps.BitLanes.{LANE_BITS, AreBlockLanes}
 use Rattle.twp_land.proofs.BitFacts.{bit_of_ones}
 use Rattle.twp_land.proofs.BlockFacts.{InSection}
 
--- in each lane the bit of its row
+-- the bit of each row, in the row's lane
 abbrev pub row_bits : List ℕ
 row_bits =
     1 ∷ 2 ∷ 4 ∷ 8 ∷ 16 ∷ 32 ∷ 64 ∷ 128 ∷ 256 ∷ 512 ∷ 1024 ∷ 2048 ∷ 4096 ∷ 8192 ∷ 16384 ∷ 32768 ∷ 65536 ∷

@@ -1,4 +1,4 @@
--- What two sets of places share, kept section by section.
+-- The places that two sets share, stored section by section.
 use Rattle.std.proofs.Common.{get_or, sym, ◌∙◌, ◌≡◌, ◌==◌, ℕ, ◌-◌, ◌<◌, ◌≤◌, ◌+◌, ◌&&◌, ◌||◌, not, nat_le}
 use Rattle.std.proofs.Common.{Bool, true, false, List, length, ap, refl, inl, inr, arith}
 use Rattle.std.proofs.Math.Path.{fun_ext}
@@ -10,12 +10,12 @@ use Rattle.twp_land.specs.Lands.{intersection, LieWithin}
 use Rattle.twp_land.specs.Storage.{held_by_section, held_by_both}
 use Rattle.twp_land.proofs.LandFacts.{exchanged, held_after, kept_at}
 
--- up to a section the places that both sets have, and after it those of the first
+-- up to a section the places in both sets, and after it those of the first
 abbrev pub common_to : ℕ → (ℕ → ℕ → ℕ → Bool) → (ℕ → ℕ → ℕ → Bool) → ℕ → ℕ → ℕ → Bool
 common_to most places more section column row =
     places section column row && (not (nat_le section most) || more section column row)
 
--- before the first section that holds a place
+-- before the first section that contains a place
 pub common_first : (places more : ℕ → ℕ → ℕ → Bool) (before first last : ℕ) → LieWithin places first last
     → before < first
     → places ≡ common_to before places more
@@ -28,7 +28,7 @@ common_first places more before first last within behind =
       | inr not ↦ rw not refl
     ])))
 
--- behind the last section that holds a place
+-- after the last section that contains a place
 pub common_all : (places more : ℕ → ℕ → ℕ → Bool) (first last most : ℕ) → LieWithin places first last
     → last ≤ most
     → common_to most places more ≡ intersection places more
@@ -41,7 +41,7 @@ common_all places more first last most within all =
       | inr not ↦ rw not refl
     ])))
 
--- nothing comes where nothing was
+-- the common places lie in the same range of sections
 pub common_within : (places more now : ℕ → ℕ → ℕ → Bool) (most first last : ℕ)
     → now ≡ common_to most places more → LieWithin places first last
     → LieWithin now first last

@@ -1,4 +1,4 @@
--- Lands where each place is cut into four: their lots, and how many places are held.
+-- Land in which each place is divided into four: its lots, and how many places it contains.
 use Rattle.std.proofs.Common.{◌≡◌, ℕ, suc, ◌*◌, ◌/◌, ◌≤◌, ◌&&◌, Bool, is_none, ap, ◌∙◌}
 use Rattle.std.proofs.Math.Path.{fun_ext}
 use Rattle.twp_grid.specs.Lots.{POSITIONS_ACROSS, lot_at_position}
@@ -10,7 +10,7 @@ use Rattle.twp_land.specs.Lands.{count_held}
 use Rattle.twp_land.specs.FinerLands.{cut_in_four}
 use Rattle.twp_land.specs.WholeLots.{lot_of_place, off_lots}
 
--- a place lies in the lot of the greater place
+-- a place lies in the same lot as the larger place that contains it
 pub same_lot : (g section column row : ℕ) → POSITIONS_ACROSS ≤ places_across g
     → lot_of_place (suc g) section column row ≡ lot_of_place g section (column / 2) (row / 2)
 same_lot g section column row fits =
@@ -23,7 +23,7 @@ same_off_lots g section held fits =
     fun_ext (λ column. fun_ext (λ row.
     ap (λ lot. held (column / 2) (row / 2) && is_none lot) (same_lot g section column row fits)))
 
--- four places are held for each
+-- four places for each larger one
 pub count_of_section : (g : ℕ) (held : ℕ → ℕ → Bool)
     → count_held (cut_in_four held) (whole_block (suc g)) ≡ 4 * count_held held (whole_block g)
 count_of_section g held = whole_finer g (λ column row. one_where (held column row))

@@ -1,4 +1,4 @@
--- What two sets of one section's places share, and hold together, as they are kept.
+-- The common places of two sets in one section, and the places in either, as they are stored.
 use Rattle.std.proofs.Common.{◌≡◌, ◌↔◌, IsTrue, ◌≢◌, ◌==◌, ℕ, zero, suc, ◌^◌, ◌<◌, ◌≤◌, ◌||◌, ◌&&◌, Bool}
 use Rattle.std.proofs.Common.{true}
 use Rattle.std.proofs.Common.{false, not, List, [], length, get_or, nat_lt, ap, refl, sym, ◌∙◌, inl, inr}
@@ -46,7 +46,7 @@ pub record AreJoined (rows others : List (List Bool)) (count : ℕ) (joined : Li
       → IsJoined (get_or rows row []) (get_or others row []) (get_or joined row [])
   pub from : (row : ℕ) → count ≤ row → get_or joined row [] ≡ get_or rows row []
 
--- the rows below a number hold what both do, and the others are as they were
+-- the rows below a number contain the places of both, and the others are as they were
 pub record AreCommon (rows others : List (List Bool)) (count : ℕ) (common : List (List Bool)) : Type 0 where
   pub all : length common ≡ places_across PLACE_DIGITS
   pub below : (row : ℕ) → row < count

@@ -10,7 +10,7 @@ use Rattle.twp_land.specs.Lands.{union, LieWithin}
 use Rattle.twp_land.specs.Storage.{held_by_section, held_by_either}
 use Rattle.twp_land.proofs.LandFacts.{exchanged, held_after, kept_at}
 
--- the places of both sets up to a section, and after it those of the first
+-- the places in either set up to a section, and after it those of the first
 abbrev pub joined_to : ℕ → (ℕ → ℕ → ℕ → Bool) → (ℕ → ℕ → ℕ → Bool) → ℕ → ℕ → ℕ → Bool
 joined_to most places more section column row =
     places section column row || (nat_le section most && more section column row)
@@ -48,7 +48,7 @@ joined_all places more first last most within all =
         rw below refl
     inside section column row (inr not) = rw not (and_right (nat_le section most) false refl)
 
--- joined in a range that is as wide
+-- joined in a range wide enough for both
 pub joined_within : (places more now : ℕ → ℕ → ℕ → Bool) (most first last first' last' : ℕ)
     → now ≡ joined_to most places more
     → first ≤ first' → last' ≤ last → LieWithin places first last → LieWithin more first' last'

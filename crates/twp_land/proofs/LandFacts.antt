@@ -1,4 +1,4 @@
--- Sets of places as they are kept by section.
+-- Sets of places that are stored by section.
 use Rattle.std.proofs.Common.{get_or, sym, ◌∙◌, if◌then◌else◌, ◌≡◌, ◌≢◌, ◌==◌, ℕ, zero, suc, ◌-◌, ◌<◌, ◌≤◌}
 use Rattle.std.proofs.Common.{◌+◌, ◌&&◌, ◌||◌, Bool, true, false, List, [], ◌∷◌, length, Some, ap}
 use Rattle.std.proofs.Common.{refl, inl, inr, arith, replicate}
@@ -15,7 +15,7 @@ use Rattle.twp_land.specs.Lands.{LieWithin}
 use Rattle.twp_land.specs.Storage.{is_section, held_by_section, with_block, without_block, nothing_held}
 use Rattle.twp_land.specs.Storage.{ShareHeld, SameHeld}
 
--- the set with one section's part replaced
+-- the set with the part in one section replaced
 abbrev pub exchanged : (ℕ → ℕ → ℕ → Bool) → ℕ → (ℕ → ℕ → Bool) → ℕ → ℕ → ℕ → Bool
 exchanged places section held other column row =
     if section == other then held column row else places other column row
@@ -74,7 +74,7 @@ held_after held plots section plot range all =
     at_other other column row apart =
         keeps other column row (is_section other) (λ number e. apart (grind (arith, nat_tests)))
 
--- replacing a section's part by itself and a block adds the block
+-- replacing a section's part by itself with a block adds the block
 exchanged_is_union : (places : ℕ → ℕ → ℕ → Bool) (section : ℕ) (block : Rectangle)
     → exchanged places section (with_block (places section) block) ≡ union places (block_places section block)
 exchanged_is_union places section block =
@@ -91,7 +91,7 @@ exchanged_is_union places section block =
     or_false true = refl
     or_false false = refl
 
--- replacing it by itself without a block takes the block away
+-- replacing a section's part by itself without a block removes the block
 exchanged_is_difference : (places : ℕ → ℕ → ℕ → Bool) (section : ℕ) (block : Rectangle)
     → exchanged places section (without_block (places section) block)
     ≡ difference places (block_places section block)
@@ -109,7 +109,7 @@ exchanged_is_difference places section block =
     and_true true = refl
     and_true false = refl
 
--- where each part is empty, so is the set
+-- if each part is empty, so is the set
 pub held_nowhere : {P : Type 0} (held : P → ℕ → ℕ → Bool) (plot : P) (n : ℕ) → held plot ≡ nothing_held
     → held_by_section held (replicate n plot) ≡ no_places
 held_nowhere {P = P} held plot n none =
@@ -122,7 +122,7 @@ held_nowhere {P = P} held plot n none =
     no_part (suc n) zero column row = ap (λ h. h column row) none
     no_part (suc n) (suc i) column row = no_part n i column row
 
--- a section's part, changed where it is kept
+-- a section's part, changed where it is stored
 changed_where_kept : {P : Type 0} (held : P → ℕ → ℕ → Bool) (change : (ℕ → ℕ → Bool) → ℕ → ℕ → Bool)
     (plots : List P) (section : ℕ) (plot plot' : P)
     → IsSection section → length plots ≡ SECTION_COUNT
@@ -163,7 +163,7 @@ removed_where_kept held plots section block plot plot' range all removed =
     changed_where_kept held (λ part. without_block part block) plots section plot plot' range all removed
     ∙ exchanged_is_difference (held_by_section held plots) section block
 
--- what is kept at an index is the part of the section whose number is one more
+-- the part that is stored at an index belongs to the section whose number is one more
 pub kept_at : {P : Type 0} (held : P → ℕ → ℕ → Bool) (plots : List P) (index : ℕ) (plot : P)
     → index < SECTION_COUNT → length plots ≡ SECTION_COUNT
     → held_by_section held plots (index + 1) ≡ held (get_or plots index plot)
@@ -177,7 +177,7 @@ kept_at {P = P} held plots index plot below all =
     found (p ∷ plots) zero inside = refl
     found (p ∷ plots) (suc i) inside = found plots i (omega arith)
 
--- two sets share a place where two parts at one index do
+-- two sets share a place if two parts at one index do
 pub share_found : {P : Type 0} (held : P → ℕ → ℕ → Bool) (plots others : List P) (index : ℕ) (plot other : P)
     → index < SECTION_COUNT
     → length plots ≡ SECTION_COUNT → length others ≡ SECTION_COUNT
@@ -195,7 +195,7 @@ share_found held plots others index plot other below all all-others shared =
           ∙ shared.in_second;
     }
 
--- up to a section no place is in both sets
+-- up to a section, no place is in both sets
 abbrev pub AreApartTo : ℕ → (ℕ → ℕ → ℕ → Bool) → (ℕ → ℕ → ℕ → Bool) → Type 0
 AreApartTo most places more = (section column row : ℕ) → section ≤ most
     → places section column row ≡ true → more section column row ≡ true → ⊥
@@ -223,7 +223,7 @@ apart_next held plots others index plot other below all all-others apart before 
       | inr earlier ↦ before section column row (omega arith) is is'
     ]
 
--- up to a section the same places are in both sets
+-- up to a section, the same places are in both sets
 abbrev pub AreSameTo : ℕ → (ℕ → ℕ → ℕ → Bool) → (ℕ → ℕ → ℕ → Bool) → Type 0
 AreSameTo most places more =
     (section column row : ℕ) → section ≤ most → places section column row ≡ more section column row
@@ -244,7 +244,7 @@ same_next held plots others index plot other below all all-others same before se
       | inr earlier ↦ before section column row (omega arith)
     ]
 
--- where the sets are the same, so are the parts at one index
+-- if the sets are the same, so are the parts at one index
 pub same_at : {P : Type 0} (held : P → ℕ → ℕ → Bool) (plots others : List P) (index : ℕ) (plot other : P)
     → index < SECTION_COUNT
     → length plots ≡ SECTION_COUNT → length others ≡ SECTION_COUNT

@@ -1,16 +1,16 @@
--- Which sections a set of places lies within.
+-- The range of sections within which a set of places lies.
 use Rattle.std.proofs.Common.{sym, subst, ◌∙◌, ◌≡◌, ◌==◌, ℕ, ◌<◌, ◌≤◌, Bool, ap, inl, inr, arith}
 use Rattle.std.proofs.Math.Path.{fun_ext}
 use Rattle.std.proofs.lemmas.Bool.{cases_Bool, eqb-true, and_parts}
 use Rattle.twp_grid.specs.Spans.{Rectangle}
 use Rattle.twp_land.specs.Lands.{no_places, union, difference, block_places, LieWithin}
 
--- a set without any place has none elsewhere
+-- an empty set lies within any range
 pub nothing_within : (places : ℕ → ℕ → ℕ → Bool) (first last : ℕ) → places ≡ no_places
     → LieWithin places first last
 nothing_within places first last none section column row held = cc (ap (λ p. p section column row) none, held)
 
--- where no section is left there is no place
+-- if the range contains no section, the set is empty
 pub none_within : (places : ℕ → ℕ → ℕ → Bool) (first last : ℕ) → LieWithin places first last → last < first
     → places ≡ no_places
 none_within places first last within none =
@@ -19,13 +19,13 @@ none_within places first last within none =
       | inr not ↦ not
     ])))
 
--- the places of one section
+-- the places of one section lie within its range
 block_within : (section : ℕ) (block : Rectangle) → LieWithin (block_places section block) section section
 block_within section block other column row held =
     let same : section ≡ other = eqb-true section other (and_parts (section == other) _ held).0 in
     (omega arith, omega arith)
 
--- in a wider range
+-- a set within a range lies within a wider one
 pub within_wider : (places : ℕ → ℕ → ℕ → Bool) (first last first' last' : ℕ) → first' ≤ first → last ≤ last'
     → LieWithin places first last
     → LieWithin places first' last'
@@ -33,7 +33,7 @@ within_wider places first last first' last' down up is section column row held =
     let lies = is section column row held in
     (omega (arith, lies.0), omega (arith, lies.1))
 
--- the places of two sets
+-- the places in either of two sets
 union_within : (places more : ℕ → ℕ → ℕ → Bool) (first last : ℕ) → LieWithin places first last
     → LieWithin more first last
     → LieWithin (union places more) first last
@@ -43,7 +43,7 @@ union_within places more first last is is' section column row held =
       | inr not ↦ is' section column row (rw not at held)
     ]
 
--- a block is added, and the range made as wide
+-- a block is added, and the range is widened for it
 pub added_within : (places now : ℕ → ℕ → ℕ → Bool) (section : ℕ) (block : Rectangle)
     (first last first' last' : ℕ)
     → now ≡ union places (block_places section block) → first' ≤ first → last ≤ last' → first' ≤ section
@@ -56,7 +56,7 @@ added_within places now section block first last first' last' is down up below a
     (within_wider (block_places section block) section section first' last' below above
     (block_within section block)))
 
--- a block is taken away
+-- a block is removed
 pub removed_within : (places now less : ℕ → ℕ → ℕ → Bool) (first last : ℕ) → now ≡ difference places less
     → LieWithin places first last
     → LieWithin now first last

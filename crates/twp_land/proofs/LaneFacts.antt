@@ -1,4 +1,4 @@
--- A section's places as they are kept in lanes of bits.
+-- A section's places, stored in lanes of bits.
 use Rattle.std.proofs.Common.{◌≡◌, ◌↔◌, IsTrue, ◌≢◌, ◌==◌, ℕ, zero, suc, ◌+◌, ◌*◌, ◌%◌, ◌^◌, ◌<◌, ◌≤◌, ◌||◌}
 use Rattle.std.proofs.Common.{◌⊎◌, Bool, true, false, not, List, [], ◌∷◌, length, get_or, nat_lt, ap, refl}
 use Rattle.std.proofs.Common.{sym, ◌∙◌, inl, inr, arith, replicate, min, max, map, Fits, w32}
@@ -27,7 +27,7 @@ use Rattle.twp_land.proofs.BlockFacts.{InSection, place_inside, total_of_block}
 use Rattle.twp_land.proofs.BitFacts.{or_of_zeros, zeros_of_or, sum_is_total, ones_are_total, some_or_none}
 use Rattle.twp_land.proofs.BitFacts.{no_bit}
 
--- of a place of the section the set has the lane's bit
+-- the test of a place is its lane's bit
 held_inside : (lanes : List ℕ) (column row : ℕ) → column < places_across PLACE_DIGITS
     → row < places_across PLACE_DIGITS
     → held_by_lane lanes column row ≡ (bit_at (get_or lanes row 0) column == 1)
@@ -64,11 +64,11 @@ module _ (lanes block_lanes : List ℕ) (block : Rectangle) (count : length lane
   abbrev both : List ℕ
   both = zip2 bit_and lanes block_lanes
 
-  -- the block's bits that the set lacks
+  -- the block's bits that are not in the set
   abbrev lacking : List ℕ
   lacking = zip2 bit_xor both block_lanes
 
-  -- how many bits of both each lane has
+  -- how many bits in each lane are in both
   abbrev ones : List ℕ
   ones = map (λ n. count_ones n) both
 
@@ -97,7 +97,7 @@ module _ (lanes block_lanes : List ℕ) (block : Rectangle) (count : length lane
       let least = and_le_r (get_or lanes row 0) (get_or block_lanes row 0) in
       omega (arith, lane_of_both row below, are.below row below)
 
-  -- a lane of both in which no bit stands
+  -- a lane in which no bit is in both
   empty_lane : (row : ℕ) → row < places_across PLACE_DIGITS
       → ((column : ℕ) → column < places_across PLACE_DIGITS
       → (bit_at (get_or both row 0) column == 1) ≡ false)
@@ -134,7 +134,7 @@ module _ (lanes block_lanes : List ℕ) (block : Rectangle) (count : length lane
       both_set (suc zero) false is small = cc is
       both_set (suc (suc bit)) test is small = absurd (omega arith)
 
-  -- some lane of both isn't empty
+  -- some lane has a bit that is in both
   meets_of_some : fold_l bit_or 0 both ≢ 0 → Meets (held_by_lane lanes) block
   meets_of_some some =
       elim (some_or_none (places_across PLACE_DIGITS) (λ row. not (get_or both row 0 == 0))) [
@@ -233,7 +233,7 @@ module _ (lanes block_lanes : List ℕ) (block : Rectangle) (count : length lane
     λ full. eq-eqb _ 0 (none_of_full full),
   )
 
-  -- with the block's bits
+  -- the set's bits and the block's bits
   bit_of_either : (column row : ℕ) → row < places_across PLACE_DIGITS
       → bit_at (get_or (zip2 bit_or lanes block_lanes) row 0) column
       ≡ max (bit_at (get_or lanes row 0) column) (one_where (in_rectangle block column row))
@@ -283,7 +283,7 @@ module _ (lanes block_lanes : List ℕ) (block : Rectangle) (count : length lane
           (either (bit_at (get_or lanes row 0) column) (in_rectangle block column row)
           (bit_at-lt (get_or lanes row 0) column))
 
-  -- the ones of a row's lane
+  -- the ones in a row's lane
   ones_of_row : (row : ℕ) → row < places_across PLACE_DIGITS
       → get_or ones row 0
       ≡ total (places_across PLACE_DIGITS)
@@ -335,7 +335,7 @@ module _ (lanes block_lanes : List ℕ) (block : Rectangle) (count : length lane
       let least : sum_l ones ≤ places_across PLACE_DIGITS * places_across PLACE_DIGITS = rw few at most in
       sum_fits w32 0 ones (omega arith)
 
--- lanes of no bits hold nothing
+-- lanes without bits contain no place
 pub held_in_no_lanes : (n : ℕ) → held_by_lane (replicate n 0) ≡ nothing_held
 held_in_no_lanes n =
     fun_ext (λ column. fun_ext (λ row. and_right (is_place PLACE_DIGITS column row) _ (no_bit n column row)))

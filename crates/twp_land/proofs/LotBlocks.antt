@@ -20,7 +20,7 @@ use Rattle.twp_land.specs.Lands.{Meets, block_places, SharePlace}
 abbrev POSITION : ℕ
 POSITION = places_to_position PLACE_DIGITS
 
--- a place of a lot is a place
+-- a place of a lot is a place of a section
 pub lot_is_place : (s n c r : ℕ) → IsSection s → lot_of_place PLACE_DIGITS s c r ≡ Some n
     → is_place PLACE_DIGITS c r ≡ true
 lot_is_place s n c r range is =
@@ -29,7 +29,7 @@ lot_is_place s n c r range is =
     let in-row : position_along PLACE_DIGITS r < POSITIONS_ACROSS = there.in_row in
     grind (arith, nat_tests)
 
--- a column or row of both spans
+-- a column or row in both spans
 record Common (a b : Span) : Type 0 where
   at : ℕ
   in_first : in_span a at ≡ true
@@ -49,7 +49,7 @@ crossing a b n in-a in-b =
     let y = and_parts (nat_le b.start n) (nat_lt n (b.start + b.len)) in-b in
     (grind (arith, nat_tests), grind (arith, nat_tests))
 
--- blocks share a place where their columns and their rows cross
+-- blocks share a place if their columns overlap and their rows overlap
 pub share_place : (a b : Rectangle) → 0 < a.columns.len → 0 < b.columns.len → 0 < a.rows.len → 0 < b.rows.len
     → Cross a.columns b.columns → Cross a.rows b.rows → Meets (in_rectangle a) b
 share_place a b h h' k k' across upward =
@@ -68,7 +68,7 @@ sharing a b meets =
     let y = and_parts (in_span b.columns meets.column) (in_span b.rows meets.row) meets.inside in
     (crossing a.columns b.columns meets.column x.0 y.0, crossing a.rows b.rows meets.row x.1 y.1)
 
--- a lot's block holds the places of the lot
+-- a lot's block contains the places of the lot
 pub in_lot_block : (s n : ℕ) (block : Rectangle) → IsSection s → n ≤ number_of_lots s
     → block_of (position_of_lot s n) ≡ Some block
     → (column row : ℕ)
@@ -83,7 +83,7 @@ in_lot_block s n block range most is column row =
         let same : position_block PLACE_DIGITS c r ≡ block = cc there in
         lot_inside s n c r column row range most is (ap (λ b. in_rectangle b column row) same ∙ inside)
 
--- a section's block is met where its places are shared
+-- a set meets a section's block if they share a place
 pub same_section : (n : ℕ) → (n == n) ≡ true
 same_section n = grind (arith, nat_tests)
 
@@ -110,7 +110,7 @@ meets_of_share places section block shared =
       is_held = ap (λ s. places s shared.column shared.row) same ∙ shared.in_first;
     }
 
--- a block that shares a place with a lot's block holds a place of the lot
+-- a block that shares a place with a lot's block contains a place of the lot
 pub lot_place_of : (s n : ℕ) (lot_block block : Rectangle) → IsSection s → n ≤ number_of_lots s
     → block_of (position_of_lot s n) ≡ Some lot_block
     → Meets (in_rectangle lot_block) block → HoldsLotPlace PLACE_DIGITS s block
@@ -118,7 +118,7 @@ lot_place_of s n lot_block block range most is meets =
     let lot = (in_lot_block s n lot_block range most is meets.column meets.row).0 meets.is_held in
     record { column = meets.column; row = meets.row; inside = meets.inside; of_lot = rw lot refl }
 
--- each lot of a section is looked at
+-- each lot of a section is checked
 pub lot_is_below : (s end : ℕ) (block : Rectangle) → IsSection s → number_of_lots s < end
     → ((lot column row : ℕ) → 1 ≤ lot → lot < end → in_rectangle block column row ≡ true
     → lot_of_place PLACE_DIGITS s column row ≡ Some lot → ⊥)
@@ -134,7 +134,7 @@ lot_is_below s end block range all none held =
         let most : n ≤ number_of_lots s = there.most in
         none n held.column held.row there.least (omega arith) held.inside is
 
--- a length that divides a section's side, and is no more than a position's, divides this too
+-- a length that divides a section's side, and is at most a position's, also divides a position's
 divides_test : each 1 (λ a. each 1 (λ b. each (POSITION + 1) (λ n.
     not (places_across PLACE_DIGITS % n == 0) || (POSITION / n * n == POSITION)))) ≡ true
 unfolding each
@@ -149,7 +149,7 @@ divides_position n most divides =
     (λ a b n. not (places_across PLACE_DIGITS % n == 0) || (POSITION / n * n == POSITION)) 0 0 n divides_test
     (omega arith) (omega arith) (omega (arith, most)))
 
--- so a block no larger than a position lies in one
+-- so a block no larger than a position lies within one
 in_position : (n start place : ℕ) → 0 < n → n ≤ POSITION → places_across PLACE_DIGITS % n ≡ 0
     → start % n ≡ 0 → start ≤ place → place < start + n → place / POSITION ≡ start / POSITION
 in_position n start place some most divides aligned least less =

@@ -1,4 +1,4 @@
--- Lots and the places in them. The finitely many cases of the table are computed.
+-- Lots and the places in them. The cases of the table are finitely many and are computed.
 use Rattle.std.proofs.Common.{◌≡◌, ◌==◌, ℕ, ◌<◌, ◌≤◌, ◌&&◌, ◌||◌, ◌⊎◌, Bool, true, false, Option, Some, None}
 use Rattle.std.proofs.Common.{ap, refl, sym, ◌∙◌, inl, inr, arith, nat_le, option_map, if◌then◌else◌}
 use Rattle.std.specs.Option.{SomeIff}
@@ -21,7 +21,7 @@ cases_bool : (b : Bool) → (b ≡ true) ⊎ (b ≡ false)
 cases_bool true = inl refl
 cases_bool false = inr refl
 
--- a test that a position is this one
+-- whether a position is this one
 abbrev is_position : Option (ℕ × ℕ) → ℕ → ℕ → Bool
 is_position None c r = false
 is_position (Some (c', r')) c r = (c' == c) && (r' == r)
@@ -34,7 +34,7 @@ is_position_tells (Some (c', r')) c r h =
     let e' : r' ≡ r = eqb-true r' r parts.1 in
     rw (e, e') refl
 
--- a test that a lot is this one
+-- whether a lot is this one
 abbrev is_lot : Option ℕ → ℕ → Bool
 is_lot None n = false
 is_lot (Some n') n = n' == n
@@ -100,7 +100,7 @@ fills s c r n range is =
       position = is_position_tells _ c r second.1;
     }
 
--- a section has 7 lots at most
+-- a section has at most 7 lots
 pub few_lots : (s : ℕ) → IsSection s → number_of_lots s < 8
 few_lots s range = rw (lot_count_is s range) (few (nat_le s 6) (is_western_number s))
   where
@@ -135,7 +135,7 @@ in_own_position column row = rw (along column, along row) refl
         → in_span (position_span PLACE_DIGITS (position_along PLACE_DIGITS place)) place ≡ true
     along place = grind (arith, nat_tests)
 
--- a place of a position lies in no other
+-- a place in a position lies in no other position
 pub position_of_inside : (c r column row : ℕ)
     → in_rectangle (position_block PLACE_DIGITS c r) column row ≡ true
     → (position_along PLACE_DIGITS column ≡ c) × (position_along PLACE_DIGITS row ≡ r)
@@ -147,7 +147,7 @@ position_of_inside c r column row is =
         → position_along PLACE_DIGITS place ≡ position
     along position place there = grind (arith, nat_tests)
 
--- the positions' blocks of the positions
+-- the blocks of the positions
 abbrev pub block_of : Option (ℕ × ℕ) → Option Rectangle
 block_of position = option_map (λ (column, row). position_block PLACE_DIGITS column row) position
 
@@ -165,7 +165,7 @@ in_lot s n column row block range is lot =
     ≡ block = cc in
     rw (← equal) (in_own_position column row)
 
--- a lot's block that is full, or that the land doesn't meet
+-- a lot's block that the land contains wholly, or does not meet
 pub whole_of_block : (s n : ℕ) (held : ℕ → ℕ → Bool) (block : Rectangle) → IsSection s
     → block_of (position_of_lot s n) ≡ Some block
     → (Meets held block → HoldsAll held block) → IsWholeOrNot PLACE_DIGITS s n held
@@ -206,7 +206,7 @@ lot_inside s n c r column row range most position inside =
     let e' : position_along PLACE_DIGITS row ≡ r = at.1 in
     rw (e, e') (has_lot s n c r range most position)
 
--- the block of a lot that is held whole or not at all
+-- the block of a lot that the land contains wholly or not at all
 pub block_of_whole : (s n : ℕ) (held : ℕ → ℕ → Bool) (block : Rectangle) (position : Option (ℕ × ℕ))
     → IsSection s → n ≤ number_of_lots s
     → position_of_lot s n ≡ position → block_of position ≡ Some block → IsWholeOrNot PLACE_DIGITS s n held
@@ -223,7 +223,7 @@ block_of_whole s n held block (Some (c, r)) range most is there whole meets =
     (lot_inside s n c r meets.column meets.row range most is first)
     ∙ meets.is_held
 
--- no lot has number 0, or one over their count
+-- no lot has number 0, or a number above the count of lots
 pub no_such_lot : (s n : ℕ) (held : ℕ → ℕ → Bool) → IsSection s → (n < 1) ⊎ (number_of_lots s < n)
     → IsWholeOrNot PLACE_DIGITS s n held
 no_such_lot s n held range out =
@@ -240,7 +240,7 @@ no_such_lot s n held range out =
         fills s (position_along PLACE_DIGITS column) (position_along PLACE_DIGITS row) n range lot in
         omega (arith, there.most)
 
--- the section of a number has this number
+-- the section with a number has this number
 pub section_is : (number section : ℕ) (found : Option ℕ) → SomeIff found (IsSection number) number
     → found ≡ Some section → section ≡ number
 section_is number section found is there = (rw there at is).1

@@ -1,4 +1,5 @@
--- The lanes of a block of one row or two: in its rows' the bits of its columns, and no bit in the others.
+-- The lanes of a block with one or two rows: the bits of its columns in its rows, and no bits in
+-- the others.
 use Rattle.std.proofs.Common.{◌≡◌, ◌↔◌, IsTrue, ◌≢◌, ◌==◌, ℕ, ◌+◌, ◌-◌, ◌^◌, ◌<◌, ◌≤◌, ◌&&◌, Bool}
 use Rattle.std.proofs.Common.{true, false, not, List, length, get_or, ap, refl, sym, subst, ◌∙◌, inl, inr}
 use Rattle.std.proofs.Common.{arith}
@@ -25,12 +26,12 @@ use Rattle.twp_land.proofs.BitFacts.{bit_of_ones, or_of_zeros, zeros_of_or}
 use Rattle.twp_land.proofs.BlockFacts.{InSection}
 use Rattle.twp_land.proofs.LaneFacts.{lanes_meet, lanes_with_block}
 
--- The lanes of a set, and the bits of the columns of a block of one row or two.
+-- The lanes of a set, and the bits of the columns of a block with one or two rows.
 module _ (lanes : List ℕ) (bits : ℕ) (block : Rectangle) (count : length lanes ≡ places_across PLACE_DIGITS)
     (some : 0 < block.rows.len) (few : block.rows.len ≤ 2)
     (are : bits ≡ 2 ^ (block.columns.start + block.columns.len) - 2 ^ block.columns.start)
     (lies : InSection block) where
-  -- the block's rows: with one row, these are the same
+  -- the first and the last row of the block, which may be the same
   abbrev first : ℕ
   first = block.rows.start
 
@@ -43,7 +44,7 @@ module _ (lanes : List ℕ) (bits : ℕ) (block : Rectangle) (count : length lan
   last_row : last < places_across PLACE_DIGITS
   last_row = let within = lies.rows in omega (arith, some, within)
 
-  -- what holds of these rows, and of the others, holds of each
+  -- a fact about the block's rows and one about the others give one about each row
   by_row : (Holds : ℕ → Type 0) (row : ℕ) → Holds first → Holds last
       → (row ≢ first → row ≢ last → Holds row) → Holds row
   by_row Holds row of_first of_last of_others = elim (cases_eq row first) [
@@ -133,7 +134,7 @@ module _ (lanes : List ℕ) (bits : ℕ) (block : Rectangle) (count : length lan
                 grind (arith, nat_tests)
           ])
 
-  -- the bits that the set and the block have both
+  -- the bits that are both in the set and in the block
   abbrev both : List ℕ
   both = zip2 bit_and lanes row_lanes
 
@@ -145,7 +146,7 @@ module _ (lanes : List ℕ) (bits : ℕ) (block : Rectangle) (count : length lan
   lane_of_both row below =
       get_or-zip2 bit_and lanes row_lanes row 0 0 0 (omega (arith, count)) (omega (arith, length_lanes))
 
-  -- the bits of a row that the set and the block have both
+  -- the bits of a row that are both in the set and in the block
   abbrev shared : ℕ → ℕ
   shared row = bit_and (get_or lanes row 0) bits
 
@@ -189,7 +190,7 @@ module _ (lanes : List ℕ) (bits : ℕ) (block : Rectangle) (count : length lan
         | inr there ↦ ne_eqb _ 0 there ∙ sym (ne_eqb _ 0 (λ none. there (to_or none)))
       ]
 
-  -- the lanes with the block's bits
+  -- the lanes with the block's bits added
   abbrev either : List ℕ
   either = zip2 bit_or lanes row_lanes
 
@@ -201,7 +202,7 @@ module _ (lanes : List ℕ) (bits : ℕ) (block : Rectangle) (count : length lan
   lane_of_either row below =
       get_or-zip2 bit_or lanes row_lanes row 0 0 0 (omega (arith, count)) (omega (arith, length_lanes))
 
-  -- a row's lane with the block's bits
+  -- a row's lane with the block's bits added
   abbrev joined : ℕ → ℕ
   joined row = bit_or (get_or lanes row 0) bits
 

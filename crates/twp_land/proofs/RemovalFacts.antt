@@ -1,4 +1,4 @@
--- A section's places without those of a block, as they are kept.
+-- A section's places without those of a block, as they are stored.
 use Rattle.std.proofs.Common.{◌≡◌, ◌==◌, ℕ, zero, suc, ◌-◌, ◌<◌, ◌&&◌, Bool, true, false, not, List, length}
 use Rattle.std.proofs.Common.{get_or, nat_lt, ap, refl, sym, ◌∙◌, inl, inr, arith, min, map, w32}
 use Rattle.std.proofs.Math.Path.{fun_ext}

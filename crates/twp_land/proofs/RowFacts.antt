@@ -1,4 +1,4 @@
--- A section's places as they are kept in rows.
+-- A section's places, stored in rows.
 use Rattle.std.proofs.Common.{◌≡◌, ℕ, zero, suc, ◌+◌, ◌-◌, ◌<◌, ◌≤◌, ◌&&◌, ◌||◌, Bool, true, false, List, []}
 use Rattle.std.proofs.Common.{length, get_or, nat_le, nat_lt, ap, refl, sym, ◌∙◌, inl, inr, arith, replicate}
 use Rattle.std.proofs.Math.Path.{fun_ext}
@@ -23,7 +23,7 @@ pub count_in_row-next : (row : List Bool) (start len : ℕ)
     ≡ count_in_row row start len + one_where (get_or row (start + len) false)
 count_in_row-next row start len = total-next len _
 
--- how many hold in some rows
+-- how many tests are true in some rows
 abbrev pub count_in_rows : List (List Bool) → ℕ → ℕ → ℕ → ℕ → ℕ
 count_in_rows rows first height column width =
     total height (λ up. count_in_row (get_or rows (first + up) []) column width)
@@ -38,7 +38,7 @@ pub count_in_rows-next : (rows : List (List Bool)) (first height column width : 
     + count_in_row (get_or rows (first + height) []) column width
 count_in_rows-next rows first height column width = total-next height _
 
--- of a place of the section the set has the row's test
+-- the test of a place is that of its row
 held_inside : (rows : List (List Bool)) (column row : ℕ) → column < places_across PLACE_DIGITS
     → row < places_across PLACE_DIGITS
     → held_by_row rows column row ≡ get_or (get_or rows row []) column false
@@ -46,7 +46,7 @@ held_inside rows column row in-column in-row =
     let place : is_place PLACE_DIGITS column row ≡ true = grind (arith, nat_tests) in
     rw place refl
 
--- the offset of what a span holds
+-- the offset of an index in a span
 offset : (span : Span) (n : ℕ) → in_span span n ≡ true → (k : ℕ) × (k < span.len) × (n ≡ span.start + k)
 offset span n inside =
     let parts = and_parts (nat_le span.start n) (nat_lt n (span.start + span.len)) inside in
@@ -180,7 +180,7 @@ held_after_filling rows block filled dyadic-rows dyadic-columns are =
           | inr elsewhere ↦ rw (place, are.outside row in-row elsewhere, elsewhere) (or_and_false _ _)
         ]
 
--- one more place is filled
+-- one more place is added
 pub filled_next : (row filled : List Bool) (start along : ℕ) → length filled ≡ places_across PLACE_DIGITS
     → start + along < places_across PLACE_DIGITS
     → IsFilled row (record { start = start; len = along }) filled
@@ -218,7 +218,7 @@ held_in_no_row (suc n) m column zero = none m column
     none (suc m) zero = refl
     none (suc m) (suc column) = none m column
 
--- rows of false hold nothing
+-- rows of false contain no place
 pub held_in_none : (n m : ℕ) → held_by_row (replicate n (replicate m false)) ≡ nothing_held
 held_in_none n m = fun_ext (λ column. fun_ext (λ row.
     and_right (is_place PLACE_DIGITS column row) _ (held_in_no_row n m column row)))

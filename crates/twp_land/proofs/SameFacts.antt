@@ -1,4 +1,4 @@
--- Two sets of one section that hold the same places, as they are kept.
+-- Two sets in one section that contain the same places, as they are stored.
 use Rattle.std.proofs.Common.{◌≡◌, ◌↔◌, IsTrue, ◌==◌, ℕ, zero, suc, ◌+◌, ◌%◌, ◌<◌, true, List}
 use Rattle.std.proofs.Common.{length, get_or, nat_lt, ap, refl, sym, ◌∙◌, inl, inr, arith}
 use Rattle.std.specs.Int.{bit_at}

@@ -1,10 +1,10 @@
--- Lands: sets of places of a township. A set is a test of section, column and row; what of it lies
+-- Land: sets of places in a township. A set is a test of section, column, and row; the part of it
 -- in one section is a test of column and row.
 use Rattle.std.specs.Prelude.{◌≡◌, ◌==◌, ℕ, ◌≤◌, ◌&&◌, ◌||◌, not, Bool, true, false}
 use Rattle.twp_grid.specs.Spans.{Rectangle, in_rectangle}
 use Rattle.twp_grid.specs.Totals.{total_over, one_where}
 
--- the set without any place
+-- the empty set
 abbrev pub no_places : ℕ → ℕ → ℕ → Bool
 no_places section column row = false
 
@@ -12,7 +12,7 @@ no_places section column row = false
 abbrev pub block_places : ℕ → Rectangle → ℕ → ℕ → ℕ → Bool
 block_places section block other column row = (section == other) && in_rectangle block column row
 
--- the places of two sets
+-- the places in either of two sets
 abbrev pub union : (ℕ → ℕ → ℕ → Bool) → (ℕ → ℕ → ℕ → Bool) → ℕ → ℕ → ℕ → Bool
 union places more section column row = places section column row || more section column row
 
@@ -21,24 +21,24 @@ abbrev pub intersection : (ℕ → ℕ → ℕ → Bool) → (ℕ → ℕ → �
 intersection places more section column row =
     places section column row && more section column row
 
--- the places of the first set without those of the second
+-- the places in the first set that are not in the second
 abbrev pub difference : (ℕ → ℕ → ℕ → Bool) → (ℕ → ℕ → ℕ → Bool) → ℕ → ℕ → ℕ → Bool
 difference places less section column row =
     places section column row && not (less section column row)
 
--- of one section's places, some place of the block is held
+-- a set in one section contains some place of the block
 pub record Meets (held : ℕ → ℕ → Bool) (block : Rectangle) : Type 0 where
   pub column : ℕ
   pub row : ℕ
   pub inside : in_rectangle block column row ≡ true
   pub is_held : held column row ≡ true
 
--- each place of the block is held
+-- the set contains every place of the block
 abbrev pub HoldsAll : (ℕ → ℕ → Bool) → Rectangle → Type 0
 HoldsAll held block =
     (column row : ℕ) → in_rectangle block column row ≡ true → held column row ≡ true
 
--- how many places of the block are held
+-- how many places of the block the set contains
 abbrev pub count_held : (ℕ → ℕ → Bool) → Rectangle → ℕ
 count_held held block = total_over block (λ column row. one_where (held column row))
 

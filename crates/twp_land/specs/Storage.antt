@@ -1,5 +1,5 @@
--- How the sets are kept: a township's as one set for each section, by number; a section's by rows
--- from the south, each by columns from the east, as tests or as the bits of a lane.
+-- How the sets are stored: that of a township as one set for each section, by number; that of a
+-- section by rows from the south, each by columns from the east, as tests or as the bits of a lane.
 use Rattle.std.specs.Prelude.{◌≡◌, ℕ, ◌-◌, ◌==◌, ◌&&◌, ◌||◌, not, Bool, true, false}
 use Rattle.std.specs.Prelude.{List, [], nat_le, slice_index_or}
 use Rattle.std.specs.List.{slice_get}
@@ -9,11 +9,11 @@ use Rattle.twp_grid.specs.Winding.{SECTION_COUNT}
 use Rattle.twp_grid.specs.Places.{PLACE_DIGITS, is_place}
 use Rattle.twp_grid.specs.Spans.{Rectangle, in_rectangle}
 
--- the set of one section without any place
+-- the empty set in one section
 abbrev pub nothing_held : ℕ → ℕ → Bool
 nothing_held column row = false
 
--- the places of a set and of a block
+-- the places of a set and those of a block
 abbrev pub with_block : (ℕ → ℕ → Bool) → Rectangle → ℕ → ℕ → Bool
 with_block held block column row = held column row || in_rectangle block column row
 
@@ -21,22 +21,22 @@ with_block held block column row = held column row || in_rectangle block column 
 abbrev pub without_block : (ℕ → ℕ → Bool) → Rectangle → ℕ → ℕ → Bool
 without_block held block column row = held column row && not (in_rectangle block column row)
 
--- a section's number, as a test
+-- whether a number is that of a section
 abbrev pub is_section : ℕ → Bool
 is_section number = nat_le 1 number && nat_le number SECTION_COUNT
 
--- the set of which each section's part is kept at its number
+-- the set whose part in each section is stored at the section's number
 abbrev pub held_by_section : {P : Type 0} → (P → ℕ → ℕ → Bool) → List P → ℕ → ℕ → ℕ → Bool
 held_by_section held plots section column row =
     is_section section
     && option_map_or (λ plot. held plot column row) (slice_get plots (section - 1)) false
 
--- the set that is kept as rows
+-- the set that is stored as rows
 abbrev pub held_by_row : List (List Bool) → ℕ → ℕ → Bool
 held_by_row rows column row =
     is_place PLACE_DIGITS column row && slice_index_or (slice_index_or rows row []) column false
 
--- the set that is kept as lanes of bits
+-- the set that is stored as lanes of bits
 abbrev pub held_by_lane : List ℕ → ℕ → ℕ → Bool
 held_by_lane lanes column row =
     is_place PLACE_DIGITS column row && (bit_at (slice_index_or lanes row 0) column == 1)
@@ -52,10 +52,10 @@ pub record ShareHeld (held more : ℕ → ℕ → Bool) : Type 0 where
 abbrev pub SameHeld : (ℕ → ℕ → Bool) → (ℕ → ℕ → Bool) → Type 0
 SameHeld held more = (column row : ℕ) → held column row ≡ more column row
 
--- the places of two sets of one section
+-- the places in either of two sets in one section
 abbrev pub held_by_either : (ℕ → ℕ → Bool) → (ℕ → ℕ → Bool) → ℕ → ℕ → Bool
 held_by_either held more column row = held column row || more column row
 
--- the places that are in both sets of one section
+-- the places that are in both of two sets in one section
 abbrev pub held_by_both : (ℕ → ℕ → Bool) → (ℕ → ℕ → Bool) → ℕ → ℕ → Bool
 held_by_both held more column row = held column row && more column row

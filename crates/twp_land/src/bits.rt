@@ -9,17 +9,17 @@ use twp_grid::{Block, PLACES_ACROSS};
 /// A row's places: a bit for each column.
 pub(crate) type Lane = u32;
 
-/// A lane for each row of a section.
+/// A row of a section's places as a lane of bits.
 pub(crate) type LaneVector = u32x32;
 
-/// In each lane the bit of the lane's row.
+/// The bit of each row, in the row's lane.
 const ROW_BITS: [Lane; PLACES_ACROSS] = [
     1, 2, 4, 8, 16, 32, 64, 128, 256, 512, 1024, 2048, 4096, 8192, 16384, 32768, 65536, 131072,
     262144, 524288, 1048576, 2097152, 4194304, 8388608, 16777216, 33554432, 67108864, 134217728,
     268435456, 536870912, 1073741824, 2147483648,
 ];
 
-/// The lanes of a section's rows as a vector.
+/// A vector with the lanes of a section's rows.
 #[inline(always)]
 pub(crate) fn vector(lanes: &[Lane]) -> LaneVector
     requires { length lanes.now ≡ places_across PLACE_DIGITS }
@@ -29,7 +29,7 @@ pub(crate) fn vector(lanes: &[Lane]) -> LaneVector
     LaneVector::from_slice(lanes)
 }
 
-/// This many ones from the bit of a start.
+/// A number of one bits, from a start on.
 #[inline(always)]
 pub(crate) fn ones(start: u8, len: u8) -> Lane
     requires { start + len ≤ places_across PLACE_DIGITS }
@@ -48,7 +48,7 @@ pub(crate) fn column_bits(block: Block) -> Lane
     ones(block.column(), block.width())
 }
 
-/// In the lane of each row of a block, the bits of its columns.
+/// The bits of a block's columns, in the lane of each of its rows.
 #[inline(always)]
 pub(crate) fn block_lanes(block: Block) -> LaneVector
     ensures lanes { AreBlockLanes block result }

@@ -6,31 +6,31 @@ ghost use Rattle.twp_land.specs.Lands.{count_held, Meets, HoldsAll, SharePlace, 
 
 use twp_grid::{Block, SECTIONS, Section};
 
-/// A set of places of a township. A place's column is counted from the east and its row from the
-/// south of its section, less than `PLACES_ACROSS`.
+/// A set of places in a township. A place's column is counted from the east and its row from the
+/// south of its section, from 0 to less than `PLACES_ACROSS`.
 pub trait Land: Drop {
-    /// Whether the set holds the place of a section, a column and a row.
+    /// Whether the set contains the place at a column and a row of a section.
     ghost places: { Self → ℕ → ℕ → ℕ → Bool };
 
-    /// The set without any place.
+    /// The empty set.
     fn empty() -> Self
         ensures { places result ≡ no_places };
 
-    /// Whether a place is held.
+    /// Whether the set contains a place.
     fn holds(&self, section: Section, column: u8, row: u8) -> bool
         requires column { column < places_across PLACE_DIGITS }
         requires row { row < places_across PLACE_DIGITS }
         ensures { result ≡ places self.now section column row };
 
-    /// Whether some place of a section's block is held.
+    /// Whether the set contains some place of a section's block.
     fn meets(&self, section: Section, block: Block) -> bool
         ensures { IsTrue result ↔ Meets (places self.now section) block };
 
-    /// Whether each place of a section's block is held.
+    /// Whether the set contains every place of a section's block.
     fn full(&self, section: Section, block: Block) -> bool
         ensures { IsTrue result ↔ HoldsAll (places self.now section) block };
 
-    /// How many places of a section's block are held.
+    /// How many places of a section's block the set contains.
     fn count(&self, section: Section, block: Block) -> u32
         ensures { result ≡ count_held (places self.now section) block };
 
@@ -38,19 +38,19 @@ pub trait Land: Drop {
     fn add(&mut self, section: Section, block: Block)
         ensures { places self.new ≡ union (places self.old) (block_places section block) };
 
-    /// Takes away the places of a section's block.
+    /// Removes the places of a section's block.
     fn remove(&mut self, section: Section, block: Block)
         ensures { places self.new ≡ difference (places self.old) (block_places section block) };
 
-    /// Takes away all places.
+    /// Removes all places.
     fn clear(&mut self)
         ensures { places self.new ≡ no_places }
     {
         *self = Self::empty();
     }
 
-    /// A first and a last section, outside of which no place is held. None only where no place is
-    /// held at all.
+    /// A first and a last section between which all places of the set are. `None` only if the set
+    /// is empty.
     fn sections(&self) -> Option<(Section, Section)>
         ensures { MatchOption result (places self.now ≡ no_places) (λ (first, last).
             (first ≤ last) × LieWithin (places self.now) first last) }
@@ -60,23 +60,23 @@ pub trait Land: Drop {
         Some((first, last))
     }
 
-    /// Whether both hold the same places.
+    /// Whether both sets contain the same places.
     fn same(&self, other: &Self) -> bool
         ensures { IsTrue result ↔ SamePlaces (places self.now) (places other.now) };
 
-    /// Whether some place is held by both.
+    /// Whether the sets share a place.
     fn meets_land(&self, other: &Self) -> bool
         ensures { IsTrue result ↔ SharePlace (places self.now) (places other.now) };
 
-    /// Adds the places that another set holds.
+    /// Adds the places of another set.
     fn add_land(&mut self, other: &Self)
         ensures { places self.new ≡ union (places self.old) (places other.now) };
 
-    /// Keeps only the places that another set holds too.
+    /// Keeps only the places that another set also contains.
     fn keep_common(&mut self, other: &Self)
         ensures { places self.new ≡ intersection (places self.old) (places other.now) };
 
-    /// What is held is a place of a township.
+    /// The set contains only places of a township.
     ghost within: { (land : Self) (section column row : ℕ) → places land section column row ≡ true
         → IsSection section × IsPlace PLACE_DIGITS column row };
 }

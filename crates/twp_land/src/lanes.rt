@@ -8,21 +8,22 @@ use crate::sections::Sections;
 use std::simd::prelude::*;
 use twp_grid::{Block, PLACES_ACROSS};
 
-/// A land that keeps a bit for each place, in lanes.
+/// A `Land` that stores a bit for each place, in lanes.
 pub type Lanes = Sections<LaneRows>;
 
 /// A section's places as lanes of bits: a lane for each row, from the south, and in it a bit for
 /// each column, from the east.
 ///
-/// The finest parts, which long lists are made of, have one row of places or two. To tell whether
-/// such a block is met, and to add it, the lanes of its first and its last row are enough, and no
-/// vector of all lanes is made for it. A block of more rows takes all lanes at once.
+/// The smallest parts, which make up long lists, have one or two rows of places. To test whether
+/// the set meets such a block, or to add it, the lanes of its first and its last row are enough,
+/// and no vector of all lanes is made for it. For a block with more rows, all lanes are used at
+/// once.
 #[derive(Clone, Copy)]
 pub struct LaneRows {
     lanes: [Lane; PLACES_ACROSS],
 }
 
-/// The most rows of a block that has no others than its first and its last.
+/// The most rows of a block that has only a first and a last row.
 const LOW: u8 = 2;
 
 /// The first and the last row of a block.

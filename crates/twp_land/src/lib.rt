@@ -1,5 +1,5 @@
-//! Lands: sets of places of a township. The trait `Land` says what such a set does; `Grid` is one
-//! that keeps a test for each place, and `Lanes` one that keeps a bit.
+//! Land: sets of places in a township. The trait `Land` says what such a set does; `Grid` stores a
+//! test for each place, and `Lanes` a bit.
 #![tactic(auto)]
 
 mod bits;

@@ -7,8 +7,8 @@ ghost use Rattle.twp_land.specs.steps.Crossing.{Cross};
 
 use twp_grid::{Block, PLACES_TO_POSITION, Section, lot_at, lot_count};
 
-/// Whether a block of a section holds a place of a lot. Most sections have none, and a block no
-/// larger than a position lies in one, so one lookup is enough.
+/// Whether a block of a section contains a place of a lot. Most sections have no lots, and a block
+/// no larger than a position lies within one, so one lookup is enough.
 #[inline(always)]
 pub fn holds_of_lot(section: Section, block: Block) -> bool
     ensures { IsTrue result ↔ HoldsLotPlace PLACE_DIGITS section block }
@@ -47,7 +47,7 @@ fn share_place(block: Block, other: Block) -> bool
     across && upward
 }
 
-/// Whether two runs of columns or rows have one in common, each given by its start and its length.
+/// Whether two ranges of columns or rows overlap. Each is given by its start and its length.
 fn cross(start: u8, count: u8, other: u8, other_count: u8) -> bool
     requires ends { start + count ≤ places_across PLACE_DIGITS }
     requires other_ends { other + other_count ≤ places_across PLACE_DIGITS }

@@ -5,7 +5,7 @@ ghost use Rattle.twp_land.specs.WholeLots.{IsWholeOrNot, HasWholeLots};
 use crate::land::Land;
 use twp_grid::{Block, SECTIONS, Section, lot_count};
 
-/// Whether each lot is held whole or not at all (a lot is taken whole: Specifications for
+/// Whether the set contains each lot wholly or not at all (a lot is taken whole: Specifications for
 /// Descriptions of Land).
 pub fn lots_whole<L: Land>(land: &L) -> bool
     ensures { IsTrue result ↔ HasWholeLots PLACE_DIGITS (L.places land.now) }
@@ -19,7 +19,7 @@ pub fn lots_whole<L: Land>(land: &L) -> bool
     true
 }
 
-/// Whether each lot of a section is held whole or not at all.
+/// Whether the set contains each lot of a section wholly or not at all.
 fn has_whole_lots<L: Land>(land: &L, section: Section) -> bool
     ensures { IsTrue result
         ↔ ((lot : ℕ) → IsWholeOrNot PLACE_DIGITS section lot (L.places land.now section)) }

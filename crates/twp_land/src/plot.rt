@@ -6,30 +6,30 @@ ghost use Rattle.twp_land.specs.Storage.{held_by_both, ShareHeld, SameHeld};
 
 use twp_grid::Block;
 
-/// A set of places of one section, of which `Sections` makes a township's.
+/// A set of places in one section. `Sections` makes a set for a township from these.
 pub trait Plot: Copy + Drop {
-    /// Whether the set holds the place of a column and a row.
+    /// Whether the set contains the place at a column and a row.
     ghost held: { Self → ℕ → ℕ → Bool };
 
-    /// The set without any place.
+    /// The empty set.
     fn empty() -> Self
         ensures { held result ≡ nothing_held };
 
-    /// Whether a place is held.
+    /// Whether the set contains a place.
     fn holds(&self, column: u8, row: u8) -> bool
         requires column { column < places_across PLACE_DIGITS }
         requires row { row < places_across PLACE_DIGITS }
         ensures { result ≡ held self.now column row };
 
-    /// Whether some place of a block is held.
+    /// Whether the set contains some place of a block.
     fn meets(&self, block: Block) -> bool
         ensures { IsTrue result ↔ Meets (held self.now) block };
 
-    /// Whether each place of a block is held.
+    /// Whether the set contains every place of a block.
     fn full(&self, block: Block) -> bool
         ensures { IsTrue result ↔ HoldsAll (held self.now) block };
 
-    /// How many places of a block are held.
+    /// How many places of a block the set contains.
     fn count(&self, block: Block) -> u32
         ensures { result ≡ count_held (held self.now) block };
 
@@ -37,27 +37,27 @@ pub trait Plot: Copy + Drop {
     fn add(&mut self, block: Block)
         ensures { held self.new ≡ with_block (held self.old) block };
 
-    /// Takes away the places of a block.
+    /// Removes the places of a block.
     fn remove(&mut self, block: Block)
         ensures { held self.new ≡ without_block (held self.old) block };
 
-    /// Whether both hold the same places.
+    /// Whether both sets contain the same places.
     fn same_plot(&self, other: &Self) -> bool
         ensures { IsTrue result ↔ SameHeld (held self.now) (held other.now) };
 
-    /// Whether some place is held by both.
+    /// Whether the sets share a place.
     fn meets_plot(&self, other: &Self) -> bool
         ensures { IsTrue result ↔ ShareHeld (held self.now) (held other.now) };
 
-    /// Adds the places that another set holds.
+    /// Adds the places of another set.
     fn add_plot(&mut self, other: &Self)
         ensures { held self.new ≡ held_by_either (held self.old) (held other.now) };
 
-    /// Keeps only the places that another set holds too.
+    /// Keeps only the places that another set also contains.
     fn keep_common_plot(&mut self, other: &Self)
         ensures { held self.new ≡ held_by_both (held self.old) (held other.now) };
 
-    /// What is held is a place.
+    /// The set contains only places of a section.
     ghost within: { (plot : Self) (column row : ℕ) → held plot column row ≡ true
         → IsPlace PLACE_DIGITS column row };
 }

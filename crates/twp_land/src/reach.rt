@@ -1,6 +1,7 @@
 ghost use Rattle.std.specs.Prelude.{◌≡◌, min, max};
 
-/// The indexes from `first` up to `end`. There are none where `end` isn't above `first`.
+/// The indexes from `first` up to, but not including, `end`. There are none unless `end` is greater
+/// than `first`.
 #[derive(Clone, Copy)]
 pub(crate) struct Reach {
     pub(crate) first: usize,
@@ -8,7 +9,7 @@ pub(crate) struct Reach {
 }
 
 impl Reach {
-    /// Makes it also reach from one index up to another.
+    /// Widens the range to include the indexes from one up to another.
     #[inline(always)]
     pub(crate) fn widen(&mut self, first: usize, end: usize)
         ensures first { self.new.first ≡ min self.old.first first }

@@ -6,10 +6,10 @@ ghost use Rattle.twp_land.specs.steps.RowTests.{AreAlike, ShareInRow, IsJoined, 
 
 use twp_grid::PLACES_ACROSS;
 
-/// A row of a section's places: whether each is held, from the east.
+/// A row of a section's places: whether the set contains each, from the east.
 pub(crate) type Row = [bool; PLACES_ACROSS];
 
-/// Whether one of this many places from a start is held.
+/// Whether the row contains any of this many places from a start.
 pub(crate) fn some_held(row: &Row, start: usize, len: usize) -> bool
     requires { start + len ≤ places_across PLACE_DIGITS }
     ensures { IsTrue result ↔ SomeHeld row.now start len }
@@ -22,7 +22,7 @@ pub(crate) fn some_held(row: &Row, start: usize, len: usize) -> bool
     false
 }
 
-/// Whether each of this many places from a start is held.
+/// Whether the row contains all of this many places from a start.
 pub(crate) fn each_held(row: &Row, start: usize, len: usize) -> bool
     requires { start + len ≤ places_across PLACE_DIGITS }
     ensures { IsTrue result ↔ EachHeld row.now start len }
@@ -35,7 +35,7 @@ pub(crate) fn each_held(row: &Row, start: usize, len: usize) -> bool
     true
 }
 
-/// How many of this many places from a start are held.
+/// How many of this many places from a start the row contains.
 pub(crate) fn count_held(row: &Row, start: usize, len: usize) -> u32
     requires { start + len ≤ places_across PLACE_DIGITS }
     ensures count { result ≡ count_in_row row.now start len }
@@ -50,7 +50,7 @@ pub(crate) fn count_held(row: &Row, start: usize, len: usize) -> u32
     count
 }
 
-/// The row with this many places from a start held.
+/// The row with this many places from a start added.
 pub(crate) fn filled(row: &Row, start: usize, len: usize) -> Row
     requires { start + len ≤ places_across PLACE_DIGITS }
     ensures { IsFilled row.now (record { start = start; len = len }) result }
@@ -62,7 +62,7 @@ pub(crate) fn filled(row: &Row, start: usize, len: usize) -> Row
     filled
 }
 
-/// The row with this many places from a start not held.
+/// The row with this many places from a start removed.
 pub(crate) fn cleared(row: &Row, start: usize, len: usize) -> Row
     requires { start + len ≤ places_across PLACE_DIGITS }
     ensures { IsCleared row.now (record { start = start; len = len }) result }
@@ -74,7 +74,7 @@ pub(crate) fn cleared(row: &Row, start: usize, len: usize) -> Row
     cleared
 }
 
-/// Whether both rows hold the same places.
+/// Whether both rows contain the same places.
 pub(crate) fn alike(row: &Row, other: &Row) -> bool
     ensures { IsTrue result ↔ AreAlike row.now other.now }
 {
@@ -86,7 +86,7 @@ pub(crate) fn alike(row: &Row, other: &Row) -> bool
     true
 }
 
-/// Whether some place is held in both rows.
+/// Whether the rows share a place.
 pub(crate) fn share(row: &Row, other: &Row) -> bool
     ensures { IsTrue result ↔ ShareInRow row.now other.now }
 {
@@ -98,7 +98,7 @@ pub(crate) fn share(row: &Row, other: &Row) -> bool
     false
 }
 
-/// The row with the places of another held too.
+/// The row with the places of another added.
 pub(crate) fn joined(row: &Row, other: &Row) -> Row
     ensures { IsJoined row.now other.now result }
 {
@@ -109,7 +109,7 @@ pub(crate) fn joined(row: &Row, other: &Row) -> Row
     joined
 }
 
-/// The row with only the places held that another holds too.
+/// The row with only the places that another also contains.
 pub(crate) fn common(row: &Row, other: &Row) -> Row
     ensures { IsCommon row.now other.now result }
 {

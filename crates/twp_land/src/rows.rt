@@ -8,7 +8,7 @@ use crate::sections::Sections;
 use crate::window::Window;
 use twp_grid::{Block, PLACES_ACROSS};
 
-/// A land that keeps a test for each place, in rows.
+/// A `Land` that stores a test for each place, in rows.
 pub type Grid = Sections<Rows>;
 
 /// A section's places as rows of tests, from the south.

@@ -8,17 +8,17 @@ use crate::plot::Plot;
 use crate::reach::Reach;
 use twp_grid::{Block, SECTIONS, Section};
 
-/// A set for each section.
+/// One set for each section.
 const SETS: usize = SECTIONS as usize;
 
-/// No set at all.
+/// The range of no sets.
 const NOWHERE: Reach = Reach {
     first: SETS,
     end: 0,
 };
 
-/// A land that keeps a set of places for each section, by number. Sets outside its reach hold no
-/// place: what is asked of a whole land looks only at the others.
+/// A `Land` that stores a set of places for each section, by number. Sets outside its reach are
+/// empty, so operations on all of the land look only at the others.
 #[derive(Drop)]
 pub struct Sections<P: Plot> {
     plots: [P; SETS],

@@ -1,6 +1,6 @@
 -- What the reader takes at the start of a description leads it on as if it were cut token by token.
 use Rattle.std.proofs.Common.{◌≡◌, ℕ, ◌+◌, ◌<◌, ◌≤◌, true, false, List, [], ◌∷◌, ◌++◌, Some, length, drop}
-use Rattle.std.proofs.Common.{refl, ap, subst, ◌∙◌, arith, codes}
+use Rattle.std.proofs.Common.{refl, sym, ap, subst, ◌∙◌, arith, codes}
 use Rattle.std.specs.Char.{is_ascii_alphabetic}
 use Rattle.std.specs.List.{AllPass, prefix_len}
 use Rattle.std.proofs.lemmas.List.Sums.{AllPass-from_list_all}
@@ -25,25 +25,31 @@ use Rattle.std.specs.Option.{is_some}
 use Rattle.twp_grammar.specs.Grammar.{class_of, sec, lot, stop, comma, number}
 use Rattle.twp_grammar.specs.Machine.{next}
 use Rattle.twp_read.specs.steps.TokenSteps.{take_token, take_township, take_number, before_parts, with_newest}
-use Rattle.twp_read.specs.steps.Usual.{Leads, IsNumberBehind}
+use Rattle.twp_read.specs.steps.Usual.{Leads, IsNumberBehind, may_be_doubtful}
+use Rattle.twp_read.specs.steps.Watching.{is_step, is_usual}
+use Rattle.twp_read.proofs.WatchFacts.{not_step, number_is_usual}
 use Rattle.twp_read.proofs.Leading.{IsMark, the_comma, mark_leads, made, leads_token, leads_space, leads_then}
 use Rattle.twp_read.proofs.Leading.{left_behind, white_leads}
 
 pub a_full_stop : IsMark 46 Stop
-a_full_stop = record { is = λ rest. a_stop refl refl; kept = λ state at its. refl }
+a_full_stop = record {
+  is = λ rest. a_stop refl refl;
+  kept = λ state at its. refl;
+  usual = λ state end token. refl;
+}
 
 -- a full stop, and the space after it
 pub stop_leads : (text : List ℕ) (at : ℕ) (state behind : State) (its : List Item)
     → next state stop ≡ Some behind → drop at text ≡ codes ". " ++ drop (at + 2) text → at + 2 ≤ length text
-    → Leads text at state its (at + 2) behind its
-stop_leads text at state behind its is spelled within =
+    → is_step behind ≡ false → Leads text at state its (at + 2) behind its
+stop_leads text at state behind its is spelled within no_step =
     let space : drop (at + 1) text ≡ codes " " ++ drop (at + 2) text =
     left_behind text at 1 (codes ". " ++ drop (at + 2) text) spelled in
     let end : (at + 1) + 1 ≡ at + 2 = omega arith in
     leads_then text at state its (at + 1) behind its (at + 2) behind its
     (mark_leads text at 46 Stop state behind its a_full_stop is (rw space spelled) (omega arith))
     (subst (λ (n : ℕ). Leads text (at + 1) behind its n behind its) end
-    (leads_space text (at + 1) behind its (rw end space) (omega arith)))
+    (leads_space text (at + 1) behind its (rw end space) (omega arith) no_step))
 
 -- a full stop and a comma
 pub stop_comma_leads : (text : List ℕ) (at : ℕ) (state between behind : State) (its : List Item)
@@ -62,16 +68,16 @@ stop_comma_leads text at state between behind its is is_behind spelled within =
 -- a full stop and a comma, and the space after them
 pub stop_comma_space_leads : (text : List ℕ) (at : ℕ) (state between behind : State) (its : List Item)
     → next state stop ≡ Some between → next between comma ≡ Some behind
-    → drop at text ≡ codes "., " ++ drop (at + 3) text → at + 3 ≤ length text
+    → drop at text ≡ codes "., " ++ drop (at + 3) text → at + 3 ≤ length text → is_step behind ≡ false
     → Leads text at state its (at + 3) behind its
-stop_comma_space_leads text at state between behind its is is_behind spelled within =
+stop_comma_space_leads text at state between behind its is is_behind spelled within no_step =
     let space : drop (at + 2) text ≡ codes " " ++ drop (at + 3) text =
     left_behind text at 2 (codes "., " ++ drop (at + 3) text) spelled in
     let end : (at + 2) + 1 ≡ at + 3 = omega arith in
     leads_then text at state its (at + 2) behind its (at + 3) behind its
     (stop_comma_leads text at state between behind its is is_behind (rw space spelled) (omega arith))
     (subst (λ (n : ℕ). Leads text (at + 2) behind its n behind its) end
-    (leads_space text (at + 2) behind its (rw end space) (omega arith)))
+    (leads_space text (at + 2) behind its (rw end space) (omega arith) no_step))
 
 -- letters that are a word of this kind
 record IsWord (letters : List ℕ) (kind : Kind) : Type 0 where
@@ -85,10 +91,10 @@ word_leads : (text : List ℕ) (at place end : ℕ) (space letters rest : List �
     → AllPass is_white space → IsWord letters kind → begins_with is_ascii_alphabetic rest ≡ false
     → drop at text ≡ space ++ (letters ++ rest) → drop end text ≡ rest
     → place ≡ at + length space → place + length letters ≡ end → end ≤ length text
-    → next state (class_of kind) ≡ Some behind
+    → next state (class_of kind) ≡ Some behind → is_usual state at (made kind letters place) kind ≡ true
     → Leads text at state its end behind (take_token state kind place its)
 word_leads text at place end space letters rest kind state behind its white word ends spelled left here size
-    within is =
+    within is usual =
     let starts : StartsWith at (drop at text) (made kind letters place) (drop end text) =
     rw left (record {
       space = space;
@@ -97,7 +103,7 @@ word_leads text at place end space letters rest kind state behind its white word
       place = here;
       is = good (a_word (record { some = word.some; all = word.all; ends = ends }) word.is);
     }) in
-    leads_token text at state its (made kind letters place) end behind starts size within is
+    leads_token text at state its (made kind letters place) end behind starts size within is usual
 
 no_space : AllPass is_white []
 no_space = AllPass-from_list_all is_white [] refl
@@ -155,9 +161,9 @@ township_leads text at its spelled within =
     let begun : List Item = take_township at its in
     leads_then text at past.Start its (at + 1) past.Township begun (at + 3) past.TownshipStop begun
     (word_leads text at at (at + 1) [] (codes "T") (codes ". " ++ more) T past.Start past.Township its
-    no_space one_t refl spelled behind (omega arith) refl (omega arith) refl)
+    no_space one_t refl spelled behind (omega arith) refl (omega arith) refl refl)
     (subst (λ (n : ℕ). Leads text (at + 1) past.Township begun n past.TownshipStop begun) end
-    (stop_leads text (at + 1) past.Township past.TownshipStop begun refl (rw end behind) (omega arith)))
+    (stop_leads text (at + 1) past.Township past.TownshipStop begun refl (rw end behind) (omega arith) refl))
 
 -- ` N., R. ` and ` S., R. `
 side_leads : (text : List ℕ) (at letter : ℕ) (side : NorthOrSouth) (its : List Item)
@@ -179,14 +185,14 @@ side_leads text at letter side its word spelled within =
     sided
     (word_leads text at (at + 1) (at + 2) (codes " ") (letter ∷ []) (codes "., R. " ++ more)
     (NorthSouth side) past.TownshipNumber past.TownshipSide its one_space word refl spelled marks refl
-    (omega arith) (omega arith) refl)
+    (omega arith) (omega arith) refl refl)
     (subst (λ (n : ℕ). Leads text (at + 2) past.TownshipSide sided n past.TownshipComma sided) marks_end
     (stop_comma_space_leads text (at + 2) past.TownshipSide past.TownshipSideStop past.TownshipComma sided
-    refl refl (rw (marks_end, range) marks) (omega arith))))
+    refl refl (rw (marks_end, range) marks) (omega arith) refl)))
     (word_leads text (at + 5) (at + 5) (at + 6) [] (codes "R") (codes ". " ++ more) R past.TownshipComma
-    past.Range sided no_space one_r refl range mark (omega arith) (omega arith) (omega arith) refl))
+    past.Range sided no_space one_r refl range mark (omega arith) (omega arith) (omega arith) refl refl))
     (subst (λ (n : ℕ). Leads text (at + 6) past.Range sided n past.RangeStop sided) mark_end
-    (stop_leads text (at + 6) past.Range past.RangeStop sided refl (rw mark_end mark) (omega arith)))
+    (stop_leads text (at + 6) past.Range past.RangeStop sided refl (rw mark_end mark) (omega arith) refl))
 
 pub north_leads : (text : List ℕ) (at : ℕ) (its : List Item)
     → drop at text ≡ codes " N., R. " ++ drop (at + 8) text → at + 8 ≤ length text
@@ -212,7 +218,7 @@ way_leads text at letter way its word spelled within =
     leads_then text at past.RangeNumber its (at + 2) past.RangeSide sided (at + 4) past.BeforeGroup sided
     (word_leads text at (at + 1) (at + 2) (codes " ") (letter ∷ []) (codes ".," ++ more) (EastWest way)
     past.RangeNumber past.RangeSide its one_space word refl spelled marks refl (omega arith) (omega arith)
-    refl)
+    refl refl)
     (subst (λ (n : ℕ). Leads text (at + 2) past.RangeSide sided n past.BeforeGroup sided) end
     (stop_comma_leads text (at + 2) past.RangeSide past.RangeSideStop past.BeforeGroup sided refl refl
     (rw end marks) (omega arith)))
@@ -238,12 +244,12 @@ sec_leads text from at state its is here spelled within =
     left_behind text at 3 (codes "sec. " ++ more) spelled in
     let end : (at + 3) + 2 ≡ at + 5 = omega arith in
     leads_then text from state its at state its (at + 5) past.SectionStop its
-    (white_leads text from at state its here (omega arith))
+    (white_leads text from at state its here (omega arith) (not_step sec state past.SectionWord refl is))
     (leads_then text at state its (at + 3) past.SectionWord its (at + 5) past.SectionStop its
     (word_leads text at at (at + 3) [] (codes "sec") (codes ". " ++ more) Sec state past.SectionWord its
-    no_space one_sec refl spelled mark (omega arith) refl (omega arith) is)
+    no_space one_sec refl spelled mark (omega arith) refl (omega arith) is refl)
     (subst (λ (n : ℕ). Leads text (at + 3) past.SectionWord its n past.SectionStop its) end
-    (stop_leads text (at + 3) past.SectionWord past.SectionStop its refl (rw end mark) (omega arith))))
+    (stop_leads text (at + 3) past.SectionWord past.SectionStop its refl (rw end mark) (omega arith) refl)))
 
 pub section_leads : (text : List ℕ) (from at : ℕ) (state : State) (its : List Item)
     → next state sec ≡ Some past.SectionWord → at ≡ from + prefix_len is_white (drop from text)
@@ -255,12 +261,12 @@ section_leads text from at state its is here spelled within =
     left_behind text at 7 (codes "Section " ++ more) spelled in
     let end : (at + 7) + 1 ≡ at + 8 = omega arith in
     leads_then text from state its at state its (at + 8) past.SectionWord its
-    (white_leads text from at state its here (omega arith))
+    (white_leads text from at state its here (omega arith) (not_step sec state past.SectionWord refl is))
     (leads_then text at state its (at + 7) past.SectionWord its (at + 8) past.SectionWord its
     (word_leads text at at (at + 7) [] (codes "Section") (codes " " ++ more) Sec state past.SectionWord its
-    no_space one_section refl spelled space (omega arith) refl (omega arith) is)
+    no_space one_section refl spelled space (omega arith) refl (omega arith) is refl)
     (subst (λ (n : ℕ). Leads text (at + 7) past.SectionWord its n past.SectionWord its) end
-    (leads_space text (at + 7) past.SectionWord its (rw end space) (omega arith))))
+    (leads_space text (at + 7) past.SectionWord its (rw end space) (omega arith) refl)))
 
 -- the colon after a section's number
 pub colon_leads : (text : List ℕ) (at : ℕ) (its : List Item) → drop at text ≡ codes ":" ++ drop (at + 1) text
@@ -276,13 +282,13 @@ colon_leads text at its spelled within =
       is = good (a_colon refl refl);
     } in
     leads_token text at past.SectionNumber its (made Colon (codes ":") at) (at + 1) past.BeforePart starts
-    refl within refl
+    refl within refl refl
 
 -- a number that is the next token
 pub number_leads : (text : List ℕ) (from : ℕ) (token : Token) (it : Numeral) (end : ℕ)
     → IsFirstIn text from token → token.kind ≡ Number it.value → token.at ≡ it.at
     → token.at + length token.text ≡ end → IsNumberBehind text from it end
-number_leads text from token it end first kind_is at_is ends state behind its is =
+number_leads text from token it end first kind_is at_is ends state behind its is plain =
     let step_is : next state (class_of token.kind) ≡ Some behind =
     ap (λ k. next state (class_of k)) kind_is ∙ is in
     let grown_is : take_token state token.kind token.at its ≡ take_number state it its =
@@ -291,8 +297,11 @@ number_leads text from token it end first kind_is at_is ends state behind its is
     let starts : StartsWith from (drop from text) token (drop end text) =
     subst (λ (n : ℕ). StartsWith from (drop from text) token (drop n text)) ends first.starts in
     let within : end ≤ length text = subst (λ (n : ℕ). n ≤ length text) ends first.within in
+    let sure : may_be_doubtful state (drop token.at text) ≡ false =
+    subst (λ (n : ℕ). may_be_doubtful state (drop n text) ≡ false) (sym at_is) plain in
     subst (λ (js : List Item). Leads text from state its end behind js) grown_is
-    (leads_token text from state its token end behind starts ends within step_is)
+    (leads_token text from state its token end behind starts ends within step_is
+    (number_is_usual text from state token it.value (drop end text) starts kind_is sure))
 
 -- where a part may begin, the word of lots does
 lots_begin : (state : State) → true ≡ is_some (next state lot) → next state lot ≡ Some past.Lot
@@ -324,9 +333,9 @@ lots_leads text at state its begins spelled within =
     let end : (at + 4) + 1 ≡ at + 5 = omega arith in
     leads_then text at state its (at + 4) past.Lot begun (at + 5) past.Lot begun
     (word_leads text at at (at + 4) [] (codes "lots") (codes " " ++ more) Lot state past.Lot its no_space
-    one_lots refl spelled space (omega arith) refl (omega arith) (lots_begin state begins))
+    one_lots refl spelled space (omega arith) refl (omega arith) (lots_begin state begins) refl)
     (subst (λ (n : ℕ). Leads text (at + 4) past.Lot begun n past.Lot begun) end
-    (leads_space text (at + 4) past.Lot begun (rw end space) (omega arith)))
+    (leads_space text (at + 4) past.Lot begun (rw end space) (omega arith) refl))
 
 -- `, lots ` after the number of a section
 pub comma_lots_leads : (text : List ℕ) (at : ℕ) (its : List Item)
@@ -346,9 +355,9 @@ comma_lots_leads text at its spelled within =
     (leads_then text (at + 1) past.SectionComma its (at + 6) past.Lot begun (at + 7) past.Lot begun
     (word_leads text (at + 1) (at + 2) (at + 6) (codes " ") (codes "lots") (codes " " ++ more) Lot
     past.SectionComma past.Lot its one_space one_lots refl word space (omega arith) (omega arith)
-    (omega arith) refl)
+    (omega arith) refl refl)
     (subst (λ (n : ℕ). Leads text (at + 6) past.Lot begun n past.Lot begun) end
-    (leads_space text (at + 6) past.Lot begun (rw end space) (omega arith))))
+    (leads_space text (at + 6) past.Lot begun (rw end space) (omega arith) refl)))
 
 -- the number after a section's word is its own
 pub section_taken : (state : State) (it : Numeral) (its : List Item)
@@ -364,3 +373,10 @@ section_taken past.LotComma it its h = cc h
 section_taken past.LotLastComma it its h = cc h
 section_taken past.LotAnd it its h = cc h
 section_taken _ it its h = refl
+
+-- and it is not doubtful
+pub section_plain : (state : State) (bytes : List ℕ) → next state number ≡ Some past.SectionNumber
+    → may_be_doubtful state bytes ≡ false
+section_plain past.SectionWord bytes h = refl
+section_plain past.SectionStop bytes h = refl
+section_plain _ bytes h = cc h

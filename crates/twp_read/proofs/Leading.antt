@@ -1,5 +1,6 @@
 -- What leads the reader on, token by token: words, marks and white space.
-use Rattle.std.proofs.Common.{◌≡◌, ℕ, ◌+◌, ◌≤◌, true, List, [], ◌∷◌, ◌++◌, Some, length, take, drop, refl}
+use Rattle.std.proofs.Common.{◌≡◌, ℕ, ◌+◌, ◌≤◌, true, false, List, [], ◌∷◌, ◌++◌, Some, length, take, drop}
+use Rattle.std.proofs.Common.{refl}
 use Rattle.std.proofs.Common.{sym, ap, subst, ◌∙◌, append_assoc, arith, codes, length-drop, length-append}
 use Rattle.std.specs.Char.{is_ascii_alphabetic}
 use Rattle.std.specs.List.{AllPass, prefix_len, list_all}
@@ -19,13 +20,16 @@ use Rattle.twp_grammar.specs.Grammar.{class_of}
 use Rattle.twp_grammar.specs.Machine.{next}
 use Rattle.twp_read.specs.steps.TokenSteps.{take_token, run}
 use Rattle.twp_read.specs.steps.Usual.{Leads, end_of}
+use Rattle.twp_read.specs.steps.Watching.{is_step, is_usual, AreUsual, end_from}
+use Rattle.twp_read.proofs.WatchFacts.{usual_then, stays_then, no_white_after_step, usual_token}
 use Rattle.twp_grammar.proofs.TokenFacts.{all_white}
 use Rattle.twp_read.proofs.WordFacts.{both}
 use Rattle.twp_read.proofs.Reading.{run-append, go_on}
 use Rattle.twp_read.proofs.ReaderFacts.{Front}
 
 -- the reader continues with what leads on
-pub goes_further : (text : List ℕ) (at : ℕ) (state : State) (its : List Item) (to : ℕ) (behind : State)
+unfoldable pub goes_further : (text : List ℕ) (at : ℕ) (state : State) (its : List Item) (to : ℕ)
+    (behind : State)
     (grown : List Item)
     → Front text at (drop at text) state its → Leads text at state its to behind grown
     → Front text to (drop to text) behind grown
@@ -51,6 +55,9 @@ leads_then text at state its mid between some to behind grown f g =
       tokens = f.tokens ++ g.tokens;
       cut = λ left has. rw append_assoc (f.cut (g.tokens ++ left) (g.cut left has));
       walked = run-append (Some state) its f.tokens g.tokens ∙ ap (λ o. go_on o g.tokens) f.walked ∙ g.walked;
+      usual =
+          usual_then at mid (Some state) its between some f.tokens g.tokens f.usual f.walked f.stays g.usual;
+      stays = stays_then at mid to between some behind grown f.tokens g.tokens f.stays g.walked g.stays;
       forward = omega arith;
       within = g.within;
     }
@@ -59,9 +66,9 @@ leads_then text at state its mid between some to behind grown f g =
 pub leads_token : (text : List ℕ) (at : ℕ) (state : State) (its : List Item) (token : Token) (to : ℕ)
     (behind : State)
     → StartsWith at (drop at text) token (drop to text) → end_of token ≡ to → to ≤ length text
-    → next state (class_of token.kind) ≡ Some behind
+    → next state (class_of token.kind) ≡ Some behind → is_usual state at token token.kind ≡ true
     → Leads text at state its to behind (take_token state token.kind token.at its)
-leads_token text at state its token to behind starts ends within is =
+leads_token text at state its token to behind starts ends within is usual =
     let place : token.at ≡ at + length starts.space = starts.place in
     record {
       tokens = token ∷ [];
@@ -71,6 +78,8 @@ leads_token text at state its token to behind starts ends within is =
         subst (λ (n : ℕ). HasTokens n (drop to text) left) (sym ends) has,
       );
       walked = ap (λ o. run o (take_token state token.kind token.at its) []) is;
+      usual = usual_token at state behind token usual is;
+      stays = λ _. sym ends;
       forward = omega arith;
       within = within;
     }
@@ -98,13 +107,15 @@ spaced text at spelled (token ∷ tokens) (rest, starts, more) =
     )
 
 pub leads_space : (text : List ℕ) (at : ℕ) (state : State) (its : List Item)
-    → drop at text ≡ codes " " ++ drop (at + 1) text → at + 1 ≤ length text
+    → drop at text ≡ codes " " ++ drop (at + 1) text → at + 1 ≤ length text → is_step state ≡ false
     → Leads text at state its (at + 1) state its
-leads_space text at state its spelled within =
+leads_space text at state its spelled within no_step =
     record {
       tokens = [];
       cut = spaced text at spelled;
       walked = refl;
+      usual = tt;
+      stays = λ step. no_white_after_step state at (at + 1) step no_step;
       forward = omega arith;
       within = within;
     }
@@ -140,14 +151,14 @@ pub half_leads : (text : List ℕ) (at : ℕ) (its : List Item) → drop at text
     → at + 3 ≤ length text → Leads text at past.Side its (at + 3) past.Step its
 half_leads text at its spelled within =
     leads_token text at past.Side its (made Half (codes "1/2") at) (at + 3) past.Step
-    (half_starts text at spelled) refl within refl
+    (half_starts text at spelled) refl within refl refl
 
 pub quarter_leads : (text : List ℕ) (at : ℕ) (its : List Item)
     → drop at text ≡ codes "1/4" ++ drop (at + 3) text → at + 3 ≤ length text
     → Leads text at past.Corner its (at + 3) past.Step its
 quarter_leads text at its spelled within =
     leads_token text at past.Corner its (made Quarter (codes "1/4") at) (at + 3) past.Step
-    (quarter_starts text at spelled) refl within refl
+    (quarter_starts text at spelled) refl within refl refl
 
 -- what is left of a text after some bytes that it continues with
 pub left_behind : (text : List ℕ) (at n : ℕ) (bytes : List ℕ) → drop at text ≡ bytes
@@ -193,19 +204,24 @@ of_the_leads text at its spelled within =
     leads_then text at past.Step its (at + 7) past.OfThe its (at + 8) past.OfThe its
     (leads_then text at past.Step its (at + 3) past.Of its (at + 7) past.OfThe its
     (leads_token text at past.Step its (made Of (codes "of") (at + 1)) (at + 3) past.Of of_starts
-    (omega arith) (omega arith) refl)
+    (omega arith) (omega arith) refl refl)
     (leads_token text (at + 3) past.Of its (made The (codes "the") (at + 4)) (at + 7) past.OfThe the_starts
-    (omega arith) (omega arith) refl))
+    (omega arith) (omega arith) refl refl))
     (subst (λ (n : ℕ). Leads text (at + 7) past.OfThe its n past.OfThe its) the_end
-    (leads_space text (at + 7) past.OfThe its space (omega arith)))
+    (leads_space text (at + 7) past.OfThe its space (omega arith) refl))
 
 -- a mark right at a place
 pub record IsMark (byte : ℕ) (kind : Kind) : Type 0 where
   pub is : (rest : List ℕ) → IsGoodToken (byte ∷ []) rest kind
   pub kept : (state : State) (at : ℕ) (its : List Item) → take_token state kind at its ≡ its
+  pub usual : (state : State) (end : ℕ) (token : Token) → is_usual state end token kind ≡ true
 
 pub the_comma : IsMark 44 Comma
-the_comma = record { is = λ rest. a_comma refl refl; kept = λ state at its. refl }
+the_comma = record {
+  is = λ rest. a_comma refl refl;
+  kept = λ state at its. refl;
+  usual = λ state end token. refl;
+}
 
 pub mark_leads : (text : List ℕ) (at byte : ℕ) (kind : Kind) (state behind : State) (its : List Item)
     → IsMark byte kind → next state (class_of kind) ≡ Some behind → drop at text ≡ byte ∷ drop (at + 1) text
@@ -220,7 +236,8 @@ mark_leads text at byte kind state behind its mark is spelled within =
       is = good (mark.is (drop (at + 1) text));
     } in
     subst (λ (js : List Item). Leads text at state its (at + 1) behind js) (mark.kept state at its)
-    (leads_token text at state its (made kind (byte ∷ []) at) (at + 1) behind starts refl within is)
+    (leads_token text at state its (made kind (byte ∷ []) at) (at + 1) behind starts refl within is
+    (mark.usual state at (made kind (byte ∷ []) at)))
 
 -- `and` after the comma of a part, and the space after it
 pub and_leads : (text : List ℕ) (at : ℕ) (its : List Item) → drop at text ≡ codes "and " ++ drop (at + 4) text
@@ -242,9 +259,9 @@ and_leads text at its spelled within =
     } in
     leads_then text at past.PartComma its (at + 3) past.BeforePart its (at + 4) past.BeforePart its
     (leads_token text at past.PartComma its (made And (codes "and") at) (at + 3) past.BeforePart starts refl
-    (omega arith) refl)
+    (omega arith) refl refl)
     (subst (λ (n : ℕ). Leads text (at + 3) past.BeforePart its n past.BeforePart its) end
-    (leads_space text (at + 3) past.BeforePart its (rw end space) (omega arith)))
+    (leads_space text (at + 3) past.BeforePart its (rw end space) (omega arith) refl))
 
 white_append : (xs ys : List ℕ) → list_all is_white xs ≡ true → list_all is_white ys ≡ true
     → list_all is_white (xs ++ ys) ≡ true
@@ -280,10 +297,18 @@ behind_space text from at token rest is s =
 
 -- white space leads on
 pub white_leads : (text : List ℕ) (from at : ℕ) (state : State) (its : List Item)
-    → at ≡ from + prefix_len is_white (drop from text) → at ≤ length text
+    → at ≡ from + prefix_len is_white (drop from text) → at ≤ length text → is_step state ≡ false
     → Leads text from state its at state its
-white_leads text from at state its is within =
-    record { tokens = []; cut = before; walked = refl; forward = omega arith; within = within }
+white_leads text from at state its is within no_step =
+    record {
+      tokens = [];
+      cut = before;
+      walked = refl;
+      usual = tt;
+      stays = λ step. no_white_after_step state from at step no_step;
+      forward = omega arith;
+      within = within;
+    }
   where
     bytes : List ℕ
     bytes = drop from text
@@ -314,7 +339,7 @@ comma_space_leads text at its spelled within =
     leads_then text at past.Step its (at + 1) past.PartComma its (at + 2) past.PartComma its
     (mark_leads text at 44 Comma past.Step past.PartComma its the_comma refl (rw space spelled) (omega arith))
     (subst (λ (n : ℕ). Leads text (at + 1) past.PartComma its n past.PartComma its) end
-    (leads_space text (at + 1) past.PartComma its (rw end space) (omega arith)))
+    (leads_space text (at + 1) past.PartComma its (rw end space) (omega arith) refl))
 
 -- a comma after a part, and the white space after it
 pub comma_leads : (text : List ℕ) (at behind : ℕ) (its : List Item)
@@ -324,4 +349,4 @@ pub comma_leads : (text : List ℕ) (at behind : ℕ) (its : List Item)
 comma_leads text at behind its spelled begins is within =
     leads_then text at past.Step its (at + 1) past.PartComma its behind past.PartComma its
     (mark_leads text at 44 Comma past.Step past.PartComma its the_comma refl spelled begins)
-    (white_leads text (at + 1) behind past.PartComma its is within)
+    (white_leads text (at + 1) behind past.PartComma its is within refl)

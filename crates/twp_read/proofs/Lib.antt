@@ -15,3 +15,9 @@ pub mod FirstTextFaults
 pub mod OneAnswer
 pub mod LetterFacts
 pub mod PlaceFacts
+pub mod WatchFacts
+pub mod NoSeveral
+pub mod NoDoubts
+pub mod Watched
+pub mod DoubtFacts
+pub mod QuietFacts

@@ -21,6 +21,9 @@ use Rattle.twp_read.specs.steps.TokenSteps.{take_number, take_token, with_newest
 use Rattle.twp_read.specs.declared.item_change.Change.TheVariants.{Last}
 use Rattle.twp_read.specs.steps.Usual.{Leads, IsNumberBehind, IsBehindWhite, entry_of, state_behind}
 use Rattle.twp_read.specs.steps.Usual.{last_state_behind, listed_in, listed_behind_and, listed_behind_to}
+use Rattle.twp_read.specs.steps.Usual.{may_be_doubtful}
+use Rattle.twp_read.specs.steps.Watching.{is_step, is_usual}
+use Rattle.twp_read.proofs.WatchFacts.{not_step, comma_no_step}
 use Rattle.twp_grammar.proofs.ByteRuns.{digit_no_space}
 use Rattle.twp_grammar.proofs.Cuts.{IsFirstToken, cut_of_digit}
 use Rattle.twp_grammar.proofs.TokenFacts.{first_at, first_in}
@@ -93,8 +96,9 @@ pub word_leads : (text : List ℕ) (from at : ℕ) (l : Lexeme) (kind : Kind) (s
     → at ≡ from + prefix_len is_white (drop from text) → at < length text → l ≡ cut (drop at text)
     → l.kind ≡ kind → next state (class_of kind) ≡ Some behind
     → ((place : ℕ) (items : List Item) → take_token state kind place items ≡ items)
+    → ((token : Token) → is_usual state from token kind ≡ true)
     → (items : List Item) → Leads text from state items (at + l.size) behind items
-word_leads text from at l kind state behind here below is kind_is step kept items =
+word_leads text from at l kind state behind here below is kind_is step kept usual items =
     let it : IsCutHere text from (token_of text at l) (at + l.size) = cut_here text from at l here below is in
     let same : take_token state l.kind at items ≡ items =
     ap (λ k. take_token state k at items) kind_is ∙ kept at items in
@@ -103,7 +107,8 @@ word_leads text from at l kind state behind here below is kind_is step kept item
     (subst (λ (n : ℕ). StartsWith from (drop from text) (token_of text at l) (drop n text)) it.ends
     it.first.starts)
     it.ends (subst (λ (n : ℕ). n ≤ length text) it.ends it.first.within)
-    (ap (λ k. next state (class_of k)) kind_is ∙ step))
+    (ap (λ k. next state (class_of k)) kind_is ∙ step)
+    (ap (λ k. is_usual state from (token_of text at l) k) kind_is ∙ usual (token_of text at l)))
 
 -- where no white space stands, none is passed over
 no_white : (bytes : List ℕ) → is_white (slice_index bytes 0) ≡ false → prefix_len is_white bytes ≡ 0
@@ -126,9 +131,10 @@ digit_here text at h = rw (no_white_digit (drop at text) h) (omega arith)
 -- a number after white space
 pub number_ahead : (text : List ℕ) (from at : ℕ) (it : Numeral) (end : ℕ) → IsBehindWhite text from at
     → IsNumberBehind text at it end → IsNumberBehind text from it end
-number_ahead text from at it end white leads state behind items is =
+number_ahead text from at it end white leads state behind items is plain =
     leads_then text from state items at state items end behind (take_number state it items)
-    (white_leads text from at state items white.0 white.1) (leads state behind items is)
+    (white_leads text from at state items white.0 white.1 (not_step number state behind refl is))
+    (leads state behind items is plain)
 
 -- a comma, and the white space after it
 pub comma_leads : (text : List ℕ) (at to : ℕ) (state behind : State) (items : List Item)
@@ -137,7 +143,7 @@ pub comma_leads : (text : List ℕ) (at to : ℕ) (state behind : State) (items 
 comma_leads text at to state behind items spelled within white is =
     leads_then text at state items (at + 1) behind items to behind items
     (mark_leads text at 44 Comma state behind items the_comma is spelled within)
-    (white_leads text (at + 1) to behind items white.0 white.1)
+    (white_leads text (at + 1) to behind items white.0 white.1 (comma_no_step state behind is))
 
 -- how a list continues from a state
 record GoesOn (state : State) (list : Listed) : Type 0 where
@@ -145,22 +151,57 @@ record GoesOn (state : State) (list : Listed) : Type 0 where
   comma_is : next state comma ≡ Some between
   number_is : next between number ≡ Some (state_behind list)
   taken : (it : Numeral) (items : List Item) → take_number between it items ≡ entry_of list it ∷ items
+  plain : (bytes : List ℕ) → may_be_doubtful between bytes ≡ false
 
 goes_on : (state : State) (list : Listed) → listed_in state ≡ Some list → GoesOn state list
 goes_on past.LotNumber listed.Lots h =
-    record { between = past.LotComma; comma_is = refl; number_is = refl; taken = λ it items. refl }
+    record {
+      between = past.LotComma;
+      comma_is = refl;
+      number_is = refl;
+      taken = λ it items. refl;
+      plain = λ _. refl;
+    }
 goes_on past.LotLast listed.Lots h =
-    record { between = past.LotLastComma; comma_is = refl; number_is = refl; taken = λ it items. refl }
+    record {
+      between = past.LotLastComma;
+      comma_is = refl;
+      number_is = refl;
+      taken = λ it items. refl;
+      plain = λ _. refl;
+    }
 goes_on past.LotInclusive listed.Lots h =
-    record { between = past.LotComma; comma_is = refl; number_is = refl; taken = λ it items. refl }
-goes_on past.SectionNumber listed.Sections h =
-    record { between = past.SectionComma; comma_is = refl; number_is = refl; taken = λ it items. refl }
+    record {
+      between = past.LotComma;
+      comma_is = refl;
+      number_is = refl;
+      taken = λ it items. refl;
+      plain = λ _. refl;
+    }
 goes_on past.ListNumber listed.Sections h =
-    record { between = past.ListComma; comma_is = refl; number_is = refl; taken = λ it items. refl }
+    record {
+      between = past.ListComma;
+      comma_is = refl;
+      number_is = refl;
+      taken = λ it items. refl;
+      plain = λ _. refl;
+    }
 goes_on past.ListLast listed.Sections h =
-    record { between = past.ListLastComma; comma_is = refl; number_is = refl; taken = λ it items. refl }
+    record {
+      between = past.ListLastComma;
+      comma_is = refl;
+      number_is = refl;
+      taken = λ it items. refl;
+      plain = λ _. refl;
+    }
 goes_on past.ListInclusive listed.Sections h =
-    record { between = past.ListComma; comma_is = refl; number_is = refl; taken = λ it items. refl }
+    record {
+      between = past.ListComma;
+      comma_is = refl;
+      number_is = refl;
+      taken = λ it items. refl;
+      plain = λ _. refl;
+    }
 goes_on _ _ h = cc h
 
 -- one more number of a list leads on, after a comma
@@ -176,16 +217,18 @@ entry_leads text at to state items list it end is spelled within white leads =
     (leads_then text at state items to by.between items end (state_behind list)
     (take_number by.between it items)
     (comma_leads text at to state by.between items spelled within white by.comma_is)
-    (leads by.between (state_behind list) items by.number_is))
+    (leads by.between (state_behind list) items by.number_is (by.plain (drop it.at text))))
 
 -- and after an `and`
 record IsEntry (state : State) (list : Listed) : Type 0 where
   number_is : next state number ≡ Some (state_behind list)
   taken : (it : Numeral) (items : List Item) → take_number state it items ≡ entry_of list it ∷ items
+  plain : (bytes : List ℕ) → may_be_doubtful state bytes ≡ false
 
 is_entry : (state : State) (list : Listed) → listed_behind_and state ≡ Some list → IsEntry state list
-is_entry past.LotAnd listed.Lots h = record { number_is = refl; taken = λ it items. refl }
-is_entry past.ListAnd listed.Sections h = record { number_is = refl; taken = λ it items. refl }
+is_entry past.LotAnd listed.Lots h = record { number_is = refl; taken = λ it items. refl; plain = λ _. refl }
+is_entry past.ListAnd listed.Sections h =
+    record { number_is = refl; taken = λ it items. refl; plain = λ _. refl }
 is_entry _ _ h = cc h
 
 pub joined_leads : (text : List ℕ) (from : ℕ) (state : State) (items : List Item) (list : Listed)
@@ -195,16 +238,18 @@ pub joined_leads : (text : List ℕ) (from : ℕ) (state : State) (items : List 
 joined_leads text from state items list it end is leads =
     let by : IsEntry state list = is_entry state list is in
     subst (λ (its : List Item). Leads text from state items end (state_behind list) its) (by.taken it items)
-    (leads state (state_behind list) items by.number_is)
+    (leads state (state_behind list) items by.number_is (by.plain (drop it.at text)))
 
 -- and after `to`, as the last of a range
 record IsLast (state : State) (list : Listed) : Type 0 where
   number_is : next state number ≡ Some (last_state_behind list)
   taken : (it : Numeral) (items : List Item) → take_number state it items ≡ with_newest (Last it) items
+  plain : (bytes : List ℕ) → may_be_doubtful state bytes ≡ false
 
 is_last : (state : State) (list : Listed) → listed_behind_to state ≡ Some list → IsLast state list
-is_last past.LotTo listed.Lots h = record { number_is = refl; taken = λ it items. refl }
-is_last past.ListTo listed.Sections h = record { number_is = refl; taken = λ it items. refl }
+is_last past.LotTo listed.Lots h = record { number_is = refl; taken = λ it items. refl; plain = λ _. refl }
+is_last past.ListTo listed.Sections h =
+    record { number_is = refl; taken = λ it items. refl; plain = λ _. refl }
 is_last _ _ h = cc h
 
 pub last_leads : (text : List ℕ) (from : ℕ) (state : State) (items : List Item) (list : Listed) (it : Numeral)
@@ -215,9 +260,14 @@ last_leads text from state items list it end is leads =
     let by : IsLast state list = is_last state list is in
     subst (λ (its : List Item). Leads text from state items end (last_state_behind list) its)
     (by.taken it items)
-    (leads state (last_state_behind list) items by.number_is)
+    (leads state (last_state_behind list) items by.number_is (by.plain (drop it.at text)))
 
 -- and the list continues there
 pub goes_on_behind : (list : Listed) → listed_in (state_behind list) ≡ Some list
 goes_on_behind listed.Lots = refl
 goes_on_behind listed.Sections = refl
+
+-- it continues after no step
+pub list_no_step : (state : State) (list : Listed) → listed_in state ≡ Some list → is_step state ≡ false
+list_no_step past.Step list h = cc h
+list_no_step _ list h = refl

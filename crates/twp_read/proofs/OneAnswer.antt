@@ -9,6 +9,7 @@ use Rattle.twp_grammar.specs.declared.kind.Kind.{Kind}
 use Rattle.twp_grammar.specs.declared.kind.Kind.TheVariants.{Other, BadByte, BadNumber}
 use Rattle.twp_grammar.specs.declared.state.State.TheVariants.{Start}
 use Rattle.twp_grammar.specs.declared.state.State.{State}
+use Rattle.twp_read.specs.declared.description.Noted.{Noted}
 use Rattle.twp_read.specs.declared.fault.TextFault.{TextFault}
 use Rattle.twp_read.specs.declared.fault.TextFault.TheVariants as fault
 use Rattle.twp_grammar.specs.Tokens.{Token}
@@ -139,3 +140,11 @@ pub taken : (text : List ℕ) (answer : Result (List Item) TextFault) → IfOk a
     → MatchResult answer (λ d. d ≡ is) (λ f. f ≡ fault.Memory)
 taken text (Ok d) read refused is h = one_reading text d is read h
 taken text (Err f) read refused is h = only_memory text is f h refused
+
+pub taken_noted : (text : List ℕ) (answer : Result Noted TextFault)
+    → IfOk answer (λ noted. IsReadAs text noted.description)
+    → IfErr answer (λ f. IfSome (refusal_of f) (λ _. IsFirstTextFault text f)) → (is : List Item)
+    → IsReadAs text is
+    → MatchResult answer (λ noted. noted.description ≡ is) (λ f. f ≡ fault.Memory)
+taken_noted text (Ok noted) read refused is h = one_reading text noted.description is read h
+taken_noted text (Err f) read refused is h = only_memory text is f h refused

@@ -63,7 +63,7 @@ is_within at bytes token rest s =
     let place : token.at ≡ at + length s.space = s.place in
     record { sum = omega arith }
 
-pub front_next : (text : List ℕ) (at : ℕ) (bytes : List ℕ) (state behind : State) (its : List Item)
+unfoldable pub front_next : (text : List ℕ) (at : ℕ) (bytes : List ℕ) (state behind : State) (its : List Item)
     (token : Token) (at' : ℕ) (rest : List ℕ)
     → Front text at bytes state its → StartsWith at bytes token rest → at' ≡ token.at + length token.text
     → next state (class_of token.kind) ≡ Some behind
@@ -115,7 +115,7 @@ wrong_here text at bytes state its token rest f starts stuck =
           (what_is_told f.tokens state its f.walked class is);
     }
 
-all_tokens : (text : List ℕ) (at : ℕ) (bytes : List ℕ) (tokens : List Token) → Before text at bytes tokens
+pub all_tokens : (text : List ℕ) (at : ℕ) (bytes : List ℕ) (tokens : List Token) → Before text at bytes tokens
     → AllPass is_white bytes → HasTokens 0 text tokens
 all_tokens text at bytes tokens b white =
     subst (λ (ts : List Token). HasTokens 0 text ts) (append-nil tokens) (b.joins [] white)

@@ -19,7 +19,10 @@ use Rattle.twp_grammar.specs.Grammar.{class_of, lot}
 use Rattle.twp_grammar.specs.Machine.{next, is_in_chain}
 use Rattle.twp_read.specs.steps.TokenSteps.{take_token, with_newest, before_parts}
 use Rattle.twp_read.specs.steps.Usual.{Leads, StandsAt, IsStepAt, letters_of, fraction_of}
+use Rattle.twp_grammar.specs.Tokens.{Token}
+use Rattle.twp_read.specs.steps.Watching.{is_usual}
 use Rattle.twp_read.proofs.Leading.{leads_then, leads_token}
+use Rattle.twp_read.proofs.WatchFacts.{usual_here, letters_are_usual, fraction_is_usual}
 
 -- a chain continues with the letters of a step and with its fraction
 record GrowsBy (state : State) (it : Step) : Type 0 where
@@ -60,14 +63,16 @@ stands_leads : (text : List ℕ) (at : ℕ) (state : State) (its : List Item) (k
     (behind : State) (grown : List Item)
     → StandsAt text at kind size → next state (class_of kind) ≡ Some behind
     → ((place : ℕ) → take_token state kind place its ≡ grown)
+    → ((token : Token) → is_usual state token.at token kind ≡ true)
     → Leads text at state its (at + size) behind grown
-stands_leads text at state its kind size behind grown s is grows =
+stands_leads text at state its kind size behind grown s is grows usual =
     let step_is : next state (class_of s.token.kind) ≡ Some behind =
     ap (λ k. next state (class_of k)) s.kind_is ∙ is in
     let grown_is : take_token state s.token.kind s.token.at its ≡ grown =
     ap (λ k. take_token state k s.token.at its) s.kind_is ∙ grows s.token.at in
     subst (λ (js : List Item). Leads text at state its (at + size) behind js) grown_is
-    (leads_token text at state its s.token (at + size) behind s.starts s.ends s.within step_is)
+    (leads_token text at state its s.token (at + size) behind s.starts s.ends s.within step_is
+    (usual_here state at s.token kind s.kind_is s.here (usual s.token)))
 
 -- a chain continues with a step
 pub step_leads : (text : List ℕ) (from : ℕ) (begun : State) (its : List Item) (at : ℕ) (state : State)
@@ -80,11 +85,11 @@ step_leads text from begun its at state some it size in_chain so_far s =
     let end : (at + s.letters_size) + s.fraction_size ≡ at + size = rw (s.size_is) (omega arith) in
     let letters : Leads text at state some (at + s.letters_size) by.between grown =
     stands_leads text at state some (letters_of it) s.letters_size by.between grown s.letters by.letters
-    (λ place. by.grown place some) in
+    (λ place. by.grown place some) (letters_are_usual state it) in
     let fraction : Leads text (at + s.letters_size) by.between grown
     ((at + s.letters_size) + s.fraction_size) past.Step grown =
     stands_leads text (at + s.letters_size) by.between grown (fraction_of it) s.fraction_size past.Step
-    grown s.fraction by.fraction (λ place. by.kept place grown) in
+    grown s.fraction by.fraction (λ place. by.kept place grown) (fraction_is_usual by.between it) in
     leads_then text from begun its at state some (at + size) past.Step grown so_far
     (subst (λ (n : ℕ). Leads text at state some n past.Step grown) end
     (leads_then text at state some (at + s.letters_size) by.between grown
@@ -186,8 +191,9 @@ part_begins_with _ it h = cc h
 token_leads : (text : List ℕ) (at : ℕ) (state : State) (its : List Item) (kind : Kind) (size : ℕ)
     (behind : State) (grown : List Item) (s : StandsAt text at kind size)
     → next state (class_of kind) ≡ Some behind → take_token state kind at its ≡ grown
+    → ((token : Token) → is_usual state token.at token kind ≡ true)
     → Leads text at state its (at + size) behind grown
-token_leads text at state its kind size behind grown s is grows =
+token_leads text at state its kind size behind grown s is grows usual =
     let step_is : next state (class_of s.token.kind) ≡ Some behind =
     ap (λ k. next state (class_of k)) s.kind_is ∙ is in
     let grown_is : take_token state s.token.kind s.token.at its ≡ grown =
@@ -195,7 +201,8 @@ token_leads text at state its kind size behind grown s is grows =
     ∙ ap (λ n. take_token state kind n its) s.here
     ∙ grows in
     subst (λ (js : List Item). Leads text at state its (at + size) behind js) grown_is
-    (leads_token text at state its s.token (at + size) behind s.starts s.ends s.within step_is)
+    (leads_token text at state its s.token (at + size) behind s.starts s.ends s.within step_is
+    (usual_here state at s.token kind s.kind_is s.here (usual s.token)))
 
 -- the first step of a part leads on, and then what follows the step
 pub first_leads : (text : List ℕ) (at : ℕ) (state : State) (its : List Item) (it : Step) (size to : ℕ)
@@ -209,11 +216,11 @@ first_leads text at state its it size to behind grown begins s more =
     let end : (at + s.letters_size) + s.fraction_size ≡ at + size = rw (s.size_is) (omega arith) in
     let letters : Leads text at state its (at + s.letters_size) by.between begun =
     token_leads text at state its (letters_of it) s.letters_size by.between begun s.letters by.letters
-    (by.begun at its) in
+    (by.begun at its) (letters_are_usual state it) in
     let fraction : Leads text (at + s.letters_size) by.between begun
     ((at + s.letters_size) + s.fraction_size) past.Step begun =
     token_leads text (at + s.letters_size) by.between begun (fraction_of it) s.fraction_size past.Step
-    begun s.fraction by.fraction (by.kept (at + s.letters_size) begun) in
+    begun s.fraction by.fraction (by.kept (at + s.letters_size) begun) (fraction_is_usual by.between it) in
     let both : Leads text at state its (at + size) past.Step begun =
     subst (λ (n : ℕ). Leads text at state its n past.Step begun) end
     (leads_then text at state its (at + s.letters_size) by.between begun

@@ -1,3 +1,4 @@
 pub mod TextFaults
 pub mod Laws
+pub mod Doubts
 pub mod steps

@@ -1,3 +1,4 @@
 pub mod Usual
 pub mod TokenSteps
 pub mod BadTokens
+pub mod Watching

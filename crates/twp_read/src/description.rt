@@ -1,13 +1,16 @@
 ghost use Rattle.std.specs.Prelude.{◌≡◌, ◌≤◌, List, length, IfOk, IfErr, IfSome};
 ghost use Rattle.std.specs.Prelude.{MatchOption, MatchResult};
 ghost use Rattle.twp_read.specs.TextFaults.{refusal_of, IsFirstTextFault, NamesWhatFollows, Helps};
+ghost use Rattle.twp_read.specs.Doubts.{HasNoDoubtfulPlace};
 ghost use Rattle.twp_read.specs.steps.BadTokens.{fault_of_bad, HasNoneBad, IsLeftmostBad};
 ghost use Rattle.twp_read.specs.steps.Usual.{HasNoneBadBefore};
 
+use crate::doubt::Clarity;
 use crate::fault::{TEXT_LIMIT, TextFault};
 use crate::items::Items;
 use crate::reached::Reached;
 use crate::token::{Tokens, first_token};
+use crate::watch::Watch;
 use std::alloc::Global;
 use std::marker::Model;
 use twp_grammar::{Expected, Item, Kind, State};
@@ -20,6 +23,13 @@ const BYTES_TO_ITEM: usize = 16;
 #[derive(Drop)]
 pub struct Description {
     items: Vec<Item>,
+}
+
+/// A description that was read, and whether a place in its text may be doubtful.
+#[derive(Drop)]
+pub struct Noted {
+    pub description: Description,
+    pub clarity: Clarity,
 }
 
 impl Model for Description {
@@ -48,6 +58,25 @@ impl Description {
             (λ fault. IfSome (refusal_of fault) (λ _. IsFirstTextFault text.now fault)) }
         ensures helps { IfErr result (Helps text.now) }
     {
+        match Description::read_noting(alloc, text) {
+            Ok(noted) => Ok(noted.description),
+            Err(fault) => Err(fault),
+        }
+    }
+
+    /// Reads a description as `read` does, and notes whether a place in it may be doubtful. This takes next to
+    /// no time, while `doubts_in` looks at each token again.
+    pub fn read_noting(alloc: Global, text: &[u8]) -> Result<Noted, TextFault>
+        ensures read { IfOk result (λ noted. IsReadAs text.now noted.description) }
+        ensures clear { IfOk result (λ noted.
+            noted.clarity ≡ Clarity.Clear → HasNoDoubtfulPlace text.now) }
+        ensures taken { (items : List Item) → IsReadAs text.now items
+            → MatchResult result (λ noted. noted.description ≡ items)
+            (λ fault. fault ≡ TextFault.Memory) }
+        ensures refused { IfErr result
+            (λ fault. IfSome (refusal_of fault) (λ _. IsFirstTextFault text.now fault)) }
+        ensures helps { IfErr result (Helps text.now) }
+    {
         if text.len() > TEXT_LIMIT {
             return Err(TextFault::TooLarge);
         }
@@ -56,9 +85,11 @@ impl Description {
 
     /// Reads a description within the limit.
     #[inline(never)]
-    fn read_within(alloc: Global, text: &[u8]) -> Result<Description, TextFault>
+    fn read_within(alloc: Global, text: &[u8]) -> Result<Noted, TextFault>
         requires { length text.now ≤ TEXT_LIMIT }
-        ensures read { IfOk result (IsReadAs text.now) }
+        ensures read { IfOk result (λ noted. IsReadAs text.now noted.description) }
+        ensures clear { IfOk result (λ noted.
+            noted.clarity ≡ Clarity.Clear → HasNoDoubtfulPlace text.now) }
         ensures refused { IfErr result
             (λ fault. IfSome (refusal_of fault) (λ _. IsFirstTextFault text.now fault)) }
         ensures helps { IfErr result (Helps text.now) }
@@ -68,14 +99,16 @@ impl Description {
             at: 0,
             state: State::Start,
         };
+        let mut watch = Watch::begun();
         'tokens: loop {
-            reached = items.take_usual(alloc, text, reached)?;
+            reached = items.take_watched(alloc, text, reached, watch)?;
             let Some(token) = first_token(text, reached.at) else {
                 break;
             };
             let Some(behind) = reached.state.next(token.kind) else {
                 return Err(fault_of(text, reached.at, token.at, reached.state.expected()));
             };
+            watch = watch.behind(reached, &token, behind);
             items.take(alloc, reached.state, token.kind, token.at as u32)?;
             reached = Reached {
                 at: token.at + token.text.len(),
@@ -85,8 +118,11 @@ impl Description {
         if !reached.state.is_final() {
             return Err(fault_of(text, reached.at, text.len(), reached.state.expected()));
         }
-        Ok(Description {
-            items: items.into_vec(),
+        Ok(Noted {
+            description: Description {
+                items: items.into_vec(),
+            },
+            clarity: watch.clarity(),
         })
     }
 

@@ -4,6 +4,8 @@
 #![tactic(auto)]
 
 mod description;
+mod doubt;
+mod doubts;
 mod fault;
 mod item_change;
 mod items;
@@ -12,9 +14,12 @@ mod lexeme;
 mod reached;
 mod token;
 mod usual;
+mod watch;
 mod white;
 mod word;
 
-pub use description::Description;
+pub use description::{Description, Noted};
+pub use doubt::{Clarity, Doubt, DoubtfulPlace, Doubts};
+pub use doubts::doubts_in;
 pub use fault::{TEXT_LIMIT, TextFault};
 pub use token::Tokens;

@@ -7,7 +7,7 @@
 //! are read in some 9 instructions a byte and lists in 20 to 30, where the loop takes up to 60.
 ghost use Rattle.std.specs.Prelude.{◌≤◌, length, IfOk};
 ghost use Rattle.twp_grammar.specs.Sentences.{TEXT_LIMIT};
-ghost use Rattle.twp_read.specs.steps.Usual.{Leads};
+ghost use Rattle.twp_read.specs.steps.Usual.{Leads, MovesOn};
 
 mod bytes;
 mod chain;
@@ -20,10 +20,32 @@ mod step;
 use crate::items::Items;
 use crate::reached::Reached;
 use crate::usual::part::behind_fraction;
+use crate::watch::Watch;
 use std::alloc::{AllocError, Global};
 use twp_grammar::State;
 
 impl Items {
+    /// Takes what stands next as `take_usual` does, unless the loop has to watch each token.
+    #[inline(always)]
+    pub(crate) fn take_watched(
+        &mut self,
+        alloc: Global,
+        text: &[u8],
+        from: Reached,
+        watch: Watch,
+    ) -> Result<Reached, AllocError>
+        requires place { from.at ≤ length text.now }
+        requires limit { length text.now ≤ TEXT_LIMIT }
+        ensures moves { IfOk result (MovesOn watch.word text.now from self.old self.new) }
+        ensures forward { IfOk result (λ to. from.at ≤ to.at) }
+        ensures within { IfOk result (λ to. to.at ≤ length text.now) }
+    {
+        if !watch.is_usual() {
+            return Ok(from);
+        }
+        self.take_usual(alloc, text, from)
+    }
+
     /// Takes what stands next, as long as it is spelled in the usual way: as it stands, and not
     /// token by token. Gives the place that is reached, and the state there.
     #[inline(always)]

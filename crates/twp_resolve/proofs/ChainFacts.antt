@@ -1,4 +1,4 @@
--- Aliquot parts: the block that their steps leave, and the places of it.
+-- Aliquot parts: the block that their steps reach, and its places.
 use Rattle.std.proofs.Common.{Some, slice_get, ◌≡◌, ◌==◌, ℕ, zero, suc, ◌+◌, ◌-◌, ◌^◌, ◌<◌, ◌≤◌, ◌&&◌, Bool}
 use Rattle.std.proofs.Common.{true, false, List, [], ◌∷◌, ◌++◌, length, drop, refl, ap, ◌∙◌, inl, inr, arith}
 use Rattle.std.proofs.Common.{length-append, IfSome, Option, None}
@@ -85,7 +85,7 @@ within_more g cut before within can = record { rows = rows cut can; columns = co
         axis_more g (columns_asked before) (0 ∷ []) (reached g before).columns.len within.columns sides.0
         can.0 refl
 
--- a cut whose digit is left finds a block that is large enough
+-- if a digit is left for a cut, the block is large enough for it
 pub can_cut : (g : ℕ) (cut : Cut) (before : List Cut) → AreWithin g before → AreWithin g (cut ∷ before)
     → CanCut (reached g before) cut
 can_cut g cut before within all = there cut all
@@ -135,7 +135,7 @@ cut_none g steps n all block is =
     let left : drop n steps ≡ [] = ap (λ k. drop k steps) all ∙ drop-length steps in
     record { within = rw left (record { rows = omega arith; columns = omega arith }); block_is = rw left is }
 
--- the steps left of an index, and the one before it
+-- the remaining steps before an index, and the last of them
 step_before : (steps : List Step) (n : ℕ) (step : Step) → 0 < n → slice_get steps (n - 1) ≡ Some step
     → drop (n - 1) steps ≡ step ∷ drop n steps
 step_before steps n step some at =
@@ -166,7 +166,7 @@ cut_next_of g steps n step block None some at so_far taken = taken
 cut_next_of g steps n step block (Some next) some at so_far taken =
     cut_next g steps n step block next some at so_far taken.0 taken.1
 
--- a step that can't be taken
+-- a step that cannot be taken
 pub cut_stuck : (g : ℕ) (steps : List Step) (n : ℕ) (step : Step) (block : Rectangle) → 0 < n
     → slice_get steps (n - 1) ≡ Some step → IsCutTo g steps n block
     → ¬ CanCut block (cut_of step) → ¬ AreWithin g (cuts_of steps)
@@ -179,7 +179,7 @@ and_false : (a : Bool) → (a && false) ≡ false
 and_false true = refl
 and_false false = refl
 
--- the places of an aliquot part that isn't too fine are those of the block
+-- the places of an aliquot part that is not too small are those of the block
 pub chain_places : (g section : ℕ) (steps : List Step) (at : ℕ) → AreWithin g (cuts_of steps)
     → item_places g (item_of section (Chain steps at)) ≡ block_places section (reached g (cuts_of steps))
 chain_places g section steps at within =

@@ -1,4 +1,4 @@
--- What is answered of an aliquot part: the first of its faults, or its places are taken.
+-- The result for an aliquot part: the first of its faults, or its places are added.
 use Rattle.std.proofs.Common.{◌≡◌, ◌==◌, ℕ, ◌≤◌, Bool, List, refl, sym, ap, subst, ◌∙◌, arith, Result, Ok}
 use Rattle.std.proofs.Common.{Err, IfOk, IfErr, MatchResult}
 use Rattle.std.proofs.lemmas.Bool.{and_parts}
@@ -20,7 +20,7 @@ use Rattle.twp_resolve.specs.steps.ResolvingSteps.{IsTaken, IsItemsFirstFault}
 use Rattle.twp_land.proofs.LotBlocks.{same_section, share_of_meets, meets_of_share}
 use Rattle.twp_resolve.proofs.ChainFacts.{chain_places}
 
--- an aliquot part is too fine, holds land of a lot, or was named before
+-- an aliquot part is too small, contains land of a lot, or was named before
 at_least : (township : Designation) (earlier : ℕ → ℕ → ℕ → Bool) (section : ℕ) (steps : List Step)
     (at number : ℕ)
     → (¬ AreWithin PLACE_DIGITS (cuts_of steps) → number ≤ 65)
@@ -42,7 +42,7 @@ is_too_fine section steps at earlier fine township = record {
   first = at_least township earlier section steps at 65 (λ _. omega arith) (λ _. omega arith) (omega arith);
 }
 
--- the block of an aliquot part holds a lot's place where the part names one
+-- the block of an aliquot part contains a lot's place if the part names one
 of_lot_of_block : (section : ℕ) (steps : List Step) (at : ℕ) → AreWithin PLACE_DIGITS (cuts_of steps)
     → HoldsLotPlace PLACE_DIGITS section (reached PLACE_DIGITS (cuts_of steps))
     → HoldsOfLot PLACE_DIGITS (item_of section (Chain steps at))
@@ -84,7 +84,7 @@ is_on_lot section steps at earlier block within is held township = record {
       (omega arith);
 }
 
--- the answer when a block is added
+-- the result when a block is added
 abbrev pub AddsBlock : {A : Type 0} → (old new : ℕ → ℕ → ℕ → Bool) (section : ℕ) (block : Rectangle) (at : ℕ)
     → Result A PlaceFault → Type 0
 AddsBlock old new section block at result = MatchResult result

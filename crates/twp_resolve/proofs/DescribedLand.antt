@@ -1,5 +1,5 @@
--- The land of a sentence whose items lie on the plat without overlap: it is a land of the township, and some
--- place of it is named.
+-- The land of a sentence whose items lie on the plat without overlapping: it is land of the
+-- township, and at least one place is named.
 use Rattle.std.proofs.Common.{◌≡◌, ◌≢◌, ◌==◌, ℕ, ◌*◌, ◌^◌, ◌≤◌, ◌&&◌, ◌⊎◌, Bool, true, false, List, [], ◌∷◌}
 use Rattle.std.proofs.Common.{◌++◌, Option, Some, None, refl, sym, ap, subst, ◌∙◌, inl, inr, arith, nat_le}
 use Rattle.std.proofs.Common.{IsSome}
@@ -44,7 +44,7 @@ use Rattle.twp_land.proofs.LotBlocks.{same_section}
 use Rattle.twp_resolve.proofs.LandLots.{land_has_whole_lots}
 use Rattle.twp_grammar.proofs.TreeFacts.{tree_begins}
 
--- an item that names places, where it lies on the plat
+-- an item that names places, if it lies on the plat
 abbrev NamesPlaces : Item → Type 0
 NamesPlaces (Heading number north_south range east_west at) = ⊥
 NamesPlaces (Sections first last true) = Unit {0}
@@ -75,7 +75,7 @@ part_names (inl (word & first & more)) = first_names _ _ tt
 part_names (inr (inl (step & more))) = first_names _ _ tt
 part_names (inr (inr word)) = first_names _ _ tt
 
--- and so do sections: they are whole, or a part follows
+-- so do sections: they are whole, or a part follows
 group_names : (v : Tree group) → HasNaming (group_items v)
 group_names (inl (word & st & only & inl (mark & first & more))) =
     later_names (Sections (numeral only) (numeral only) false) _
@@ -91,7 +91,7 @@ sentence_names (inl h & first & more & end) =
 sentence_names (inr _ & first & more & end) =
     left_names (group_items first) (flat_map (behind (behind group_items)) more) (group_names first)
 
--- each item stands among those with their sections
+-- each item is among the items with their sections
 record HasSection (its : List Item) (section : ℕ) (it : Item) : Type 0 where
   of : ℕ
   there : Among (item_of of it) (with_sections section its)
@@ -114,7 +114,7 @@ each_lies township its on p there =
     subst (λ (q : ItemOfSection). LiesOnPlat PLACE_DIGITS township q.section q.item) at.2
     (on.each at.0 p at.1)
 
--- a part follows sections
+-- a part comes after sections
 abbrev StandsBehindSections : ItemOfSection → Type 0
 StandsBehindSections p = IsSection p.section ⊎ IsBeforeParts p.item
 
@@ -128,7 +128,7 @@ begins_behind number north_south range east_west at (Lots first last ∷ its) be
 begins_behind number north_south range east_west at (Chain steps a ∷ its) begin = absurd begin
 begins_behind number north_south range east_west at (All a ∷ its) begin = absurd begin
 
--- where items lie on the plat, each part of the township's land follows sections
+-- if items lie on the plat, each part comes after sections in the township
 behind_sections : (township : Designation) (its : List Item) (section : ℕ)
     → IsSection section ⊎ BeginWithSections its → EachLies township (with_sections section its)
     → (p : ItemOfSection) → Among p (with_sections section its) → StandsBehindSections p
@@ -203,7 +203,7 @@ first_lot section first last range order has = at_position (position_of_lot sect
           named = rw (place, same_section section, lot, in_range) refl;
         }
 
--- the first place of the block that an aliquot part leaves
+-- the first place of the block that an aliquot part reaches
 chain_place : (section : ℕ) (steps : List Step) (at : ℕ) → AreWithin PLACE_DIGITS (cuts_of steps)
     → NamesPlace section (Chain steps at)
 chain_place section steps at within =
@@ -234,7 +234,7 @@ some_place township section (Chain steps at) behind lies names = chain_place sec
 some_place township section (All at) behind lies names =
     record { of = section; column = 0; row = 0; named = rw (same_section section) refl }
 
--- each part of a sentence follows sections
+-- each part of a sentence comes after sections
 each_behind : (township : Designation) (tokens : List Token) (its : List Item) → HasItems tokens its
     → AreOnPlat PLACE_DIGITS township its
     → (p : ItemOfSection) → Among p (parts_of its) → StandsBehindSections p
@@ -248,7 +248,7 @@ not_empty : (places named : ℕ → ℕ → ℕ → Bool) (s c r : ℕ) → plac
 not_empty places named s c r is held none =
     false≢true (sym (ap (λ ps. ps s c r) none) ∙ ap (λ ps. ps s c r) is ∙ held)
 
--- a sentence whose items lie on the plat names some place
+-- a sentence whose items lie on the plat names at least one place
 pub names_some_place : (township : Designation) (tokens : List Token) (its : List Item)
     (places : ℕ → ℕ → ℕ → Bool)
     → HasItems tokens its
@@ -265,7 +265,7 @@ names_some_place township tokens its places sentence land =
     (passed (λ p. item_places PLACE_DIGITS p place.of place.column place.row) (parts_of its) part
     stands.there place.named)
 
--- what a part names is of a section of the township
+-- the places that a part names are in a section of the township
 in_section : (township : Designation) (p : ItemOfSection) → StandsBehindSections p
     → LiesOnPlat PLACE_DIGITS township p.section p.item → (s c r : ℕ)
     → item_places PLACE_DIGITS p s c r ≡ true → IsSection s × IsPlace PLACE_DIGITS c r
@@ -293,7 +293,7 @@ in_section township p behind lies s c r named =
     of_item (Chain steps at) (inr before) lies is = absurd before
     of_item (All at) (inr before) lies is = absurd before
 
--- the land of a sentence is a land of the township
+-- the land of a sentence is land of the township
 pub is_of_township : (township : Designation) (tokens : List Token) (its : List Item)
     (places : ℕ → ℕ → ℕ → Bool)
     → HasItems tokens its

@@ -1,4 +1,4 @@
--- What is answered of a heading and of `all`: the first of their faults, or their places are taken.
+-- The result for a heading and for `all`: the first of their faults, or their places are added.
 use Rattle.std.proofs.Common.{◌≡◌, ◌≢◌, ◌==◌, ℕ, ◌≤◌, ◌&&◌, Bool, true, false, refl, sym, ap, subst, ◌∙◌}
 use Rattle.std.proofs.Common.{arith}
 use Rattle.std.proofs.Math.Path.{fun_ext}
@@ -48,7 +48,7 @@ heading_refused section number north_south range east_west at old township other
     least (fault.OtherTownship at') = omega arith
     least more = omega arith
 
--- all of a section is its block of all places
+-- `all` of a section is its block of all places
 all_places : (section at : ℕ)
     → item_places PLACE_DIGITS (item_of section (All at)) ≡ block_places section (whole_block PLACE_DIGITS)
 all_places section at = fun_ext (λ s. fun_ext (λ c. fun_ext (λ r.

@@ -1,4 +1,4 @@
--- Each item on the plat names a lot whole or not at all, and so does the land of items.
+-- Each item on the plat names each lot wholly or not at all, and so does the land of items.
 use Rattle.std.proofs.Common.{◌≡◌, ◌==◌, ℕ, suc, ◌<◌, ◌&&◌, ◌||◌, Bool, true, false, List, [], ◌∷◌, Some}
 use Rattle.std.proofs.Common.{length, refl, sym, ap, ◌∙◌, inl, inr, arith}
 use Rattle.std.specs.List.{list_any}
@@ -40,7 +40,7 @@ not_of_lot section steps at s lot column row range off is = elim (cases_Bool (se
   ]
 ]
 
--- two places of a lot are both of some lots of a section, or both not
+-- two places of a lot are either both in some lots of a section or neither is
 same_lot : (section first last s lot column row column' row' : ℕ)
     → lot_of_place PLACE_DIGITS s column row ≡ Some lot → lot_of_place PLACE_DIGITS s column' row' ≡ Some lot
     → ((section == s) && is_lot_from first last (lot_of_place PLACE_DIGITS section column row))

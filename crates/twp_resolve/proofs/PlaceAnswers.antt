@@ -1,4 +1,5 @@
--- Items that lie on the plat without overlap have no fault, and others have one first fault.
+-- Items that lie on the plat without overlapping have no fault, and others have only one first
+-- fault.
 use Rattle.std.proofs.Common.{◌≡◌, ℕ, zero, suc, ◌<◌, ◌||◌, ◌⊎◌, Bool, true, false, List, [], ◌∷◌, Some}
 use Rattle.std.proofs.Common.{length, take, slice_get, refl, sym, ap, subst, ◌∙◌, inl, inr, arith, Result, Ok}
 use Rattle.std.proofs.Common.{Err}
@@ -20,7 +21,7 @@ use Rattle.twp_grammar.specs.declared.item.Numeral.{Numeral}
 use Rattle.twp_resolve.proofs.RangeFaults.{none_unlike}
 use Rattle.twp_grammar.specs.ItemPlaces.{item_of}
 
--- an item on the plat, whose places no item before it named, has no fault
+-- an item on the plat has no fault if no item before it named any of its places
 pub none_of_item : (g : ℕ) (township : Designation) (earlier : ℕ → ℕ → ℕ → Bool) (section : ℕ) (it : Item)
     (is : PlaceFault)
     → LiesOnPlat g township section it → ¬ SharePlace earlier (item_places g (item_of section it))
@@ -79,7 +80,7 @@ any_of test (x ∷ xs) (suc n) (suc i) d before within passes =
     or_true true h = refl
     or_true false h = h
 
--- items are apart from the land of those before them exactly where all pairs are apart
+-- items are apart from the land of those before them exactly if every two items are apart
 pub apart_of_pairs : (g : ℕ) (parts : List ItemOfSection)
     → AllPairs (λ p q. ¬ SharePlace (item_places g p) (item_places g q)) parts
     → (i : ℕ) (d : ItemOfSection) → i < length parts
@@ -110,7 +111,7 @@ pairs_of_apart g parts apart i j d before within shared =
       in_second = shared.in_second;
     })
 
--- what lies on the plat without overlap has no fault
+-- items that lie on the plat without overlapping have no fault
 none_at : (g : ℕ) (township : Designation) (items : List Item) (index : ℕ) (is : PlaceFault)
     → AreOnPlat g township items → ¬ HasFaultAt g township items index is
 none_at g township items index is on has =
@@ -130,7 +131,7 @@ pub no_fault : (g : ℕ) (township : Designation) (items : List Item) (is : Plac
     → AreOnPlat g township items → ¬ IsFirstPlaceFault g township items is
 no_fault g township items is on first = none_at g township items first.index is on first.is
 
--- there is one first number that isn't of the kind
+-- only one number is the first that lacks the property
 one_unlike : (IsOfKind : ℕ → Type 0) (first last : Numeral) (at at' : ℕ)
     → IsFirstUnlike IsOfKind first last at → IsFirstUnlike IsOfKind first last at' → at ≡ at'
 one_unlike IsOfKind first last at at' (inl a) (inl b) = a.0 ∙ sym b.0
@@ -138,7 +139,7 @@ one_unlike IsOfKind first last at at' (inl a) (inr b) = absurd (a.1 b.1)
 one_unlike IsOfKind first last at at' (inr a) (inl b) = absurd (b.1 a.1)
 one_unlike IsOfKind first last at at' (inr a) (inr b) = a.0 ∙ sym b.0
 
--- an item has one fault of a number
+-- an item has only one fault with a number
 one_of_number : (g : ℕ) (township : Designation) (earlier : ℕ → ℕ → ℕ → Bool) (section : ℕ) (it : Item)
     (one other : PlaceFault)
     → number_of one ≡ number_of other
@@ -174,7 +175,7 @@ same_index i j f h (inr a) (inr b) = (a.0, omega (arith, a.1, b.1))
 some_inside : {X : Type 0} (a b : X) → Some a ≡ Some b → a ≡ b
 some_inside a b e = cc e
 
--- one first fault
+-- only one fault is the first
 pub one_fault : (g : ℕ) (township : Designation) (items : List Item) (one other : PlaceFault)
     → IsFirstPlaceFault g township items one → IsFirstPlaceFault g township items other → one ≡ other
 one_fault g township items one other a b =

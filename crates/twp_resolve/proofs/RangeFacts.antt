@@ -104,7 +104,8 @@ added_next places next old mid new section block so_far free is grown = record {
       ∙ ap (λ p. old s c r || p s c r) (sym grown))));
 }
 
--- a block that is met, and whose places the added ones leave out, was met before them
+-- a block that is met, and whose places the added ones do not include, was met before they were
+-- added
 pub added_stuck : (places all old mid : ℕ → ℕ → ℕ → Bool) (section : ℕ) (block : Rectangle)
     → AreAdded places old mid → Meets (mid section) block
     → ((s c r : ℕ) → block_places section block s c r ≡ true → (places s c r ≡ false) × (all s c r ≡ true))
@@ -152,7 +153,7 @@ in_next_section first n last least some most s c r is =
     let within : (nat_le first s && nat_le s last) ≡ true = grind (arith, nat_tests) in
     (rw (place, before) refl, rw (place, within) refl)
 
--- lots
+-- places of lots
 is_lot_from-none : (first last : ℕ) (lot : Option ℕ) → last < first → is_lot_from first last lot ≡ false
 is_lot_from-none first last None none = refl
 is_lot_from-none first last (Some n) none = grind (arith, nat_tests)
@@ -166,7 +167,7 @@ no_lots g s first last none = fun_ext (λ o. fun_ext (λ c. fun_ext (λ r.
     off true false = refl
     off false b = refl
 
--- a lot's block, where the lot of a place is known
+-- the places of a lot's block, if the lot of a place is known
 in_block_or_not : (s n c r : ℕ) (block : Rectangle) → IsSection s → n ≤ number_of_lots s
     → block_of (position_of_lot s n) ≡ Some block
     → (lot : Option ℕ) → lot_of_place PLACE_DIGITS s c r ≡ lot → in_rectangle block c r ≡ is_lot_from n n lot

@@ -1,4 +1,4 @@
--- What is answered of a range of sections or of lots: the first of its faults, or its places are taken.
+-- The result for a range of sections or of lots: the first of its faults, or its places are added.
 use Rattle.std.proofs.Common.{◌≡◌, ℕ, ◌≤◌, ◌<◌, Bool, true, refl, sym, subst, inl, inr, arith, Result}
 use Rattle.std.proofs.Common.{Ok, Err, IfOk, IfErr}
 use Rattle.std.proofs.Common.{MatchResult}
@@ -16,14 +16,14 @@ use Rattle.twp_resolve.specs.steps.ResolvingSteps.{sections_from, lots_from, Are
 use Rattle.twp_resolve.specs.steps.ResolvingSteps.{IsItemsFirstFault}
 use Rattle.twp_resolve.proofs.RangeFacts.{has_lot_between}
 
--- where both numbers are of the kind, there is no first one that isn't
+-- if both numbers have the property, there is no first one that lacks it
 pub none_unlike : (IsOfKind : ℕ → Type 0) (first last : Numeral) (at : ℕ) → IsOfKind first.value
     → IsOfKind last.value
     → ¬ IsFirstUnlike IsOfKind first last at
 none_unlike IsOfKind first last at low high (inl out) = out.1 low
 none_unlike IsOfKind first last at low high (inr out) = out.2 high
 
--- lots run backward, aren't there, or were named before
+-- lots run backward, do not exist, or were named before
 lots_least : (township : Designation) (earlier : ℕ → ℕ → ℕ → Bool) (section : ℕ) (first last : Numeral)
     (number : ℕ)
     → (last.value < first.value → number ≤ 63)
@@ -46,7 +46,7 @@ lots_backward section first last earlier back township = record {
       lots_least township earlier section first last 63 (λ _. omega arith) (λ _ _. omega arith) (omega arith);
 }
 
--- there is a first number that is no lot's
+-- there is a first number that is not a lot's
 no_lot : (section : ℕ) (first last : Numeral) (earlier : ℕ → ℕ → ℕ → Bool) (at : ℕ)
     → first.value ≤ last.value → IsFirstUnlike (HasLot section) first last at
     → (township : Designation)
@@ -72,7 +72,7 @@ pub lots_no_last : (section : ℕ) (first last : Numeral) (earlier : ℕ → ℕ
 lots_no_last section first last earlier order low none =
     no_lot section first last earlier last.at order (inr (refl, low, none))
 
--- what adding lots answers
+-- the result when lots are added
 abbrev pub AddsLots : {A : Type 0} → (old new : ℕ → ℕ → ℕ → Bool) (section first last at : ℕ)
     → Result A PlaceFault → Type 0
 AddsLots old new section first last at result = MatchResult result
@@ -109,7 +109,7 @@ lots_refused (Err e) section first last old new order low high adds = λ townshi
           (λ at none. absurd (none_unlike (HasLot section) first last at low high none)) (omega arith);
     })
 
--- sections aren't there, run backward, or were named before
+-- sections do not exist, run backward, or were named before
 sections_least : (township : Designation) (earlier : ℕ → ℕ → ℕ → Bool) (section : ℕ) (first last : Numeral)
     (whole : Bool) (number : ℕ)
     → ((at : ℕ) → IsFirstUnlike IsSection first last at → number ≤ 62)
@@ -124,7 +124,7 @@ sections_least township earlier section first last whole number none back most (
 sections_least township earlier section first last whole number none back most (fault.Overlap at) has = most
 sections_least township earlier section first last whole number none back most other has = absurd has
 
--- there is a first number that is no section's
+-- there is a first number that is not a section's
 no_section : (section : ℕ) (first last : Numeral) (whole : Bool) (earlier : ℕ → ℕ → ℕ → Bool) (at : ℕ)
     → IsFirstUnlike IsSection first last at
     → (township : Designation)

@@ -1,4 +1,4 @@
--- The items that were taken one after another, what is left of them, and the land so far.
+-- The items that were added one after another, the remaining items, and the land so far.
 use Rattle.std.proofs.Common.{◌≡◌, ℕ, suc, ◌+◌, ◌<◌, ◌≤◌, ◌||◌, ◌⊎◌, Bool, List, [], ◌∷◌, Option, Some, None}
 use Rattle.std.proofs.Common.{length, take, drop, slice_get, refl, sym, ap, subst, ◌∙◌, inl, inr, arith}
 use Rattle.std.proofs.Common.{IsSome}
@@ -141,7 +141,7 @@ fault_here g township items index section it places fault inside at so_far refus
   has = subst (λ land. HasFault g township land section it fault) so_far.land refused.is;
 }
 
--- the first fault of the item at an index comes before all others, where the items before have none
+-- the first fault of the item at an index comes before all others, if the items before it have none
 pub first_here : (g : ℕ) (township : Designation) (items : List Item) (index section : ℕ) (it : Item)
     (places : ℕ → ℕ → ℕ → Bool) (fault : PlaceFault)
     → index < length items → get_or items index it ≡ it
@@ -191,7 +191,7 @@ first_here g township items index section it places fault inside at so_far refus
     some_part : (a b : ItemOfSection) → Some a ≡ Some b → a ≡ b
     some_part a b e = cc e
 
--- the first fault of the item at an index, of which those before have none, is the first of all
+-- the first fault of the item at an index is the first of all, if the items before it have none
 pub refused_here : (g : ℕ) (township : Designation) (items : List Item) (index section : ℕ) (it : Item)
     (places : ℕ → ℕ → ℕ → Bool) (fault : PlaceFault)
     → index < length items → get_or items index it ≡ it
@@ -203,7 +203,7 @@ refused_here g township items index section it places fault inside at so_far ref
   first = first_here g township items index section it places fault inside at so_far refused;
 }
 
--- all items are taken
+-- all items were added
 pub taken_all : (g : ℕ) (township : Designation) (items : List Item) (index section : ℕ)
     (places : ℕ → ℕ → ℕ → Bool)
     → length items ≤ index
@@ -218,7 +218,7 @@ taken_all g township items index section places end taken =
       land_is = taken.land ∙ ap (λ ps. land_of g ps) (take_all index (parts_of items) (omega arith));
     }
 
--- Until sections are named, the items left begin with them, or with a heading before them.
+-- Until sections are named, the remaining items begin with them, or with a heading and then them.
 pub SectionKnown : Option ℕ → List Item → Type 0
 SectionKnown section left = (1 ≤ number_of_section section) ⊎ BeginWithSections left
 
@@ -231,7 +231,7 @@ begins : (items : List Item) (index : ℕ) (it : Item) → index < length items 
 begins items index it inside at begin =
     subst BeginWithSections (drop_more items index it inside ∙ ap (λ x. x ∷ drop (index + 1) items) at) begin
 
--- a part follows sections
+-- a part comes after sections
 pub may_be_taken : (section : Option ℕ) (items : List Item) (index : ℕ) (it : Item) → index < length items
     → get_or items index it ≡ it
     → SectionKnown section (drop index items) → IsSome section ⊎ IsBeforeParts it
@@ -251,7 +251,7 @@ may_be_taken section items index it inside at (inr begin) =
     go (item.Chain steps at) more begin = begin
     go (item.All at) more begin = begin
 
--- and so does the next one
+-- so does the next one
 pub known_next : (g : ℕ) (township : Designation) (section section' : Option ℕ) (items : List Item)
     (index : ℕ) (it : Item)
     → index < length items → get_or items index it ≡ it

@@ -40,7 +40,7 @@ places_here : (g : ℕ) (items : List Item) (index section : ℕ) (it : Item)
 places_here g items index section it next =
     places_of_part g items index section it (part_is items index section it next)
 
--- an item that has a fault by itself has it after any land, and it comes before an overlap
+-- a fault that an item has whatever the items before it comes before an overlap
 alone : (g : ℕ) (township : Designation) (earlier : ℕ → ℕ → ℕ → Bool) (section : ℕ) (it : Item)
     (is : PlaceFault)
     → HasFault g township no_places section it is
@@ -58,7 +58,7 @@ alone g township earlier section (item.Chain steps start) (fault.OnLot at) has =
 alone g township earlier section it (fault.Overlap at) has = absurd (cc has.1.in_first)
 alone g township earlier section it other has = absurd has
 
--- neither the item for which a description is refused nor one before it has a fault by itself
+-- neither the item for which a description is refused nor any item before it has such a fault
 pub no_fault_alone : (g : ℕ) (township : Designation) (items : List Item) (index section : ℕ) (it : Item)
     (refused : AreRefusedForOverlap g township items)
     → index ≤ refused.fault_is.index
@@ -78,18 +78,18 @@ no_fault_alone g township items index section it refused before part some =
       | inr same ↦ omega (arith, same.1, both.1)
     ]
 
--- the places of an item by itself
+-- the places of an item on its own
 pub only_places : (g : ℕ) (township : Designation) (section : ℕ) (it : Item) (new : ℕ → ℕ → ℕ → Bool)
     → IsTaken g township section it no_places new → new ≡ item_places g (item_of section it)
 only_places g township section it new taken = taken.added
 
--- another first fault is no overlap
+-- another first fault is not an overlap
 pub refused_otherwise : (g : ℕ) (township : Designation) (items : List Item) (is : PlaceFault)
     → IsFirstPlaceFault g township items is → ¬ IsOverlap is → ¬ AreRefusedForOverlap g township items
 refused_otherwise g township items is first unlike refused =
     unlike (refused.at, one_fault g township items is (fault.Overlap refused.at) first refused.fault_is)
 
--- items on the plat aren't refused
+-- items on the plat are not refused
 pub not_refused : (g : ℕ) (township : Designation) (items : List Item) → AreOnPlat g township items
     → ¬ AreRefusedForOverlap g township items
 not_refused g township items on refused =
@@ -138,7 +138,7 @@ refused_land g township items index section it new there refused taken = record 
       ∙ sym (places_of_part g items index section it (refused.part_is it there));
 }
 
--- and it has no fault by itself
+-- the refused item has no fault of its own
 pub refused_not_alone : (g : ℕ) (township : Designation) (items : List Item) (index section : ℕ) (it : Item)
     → slice_get items index ≡ Some it
     → IsRefusedItem g township items index section → HasSomeFault g township section it → ⊥
@@ -146,7 +146,8 @@ refused_not_alone g township items index section it there refused some =
     no_fault_alone g township items index section it refused.refused (omega (arith, refused.index_is))
     (refused.part_is it there) some
 
--- the items before an index share no place with a later one, and parts of a section come after it
+-- the items before an index share no place with a later one, and the next item belongs to this
+-- section
 pub record AreApart (g : ℕ) (items : List Item) (index section later : ℕ) : Type 0 where
   pub left : drop index (parts_of items) ≡ with_sections section (drop index items)
   pub apart : (i : ℕ) → i < index → ¬ SharePlace (places_at g items i) (places_at g items later)
@@ -154,7 +155,7 @@ pub record AreApart (g : ℕ) (items : List Item) (index section later : ℕ) : 
 pub apart_none : (g : ℕ) (items : List Item) (later : ℕ) → AreApart g items 0 0 later
 apart_none g items later = record { left = refl; apart = λ i before. absurd (omega arith) }
 
--- one more item, of which this is all land
+-- one more item, whose land is all of this
 pub apart_next : (g : ℕ) (township : Designation) (items : List Item) (index section later : ℕ) (it : Item)
     (new named : ℕ → ℕ → ℕ → Bool)
     → index < length items → get_or items index it ≡ it
@@ -243,7 +244,7 @@ some_share g township items index section later named refused all so_far =
     overlap earlier section at (item.Chain steps start) has = has.1
     overlap earlier section at (item.All start) has = has.1
 
--- an item before the refused one has no fault by itself
+-- an item before the refused one has no fault of its own
 pub before_not_alone : (g : ℕ) (township : Designation) (items : List Item) (index section later : ℕ)
     (it : Item) (named : ℕ → ℕ → ℕ → Bool)
     → index < length items → get_or items index it ≡ it → index < later
@@ -253,7 +254,7 @@ before_not_alone g township items index section later it named inside there befo
     no_fault_alone g township items index section it refused.refused (omega (arith, refused.index_is))
     (part_is items index section it (next_is items index section it inside there so_far.left)) some
 
--- the refused item, where it is refused for an overlap
+-- the refused item, if it is refused for an overlap
 pub found_refused : (g : ℕ) (township : Designation) (items : List Item) (index : ℕ) (section : Option ℕ)
     (it : Item) (places : ℕ → ℕ → ℕ → Bool) (is : PlaceFault) (found : Option RefusedItem)
     → index < length items → get_or items index it ≡ it
@@ -273,7 +274,7 @@ found_refused g township items index section it places is (Some r) inside there 
     (refused_item_here g township items index (number_of_section section) it places is inside there so_far
     first found.2))
 
--- and a part of a section comes after it
+-- a section was named before it, unless it needs none
 pub found_section : (items : List Item) (index : ℕ) (section : Option ℕ) (is : PlaceFault)
     (found : Option RefusedItem)
     → index < length items → SectionKnown section (drop index items)

@@ -9,7 +9,7 @@ use Rattle.twp_grammar.specs.Sentences.{HasItems}
 use Rattle.twp_grammar.specs.OnPlat.{IsLandOfItems}
 use Rattle.twp_grammar.specs.OnPlat.{IsTownshipLand}
 
--- the land of a sentence is a land of the township
+-- the land of a sentence is land of the township
 abbrev pub DescribedLandIsOfTownship : Type 0
 DescribedLandIsOfTownship = (township : Designation) (tokens : List Token) (items : List Item)
     (places : ℕ → ℕ → ℕ → Bool) → HasItems tokens items

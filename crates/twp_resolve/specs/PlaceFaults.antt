@@ -1,4 +1,4 @@
--- The first fault of items that don't lie on the plat without overlap.
+-- The first fault of items that do not lie on the plat without overlapping.
 use Rattle.std.specs.Prelude.{◌≡◌, ◌≢◌, ◌⊎◌, ℕ, ◌≤◌, ◌<◌, Bool, List, Option, Some}
 use Rattle.std.specs.Prelude.{Result, Ok, Err, slice_get, take}
 use Rattle.std.specs.Option.{option_map_or}
@@ -30,13 +30,13 @@ refusal_of (fault.Overlap at) = Some (record { number = 67; at = at })
 abbrev pub number_of : PlaceFault → ℕ
 number_of place_fault = option_map_or (λ (refusal : Refusal). refusal.number) (refusal_of place_fault) 0
 
--- the place in the text of the first of two numbers that is not of this kind
+-- the place in the text of the first of two numbers that lacks a property
 abbrev pub IsFirstUnlike : (ℕ → Type 0) → Numeral → Numeral → ℕ → Type 0
 IsFirstUnlike IsOfKind first last at =
     ((at ≡ first.at) × ¬ IsOfKind first.value)
     ⊎ ((at ≡ last.at) × IsOfKind first.value × ¬ IsOfKind last.value)
 
--- where an item begins in the text: of a range, at its first number
+-- where an item begins in the text; a range begins at its first number
 abbrev pub start_of : Item → ℕ
 start_of (item.Heading number north_south range east_west at) = at
 start_of (item.Sections first last whole) = first.at
@@ -44,7 +44,7 @@ start_of (item.Lots first last) = first.at
 start_of (item.Chain steps at) = at
 start_of (item.All at) = at
 
--- the item, after items of this land, has the fault, which is answered at its place in the text
+-- the item, after items with this land, has the fault, which is reported at this place in the text
 abbrev pub HasFault : ℕ → Designation → (ℕ → ℕ → ℕ → Bool) → ℕ → Item → PlaceFault → Type 0
 HasFault g township earlier section (item.Heading number north_south range east_west start)
     (fault.OtherTownship at) =
@@ -74,13 +74,13 @@ pub record HasFaultAt (g : ℕ) (township : Designation) (items : List Item) (in
   pub has : HasFault g township (land_of g (take index (parts_of items))) part.section part.item
       place_fault
 
--- an index and a fault that aren't before these: of one item's faults that of the least number
--- comes first
+-- an index and a fault that do not come before these; of the faults of one item, the one with the
+-- smallest number comes first
 abbrev pub IsFrom : ℕ → PlaceFault → ℕ → PlaceFault → Type 0
 IsFrom index place_fault index' other =
     (index < index') ⊎ ((index ≡ index') × (number_of place_fault ≤ number_of other))
 
--- the fault of the first item that has one, and of this item's faults the first
+-- the fault of the first item that has one, and the first of that item's faults
 pub record IsFirstPlaceFault (g : ℕ) (township : Designation) (items : List Item)
     (place_fault : PlaceFault) : Type 0 where
   pub index : ℕ
@@ -88,7 +88,7 @@ pub record IsFirstPlaceFault (g : ℕ) (township : Designation) (items : List It
   pub first : (index' : ℕ) (other : PlaceFault) → HasFaultAt g township items index' other
       → IsFrom index place_fault index' other
 
--- the land of items that lie on the plat without overlap, or their first fault
+-- the land of items that lie on the plat without overlapping, or their first fault
 abbrev pub AnswersPlaces : ℕ → Designation → List Item
     → Result (ℕ → ℕ → ℕ → Bool) PlaceFault → Type 0
 AnswersPlaces g township items (Ok places) = IsLandOfItems g township items places

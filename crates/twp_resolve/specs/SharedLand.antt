@@ -1,4 +1,4 @@
--- The land that two items of a description both name, where it is refused for that.
+-- The land that two items of a description both name, if it is refused for that.
 use Rattle.std.specs.Prelude.{◌≡◌, ℕ, ◌<◌, Bool, false, List, slice_get}
 use Rattle.std.specs.Option.{option_map_or}
 use Rattle.twp_grid.specs.Townships.{Designation}
@@ -9,19 +9,19 @@ use Rattle.twp_resolve.specs.declared.place_fault.PlaceFault.TheVariants as faul
 use Rattle.twp_resolve.specs.declared.shared.SharingItems.{SharingItems}
 use Rattle.twp_resolve.specs.PlaceFaults.{IsFirstPlaceFault}
 
--- the places that the item at an index names; none where there is no such item
+-- the places that the item at an index names; none if there is no such item
 abbrev pub places_at : ℕ → List Item → ℕ → ℕ → ℕ → ℕ → Bool
 places_at g items index section column row =
     option_map_or (λ part. item_places g part section column row) (slice_get (parts_of items) index)
     false
 
--- the first fault of the items is that one names land again
+-- the first fault of the items is that one of them names land again
 pub record AreRefusedForOverlap (g : ℕ) (township : Designation) (items : List Item) : Type 0 where
   pub at : ℕ
   pub fault_is : IsFirstPlaceFault g township items (fault.Overlap at)
 
--- the items are refused for the later of the pair; the earlier is the first that names a place of
--- it, and these are the places that both name
+-- the items are refused for the later of the pair; the earlier is the first that names one of its
+-- places, and these are the places that both name
 pub record AreFirstSharing (g : ℕ) (township : Designation) (items : List Item)
     (pair : SharingItems) (places : ℕ → ℕ → ℕ → Bool) : Type 0 where
   pub refused : AreRefusedForOverlap g township items

@@ -5,7 +5,7 @@ use crate::place_fault::PlaceFault;
 use twp_grid::{Block, Section};
 use twp_land::Land;
 
-/// Adds a section's block of which no place is held yet.
+/// Adds a block of a section. It is refused as an overlap if the land contains a place of it.
 pub(crate) fn add_block<L: Land>(
     land: &mut L,
     section: Section,

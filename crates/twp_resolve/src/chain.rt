@@ -15,12 +15,13 @@ use twp_grammar::{Step, Steps};
 use twp_grid::{Block, PLACE_DIGITS, Section};
 use twp_land::{Land, holds_of_lot};
 
-/// The quarters that leave a place of a section, and those that leave a square of four places.
+/// The number of quarters that reach a place of a section, and the number that reach a square of
+/// four places.
 const TO_A_PLACE: usize = PLACE_DIGITS;
 
 const TO_FOUR_PLACES: usize = PLACE_DIGITS - 1;
 
-/// Takes an aliquot part of a section.
+/// Resolves an aliquot part of a section.
 pub(crate) fn resolve_chain<L: Land>(
     land: &mut L,
     section: Section,
@@ -42,7 +43,7 @@ pub(crate) fn resolve_chain<L: Land>(
     resolve_block(land, section, block, at)
 }
 
-/// Takes the block that an aliquot part's steps leave of a section.
+/// Adds the block that an aliquot part's steps reach in a section.
 #[inline(always)]
 fn resolve_block<L: Land>(
     land: &mut L,
@@ -64,8 +65,8 @@ fn resolve_block<L: Land>(
     add_block(land, section, block, at)
 }
 
-/// The block that an aliquot part's steps leave of a section, from the last step to the first. None
-/// where one of them would halve a side of one place.
+/// The block that an aliquot part's steps reach in a section, from the last step to the first.
+/// `None` if one of them would halve a side of one place.
 pub fn chain_block(steps: &Steps) -> Option<Block>
     ensures { SomeIff result (AreWithin PLACE_DIGITS (cuts_of steps.now))
         (reached PLACE_DIGITS (cuts_of steps.now)) }
@@ -78,8 +79,8 @@ pub fn chain_block(steps: &Steps) -> Option<Block>
     Some(block)
 }
 
-/// The smallest squares, a place and one of four places, as quarters leave them of a section. None
-/// for other steps: these two are what long lists are made of.
+/// The smallest squares, a place and a square of four places, if quarters reach them. `None` for
+/// other steps. Long lists consist of these two.
 #[inline(always)]
 fn small_square_of(steps: &Steps) -> Option<Block>
     ensures { IfSome result (IsCutTo PLACE_DIGITS steps.now 0) }
@@ -91,8 +92,8 @@ fn small_square_of(steps: &Steps) -> Option<Block>
     }
 }
 
-/// The square that this many quarters leave of a section. None for other steps. Each quarter's size
-/// is known here, so none has to be tested for being too fine.
+/// The square that this many quarters reach in a section. `None` for other steps. The size of each
+/// quarter is known here, so none has to be tested for being too small.
 #[inline(always)]
 fn square_of<const QUARTERS: usize>(steps: &Steps) -> Option<Block>
     ensures { IfSome result (IsCutTo PLACE_DIGITS steps.now 0) }
@@ -108,7 +109,7 @@ fn square_of<const QUARTERS: usize>(steps: &Steps) -> Option<Block>
     Some(block)
 }
 
-/// The quarter of a block that a step takes. None for a half.
+/// The quarter of a block that a step takes. `None` if the step is a half.
 #[inline(always)]
 fn quarter_of(block: Block, step: Step) -> Option<Block>
     ensures { IfSome result (λ part. CanCut block (cut_of step) × (part ≡ part_of block (cut_of step))) }
@@ -119,7 +120,7 @@ fn quarter_of(block: Block, step: Step) -> Option<Block>
     }
 }
 
-/// The block that the steps from an index on leave of a section.
+/// The block that the steps from an index on reach in a section.
 fn block_behind(steps: &Steps, start: usize) -> Option<Block>
     requires { start ≤ length steps.now }
     ensures { MatchOption result (¬ AreWithin PLACE_DIGITS (cuts_of steps.now))

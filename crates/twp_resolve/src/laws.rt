@@ -1,26 +1,25 @@
-//! What holds of the places that items name: each law is a contract, and its function has nothing
-//! to do.
+//! Laws of the places that items name. Each law is a contract, and its function does nothing.
 ghost use Rattle.twp_resolve.specs.Laws.{OnPlatHasNoFault, OnePlaceAnswer};
 ghost use Rattle.twp_resolve.specs.DescribedLand.{DescribedLandIsOfTownship};
 ghost use Rattle.twp_resolve.specs.DescribedLand.{DescriptionNamesSomePlace};
 
-/// Items that lie on the plat without overlap have no fault.
+/// Items that lie on the plat without overlapping have no fault.
 pub fn on_plat_has_no_fault()
     ensures { OnPlatHasNoFault }
 {}
 
-/// Items have one land, or one first fault, and not both.
+/// Items have either one set of land or one first fault, and not both.
 pub fn one_place_answer()
     ensures { OnePlaceAnswer }
 {}
 
-/// A description's land, where its items lie on the plat without overlap, is a land of the
-/// township: it holds places of its sections, and each lot whole or not at all.
+/// The land of a description, if its items lie on the plat without overlapping, is land of the
+/// township: it contains only places of its sections, and each lot wholly or not at all.
 pub fn described_land_is_of_township()
     ensures { DescribedLandIsOfTownship }
 {}
 
-/// A description whose items lie on the plat without overlap names some place.
+/// A description whose items lie on the plat without overlapping names at least one place.
 pub fn description_names_some_place()
     ensures { DescriptionNamesSomePlace }
 {}

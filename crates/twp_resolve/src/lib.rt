@@ -1,5 +1,5 @@
-//! The land that the items of a description name on a township's plat, or the first fault: why they
-//! don't lie on it without overlap.
+//! The land that the items of a description name on a township's plat, or their first fault: the
+//! reason that they do not lie on it without overlapping.
 #![tactic(auto)]
 
 mod blocks;

@@ -6,14 +6,14 @@ use twp_grid::Refusal;
 
 /// Why a description names no land on the plat (this project's rules; lots and aliquot parts as in
 /// the Specifications for Descriptions of Land). Places are offsets in the text. The first item
-/// with a fault is reported; of one item's faults, the one with the least number, and of the two
+/// with a fault is reported; of one item's faults, the one with the smallest number; and of the two
 /// numbers of a range, the first before the second.
 #[derive(Clone, Copy, Debug, PartialEq, Eq, Error)]
 pub enum PlaceFault {
-    /// 61, at the heading: it is of another township than the plat.
+    /// 61, at the heading: it is for another township than the plat.
     #[error("the heading at {at} is of another township than the field notes")]
     OtherTownship { at: u32 },
-    /// 62, at the number: no section from 1 to 36.
+    /// 62, at the number: it is not a section from 1 to 36.
     #[error("the number at {at} is no section's: they are 1 to 36")]
     NoSection { at: u32 },
     /// 63, at the second number of a range of sections or of lots: it is less than the first.
@@ -25,10 +25,10 @@ pub enum PlaceFault {
     /// 65, at the aliquot part: one of its steps would halve a side of one place.
     #[error("the aliquot part at {at} is too fine")]
     TooFine { at: u32 },
-    /// 66, at the aliquot part: it holds a place of a lot.
+    /// 66, at the aliquot part: it contains a place of a lot.
     #[error("the aliquot part at {at} holds land of a lot")]
     OnLot { at: u32 },
-    /// 67, at the item's first number, its first token or its word: it names a place that an
+    /// 67, at the item's first number, its first token, or its word: it names a place that an
     /// earlier item named.
     #[error("at {at} land is named that was named before")]
     Overlap { at: u32 },

@@ -15,8 +15,8 @@ use twp_grammar::Numeral;
 use twp_grid::{Block, Section, lot_count};
 use twp_land::Land;
 
-/// Takes the sections from the first to the last, and gives the first. They are added where they
-/// are whole; otherwise parts of the one section follow.
+/// Resolves the sections from the first to the last, and returns the first. If they are whole, they
+/// are added; otherwise, parts of a single section follow.
 pub(crate) fn resolve_sections<L: Land>(
     land: &mut L,
     first: Numeral,
@@ -41,7 +41,7 @@ pub(crate) fn resolve_sections<L: Land>(
     Ok(from)
 }
 
-/// Takes the section's lots from the first to the last.
+/// Resolves the section's lots from the first to the last.
 pub(crate) fn resolve_lots<L: Land>(
     land: &mut L,
     section: Section,
@@ -102,7 +102,7 @@ fn add_sections<L: Land>(land: &mut L, first: u8, last: u8, at: u32) -> Result<(
     Ok(())
 }
 
-/// Checks that a range doesn't run backward.
+/// Checks that a range does not run backward.
 fn check_order(first: Numeral, last: Numeral) -> Result<(), PlaceFault>
     ensures { MatchResult result (λ _. first.value ≤ last.value)
         (λ fault. (fault ≡ PlaceFault.Backward last.at) × (last.value < first.value)) }
@@ -113,7 +113,7 @@ fn check_order(first: Numeral, last: Numeral) -> Result<(), PlaceFault>
     Ok(())
 }
 
-/// The section of a number.
+/// The section with a number.
 fn section_of(number: Numeral) -> Result<Section, PlaceFault>
     ensures { MatchResult result (λ section. (section ≡ number.value) × IsSection number.value)
         (λ fault. (fault ≡ PlaceFault.NoSection number.at) × ¬ IsSection number.value) }
@@ -124,7 +124,7 @@ fn section_of(number: Numeral) -> Result<Section, PlaceFault>
     Section::new(number.value as u8).ok_or(PlaceFault::NoSection { at: number.at })
 }
 
-/// The lot of a number in a section.
+/// The lot with a number in a section.
 #[tactic(auto, using(crate::proofs::RangeFacts::has_lot, crate::proofs::RangeFacts::has_no_lot))]
 fn lot_of(section: Section, number: Numeral) -> Result<u8, PlaceFault>
     ensures lot { MatchResult result (λ lot. (lot ≡ number.value) × HasLot section number.value)

@@ -18,10 +18,10 @@ use twp_grid::{Block, EastWest, NorthSouth, Section, Township};
 use twp_land::Land;
 use twp_read::Description;
 
-/// The land that a description names on a township's plat: all places of its items, of which none
-/// is named twice. A lot is taken whole, and an aliquot part that holds land of a lot is not on the
-/// plat (Specifications for Descriptions of Land). The first fault is the first item's that has
-/// one.
+/// The land that a description names on a township's plat: all places of its items, none of which
+/// is named twice. A lot is taken whole, and an aliquot part that contains land of a lot is not on
+/// the plat (Specifications for Descriptions of Land). The first fault is that of the first item
+/// that has one.
 pub fn resolve<L: Land>(description: &Description, township: Township) -> Result<L, PlaceFault>
     ensures land { IfOk result
         (λ land. IsLandOfItems PLACE_DIGITS township description.now (L.places land)) }
@@ -34,8 +34,8 @@ pub fn resolve<L: Land>(description: &Description, township: Township) -> Result
     Ok(land)
 }
 
-/// Makes a land the one that `resolve` gives. What it held before is gone; after a fault its
-/// content has no meaning.
+/// Sets `land` to the result of `resolve`. Its previous content is lost; after a fault, its content
+/// has no meaning.
 pub fn resolve_into<L: Land>(
     land: &mut L,
     description: &Description,
@@ -56,7 +56,7 @@ pub fn resolve_into<L: Land>(
     Ok(())
 }
 
-/// Takes an item into the land of the items before it, and gives the section of what follows.
+/// Adds an item to the land of the items before it, and returns the section of the next item.
 pub(crate) fn resolve_item<L: Land>(
     land: &mut L,
     section: Option<Section>,

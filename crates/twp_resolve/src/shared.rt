@@ -18,7 +18,7 @@ use twp_grid::{Section, Township};
 use twp_land::Land;
 use twp_read::Description;
 
-/// Two items of a description that name the same land: their indexes.
+/// Two items of a description that name the same land, by index.
 #[derive(Clone, Copy, PartialEq, Eq)]
 pub struct SharingItems {
     /// The first item that names some of the later one's land.
@@ -35,7 +35,7 @@ struct RefusedItem {
 }
 
 impl RefusedItem {
-    /// The item, where its fault is that it names land again.
+    /// The item, if its fault is that it names land again.
     fn if_overlap(self, fault: PlaceFault) -> Option<RefusedItem>
         ensures { MatchOption result (¬ IsOverlap fault)
             (λ refused. (refused.index ≡ self.index) × (refused.section ≡ self.section)
@@ -48,9 +48,9 @@ impl RefusedItem {
     }
 }
 
-/// Of a description that is refused because land is named twice: the item for which it is refused,
-/// and the first item before it that names some of its land. Sets a land to what the two share.
-/// None where a description isn't refused for that; the land has no meaning then.
+/// The item for which a description is refused because land is named twice, and the first item
+/// before it that names some of its land. Sets `land` to the places that both name. `None` if a
+/// description is not refused for that; then the land has no meaning.
 pub fn shared_into<L: Land>(
     land: &mut L,
     description: &Description,
@@ -67,8 +67,8 @@ pub fn shared_into<L: Land>(
     Some(SharingItems { earlier, later })
 }
 
-/// Sets a land to the places of the item for which a description is refused because it names land
-/// again, and gives the item's index.
+/// Sets `land` to the places of the item for which a description is refused because it names land
+/// again, and returns the item's index.
 fn place_refused<L: Land>(land: &mut L, items: &[Item], township: Township) -> Option<usize>
     requires { BeginWithSections items.now }
     ensures within { IfSome result (λ index. index < length items.now) }
@@ -102,8 +102,8 @@ fn refused_item<L: Land>(land: &mut L, items: &[Item], township: Township) -> Op
     None
 }
 
-/// The first of the items before the refused one that names some of its land. Sets a land to what
-/// the two share.
+/// The first item before the refused one that names some of its land. Sets `land` to the places
+/// that both name.
 fn first_sharing<L: Land>(
     land: &mut L,
     named: &L,
@@ -125,12 +125,12 @@ fn first_sharing<L: Land>(
             return Some(index);
         }
     }
-    // What the refused item names again was named by an item before it, so this isn't reached.
+    // An item before the refused one named some of its land, so this is not reached.
     None
 }
 
-/// Sets a land to the places of one item, and gives the section of what follows. None where the
-/// item doesn't lie on the plat.
+/// Sets `land` to the places of one item, and returns the section of the next item. `None` if the
+/// item does not lie on the plat.
 fn place_item<L: Land>(
     land: &mut L,
     section: Option<Section>,

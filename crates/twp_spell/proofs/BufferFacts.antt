@@ -11,7 +11,7 @@ use Rattle.twp_spell.specs.CanonicalText.{step_text}
 use Rattle.twp_spell.proofs.PathFacts.{take_front, take_less}
 use borrow.Rule.Slice.PartMut.{put_mid}
 
--- a step is written after what stands there
+-- a step is written after the bytes so far
 pub put_behind : (bytes front step old : List ℕ) (len n wide : ℕ) → take len bytes ≡ old → len ≤ length bytes
     → front ≡ step → length step ≡ n
     → take (len + n) (put_mid len wide bytes front) ≡ old ++ step
@@ -20,7 +20,7 @@ put_behind bytes front step old len n wide old_is within front_is long =
     take-put_mid len wide bytes front (len + n) (omega (arith, same)) within
     ∙ ap (λ l. l ++ front) old_is ∙ ap (λ l. old ++ l) front_is
 
--- so is a path, of which some bytes count
+-- so is a path, only part of which counts
 pub path_behind : (bytes text path old : List ℕ) (len count wide end : ℕ) → take len bytes ≡ old
     → len ≤ length bytes → take count text ≡ path → count ≤ length text → end ≡ len + count
     → take end (put_mid len wide bytes text) ≡ old ++ path
@@ -32,12 +32,12 @@ path_behind bytes text path old len count wide end old_is within path_is few end
     ∙ ap (λ l. take len bytes ++ l) path_is
     ∙ ap (λ l. l ++ path) old_is
 
--- a list of what is known is as long as what is kept of it
+-- a list of known bytes is as long as the number of bytes kept
 pub known_length : (bytes known : List ℕ) (len : ℕ) → take len bytes ≡ known → len ≤ length bytes
     → length known ≡ len
 known_length bytes known len is within = ap length (sym is) ∙ length-take-le len bytes within
 
--- a quarter after a comma has seven bytes, and a half six
+-- a quarter after a comma takes seven bytes, and a half six
 pub long_quarter_step : (corner : Corner) → length (codes ", " ++ step_text (Quarter corner)) ≡ 7
 long_quarter_step NE = refl
 long_quarter_step NW = refl

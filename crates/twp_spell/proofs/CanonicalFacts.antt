@@ -1,4 +1,4 @@
--- Each land has one canonical text.
+-- Land has exactly one canonical text.
 use Rattle.std.proofs.Common.{◌≡◌, ◌==◌, ℕ, zero, suc, ◌<◌, ◌⊎◌, ◌&&◌, Bool, true, false, List, [], ◌∷◌, ◌++◌}
 use Rattle.std.proofs.Common.{Option, Some, None, map, refl, sym, ap, subst, ◌∙◌, inl, inr, arith, not, cond}
 use Rattle.std.proofs.Common.{option_map, find, codes, decimal}
@@ -21,7 +21,7 @@ use Rattle.twp_spell.proofs.Listings.{AreCompared, one_listing, has_listing}
 use Rattle.twp_spell.proofs.FullParts.{search_places}
 use Rattle.twp_spell.proofs.PartOrder.{has_parts, one_parts}
 
--- numbers in their order
+-- numbers in ascending order
 less_once : (m n : ℕ) → m < n → n < m → ⊥
 less_once m n less more = absurd (omega arith)
 
@@ -34,7 +34,7 @@ compared has m n it it' = elim (cases_lt m n) [
   | inr more ↦ elim (cases_lt n m) [ inl less ↦ inr (inr less) | inr not_less ↦ inr (inl (omega arith)) ]
 ]
 
--- what is held of a section
+-- the land in a section
 not_true : (b : Bool) → not b ≡ false → b ≡ true
 not_true true is = refl
 not_true false is = cc is
@@ -58,7 +58,7 @@ holds_some g held = elim (search_places g held) [
   | inr none ↦ inr (λ some. false≢true (sym (none some.column some.row some.place) ∙ some.is_held))
 ]
 
--- the lots that are held
+-- the lots in the land
 is_number : ℕ → Option ℕ → Bool
 is_number n None = false
 is_number n (Some m) = m == n
@@ -126,7 +126,7 @@ has_lots g section held =
     (is_lot_held g section held) (numbers lots)
     (λ lot is. lot_numbered section (position_along g is.column) (position_along g is.row) lot is.of_lot)
 
--- the sections of a land
+-- the sections of the land
 is_section : (section : ℕ) → IsSection section ⊎ ¬ IsSection section
 is_section section = elim (cases_lt section 1) [
   | inl less ↦ inr (λ is. absurd (omega (arith, is.0, less)))
@@ -228,7 +228,7 @@ has_lines g places (section ∷ sections) =
     let rest = has_lines g places sections in
     (first.0 ∷ rest.0, (first.1, rest.1))
 
--- the text of a land
+-- the text of land
 one_text_only : (g : ℕ) (township : Designation) (places : ℕ → ℕ → ℕ → Bool) (text other : List ℕ)
     → IsCanonicalText g township places text → IsCanonicalText g township places other → text ≡ other
 one_text_only g township places text other is is' =

@@ -16,7 +16,7 @@ use Rattle.twp_spell.proofs.HalfPlaces.{in_half, half_in}
 use Rattle.twp_spell.proofs.WrittenFacts.{parent_of}
 use Rattle.twp_spell.proofs.PartOrder.{some_place, is_quarter_on}
 
--- squares in a square
+-- a square is in itself
 pub under_itself : (quarters : List Corner) → IsUnder quarters quarters
 under_itself [] = refl
 under_itself (corner ∷ parent) = inl refl
@@ -34,7 +34,7 @@ under_parent corner parent (first ∷ more) (inl is) = inr (rw (there is) (under
     there is = cc is
 under_parent corner parent (first ∷ more) (inr later) = inr (under_parent corner parent more later)
 
--- what lies in a square is the square or lies in one of its quarters
+-- a square in a square is that square or lies in one of its quarters
 pub under_quarter : (parent quarters : List Corner) → IsUnder parent quarters
     → (quarters ≡ parent) ⊎ ((corner : Corner) × IsUnder (corner ∷ parent) quarters)
 under_quarter parent [] is = inl is
@@ -49,7 +49,7 @@ under_deeper parent [] is = let same = ap length is in omega arith
 under_deeper parent (first ∷ more) (inl is) = let same = ap length is in omega arith
 under_deeper parent (first ∷ more) (inr later) = let rest = under_deeper parent more later in omega arith
 
--- a place of a square in a square is a place of it
+-- a place of a square that lies in a square is a place of the outer one
 pub under_place : (g : ℕ) (parent quarters : List Corner) (column row : ℕ) → IsUnder parent quarters
     → length quarters ≤ g → up g (length quarters) column row ≡ quarters
     → up g (length parent) column row ≡ parent
@@ -133,7 +133,7 @@ lower_quarter g parent column row column' row' fits there there' less =
     address_value g column' row' ∙ ap value (sym (up_all g column' row')) in
     omega arith
 
--- where a part that begins in a quarter has places
+-- where a part that begins in a quarter has its places
 record BeginsAt (g : ℕ) (parent : List Corner) (turn : ℕ) (part : Part) : Type 0 where
   column : ℕ
   row : ℕ

@@ -1,4 +1,5 @@
--- The written parts of a square that isn't full are those that begin in its quarters, in their order.
+-- The written parts of a square that is not full are those that begin in its quarters, in their
+-- order.
 use Rattle.std.proofs.Common.{◌≡◌, ℕ, ◌<◌, ◌≤◌, ◌⊎◌, Bool, true, List, [], ◌∷◌, ◌++◌, length, refl, sym, ap}
 use Rattle.std.proofs.Common.{subst, ◌∙◌, inl, inr, arith}
 use Rattle.twp_grid.specs.declared.block.Side.{Side}
@@ -26,7 +27,7 @@ InSquare g held quarters part = IsWritten g held part × IsUnder quarters (squar
 abbrev pub InQuarter : ℕ → (ℕ → ℕ → Bool) → List Corner → Corner → Part → Type 0
 InQuarter g held parent corner part = IsWritten g held part × BeginsIn parent corner part
 
--- the section's written parts are those of the greatest square
+-- the section's written parts are those of the largest square
 pub of_section : (g : ℕ) (held : ℕ → ℕ → Bool) (parts : List Part) → AreOfSquare g held [] parts
     → AreWrittenParts g held parts
 of_section g held parts are =
@@ -63,7 +64,7 @@ of_written g held quarters written =
           asked = square_in g quarters there.column there.row (square_fits g quarters full.within) place.1;
         })
 
--- a square of which nothing is held has no written part
+-- a square without places in the land has no written part
 pub of_empty : (g : ℕ) (held : ℕ → ℕ → Bool) (quarters : List Corner) → length quarters ≤ g
     → ((column row : ℕ) → IsInPart g (square quarters) column row → ¬ (held column row ≡ true))
     → AreOfSquare g held quarters []
@@ -74,7 +75,7 @@ of_empty g held quarters fits none = listed_none (InSquare g held quarters) (Sta
     (record { place = there.inside.place; asked = square_in g quarters there.column there.row fits place.1 })
     (written_held g held there.column there.row part is.0 there.inside))
 
--- neither has a quarter on the side of the chosen half
+-- nor does a quarter on the side of the chosen half
 none_on_side : (g : ℕ) (held : ℕ → ℕ → Bool) (parent : List Corner) (side : Side) (corner : Corner)
     (part : Part)
     → IsChosenHalf g held parent side → IsOnSide side corner → ¬ InSquare g held (corner ∷ parent) part
@@ -96,7 +97,7 @@ none_on_side g held parent side corner part chosen on is =
     let level : length (square_quarters part) ≡ length parent = ap (λ p. length (square_quarters p)) same in
     absurd (omega arith)
 
--- what begins in a quarter: the chosen half, where this is its first quarter
+-- the part that begins in the chosen half's first quarter: the chosen half
 pub of_first : (g : ℕ) (held : ℕ → ℕ → Bool) (parent : List Corner) (side : Side) (corner : Corner)
     → IsChosenHalf g held parent side → quarter_on side ≡ corner
     → AreOfQuarter g held parent corner (half_of_square side parent ∷ [])
@@ -115,7 +116,7 @@ of_first g held parent side corner chosen is =
           half.1 ∙ ap (λ s. half_of_square s parent) (one_chosen g held parent half.0 side other chosen)
     ]
 
--- nothing, in the other quarter of the chosen half
+-- no part begins in the other quarter of the chosen half
 pub of_second : (g : ℕ) (held : ℕ → ℕ → Bool) (parent : List Corner) (side : Side) (corner : Corner)
     → IsChosenHalf g held parent side → IsOnSide side corner → ¬ (quarter_on side ≡ corner)
     → AreOfQuarter g held parent corner []
@@ -127,7 +128,8 @@ of_second g held parent side corner chosen on not_first =
           not_first (ap quarter_on (sym (one_chosen g held parent half.0 side other chosen)) ∙ half.2)
     ])
 
--- the quarter's own written parts, off the chosen half and where there is none
+-- off the chosen half, or if there is none, the written parts that begin in a quarter are the
+-- quarter's own
 pub of_quarter : (g : ℕ) (held : ℕ → ℕ → Bool) (parent : List Corner) (corner : Corner) (parts : List Part)
     → ((side : Side) → IsChosenHalf g held parent side → ¬ IsOnSide side corner)
     → AreOfSquare g held (corner ∷ parent) parts → AreOfQuarter g held parent corner parts
@@ -143,7 +145,7 @@ of_quarter g held parent corner parts off are =
           absurd (off half.0 chosen (subst (λ c. IsOnSide half.0 c) half.2 (is_quarter_on half.0)))
     ]
 
--- all quarters of a square that isn't full
+-- all quarters of a square that is not full
 pub of_quarters : (g : ℕ) (held : ℕ → ℕ → Bool) (quarters : List Corner) (ne nw sw se : List Part)
     → length quarters < g → ¬ IsFull g held (square quarters)
     → AreOfQuarter g held quarters NE ne → AreOfQuarter g held quarters NW nw

@@ -1,4 +1,4 @@
--- Where each place is cut into four, the written parts are the same.
+-- If each place is divided into four, the written parts are the same.
 use Rattle.std.proofs.Common.{◌≡◌, ℕ, suc, ◌*◌, ◌/◌, ◌%◌, ◌<◌, ◌↔◌, Bool, true, List, [], ◌∷◌, length, sym}
 use Rattle.std.proofs.Common.{ap, subst, ◌∙◌, inl, inr, arith}
 use Rattle.std.proofs.Math.Nat.{pow-succ'}
@@ -21,7 +21,7 @@ use Rattle.twp_spell.proofs.HalfPlaces.{in_half}
 use Rattle.twp_spell.proofs.WrittenFacts.{parent_of}
 use Rattle.twp_spell.proofs.PartOrder.{some_place, full_part, has_parts, one_parts}
 
--- the places of a part that isn't finer than the greater places
+-- the places of a part that is no smaller than the larger places
 pub place_coarser : (g column row : ℕ) → IsPlace (suc g) column row → IsPlace g (column / 2) (row / 2)
 place_coarser g column row place =
     let power = pow-succ' 2 g in
@@ -73,7 +73,7 @@ full_coarser g held part within full = record {
       ∙ full.each (2 * column) (2 * row) (in_finer g part column row within inside);
 }
 
--- a greater place of which one of the four is held is held whole
+-- if one of the four parts of a larger place is in the land, the larger place is wholly in it
 whole_place : (g : ℕ) (held : ℕ → ℕ → Bool) (quarters : List Corner) (column row : ℕ) → length quarters ≡ g
     → IsPlace (suc g) column row
     → up (suc g) (length quarters) column row ≡ quarters → cut_in_four held column row ≡ true
@@ -127,7 +127,7 @@ finest_half g held side quarters level full =
     whole_place g held quarters there.column there.row level there.inside.place above.0
     (full.each there.column there.row there.inside)
 
--- what is chosen and written
+-- which parts are chosen and written
 chosen_finer : (g : ℕ) (held : ℕ → ℕ → Bool) (quarters : List Corner) (side : Side)
     → IsChosenHalf g held quarters side → IsChosenHalf (suc g) (cut_in_four held) quarters side
 chosen_finer g held quarters side chosen =
@@ -184,7 +184,7 @@ written_coarser g held (square (corner ∷ parent)) written =
       | inr last ↦ absurd (written.1 (finest_square g held corner parent (omega arith) written.0))
     ]
 
--- the order
+-- the order of parts
 ahead_finer : (g : ℕ) (part other : Part) → AreWithin g (cuts_of (steps_of_part part))
     → AreWithin g (cuts_of (steps_of_part other)) → StandsAhead g part other → StandsAhead (suc g) part other
 ahead_finer g part other within within' ahead = record {

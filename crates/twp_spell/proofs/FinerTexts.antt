@@ -1,4 +1,4 @@
--- Where each place is cut into four, the canonical text of a land is the same.
+-- If each place is divided into four, the canonical text of land is the same.
 use Rattle.std.proofs.Common.{◌≡◌, ℕ, suc, ◌*◌, ◌/◌, ◌≤◌, ◌<◌, ◌↔◌, Bool, List, [], ◌∷◌}
 use Rattle.std.proofs.Common.{sym, ap, subst, ◌∙◌}
 use Rattle.std.specs.List.{AllZip}
@@ -16,7 +16,7 @@ use Rattle.twp_spell.proofs.CanonicalFacts.{one_text}
 use Rattle.twp_spell.proofs.FinerParts.{place_coarser, place_finer, twice, same_parts}
 use Rattle.twp_spell.proofs.Listings.{listed_as}
 
--- of the four that a place is cut into, one is held where the place is
+-- of the four places that a place is divided into, one is in the land if that place is
 held_at_twice : (held : ℕ → ℕ → Bool) (column row : ℕ)
     → cut_in_four held (2 * column) (2 * row) ≡ held column row
 held_at_twice held column row =
@@ -45,7 +45,7 @@ each_coarser : (g : ℕ) (held : ℕ → ℕ → Bool) → HoldsEach (suc g) (cu
 each_coarser g held each column row place =
     sym (held_at_twice held column row) ∙ each (2 * column) (2 * row) (place_finer g column row place)
 
--- the lots that are held
+-- the lots in the land
 lot_finer : (g section : ℕ) (held : ℕ → ℕ → Bool) (lot : ℕ) → POSITIONS_ACROSS ≤ places_across g
     → IsLotHeld g section held lot → IsLotHeld (suc g) section (cut_in_four held) lot
 lot_finer g section held lot fits is = record {

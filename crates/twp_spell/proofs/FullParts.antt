@@ -1,4 +1,5 @@
--- Full parts and chosen halves: each part is full or not, and a square has at most one chosen half.
+-- Full parts and chosen halves: each part is either full or not, and a square has at most one
+-- chosen half.
 use Rattle.std.proofs.Common.{◌≡◌, ℕ, zero, suc, ◌+◌, ◌-◌, ◌/◌, ◌^◌, ◌<◌, ◌≤◌, ◌⊎◌, ◌&&◌, Bool, true, false}
 use Rattle.std.proofs.Common.{List, length, refl, sym, ap, subst, ◌∙◌, inl, inr, arith, not}
 use Rattle.std.proofs.lemmas.Bool.{cases_Bool, cases_lt, false≢true}
@@ -15,7 +16,7 @@ use Rattle.twp_spell.proofs.SquareFacts.{square_within}
 use Rattle.twp_spell.proofs.SquarePlaces.{path, first_of, up, corner_at, up_next, in_square, square_in}
 use Rattle.twp_spell.proofs.HalfPlaces.{half_in}
 
--- a test of numbers below a bound holds of one, or of none
+-- a test holds for some number below a bound, or for none
 search : (n : ℕ) (test : ℕ → Bool)
     → ((k : ℕ) × (k < n) × (test k ≡ true)) ⊎ ((k : ℕ) → k < n → test k ≡ false)
 search zero test = inr (λ k less. absurd (omega arith))
@@ -30,7 +31,7 @@ search (suc n) test = elim (cases_Bool (test n)) [
   ]
 ]
 
--- a place for which a test holds
+-- a place that passes a test
 pub record Found (g : ℕ) (test : ℕ → ℕ → Bool) : Type 0 where
   pub column : ℕ
   pub row : ℕ
@@ -58,7 +59,7 @@ search_places g test = elim (rows_searched g (2 ^ g) test (omega arith)) [
   | inr none ↦ inr (λ column row place. none column row place.0 place.1)
 ]
 
--- a part is full, or it isn't
+-- a part is either full or not
 is_within : (g : ℕ) (part : Part)
     → AreWithin g (cuts_of (steps_of_part part)) ⊎ ¬ AreWithin g (cuts_of (steps_of_part part))
 is_within g part = elim (cases_lt g (length (rows_asked (cuts_of (steps_of_part part))))) [
@@ -100,7 +101,7 @@ is_full g held part = elim (is_within g part) [
       ]
 ]
 
--- the chosen half of a square, or that no half is full
+-- the chosen half of a square, or the fact that no half is full
 pub below_south : (P : Side → Type 0) → P N → (side : Side) → preference side < 1 → P side
 below_south P n N less = n
 below_south P n S less = absurd (omega arith)
@@ -208,7 +209,7 @@ on_side W NW = inl tt
 on_side W SW = inl tt
 on_side W SE = inr (λ on. absurd on)
 
--- two places of a square lie together in each greater one
+-- two places of a square are also together in each larger square
 pub up_parent : (g k column row column' row' : ℕ) → k < g
     → up g (suc k) column row ≡ up g (suc k) column' row'
     → (corner_at g k column row ≡ corner_at g k column' row') × (up g k column row ≡ up g k column' row')
@@ -234,7 +235,7 @@ path_long (suc k) column row = ap suc (path_long k (column / 2) (row / 2))
 pub length_up : (g k column row : ℕ) → length (up g k column row) ≡ k
 length_up g k column row = path_long k (column / 2 ^ (g - k)) (row / 2 ^ (g - k))
 
--- a place's square of a level lies in its squares of lower levels, which are greater
+-- if a place's square at a level is full, so are its squares at deeper levels, which lie in it
 pub full_below : (g : ℕ) (held : ℕ → ℕ → Bool) (k j column row : ℕ) → k ≤ j → j ≤ g
     → IsFull g held (square (up g k column row)) → IsFull g held (square (up g j column row))
 full_below g held k j column row more fits full = record {
@@ -255,7 +256,7 @@ full_below g held k j column row more fits full = record {
       });
 }
 
--- so does its square in a half
+-- and if a half is full, so is the place's square in it
 pub half_below : (g : ℕ) (held : ℕ → ℕ → Bool) (side : Side) (k column row : ℕ) → k < g
     → IsOnSide side (corner_at g k column row)
     → IsFull g held (half_of_square side (up g k column row))

@@ -1,4 +1,4 @@
--- The places that halves of squares hold.
+-- The places in halves of squares.
 use Rattle.std.proofs.Common.{◌≡◌, ◌==◌, ℕ, zero, suc, ◌-◌, ◌/◌, ◌%◌, ◌^◌, ◌<◌, ◌&&◌, Bool, true, List}
 use Rattle.std.proofs.Common.{length, refl, sym, ap, ◌∙◌, arith}
 use Rattle.std.proofs.lemmas.Bool.{eqb-true, eq-eqb, and_parts}
@@ -14,7 +14,7 @@ use Rattle.twp_spell.proofs.SquareFacts.{halved_last, axis_last, axis_none, chai
 use Rattle.twp_spell.proofs.SquareFacts.{columns_long, rows_long, half_within}
 use Rattle.twp_spell.proofs.SquarePlaces.{path, square_reached, reached_square, even_or_odd, up, corner_at}
 
--- the digits that the quarters of a side have
+-- the digits of the quarters on a side
 north : (x y : ℕ) → 1 ≡ y → IsOnSide N (quarter_named x y)
 north x zero is = absurd (omega arith)
 north zero (suc y) is = tt
@@ -55,7 +55,7 @@ is_west zero zero small on = absurd on
 is_west zero (suc y) small on = absurd on
 is_west (suc x) y small on = omega arith
 
--- what a half asks for after its square's quarters
+-- the digits that a half asks for after its square's quarters
 column_begins : List Corner → ℕ → Bool
 column_begins quarters column =
     begins (columns_asked (cuts_of (quarter_steps quarters))) (binary (length quarters) (column / 2))
@@ -104,7 +104,7 @@ half_chain W quarters column row =
     both_axes _ _ _ _ (axis_last k columns 1 column (columns_long quarters))
     (axis_none k rows row (rows_long quarters))
 
--- the half of a square of the least size but one
+-- the half of a square of the second smallest size
 abbrev Reaches : Side → List Corner → ℕ → ℕ → Type 0
 Reaches side quarters column row =
     (path (length quarters) (column / 2) (row / 2) ≡ quarters)
@@ -184,7 +184,7 @@ reached_half W quarters column row reaches =
       eq-eqb 1 (column % 2) (is_west (column % 2) (row % 2) (even_or_odd column) reaches.1),
     ) refl
 
--- the place's square of level k, by its square of the next level
+-- the place's square at level k, from its square at the next level
 parent_up : (g k column row : ℕ) → k < g
     → path k (column / 2 ^ (g - suc k) / 2) (row / 2 ^ (g - suc k) / 2) ≡ up g k column row
 parent_up g k column row less =
@@ -196,7 +196,7 @@ parent_up g k column row less =
     ap (λ n. path k n (row / 2 ^ (g - suc k) / 2)) (sym half_column)
     ∙ ap (λ n. path k (column / 2 ^ (g - k)) n) (sym half_row)
 
--- what a half holds
+-- the places in a half
 pub in_half : (g : ℕ) (side : Side) (quarters : List Corner) (column row : ℕ) → length quarters < g
     → in_chain g (steps_of_part (half_of_square side quarters)) column row ≡ true
     → (up g (length quarters) column row ≡ quarters)

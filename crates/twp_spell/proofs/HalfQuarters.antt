@@ -1,4 +1,4 @@
--- A half of a square is full where both its quarters are, and a square where all four are.
+-- A half of a square is full if both its quarters are, and a square if all four are.
 use Rattle.std.proofs.Common.{◌≡◌, ◌↔◌, ◌&&◌, ℕ, suc, ◌<◌, ◌⊎◌, Bool, true, false, List, ◌∷◌, length, Option}
 use Rattle.std.proofs.Common.{Some, None, is_some, IsTrue, refl, sym, ap, subst, ◌∙◌, inl, inr, arith}
 use Rattle.std.proofs.lemmas.Bool.{false≢true}
@@ -173,7 +173,7 @@ pub choice_made : (g : ℕ) (held : ℕ → ℕ → Bool) (quarters : List Corne
 choice_made g held quarters full chosen fits is are short =
     subst (λ c. IsChoice g held quarters c) (sym is) (choice_is_right g held quarters full fits are short)
 
--- a square is full where all its quarters are
+-- a square is full if all its quarters are
 pub all_full : (g : ℕ) (held : ℕ → ℕ → Bool) (quarters : List Corner) (full : FullQuarters)
     → length quarters < g → AreFull g held quarters full
     → IsTrue (all_of full) ↔ IsFull g held (square quarters)
@@ -216,7 +216,7 @@ all_full g held quarters full fits are = (
         → (ne && (nw && (sw && se))) ≡ true
     all_true ne nw sw se a b c d = rw (a, b, c, d) refl
 
--- where no half is full, no quarter lies in a chosen one
+-- if no half is full, no quarter lies in a chosen half
 pub no_choice : (full : FullQuarters) → is_some (chosen_of full) ≡ false → chosen_of full ≡ None
 no_choice full is = none (chosen_of full) is
   where

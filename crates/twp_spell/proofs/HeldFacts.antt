@@ -1,4 +1,4 @@
--- What the places of a whole section's block and of a lot's block say of a land.
+-- The land in the blocks of a whole section and of a lot.
 use Rattle.std.proofs.Common.{◌≡◌, ℕ, ◌≤◌, Bool, Some, sym, ap, ◌∙◌}
 use Rattle.twp_grid.specs.Winding.{IsSection}
 use Rattle.twp_grid.specs.Lots.{position_of_lot, number_of_lots}
@@ -84,7 +84,7 @@ meets_of_lot section lot held block range most is lot_held = record {
   is_held = lot_held.is_held;
 }
 
--- the numbers of lots that are held
+-- the numbers of lots in the land
 pub lot_is_least : (section lot : ℕ) (held : ℕ → ℕ → Bool) → IsSection section
     → IsLotHeld PLACE_DIGITS section held lot → 1 ≤ lot
 lot_is_least section lot held range is =

@@ -1,6 +1,6 @@
--- A derivation before it is known where in a text its tokens stand: each token with the white space before
--- it.
--- Where each is a token before what follows, the bytes of the whole have the tokens of the derivation.
+-- A derivation without the places of its tokens in a text: each token with the white space before
+-- it. If each is a token before what follows it, the bytes of the whole have the tokens of the
+-- derivation.
 use Rattle.std.proofs.Common.{◌⊎◌, ℕ, ◌+◌, List, [], ◌∷◌, ◌++◌, length, refl, sym, ◌∙◌, inl, inr}
 use Rattle.std.specs.List.{AllPass}
 use Rattle.std.proofs.lemmas.List.{append-nil}
@@ -29,7 +29,7 @@ Draft (g ⨾ h) = Then (Draft g) (Draft h)
 Draft (g ∣ h) = Draft g ⊎ Draft h
 Draft (many g) = List (Draft g)
 
--- the bytes of drafts, before others
+-- the bytes of drafts, with other bytes after them
 abbrev pub bytes_each : {A : Type 0} → (A → List ℕ → List ℕ) → List A → List ℕ → List ℕ
 bytes_each f [] rest = rest
 bytes_each f (v ∷ vs) rest = f v (bytes_each f vs rest)
@@ -108,7 +108,7 @@ has_tokens (g ∣ h) (inl v) at rest ts fits has = has_tokens g v at rest ts fit
 has_tokens (g ∣ h) (inr w) at rest ts fits has = has_tokens h w at rest ts fits has
 has_tokens (many g) vs at rest ts fits has = has_each g (λ v. has_tokens g v) vs at rest ts fits has
 
--- a drafted description is cut into its tokens, and they are read as its items
+-- a drafted description is split into its tokens, which are read as its items
 pub record IsDrafted (text : List ℕ) (v : Draft description) : Type 0 where
   pub tokens : List Token
   pub cut : HasTokens 0 text tokens

@@ -1,4 +1,4 @@
--- Lists of all that has a property: there is one.
+-- Lists of all things with a property: there is only one.
 use Rattle.std.proofs.Common.{◌≡◌, ℕ, zero, suc, ◌<◌, ◌⊎◌, List, [], ◌∷◌, ◌++◌, length, refl, sym, ap, ◌∙◌}
 use Rattle.std.proofs.Common.{inl, inr, arith}
 use Rattle.std.specs.List.{Contains, AllPairs}
@@ -7,7 +7,7 @@ use Rattle.twp_spell.specs.Listing.{AreListed}
 use Rattle.twp_grammar.proofs.Membership.{Among, among_contains, contains_among, among_either, among_left}
 use Rattle.twp_grammar.proofs.Membership.{among_right}
 
--- each comes before all that stand after it
+-- each thing comes before all that come after it in the list
 abbrev pub InOrder : {T : Type 0} → (T → T → Type 0) → List T → Type 0
 InOrder before [] = Unit {0}
 InOrder {T = T} before (first ∷ list) =
@@ -51,8 +51,8 @@ pairs_order {T = T} before (first ∷ list) pairs = (
         pairs 0 (suc found.0) thing (omega arith) (omega arith) in
         rw is at pair
 
--- of two lists that begin with one thing, the second has all things of the first: since that thing doesn't
--- come again in the first, whatever follows it there follows it in the second
+-- if two lists begin with the same thing, the second contains all things of the first: that thing
+-- does not come again in the first, so the things that follow it there follow it in the second
 behind_both : {T : Type 0} (before : T → T → Type 0) → ((x y : T) → before x y → before y x → ⊥) → (x y : T)
     → x ≡ y → (list more : List T)
     → ((z : T) → Among z list → before x z) → ((z : T) → Among z (x ∷ list) → Among z (y ∷ more)) → (z : T)
@@ -75,7 +75,7 @@ one_first before apart x y list more ahead ahead' (inr later) (inl same) = sym s
 one_first before apart x y list more ahead ahead' (inr later) (inr later') =
     absurd (apart x y (ahead y later') (ahead' x later))
 
--- two lists in order with the same things are equal
+-- two ordered lists of the same things are equal
 pub same_list : {T : Type 0} (before : T → T → Type 0) → ((x y : T) → before x y → before y x → ⊥)
     → (list more : List T)
     → InOrder before list → InOrder before more → ((x : T) → Among x list → Among x more)
@@ -90,7 +90,7 @@ same_list before apart (x ∷ list) (y ∷ more) order order' to from =
     (behind_both before apart y x (sym same) more list order'.0 from))
     ∙ ap (λ z. z ∷ more) same
 
--- two lists of all that has a property are equal
+-- two lists of all things with a property are equal
 pub one_listing : {T : Type 0} (has : T → Type 0) (before : T → T → Type 0)
     → ((x y : T) → before x y → before y x → ⊥) → (list more : List T)
     → AreListed has before list → AreListed has before more → list ≡ more
@@ -100,7 +100,7 @@ one_listing has before apart list more is is' =
     (λ x there. contains_among x more ((is'.listed x).0 ((is.listed x).1 (among_contains x list there))))
     (λ x there. contains_among x list ((is.listed x).0 ((is'.listed x).1 (among_contains x more there))))
 
--- of candidates, those that have the property, in order
+-- those candidates that have the property, in order
 record Collected {T : Type 0} (has : T → Type 0) (before : T → T → Type 0) (candidates : List T)
     : Type 0 where
   list : List T
@@ -116,7 +116,7 @@ record Inserted {T : Type 0} (before : T → T → Type 0) (thing : T) (list : L
   here : Among thing all
   kept : (x : T) → Among x list → Among x all
 
--- any two things that have the property are in an order, or are one
+-- two things with the property are in an order, or are the same
 abbrev pub AreCompared : {T : Type 0} → (T → Type 0) → (T → T → Type 0) → Type 0
 AreCompared {T} has before = (x y : T) → has x → has y → before x y ⊎ (x ≡ y) ⊎ before y x
 
@@ -227,7 +227,7 @@ collect has before through compare decide (first ∷ candidates) =
       | inr not ↦ without has before first candidates not rest
     ]
 
--- where candidates are all that may have a property, there is a list of all that has it
+-- if the candidates are all things that can have a property, there is a list of all things with it
 pub has_listing : {T : Type 0} (has : T → Type 0) (before : T → T → Type 0)
     → ((x y z : T) → before x y → before y z → before x z) → AreCompared has before
     → ((x : T) → has x ⊎ ¬ has x) → (candidates : List T) → ((x : T) → has x → Among x candidates)
@@ -244,7 +244,7 @@ has_listing has before through compare decide candidates complete =
       },
     )
 
--- what follows from an order for things of a list
+-- if one order implies another for the things of a list, a list in the first is in the second
 pub other_pairs : {T : Type 0} (before after : T → T → Type 0) (list : List T) → AllPairs before list
     → ((x y : T) → Among x list → Among y list → before x y → after x y) → AllPairs after list
 other_pairs before after list pairs follows i j d less within =
@@ -291,7 +291,7 @@ listed_both {T = T} has has' before list more are are' across = record {
       | inr behind ↦ inr ((are'.listed x).1 (among_contains x more behind))
     ]
 
--- another name of the property
+-- the same property under another name
 pub listed_as : {T : Type 0} (has has' : T → Type 0) (before : T → T → Type 0) (list : List T)
     → ((x : T) → has x → has' x) → ((x : T) → has' x → has x) → AreListed has before list
     → AreListed has' before list

@@ -1,4 +1,4 @@
--- The laws of written parts, of the list of them.
+-- The laws of written parts and of their list.
 use Rattle.std.proofs.Common.{◌≡◌, ◌↔◌, ℕ, Bool, true, List, sym, subst}
 use Rattle.std.specs.List.{Contains, AllPairs}
 use Rattle.twp_grid.specs.Places.{IsPlace}

@@ -1,4 +1,4 @@
--- The order of written parts, and the list of them all.
+-- The order of written parts, and the list of all of them.
 use Rattle.std.proofs.Common.{◌≡◌, ℕ, zero, suc, ◌<◌, ◌≤◌, ◌⊎◌, ◌&&◌, Bool, false, List, [], ◌∷◌, ◌++◌, map}
 use Rattle.std.proofs.Common.{length, refl, sym, ap, subst, ◌∙◌, inl, inr, arith, nat_lt}
 use Rattle.std.proofs.lemmas.Bool.{cases_lt, and_parts}
@@ -40,7 +40,7 @@ ahead_through g part middle last ahead behind = record {
       omega arith;
 }
 
--- a part that is full holds a place
+-- a part that is full contains a place
 pub record Inside (g : ℕ) (part : Part) : Type 0 where
   pub column : ℕ
   pub row : ℕ
@@ -86,7 +86,7 @@ full_part g held (half_of_square side quarters) chosen = chosen.full
 full_part g held (square []) full = full
 full_part g held (square (corner ∷ parent)) written = written.0
 
--- the place of a part whose address is least
+-- the place of a part with the lowest address
 record Least (g : ℕ) (part : Part) : Type 0 where
   column : ℕ
   row : ℕ
@@ -154,7 +154,7 @@ compared g held part other written written' =
       ]
     ]
 
--- a part is written, or it isn't
+-- a part is either written or not
 is_chosen : (g : ℕ) (held : ℕ → ℕ → Bool) (quarters : List Corner) (side : Side)
     → IsChosenHalf g held quarters side ⊎ ¬ IsChosenHalf g held quarters side
 is_chosen g held quarters side = elim (is_full g held (square quarters)) [
@@ -194,7 +194,7 @@ is_written g held (square (corner ∷ parent)) = elim (is_full g held (square (c
   ]
 ]
 
--- all parts that are no finer than places
+-- all parts that are no smaller than a place
 pub among_map : {T U : Type 0} (f : T → U) (thing : T) (list : List T) → Among thing list
     → Among (f thing) (map f list)
 among_map f thing [] there = absurd there
@@ -288,7 +288,7 @@ is_some_part g held (square quarters) full = a_square g quarters (square_fits g 
 is_some_part g held (half_of_square side quarters) full =
     let fits = half_fits g side quarters full.within in some_half g side quarters (omega arith)
 
--- there is one list of written parts
+-- there is a list of written parts
 pub has_parts : (g : ℕ) (held : ℕ → ℕ → Bool) → (parts : List Part) × AreWrittenParts g held parts
 has_parts g held =
     has_listing (IsWritten g held) (StandsAhead g) (ahead_through g) (compared g held) (is_written g held)

@@ -1,4 +1,4 @@
--- Paths of squares: the bytes of a quarter ahead of those of its square.
+-- Paths of squares: the bytes of a quarter before those of its square.
 use Rattle.std.proofs.Common.{◌-◌, ◌≡◌, ℕ, zero, suc, ◌+◌, ◌*◌, ◌<◌, ◌≤◌, List, [], ◌∷◌, ◌++◌, length}
 use Rattle.std.proofs.Common.{length-append, take, min, refl, sym, ap, ◌∙◌, inl, inr, arith}
 use Rattle.std.proofs.lemmas.Bool.{cases_lt}
@@ -34,11 +34,11 @@ long_quarter NW = refl
 long_quarter SW = refl
 long_quarter SE = refl
 
--- what is left of a path that gets a quarter more
+-- the bytes that are left of a path when a quarter is added before it
 abbrev SHORT : ℕ
 SHORT = PATH_MOST - QUARTER_LENGTH
 
--- the bytes of a step, and after them as many of a path's as there is room for
+-- the bytes of a step, followed by as many of a path's as there is room for
 pub longer : (step more rest : List ℕ) (len end : ℕ) → length step ≡ 5 → length more ≡ PATH_MOST
     → (len ≤ SHORT → end ≡ len + 5) → (SHORT < len → end ≡ PATH_MOST)
     → take end (step ++ (take SHORT more ++ rest)) ≡ take PATH_MOST (step ++ take len more)
@@ -70,7 +70,7 @@ longer step more rest len end five sixteen short long = elim (cases_lt SHORT len
     enough : len ≤ SHORT → len ≤ length (take SHORT more)
     enough less = let same = long_take in omega arith
 
--- a path of this few quarters is whole
+-- a path of no more quarters than this is complete
 pub long_path : (quarters : List Corner) → length (quarters_text quarters) ≡ 5 * length quarters
 long_path [] = refl
 long_path (corner ∷ parent) =

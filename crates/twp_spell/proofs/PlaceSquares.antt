@@ -24,7 +24,7 @@ use Rattle.twp_spell.proofs.HalfQuarters.{all_full}
 use Rattle.twp_grammar.proofs.CutPlaces.{more_than_one}
 use Rattle.twp_spell.proofs.SquareBlocks.{block_places_of, in_block, quarter_block, deeper}
 
--- a span of one holds its start alone
+-- a span of length 1 contains only its start
 at_start : (span : Span) → span.len ≡ 1 → in_span span span.start ≡ true
 at_start span one = grind (arith, nat_tests)
 
@@ -33,7 +33,7 @@ only_start span place one is =
     let both = and_parts (nat_le span.start place) (nat_lt place (span.start + span.len)) is in
     grind (arith, nat_tests)
 
--- a part of one place is full where the place is held
+-- a part of one place is full if the place is in the land
 place_full : (g : ℕ) (held : ℕ → ℕ → Bool) (part : Part) (block : Rectangle) (test : Bool)
     → IsBlockOf g part block → block.columns.len ≡ 1 → block.rows.len ≡ 1
     → test ≡ held block.columns.start block.rows.start → IsTrue test ↔ IsFull g held part
@@ -108,7 +108,7 @@ four_places g held quarters block full of_square two ne nw sw se = each
     each SE =
         place_full g held (square (SE ∷ quarters)) (quarter_of block SE) full.se (of_quarter SE) wide high se
 
--- a square this many places wide is cut that much less than places are
+-- a square of this width is divided into places by two quarterings
 power_four : (n : ℕ) → 2 ^ n ≡ 4 → n ≡ 2
 power_four zero is = absurd (omega arith)
 power_four (suc zero) is = absurd (omega arith)
@@ -129,7 +129,7 @@ fine_level g quarters block of_square four =
     let left = power_four (g - length quarters) (sym across ∙ four) in
     omega arith
 
--- the four quarters of a fine square, of which the one in the south-east begins at this column and row
+-- the four quarters of a fine square whose southeast one begins at this column and row
 pub fine_places : (g : ℕ) (held : ℕ → ℕ → Bool) (quarters : List Corner) (block : Rectangle)
     (column row : ℕ) (ne nw sw se : FullQuarters)
     → IsBlockOf g (square quarters) block → block.columns.len ≡ FINE_SIDE
@@ -190,7 +190,7 @@ fine_places g held quarters block column row ne nw sw se of_square four column_i
         (rw (sym c_is, sym r_is) ne) (rw (sym c_is, sym r_is) nw) (rw (sym c_is, sym r_is) sw)
         (rw (sym c_is, sym r_is) se)
 
--- which of them are full
+-- which of the four are full
 pub fine_full : (g : ℕ) (held : ℕ → ℕ → Bool) (quarters : List Corner) (full ne nw sw se : FullQuarters)
     → length quarters + 2 ≡ g
     → AreFull g held (NE ∷ quarters) ne
@@ -237,7 +237,7 @@ off_free : (held : Bool) (lot : Option ℕ) → is_none lot ≡ true → (held &
 off_free true lot is = is
 off_free false lot is = refl
 
--- off the lots is what is held of a fine square that is no lot's
+-- in a fine square that lies in no lot, the land off the lots is all of the land
 pub fine_free : (section column row : ℕ) (held : ℕ → ℕ → Bool) → column % FINE_SIDE ≡ 0 → row % FINE_SIDE ≡ 0
     → is_none (lot_at_position section (column / POSITION) (row / POSITION)) ≡ true
     → (place place' : ℕ) → column ≤ place → place < column + FINE_SIDE → row ≤ place'
@@ -248,7 +248,7 @@ fine_free section column row held a b none place place' least most least' most' 
     (off_free (held place place') (lot_of_place PLACE_DIGITS section place place')
     (rw (lot_of_fine section column row place place' a b least most least' most') none))
 
--- nothing is written of a lot's fine squares
+-- no part is written in a lot's fine squares
 bounds : (span : Span) (place : ℕ) → span.len ≡ FINE_SIDE → in_span span place ≡ true
     → (span.start ≤ place) × (place < span.start + FINE_SIDE)
 bounds span place four is =

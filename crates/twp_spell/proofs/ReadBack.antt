@@ -1,4 +1,4 @@
--- The canonical text of a land is read back as that land, and there is one for each land.
+-- The canonical text of land is read back as that land, and it belongs to only one land.
 use Rattle.std.proofs.Common.{◌≡◌, ◌≢◌, ℕ, ◌<◌, ◌≤◌, ◌↔◌, Bool, List, [], ◌∷◌, map, length, refl, sym, ap}
 use Rattle.std.proofs.Common.{subst, ◌∙◌, arith}
 use Rattle.std.proofs.Math.Path.{fun_ext}
@@ -58,7 +58,7 @@ name_land g township places text land canonical found = record {
       (place.1, (made.thing, made.there, sym made.is));
 }
 
--- an empty land has the empty text, and the text of any other land names it
+-- empty land has the empty text, and the text of other land names it
 data Told (g : ℕ) (township : Designation) (text : List ℕ) (places : ℕ → ℕ → ℕ → Bool) : Type 0 where
   nothing_held : places ≡ no_places → text ≡ [] → Told g township text places
   names_it : text ≢ [] → NamesLand g township text places → Told g township text places
@@ -112,7 +112,7 @@ told g township places text numbers land canonical =
     (told_of_lines g township places numbers found.lines
     (name_land g township places text land canonical found) found.small)
 
--- the canonical text of a land that isn't empty names that land
+-- the canonical text of land that is not empty names that land
 pub names_its_land : (g : ℕ) (township : Designation) (places : ℕ → ℕ → ℕ → Bool) (text : List ℕ)
     → HasTownshipNumbers township → IsTownshipLand g places → places ≢ no_places
     → IsCanonicalText g township places text → NamesLand g township text places
@@ -123,7 +123,7 @@ names_its_land g township places text numbers land some canonical =
     by (nothing_held none empty) = absurd (some none)
     by (names_it written names) = names
 
--- and within the limit it is read as items whose land is that land
+-- within the limit, it is read as items whose land is that land
 pub read_back : (g : ℕ) (township : Designation) (places : ℕ → ℕ → ℕ → Bool) (text : List ℕ)
     → HasTownshipNumbers township → IsTownshipLand g places → places ≢ no_places
     → IsCanonicalText g township places text → length text ≤ TEXT_LIMIT
@@ -135,7 +135,7 @@ read_back g township places text numbers land some canonical within =
       names.land,
     )
 
--- a text names one land
+-- a text names only one land
 one_land : (g : ℕ) (township : Designation) (text : List ℕ) (places other : ℕ → ℕ → ℕ → Bool)
     → NamesLand g township text places → NamesLand g township text other → places ≡ other
 one_land g township text places other names names' =
@@ -145,14 +145,14 @@ one_land g township text places other names names' =
     (subst (λ ts. HasItems ts names'.items) same_tokens names'.named) in
     names.land.land_is ∙ ap (λ its. land_of g (parts_of its)) same_items ∙ sym names'.land.land_is
 
--- a land has one canonical text
+-- land has only one canonical text
 same_text : (g : ℕ) (township : Designation) (places : ℕ → ℕ → ℕ → Bool) (text other : List ℕ)
     → IsCanonicalText g township places text → IsCanonicalText g township places other → text ≡ other
 same_text g township places text other canonical canonical' =
     let one = one_text g township places in
     one.2 text canonical ∙ sym (one.2 other canonical')
 
--- two lands have one text exactly if they are one land
+-- two sets of land have the same text exactly if they are the same set
 pub one_text_for_each : (g : ℕ) (township : Designation) (places other : ℕ → ℕ → ℕ → Bool)
     (text other_text : List ℕ)
     → HasTownshipNumbers township → IsTownshipLand g places → IsTownshipLand g other
@@ -174,7 +174,7 @@ one_text_for_each g township places other text other_text numbers land land' can
     by (names_it written names) (names_it written' names') =
         one_land g township text places other names names'
 
--- a canonical text that is read again stays the same
+-- a canonical text that is read and written again stays the same
 pub stays_the_same : (g : ℕ) (township : Designation) (places found : ℕ → ℕ → ℕ → Bool) (text again : List ℕ)
     (items : List Item)
     → HasTownshipNumbers township → IsTownshipLand g places → places ≢ no_places

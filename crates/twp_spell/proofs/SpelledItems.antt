@@ -18,7 +18,7 @@ use Rattle.twp_spell.proofs.SpelledTokens.{step_draft, further_step_grammar, fur
 use Rattle.twp_spell.proofs.SpelledTokens.{entry_draft, further_entry, line_draft, further_line_grammar}
 use Rattle.twp_spell.proofs.SpelledTokens.{further_line, heading_draft, land_draft}
 
--- a number that stands nowhere
+-- a number without a place in a text
 abbrev pub bare : ℕ → Numeral
 bare n = record { value = n; at = 0 }
 
@@ -118,7 +118,7 @@ lines_are (line ∷ lines) at =
     (flat_map (behind (behind group_items)) others) (line_is line start)
     (lines_are lines (end_at further_line_grammar at (further_line line)))
 
--- the items are these, but for their places in the text
+-- the items are these, except for their places in the text
 pub items_are : (township : Designation) (first : SectionLine) (more : List SectionLine)
     → map unplaced (items (placed description 0 (land_draft township first more)))
     ≡ land_items township (first ∷ more)

@@ -1,5 +1,5 @@
--- The lines of a canonical text name the land: its items lie on the plat without overlap, and their land is
--- it.
+-- The lines of a canonical text name the land: its items lie on the plat without overlapping, and
+-- this is their land.
 use Rattle.std.proofs.Common.{◌≡◌, ℕ, ◌<◌, ◌&&◌, Bool, true, false, List, [], ◌∷◌, map, refl, sym, ap, subst}
 use Rattle.std.proofs.Common.{◌∙◌, inl, inr, arith}
 use Rattle.std.specs.List.{AllZip}
@@ -24,7 +24,7 @@ use Rattle.twp_spell.proofs.SpelledParts.{AreApart, AreFine, list_parts, lines_p
 use Rattle.twp_spell.proofs.SpelledLists.{NameHeld}
 use Rattle.twp_spell.proofs.SpelledLines.{line_of_section}
 
--- sections' texts are those of lines, each of which names what is held of its section
+-- sections' texts are those of lines, each of which names the land in its section
 pub record AreLinesOf (g : ℕ) (township : Designation) (places : ℕ → ℕ → ℕ → Bool) (sections : List ℕ)
     (texts : List (List ℕ)) : Type 0 where
   pub lines : List SectionLine
@@ -72,7 +72,7 @@ lines_of_sections g township places whole (section ∷ sections) (text ∷ texts
 abbrev sections_part : ℕ → SectionLine → ItemOfSection
 sections_part earlier line = item_of earlier (Sections (bare line.section) (bare line.section) false)
 
--- what stands among the parts of lines: the item of a line's section, or a part of its list
+-- the parts of lines: the item of a line's section, and the parts of its list
 data IsOfLines (lines : List SectionLine) (p : ItemOfSection) : Type 0 where
   of_section : (earlier : ℕ) (line : SectionLine) → Among line lines → p ≡ sections_part earlier line
       → IsOfLines lines p
@@ -104,7 +104,7 @@ among_lines (first ∷ lines) earlier line p (inr later) inside =
     (among_right p (list_parts first) (lines_parts first.section lines)
     (among_lines lines first.section line p later inside))
 
--- sections that aren't whole name no place, and headings name none
+-- sections that are not whole name no place, nor do headings
 off : (a : Bool) → (a && false) ≡ true → ⊥
 off a is = false≢true ((and_parts a false is).1)
 
@@ -113,7 +113,7 @@ no_place : (g earlier : ℕ) (line : SectionLine) (p : ItemOfSection) (s c r : �
 no_place g earlier line p s c r is inside =
     off (is_place g c r) (subst (λ (q : ItemOfSection). item_places g q s c r ≡ true) is inside)
 
--- a place that a part of lines names is held in the section of a line
+-- a place that a part of lines names is in the land, in the section of a line
 record IsHeldIn (places : ℕ → ℕ → ℕ → Bool) (lines : List SectionLine) (s c r : ℕ) : Type 0 where
   line : SectionLine
   there : Among line lines
@@ -164,7 +164,7 @@ lines_apart g township places (line ∷ lines) earlier names rising = (
       absurd (omega arith)),
 )
 
--- lines of a township's land, by rising section
+-- lines of land in a township, by ascending section
 pub record NameLand (g : ℕ) (township : Designation) (places : ℕ → ℕ → ℕ → Bool) (lines : List SectionLine)
     : Type 0 where
   pub names : (line : SectionLine) → Among line lines
@@ -239,7 +239,7 @@ text_land g township places lines land = fun_ext (λ s. fun_ext (λ c. fun_ext (
         let found = some_passes (λ p. item_places g p s c r) (text_parts township lines) named in
         in_lines s c r found.thing found.there found.passes
 
--- the items of the text lie on the plat without overlap
+-- the items of the text lie on the plat without overlapping
 pub items_fine : (g : ℕ) (township : Designation) (places : ℕ → ℕ → ℕ → Bool) (lines : List SectionLine)
     → NameLand g township places lines
     → AreFine g township (parts_of (land_items township lines))
@@ -247,7 +247,7 @@ items_fine g township places lines land =
     subst (λ ps. AreFine g township ps) (sym (text_parts_are township lines))
     (text_fine g township places lines land)
 
--- and their land is the land
+-- their land is the land
 pub items_land : (g : ℕ) (township : Designation) (places : ℕ → ℕ → ℕ → Bool) (lines : List SectionLine)
     → NameLand g township places lines
     → places ≡ land_of g (parts_of (land_items township lines))

@@ -24,7 +24,7 @@ use Rattle.twp_spell.proofs.SpelledParts.{entry_parts, list_parts}
 use Rattle.twp_spell.proofs.SpelledLists.{NameHeld, all_named, lot_part, aliquot_part, IsInLists}
 use Rattle.twp_spell.proofs.SpelledLists.{part_written, of_lists, lists_named, small_lot}
 
--- a written part as an entry; no part of a list is the whole section
+-- a written part as an entry; the whole section is not part of such a list
 abbrev entry_of : Part → ListEntry
 entry_of (square []) = all_entry
 entry_of (square (q ∷ qs)) = part_entry (Quarter q) (map (λ corner. Quarter corner) qs)
@@ -78,7 +78,7 @@ lots_parts : (section : ℕ) (ns : List ℕ)
 lots_parts section [] = refl
 lots_parts section (n ∷ ns) = ap (λ ps. lot_part section n ∷ ps) (lots_parts section ns)
 
--- a section's text is that of a line, whose parts name what is held of the section
+-- a section's text is that of a line whose parts name the land in the section
 pub record IsLineOf (g : ℕ) (township : Designation) (places : ℕ → ℕ → ℕ → Bool) (section : ℕ) (text : List ℕ)
     : Type 0 where
   pub line : SectionLine
@@ -129,7 +129,7 @@ of_lots_and_parts g township places section (n ∷ ns) parts small few each thin
     lots_first [] = refl
     lots_first (m ∷ ms) = refl
 
--- a section that isn't held whole has no part that is the section
+-- a section that is not wholly in the land has no part that is the section
 not_whole : (g section : ℕ) (held : ℕ → ℕ → Bool) → ¬ HoldsEach g held → (part : Part)
     → IsFull g (off_lots g section held) part → NotWhole part
 not_whole g section held partial_held (square []) full =

@@ -1,5 +1,5 @@
--- The list of a section: its lots and its written parts lie on the plat, share no place, and name what is
--- held.
+-- The list of a section: its lots and its written parts lie on the plat, share no place, and name
+-- the land in the section.
 use Rattle.std.proofs.Common.{◌≡◌, ◌==◌, ℕ, ◌<◌, ◌^◌, ◌&&◌, Bool, true, List, [], ◌∷◌, ◌++◌, Option, Some}
 use Rattle.std.proofs.Common.{None, IsSome, map, nat_le, nat_lt, refl, sym, ap, subst, ◌∙◌, inl, inr, arith}
 use Rattle.std.specs.Prelude.{is_none}
@@ -29,7 +29,7 @@ use Rattle.twp_spell.proofs.SpelledItems.{one_lot}
 use Rattle.twp_spell.proofs.SpelledParts.{made_of, order_map, order_weaker, AreApart}
 use Rattle.twp_grammar.proofs.Membership.{Passes}
 
--- the parts of a section's list lie on the plat, share no place, and name what is held of the section
+-- the parts of a section's list lie on the plat, share no place, and name the land in the section
 pub record NameHeld (g : ℕ) (township : Designation) (places : ℕ → ℕ → ℕ → Bool) (section : ℕ)
     (parts : List ItemOfSection) : Type 0 where
   pub each : (p : ItemOfSection) → Among p parts → LiesOnPlat g township p.section p.item
@@ -129,7 +129,7 @@ off_some : (found : Option ℕ) → is_none found ≡ true → IsSome found → 
 off_some None none some = absurd (cc some)
 off_some (Some other) none some = absurd (cc none)
 
--- what is held of a section, its lots and its written parts
+-- the land in a section: its lots and its written parts
 pub record IsInLists (g : ℕ) (places : ℕ → ℕ → ℕ → Bool) (section : ℕ) (lots : List ℕ) (parts : List Part)
     : Type 0 where
   pub range : IsSection section
@@ -137,7 +137,7 @@ pub record IsInLists (g : ℕ) (places : ℕ → ℕ → ℕ → Bool) (section 
   pub lots_are : AreListed (IsLotHeld g section (places section)) ◌<◌ lots
   pub parts_are : AreWrittenParts g (off_lots g section (places section)) parts
 
--- a lot of the list is held, and an aliquot part of the list is written
+-- a lot in the list is in the land, and an aliquot part in the list is a written part
 lot_held : (g : ℕ) (places : ℕ → ℕ → ℕ → Bool) (section : ℕ) (lots : List ℕ) (parts : List Part)
     → IsInLists g places section lots parts
     → (lot : ℕ) → Among lot lots → IsLotHeld g section (places section) lot
@@ -150,7 +150,7 @@ pub part_written : (g : ℕ) (places : ℕ → ℕ → ℕ → Bool) (section : 
 part_written g places section lots parts lists part there =
     (lists.parts_are.listed part).1 (among_contains part parts there)
 
--- a place of a written part is held and of no lot
+-- a place of a written part is in the land, and in no lot
 record IsOffLots (g : ℕ) (places : ℕ → ℕ → ℕ → Bool) (section c r : ℕ) : Type 0 where
   held : places section c r ≡ true
   none : is_none (lot_of_place g section c r) ≡ true
@@ -330,7 +330,7 @@ lists_named g township places section lots parts lists = record {
   named = named_there g places section lots parts lists;
 }
 
--- the numbers of lots that are held are small
+-- the numbers of lots in the land are small
 pub small_lot : (g : ℕ) (places : ℕ → ℕ → ℕ → Bool) (section lot : ℕ) → IsSection section
     → IsLotHeld g section (places section) lot → lot < 10000
 small_lot g places section lot range held =

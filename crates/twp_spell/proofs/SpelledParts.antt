@@ -1,4 +1,4 @@
--- The items of the canonical text with their sections, and what it takes for them to lie on the
+-- The items of the canonical text with their sections, and the conditions for them to lie on the
 -- plat.
 use Rattle.std.proofs.Common.{◌≡◌, ℕ, ◌||◌, Bool, true, false, List, [], ◌∷◌, ◌++◌, map, refl, sym, ap, subst}
 use Rattle.std.proofs.Common.{◌∙◌, inl, inr, append_assoc}
@@ -19,7 +19,7 @@ use Rattle.twp_spell.proofs.PartOrder.{among_map}
 use Rattle.twp_spell.proofs.SpelledTokens.{ListEntry, all_entry, lot_entry, part_entry, SectionLine}
 use Rattle.twp_spell.proofs.SpelledItems.{bare, unplaced, one_lot, entry_items, line_items}
 
--- what a thing of a list was made of
+-- the thing in a list that a thing was made from
 pub record IsMade {T U : Type 0} (f : T → U) (list : List T) (made : U) : Type 0 where
   pub thing : T
   pub there : Among thing list
@@ -62,7 +62,7 @@ order_weaker before other (first ∷ list) to order = (
 abbrev pub AreApart : ℕ → ItemOfSection → ItemOfSection → Type 0
 AreApart g p q = ¬ SharePlace (item_places g p) (item_places g q)
 
--- each lies on the plat, and no place is named by two
+-- each lies on the plat, and no place is named by two of them
 pub record AreFine (g : ℕ) (township : Designation) (parts : List ItemOfSection) : Type 0 where
   pub each : (p : ItemOfSection) → Among p parts → LiesOnPlat g township p.section p.item
   pub apart : InOrder (AreApart g) parts
@@ -121,7 +121,7 @@ any_mapped f test (first ∷ list) same =
     ap (λ b. b || list_any test (map f list)) (same first)
     ∙ ap (λ b. test first || b) (any_mapped f test list same)
 
--- items that are fine but for their places in the text lie on the plat
+-- items that are valid except for their places in the text lie on the plat
 pub fine_on_plat : (g : ℕ) (township : Designation) (items : List Item)
     → AreFine g township (parts_of (map unplaced items)) → AreOnPlat g township items
 fine_on_plat g township items fine =
@@ -157,7 +157,7 @@ entry_parts section e = map (λ it. item_of section it) (entry_items e)
 abbrev pub list_parts : SectionLine → List ItemOfSection
 list_parts line = flat_map (entry_parts line.section) (line.first ∷ line.more)
 
--- the sections' items and those of their lists
+-- the items of sections and those of their lists
 abbrev pub lines_parts : ℕ → List SectionLine → List ItemOfSection
 lines_parts earlier [] = []
 lines_parts earlier (line ∷ lines) =

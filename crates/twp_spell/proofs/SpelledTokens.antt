@@ -1,5 +1,5 @@
--- The canonical text as a derivation whose tokens have no places yet: a heading, and a group for each section
--- with all, lots and aliquot parts, from which each byte of the text is taken.
+-- The canonical text as a derivation whose tokens have no places yet: a heading, and a group for
+-- each section with all, or with lots and aliquot parts. Each byte of the text comes from it.
 use Rattle.std.proofs.Common.{◌≡◌, ℕ, List, [], ◌∷◌, ◌++◌, map, codes, decimal, refl, sym, ap, ◌∙◌, inl, inr}
 use Rattle.std.proofs.Common.{append_assoc}
 use Rattle.std.specs.List.{flat_map}
@@ -178,7 +178,7 @@ bytes_entries es rest =
     bytes_list (λ v us. bytes (separator ⨾ part) v us) further_entry (λ y. codes ", " ++ y) entry_text
     (λ e us. ap (λ us. codes "," ++ us) (bytes_entry e us)) es rest
 
--- four texts one after the other
+-- four texts, one after the other
 four_texts : (a b c d rest : List ℕ) → a ++ b ++ c ++ d ++ rest ≡ a ++ (b ++ (c ++ (d ++ rest)))
 four_texts a b c d rest =
     append_assoc (a ++ b ++ c) d rest
@@ -224,7 +224,7 @@ bytes_heading township rest =
     ∙ four_texts (codes "T. ") number space side
     (codes "., R. " ++ (range ++ (space ++ (way ++ (codes ".," ++ (line_end ++ rest)))))))
 
--- the bytes of the whole are the lines
+-- the bytes of the whole are those of the lines
 pub bytes_land : (township : Designation) (first : SectionLine) (more : List SectionLine)
     → bytes description (land_draft township first more) line_end
     ≡ land_lines township (map line_text (first ∷ more))

@@ -1,4 +1,4 @@
--- Each word, number and sign of the canonical text is a token before what follows it.
+-- Each word, number, and mark of the canonical text is a token before what follows it.
 use Rattle.std.proofs.Common.{◌≡◌, ◌==◌, ℕ, ◌<◌, true, false, List, [], ◌∷◌, ◌++◌, map, decimal, length, refl}
 use Rattle.std.proofs.Common.{sym, ap, subst, arith}
 use Rattle.std.specs.Char.{is_ascii_alphabetic, is_ascii_digit}
@@ -30,7 +30,7 @@ use Rattle.twp_spell.proofs.SpelledTokens.{number_mark, step_draft, further_step
 use Rattle.twp_spell.proofs.SpelledTokens.{further_number, entry_draft, further_entry, line_draft}
 use Rattle.twp_spell.proofs.SpelledTokens.{further_line_grammar, further_line, heading_draft, land_draft}
 
--- a comma, a semicolon or a full stop comes next
+-- a comma, a semicolon, or a period comes next
 pub data Stopped (rest : List ℕ) : Type 0 where
   at_comma : (more : List ℕ) → rest ≡ 44 ∷ more → Stopped rest
   at_semicolon : (more : List ℕ) → rest ≡ 59 ∷ more → Stopped rest
@@ -45,7 +45,7 @@ word c cs rest kind all ends is =
     (record { some = omega arith; all = AllPass-from_list_all is_ascii_alphabetic (c ∷ cs) all; ends = ends })
     is
 
--- digits are neither a half nor a quarter where no slash follows them
+-- digits begin neither a half nor a quarter if no slash follows them
 no_part : (d : ℕ) (text : List ℕ) (byte : ℕ) (rest : List ℕ) → 0 < length text
     → list_all is_ascii_digit text ≡ true → (byte == 47) ≡ false
     → ¬ Begins (49 ∷ 47 ∷ d ∷ []) (text ++ (byte ∷ rest))
@@ -143,7 +143,7 @@ abbrev pub AreSmallLines : List SectionLine → Type 0
 AreSmallLines [] = Unit {0}
 AreSmallLines (line ∷ lines) = IsSmallLine line × AreSmallLines lines
 
--- after any number of entries comes a comma, or what comes after all of them
+-- any number of further entries begins with a comma, or with what comes after them all
 stopped_numbers : (ns : List ℕ) (rest : List ℕ) → Stopped rest
     → Stopped (bytes (many (separator ⨾ entry)) (map further_number ns) rest)
 stopped_numbers [] rest stopped = stopped

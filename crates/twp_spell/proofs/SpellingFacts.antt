@@ -1,4 +1,4 @@
--- Texts of lots, of sections and of lands that grow piece by piece.
+-- Texts of lots, of sections, and of land, which grow piece by piece.
 use Rattle.std.proofs.Common.{◌≡◌, ℕ, zero, suc, ◌+◌, ◌<◌, ◌≤◌, ◌⊎◌, Bool, true, false, List, [], ◌∷◌, ◌++◌}
 use Rattle.std.proofs.Common.{map, length, Option, Some, None, Result, Ok, Err, OnOk, refl, sym, ap, subst}
 use Rattle.std.proofs.Common.{◌∙◌, inl, inr, arith, codes, decimal}
@@ -24,12 +24,12 @@ use Rattle.twp_grammar.proofs.Membership.{contains_among}
 use Rattle.twp_spell.proofs.Listings.{listed_as, listed_both, listed_none, listed_one}
 use Rattle.twp_spell.proofs.PartLaws.{hold_all}
 
--- a fact that holds of each of some, where a result is Ok
+-- a fact that holds for every value, if a result is Ok
 pub on_ok : {T E : Type 0} (result : Result T E) (P Q : Type 0) → OnOk result P → (P → Q) → OnOk result Q
 on_ok (Ok value) P Q is follows = follows is
 on_ok (Err fault) P Q is follows = is
 
--- numbers that have a property, below a number
+-- the numbers below a number that have a property
 abbrev pub Below : (ℕ → Type 0) → ℕ → ℕ → Type 0
 Below has number n = has n × (n < number)
 
@@ -86,7 +86,7 @@ numbers_begin old lead mid new (lot ∷ lots) d some is is' =
     ∙ append_assoc old lead (decimal lot)
     ∙ ap (λ t. old ++ (lead ++ t)) (sym (append-nil (decimal lot)))
 
--- what comes before the numbers of this many lots
+-- the text before the numbers of this many lots
 pub lead_of : ℕ → List ℕ
 lead_of zero = codes ", lots "
 lead_of (suc zero) = codes ", lot "
@@ -115,7 +115,7 @@ lots_end old new lots i first count is =
     lots_done old new lots (omega arith)
     (is ∙ ap (λ t. old ++ (lead_of (length lots) ++ numbers_text t)) (take_all i lots (omega arith)))
 
--- a section that is held whole
+-- a section that the land contains wholly
 pub all_done : (g : ℕ) (places : ℕ → ℕ → ℕ → Bool) (section : ℕ) (old mid named new : List ℕ)
     → HoldsEach g (places section)
     → mid ≡ old ++ codes "sec. " → named ≡ mid ++ decimal section → new ≡ named ++ codes ", all"
@@ -131,7 +131,7 @@ all_done g places section old mid named new each is is' is'' = record {
       ∙ ap (λ t. old ++ t) (sym (append_assoc (codes "sec. " ++ decimal section) (codes ", ") (codes "all")));
 }
 
--- a section's list isn't empty: some place is held, of a lot or off the lots
+-- a section's list is not empty: some place is in the land, in a lot or off the lots
 no_entry : (lots : List ℕ) (parts : List Part) → (lots_entry lots ++ map part_text parts) ≡ []
     → (lots ≡ []) × (parts ≡ [])
 no_entry [] [] is = (refl, refl)
@@ -166,7 +166,7 @@ entries_behind : (entries : List (List ℕ)) → ¬ (entries ≡ [])
 entries_behind [] some = absurd (some refl)
 entries_behind (first ∷ entries) some = refl
 
--- a section that isn't held whole
+-- a section that the land does not contain wholly
 pub parts_done : (g : ℕ) (places : ℕ → ℕ → ℕ → Bool) (section : ℕ) (old mid named lotted new : List ℕ)
     → ¬ HoldsEach g (places section) → HoldsSome g (places section)
     → mid ≡ old ++ codes "sec. " → named ≡ mid ++ decimal section
@@ -202,7 +202,7 @@ parts_done g places section old mid named lotted new short some is is' has_lots 
           ∙ ap (λ t. old ++ t) (sym (append_assoc name (codes ", ") (with_commas entries)));
     }
 
--- lines that are begun are empty only without a line
+-- the text of lines is empty only if there is no line
 is_more : List ℕ → Bool
 is_more [] = false
 is_more (c ∷ cs) = true

@@ -22,7 +22,7 @@ use Rattle.twp_grammar.proofs.CutPlaces.{outside, inside, more_left, more_than_o
 use Rattle.twp_spell.proofs.SquareFacts.{quarter_steps, columns_long, rows_long, square_within, square_fits}
 use Rattle.twp_spell.proofs.SquarePlaces.{path, up, up_all, in_square, one_place}
 
--- the places of a part's block
+-- the places of the part with a block
 pub block_places_of : (g : ℕ) (part : Part) (block : Rectangle) (column row : ℕ) → IsBlockOf g part block
     → IsInPart g part column row → in_rectangle block column row ≡ true
 block_places_of g part block column row of_part there =
@@ -49,7 +49,7 @@ in_block g part block column row of_part is = elim (cases_Bool (is_place g colum
       ∙ is))
 ]
 
--- off the lots
+-- the places off the lots
 held_off : (held : Bool) (lot : Option ℕ) → (held && is_none lot) ≡ true → (held ≡ true) × ¬ IsSome lot
 held_off true None is = (refl, λ some. false≢true some)
 held_off true (Some lot) is = cc is
@@ -85,7 +85,7 @@ block_full g section held part block of_part full = (
       place.of_lot),
 )
 
--- where nothing of the block is held, nothing of the part is
+-- if the land contains no place of the block, it contains none of the part
 pub empty_block : (g section : ℕ) (held : ℕ → ℕ → Bool) (part : Part) (block : Rectangle)
     → IsBlockOf g part block → ¬ Meets held block
     → (column row : ℕ) → IsInPart g part column row → ¬ (off_lots g section held column row ≡ true)
@@ -106,7 +106,7 @@ quarter_block g corner quarters block fits of_square = record {
   block_is = ap (λ b. quarter_of b corner) of_square.block_is;
 }
 
--- the tests of code
+-- the tests in the code
 pub judged_off : (g section : ℕ) (held : ℕ → ℕ → Bool) (block : Rectangle) (full lot : Bool)
     → (IsTrue full ↔ HoldsAll held block) → (IsTrue lot ↔ HoldsLotPlace g section block) → full ≡ true
     → (part : Part) → IsBlockOf g part block → IsTrue (not lot) ↔ IsFull g (off_lots g section held) part
@@ -132,7 +132,7 @@ judged_short g section held block full full_is is part of_part = (
   (λ all. full_is.1 (block_full g section held part block of_part all).0),
 )
 
--- blocks that can be cut further
+-- blocks that can be divided further
 pub deeper : (g : ℕ) (quarters : List Corner) (block : Rectangle) → IsBlockOf g (square quarters) block
     → 1 < block.columns.len → length quarters < g
 deeper g quarters block of_square more =
@@ -162,7 +162,7 @@ finest g quarters block of_square one = elim (cases_lt (length quarters) g) [
       elim one [ inl is ↦ absurd (omega arith) | inr is ↦ absurd (omega arith) ]
 ]
 
--- a square of one place that isn't full is empty
+-- a square of one place that is not full is empty
 pub finest_empty : (g : ℕ) (held : ℕ → ℕ → Bool) (quarters : List Corner) → length quarters ≡ g
     → ¬ IsFull g held (square quarters) → (column row : ℕ) → IsInPart g (square quarters) column row
     → ¬ (held column row ≡ true)

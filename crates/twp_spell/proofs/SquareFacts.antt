@@ -1,4 +1,4 @@
--- Squares of a section and their halves: which places they hold.
+-- Squares of a section and their halves: the places they contain.
 use Rattle.std.proofs.Common.{◌≡◌, ◌==◌, ℕ, zero, suc, ◌+◌, ◌/◌, ◌%◌, ◌^◌, ◌<◌, ◌≤◌, ◌&&◌, Bool, true, false}
 use Rattle.std.proofs.Common.{List, [], ◌∷◌, ◌++◌, length, map, refl, sym, ap, ◌∙◌, arith, length-append}
 use Rattle.std.proofs.Math.Nat.{pow-succ', div-div-eq-div-mul, div-one}
@@ -51,7 +51,7 @@ pub axis_none : (g : ℕ) (asked : List ℕ) (n : ℕ) → length asked ≡ g
 axis_none g asked n same =
     ap (λ a. begins a (binary (suc g) n)) (append-nil asked) ∙ axis_coarser g asked n (omega arith)
 
--- what steps hold, where each place is one of those that a greater place was cut into
+-- the places of steps, if each place is one of those that a larger place was divided into
 pub chain_up : (h g k : ℕ) (steps : List Step) (column row : ℕ) → g ≡ k + h → AreWithin k (cuts_of steps)
     → in_chain g steps column row ≡ in_chain k steps (column / 2 ^ h) (row / 2 ^ h)
 chain_up zero g k steps column row is within =

@@ -1,4 +1,4 @@
--- The square of each level that a place lies in.
+-- The square of each level that contains a place.
 use Rattle.std.proofs.Common.{◌≡◌, ◌==◌, ℕ, zero, suc, ◌+◌, ◌-◌, ◌*◌, ◌/◌, ◌%◌, ◌^◌, ◌<◌, ◌≤◌, ◌&&◌, true}
 use Rattle.std.proofs.Common.{List, [], ◌∷◌, ◌++◌, length, refl, sym, ap, ◌∙◌, arith}
 use Rattle.std.proofs.Math.Nat.{pow-succ', div-one, mul-div_cancel}
@@ -26,7 +26,7 @@ path_next : (k column row : ℕ)
 unfolding path
 path_next k column row = refl
 
--- a square of the least size holds the place that its quarters reach
+-- a square of the smallest size contains the place that its quarters reach
 quarter_chain : (corner : Corner) (quarters : List Corner) (column row : ℕ)
     → in_chain (suc (length quarters)) (quarter_steps (corner ∷ quarters)) column row
     ≡ ((begins (columns_asked (cuts_of (quarter_steps quarters))) (binary (length quarters) (column / 2))
@@ -97,7 +97,7 @@ reached_square (corner ∷ quarters) column row is =
     (parent.0, parent.1, eq-eqb (column_digit corner) (column % 2) x, eq-eqb (row_digit corner) (row % 2) y)
     refl
 
--- the square of level k that a place lies in, and its quarter in that square
+-- the square of level k that contains a place, and its quarter in that square
 abbrev pub up : ℕ → ℕ → ℕ → ℕ → List Corner
 up g k column row = path k (column / 2 ^ (g - k)) (row / 2 ^ (g - k))
 
@@ -120,7 +120,7 @@ up_next g k column row less =
     ∙ ap (λ n. corner_at g k column row ∷ path k n (row / 2 ^ (g - suc k) / 2)) (sym half_column)
     ∙ ap (λ n. corner_at g k column row ∷ path k (column / 2 ^ (g - k)) n) (sym half_row)
 
--- what a square holds
+-- the places in a square
 pub in_square : (g : ℕ) (quarters : List Corner) (column row : ℕ) → length quarters ≤ g
     → in_chain g (quarter_steps quarters) column row ≡ true → up g (length quarters) column row ≡ quarters
 in_square g quarters column row fits inside =
@@ -139,7 +139,7 @@ square_in g quarters column row fits is =
     (square_within k quarters (omega arith)) in
     above ∙ reached_square quarters (column / 2 ^ (g - k)) (row / 2 ^ (g - k)) is
 
--- the place at which all quarters of a square are the last ones
+-- the column of the place that the quarters reach
 unfoldable column_of : List Corner → ℕ
 column_of [] = 0
 column_of (corner ∷ quarters) = 2 * column_of quarters + column_digit corner
@@ -209,7 +209,7 @@ place_of g quarters fits =
       is = rw (across, upward) (path_to quarters);
     }
 
--- a place of the least square is the only one
+-- a square of the smallest size contains only one place
 same_number : (n m : ℕ) → n / 2 ≡ m / 2 → n % 2 ≡ m % 2 → n ≡ m
 same_number n m halves rest = omega arith
 
@@ -251,7 +251,7 @@ up_all g column row =
     ∙ ap (λ n. path g n (row / 1)) (div-one column)
     ∙ ap (λ n. path g column n) (div-one row)
 
--- places of one address are one place
+-- places with the same address are the same
 unfoldable quarter_of_turn : ℕ → Corner
 quarter_of_turn zero = NE
 quarter_of_turn (suc zero) = NW

@@ -24,7 +24,7 @@ use Rattle.twp_spell.proofs.FullParts.{one_chosen}
 use Rattle.twp_spell.proofs.DescentLists.{of_section, of_written, of_first, of_second, of_quarter}
 use Rattle.twp_spell.proofs.DescentLists.{of_quarters}
 
--- the text of parts
+-- the text of one part
 one_text : (part : Part) → parts_text (part ∷ []) ≡ codes ", " ++ part_text part
 one_text part = append-nil (codes ", " ++ part_text part)
 
@@ -82,7 +82,7 @@ half_written result g held quarters side corner path old new chosen on path_is f
           (of_second g held quarters side corner chosen on later)))
     ]
 
--- what a choice says of a quarter
+-- a choice determines whether a quarter is off the chosen half
 pub off_choice : (g : ℕ) (held : ℕ → ℕ → Bool) (quarters : List Corner) (choice : Option Side)
     (corner : Corner)
     → IsChoice g held quarters choice
@@ -95,7 +95,7 @@ pub choice_is : (g : ℕ) (held : ℕ → ℕ → Bool) (quarters : List Corner)
     → IsChoice g held quarters choice → choice ≡ Some side → IsChosenHalf g held quarters side
 choice_is g held quarters choice side is same = subst (λ c. IsChoice g held quarters c) same is
 
--- a full quarter, and one that isn't
+-- a full quarter, and one that is not full
 pub full_written : {T E : Type 0} (result : Result T E) (g : ℕ) (held : ℕ → ℕ → Bool) (quarters : List Corner)
     (corner : Corner) (step path old new : List ℕ)
     → path ≡ quarters_text quarters → step ≡ codes ", " ++ step_text (Quarter corner)
@@ -171,7 +171,7 @@ quarters_written result g held quarters old ne nw sw se fits short first second 
         → front ++ parts_text more ≡ old ++ parts_text (parts ++ more)
     one_more front parts is more = ap (λ t. t ++ parts_text more) is ∙ both old parts more
 
--- the same for a list that can't run out of memory
+-- the same for a list that cannot run out of memory
 pub half_added : (g : ℕ) (held : ℕ → ℕ → Bool) (quarters : List Corner) (side : Side) (corner : Corner)
     (path old new : List ℕ)
     → IsChosenHalf g held quarters side → IsOnSide side corner → path ≡ quarters_text quarters
@@ -207,7 +207,7 @@ pub quarters_added : (g : ℕ) (held : ℕ → ℕ → Bool) (quarters : List Co
 quarters_added g held quarters old ne nw sw se fits short first second third last =
     quarters_written {T = ℕ} {E = ℕ} (Ok 0) g held quarters old ne nw sw se fits short first second third last
 
--- parts that were put together are appended
+-- parts that were collected are appended
 pub buffer_appended : {T E : Type 0} (result : Result T E) (these : List Part → Type 0)
     (old none buffer new : List ℕ)
     → none ≡ [] → AreWritten these none buffer
@@ -234,7 +234,7 @@ section_written result g section held old new ok =
       text_is = is.text_is;
     })
 
--- where the section is full off its lots, it is held whole
+-- if the section is full off its lots, the land contains it wholly
 pub whole_held : (g section : ℕ) (held : ℕ → ℕ → Bool) → IsFull g (off_lots g section held) (square [])
     → HoldsEach g held
 whole_held g section held full column row place =

@@ -1,4 +1,4 @@
--- The written parts of what is held: they share no place, and hold all of it.
+-- The written parts of the land: they share no place, and contain all of it.
 use Rattle.std.proofs.Common.{◌≡◌, ℕ, zero, suc, ◌<◌, ◌≤◌, Bool, true, List, [], ◌∷◌, length, sym, ap, subst}
 use Rattle.std.proofs.Common.{◌∙◌, inl, inr, arith}
 use Rattle.std.proofs.lemmas.Bool.{cases_lt}
@@ -20,7 +20,7 @@ pub level : Part → ℕ
 level (square quarters) = length quarters
 level (half_of_square side quarters) = length quarters
 
--- of a written part that holds a place: its square, and what is full of the place's squares
+-- the square of a written part that contains a place, and which of the place's squares are full
 record Covers (g : ℕ) (held : ℕ → ℕ → Bool) (column row : ℕ) (part : Part) : Type 0 where
   fits : level part ≤ g
   below : (j : ℕ) → level part < j → j ≤ g → IsFull g held (square (up g j column row))
@@ -56,7 +56,7 @@ covers g held column row (square (corner ∷ parent)) written inside =
           full_below g held (length (corner ∷ parent)) j column row (omega arith) within full;
     }
 
--- the parent of a written square that holds a place, and the square's corner in it
+-- the parent of a written square that contains a place, and the square's corner in it
 pub parent_of : (g : ℕ) (corner : Corner) (parent : List Corner) (column row : ℕ) → suc (length parent) ≤ g
     → up g (suc (length parent)) column row ≡ corner ∷ parent
     → (corner_at g (length parent) column row ≡ corner) × (up g (length parent) column row ≡ parent)
@@ -64,7 +64,7 @@ parent_of g corner parent column row fits is =
     first_of (corner_at g (length parent) column row) corner (up g (length parent) column row) parent
     (sym (up_next g (length parent) column row fits) ∙ is)
 
--- no written part with a place of a written part lies deeper
+-- no written part with a place of a written part is deeper than it
 not_deeper : (g : ℕ) (held : ℕ → ℕ → Bool) (column row : ℕ) (part other : Part) → IsWritten g held part
     → IsWritten g held other
     → IsInPart g part column row → IsInPart g other column row → level part < level other → ⊥
@@ -111,7 +111,7 @@ not_deeper g held column row part (square (corner ∷ parent)) written written' 
         written'.2 side (subst (λ q. IsChosenHalf g held q side) is chosen)
         (subst (λ c. IsOnSide side c) corner_is half.1)
 
--- the square of a written part that holds a place
+-- the square of a written part that contains a place
 its_square : (g : ℕ) (held : ℕ → ℕ → Bool) (column row : ℕ) (part : Part) → IsWritten g held part
     → IsInPart g part column row → up g (level part) column row ≡ square_quarters part
 unfolding level square_quarters
@@ -126,7 +126,7 @@ full_square : (g : ℕ) (held : ℕ → ℕ → Bool) (quarters : List Corner) �
 full_square g held [] full = full
 full_square g held (corner ∷ parent) written = written.0
 
--- of one square, one part is written that holds a place
+-- only one part of a square that contains a place is written
 same_square : (g : ℕ) (held : ℕ → ℕ → Bool) (part other : Part) → IsWritten g held part
     → IsWritten g held other → square_quarters part ≡ square_quarters other → part ≡ other
 unfolding square_quarters
@@ -143,7 +143,7 @@ same_square g held (half_of_square side quarters) (half_of_square side' quarters
     one_chosen g held quarters' side side' (subst (λ q. IsChosenHalf g held q side) same chosen) chosen' in
     ap (λ s. half_of_square s quarters) side_is ∙ ap (λ q. half_of_square side' q) same
 
--- written parts that share a place are one
+-- written parts that share a place are the same
 pub one_part : (g : ℕ) (held : ℕ → ℕ → Bool) (column row : ℕ) (part other : Part) → IsWritten g held part
     → IsWritten g held other
     → IsInPart g part column row → IsInPart g other column row → part ≡ other
@@ -161,7 +161,7 @@ one_part g held column row part other written written' inside inside' =
       ]
     ]
 
--- each place of a written part is held
+-- each place of a written part is in the land
 pub written_held : (g : ℕ) (held : ℕ → ℕ → Bool) (column row : ℕ) (part : Part) → IsWritten g held part
     → IsInPart g part column row → held column row ≡ true
 written_held g held column row (half_of_square side quarters) chosen inside =
@@ -169,7 +169,7 @@ written_held g held column row (half_of_square side quarters) chosen inside =
 written_held g held column row (square []) full inside = full.each column row inside
 written_held g held column row (square (corner ∷ parent)) written inside = written.0.each column row inside
 
--- the written part that holds a place
+-- the written part that contains a place
 pub record HasPart (g : ℕ) (held : ℕ → ℕ → Bool) (column row : ℕ) : Type 0 where
   pub part : Part
   pub written : IsWritten g held part

@@ -1,4 +1,4 @@
--- The canonical text of a land: one text for each set of places, however it was described.
+-- The canonical text of land: one text for each set of places, however it was described.
 use Rattle.std.specs.Prelude.{◌≡◌, ℕ, ◌<◌, Bool, true, List, [], ◌∷◌, ◌++◌, Some}
 use Rattle.std.specs.Prelude.{map, codes, decimal}
 use Rattle.std.specs.List.{flat_map, join_by, AllZip}
@@ -31,12 +31,12 @@ corner_text NW = codes "NW"
 corner_text SW = codes "SW"
 corner_text SE = codes "SE"
 
--- a step: N1/2, NE1/4
+-- a step, such as N1/2 or NE1/4
 abbrev pub step_text : Step → List ℕ
 step_text (Half side) = side_text side ++ codes "1/2"
 step_text (Quarter corner) = corner_text corner ++ codes "1/4"
 
--- a part, smallest step first: S1/2NE1/4
+-- a part, smallest step first, such as S1/2NE1/4
 abbrev pub part_text : Part → List ℕ
 part_text part = flat_map step_text (steps_of_part part)
 
@@ -50,18 +50,18 @@ lots_entry [] = []
 lots_entry (lot ∷ []) = (codes "lot " ++ decimal lot) ∷ []
 lots_entry (lot ∷ more) = (codes "lots " ++ with_commas (map decimal (lot ∷ more))) ∷ []
 
--- some place of the section is held
+-- the land contains some place of the section
 pub record HoldsSome (g : ℕ) (held : ℕ → ℕ → Bool) : Type 0 where
   pub column : ℕ
   pub row : ℕ
   pub place : IsPlace g column row
   pub is_held : held column row ≡ true
 
--- each place of the section is held
+-- the land contains every place of the section
 abbrev pub HoldsEach : ℕ → (ℕ → ℕ → Bool) → Type 0
 HoldsEach g held = (column row : ℕ) → IsPlace g column row → held column row ≡ true
 
--- some place of the section's lot of this number is held
+-- the land contains some place of the section's lot with this number
 pub record IsLotHeld (g section : ℕ) (held : ℕ → ℕ → Bool) (lot : ℕ) : Type 0 where
   pub column : ℕ
   pub row : ℕ
@@ -69,8 +69,8 @@ pub record IsLotHeld (g section : ℕ) (held : ℕ → ℕ → Bool) (lot : ℕ)
   pub of_lot : lot_of_place g section column row ≡ Some lot
   pub is_held : held column row ≡ true
 
--- A section's list: `all` where each place is held; otherwise the lots that are held, by rising
--- number, and then the written parts of what is held off the lots.
+-- A section's list: `all` if the land contains every place; otherwise the lots in the land, by
+-- ascending number, and then the written parts of the land off the lots.
 pub data IsSectionList (g section : ℕ) (held : ℕ → ℕ → Bool) (text : List ℕ) : Type 0 where
   all : HoldsEach g held → text ≡ codes "all" → IsSectionList g section held text
   by_parts : ¬ HoldsEach g held → (lots : List ℕ) (parts : List Part)
@@ -79,14 +79,14 @@ pub data IsSectionList (g section : ℕ) (held : ℕ → ℕ → Bool) (text : L
       → text ≡ with_commas (lots_entry lots ++ map part_text parts)
       → IsSectionList g section held text
 
--- a section with its list: sec. 5, lots 1, 2, S1/2
+-- a section with its list, such as sec. 5, lots 1, 2, S1/2
 pub record IsSectionText (g : ℕ) (places : ℕ → ℕ → ℕ → Bool) (section : ℕ) (text : List ℕ)
     : Type 0 where
   pub list : List ℕ
   pub list_is : IsSectionList g section (places section) list
   pub text_is : text ≡ codes "sec. " ++ decimal section ++ codes ", " ++ list
 
--- what ends a line
+-- the end of a line
 abbrev pub line_end : List ℕ
 line_end = line_feed ∷ []
 
@@ -97,19 +97,19 @@ heading_line township =
     ++ codes "., R. " ++ decimal township.range ++ codes " " ++ east_west_letter township.east_west
     ++ codes ".," ++ line_end
 
--- the lines of a land: none without sections, otherwise the heading and a line for each section,
--- with a semicolon at the end of each but the last, which ends with a full stop
+-- the lines of land: none if there are no sections, otherwise the heading and a line for each
+-- section, with a semicolon at the end of each line but the last, which ends with a period
 abbrev pub land_lines : Designation → List (List ℕ) → List ℕ
 land_lines township [] = []
 land_lines township (text ∷ more) =
     heading_line township ++ join_by (λ line. line) (codes ";" ++ line_end) (text ∷ more)
     ++ codes "." ++ line_end
 
--- the township has this section, and some place of it is in the land
+-- the section is in the township, and the land contains some place of it
 abbrev pub IsSectionOfLand : ℕ → (ℕ → ℕ → ℕ → Bool) → ℕ → Type 0
 IsSectionOfLand g places section = IsSection section × HoldsSome g (places section)
 
--- the canonical text of a land of a township: its sections, by rising number, each with its list
+-- the canonical text of land in a township: its sections, by ascending number, each with its list
 pub record IsCanonicalText (g : ℕ) (township : Designation) (places : ℕ → ℕ → ℕ → Bool)
     (text : List ℕ) : Type 0 where
   pub sections : List ℕ

@@ -1,4 +1,4 @@
--- Laws of canonical texts: each is read back as its land, and there is one for each land.
+-- Laws of canonical texts: each is read back as its land, and each text belongs to only one land.
 use Rattle.std.specs.Prelude.{◌≡◌, ◌≢◌, ◌↔◌, ℕ, ◌≤◌, Bool, List, length}
 use Rattle.twp_grid.specs.Townships.{Designation, IsTownshipNumber}
 use Rattle.twp_land.specs.Lands.{no_places}
@@ -10,11 +10,11 @@ use Rattle.twp_grammar.specs.OnPlat.{IsLandOfItems}
 use Rattle.twp_spell.specs.CanonicalText.{IsCanonicalText}
 pub use Rattle.twp_grammar.specs.OnPlat.{IsTownshipLand}
 
--- the numbers of a township and of its range are such numbers
+-- the numbers of a township and of its range are valid
 abbrev pub HasTownshipNumbers : Designation → Type 0
 HasTownshipNumbers township = IsTownshipNumber township.number × IsTownshipNumber township.range
 
--- the text is a sentence, whose items lie on the plat without overlap and name this land
+-- the text is a sentence whose items lie on the plat without overlapping and name this land
 pub record NamesLand (g : ℕ) (township : Designation) (text : List ℕ) (places : ℕ → ℕ → ℕ → Bool)
     : Type 0 where
   pub tokens : List Token
@@ -23,20 +23,20 @@ pub record NamesLand (g : ℕ) (township : Designation) (text : List ℕ) (place
   pub named : HasItems tokens items
   pub land : IsLandOfItems g township items places
 
--- the canonical text of a land that isn't empty names that land
+-- the canonical text of land that is not empty names that land
 abbrev pub CanonicalTextNamesItsLand : Type 0
 CanonicalTextNamesItsLand = (g : ℕ) (township : Designation) (places : ℕ → ℕ → ℕ → Bool)
     (text : List ℕ) → HasTownshipNumbers township → IsTownshipLand g places → places ≢ no_places
     → IsCanonicalText g township places text → NamesLand g township text places
 
--- within the limit of descriptions it is read as items whose land is that land
+-- within the limit of descriptions, it is read as items whose land is that land
 abbrev pub CanonicalTextIsReadBack : Type 0
 CanonicalTextIsReadBack = (g : ℕ) (township : Designation) (places : ℕ → ℕ → ℕ → Bool)
     (text : List ℕ) → HasTownshipNumbers township → IsTownshipLand g places → places ≢ no_places
     → IsCanonicalText g township places text → length text ≤ TEXT_LIMIT
     → (items : List Item) × IsReadAs text items × IsLandOfItems g township items places
 
--- two lands of one township have the same canonical text exactly if they are the same land
+-- two sets of land in one township have the same canonical text exactly if they are the same set
 abbrev pub OneTextForEachLand : Type 0
 OneTextForEachLand = (g : ℕ) (township : Designation) (places other : ℕ → ℕ → ℕ → Bool)
     (text other_text : List ℕ) → HasTownshipNumbers township
@@ -44,7 +44,7 @@ OneTextForEachLand = (g : ℕ) (township : Designation) (places other : ℕ → 
     → IsCanonicalText g township places text → IsCanonicalText g township other other_text
     → (text ≡ other_text) ↔ (places ≡ other)
 
--- a canonical text that is read again is the canonical text of what was read
+-- if a canonical text is read, the canonical text of the land that was read is the same text
 abbrev pub CanonicalTextStaysTheSame : Type 0
 CanonicalTextStaysTheSame = (g : ℕ) (township : Designation) (places found : ℕ → ℕ → ℕ → Bool)
     (text again : List ℕ) (items : List Item) → HasTownshipNumbers township

@@ -8,7 +8,7 @@ use Rattle.twp_land.specs.FinerLands.{cut_in_four}
 use Rattle.twp_spell.specs.CanonicalText.{IsCanonicalText}
 use Rattle.twp_spell.specs.WrittenParts.{Part, IsInPart, AreWrittenParts}
 
--- what is held of a section is written as one list of parts
+-- the land in a section is written as only one list of parts
 abbrev pub OneListOfParts : Type 0
 OneListOfParts = (g : ℕ) (held : ℕ → ℕ → Bool)
     → (parts : List Part) × AreWrittenParts g held parts
@@ -21,24 +21,24 @@ WrittenPartsAreApart = (g : ℕ) (held : ℕ → ℕ → Bool) (parts : List Par
     → AllPairs (λ part other. (column row : ℕ)
     → IsInPart g part column row → ¬ IsInPart g other column row) parts
 
--- a place is held exactly where a written part holds it
+-- a place is in the land exactly if it is in a written part
 abbrev pub WrittenPartsHoldAll : Type 0
 WrittenPartsHoldAll = (g : ℕ) (held : ℕ → ℕ → Bool) (parts : List Part)
     → AreWrittenParts g held parts → (column row : ℕ) → IsPlace g column row
     → (held column row ≡ true)
     ↔ ((part : Part) × Contains parts part × IsInPart g part column row)
 
--- where each place is cut into four, the written parts are the same
+-- if each place is divided into four, the written parts are the same
 abbrev pub FinerPlacesSameParts : Type 0
 FinerPlacesSameParts = (g : ℕ) (held : ℕ → ℕ → Bool) (parts : List Part)
     → AreWrittenParts g held parts ↔ AreWrittenParts (suc g) (cut_in_four held) parts
 
--- each land of a township has one canonical text
+-- land in a township has exactly one canonical text
 abbrev pub OneCanonicalText : Type 0
 OneCanonicalText = (g : ℕ) (township : Designation) (places : ℕ → ℕ → ℕ → Bool)
     → (text : List ℕ) × IsCanonicalText g township places text
     × ((other : List ℕ) → IsCanonicalText g township places other → other ≡ text)
 
--- the empty land's canonical text is empty
+-- the canonical text of empty land is empty
 abbrev pub EmptyLandHasEmptyText : Type 0
 EmptyLandHasEmptyText = (g : ℕ) (township : Designation) → IsCanonicalText g township no_places []

@@ -1,5 +1,5 @@
-//! The written parts of a fine square, which two quarterings cut into places, and of which it is
-//! known which places are held.
+//! The written parts of a fine square, which two quarterings divide into places, given which of its
+//! places are in the land.
 ghost use Rattle.std.specs.Prelude.{◌≡◌, ◌+◌, ◌*◌, ◌≤◌, [], ◌∷◌, ℕ, Bool, List, length, None};
 ghost use Rattle.twp_grid.specs.Places.{PLACE_DIGITS};
 ghost use Rattle.twp_grid.specs.declared.block.Corner.{Corner};
@@ -14,7 +14,7 @@ use crate::part_text::{half_at, push_half_if_first};
 use crate::path::Path;
 use twp_grid::Corner;
 
-/// Adds the written parts of a fine square that isn't full. Its quarters have four places each.
+/// Adds the written parts of a fine square that is not full. Each of its quarters has four places.
 #[inline(always)]
 pub(crate) fn push_fine_square(
     full: FullQuarters,
@@ -77,8 +77,7 @@ fn push_quarter_of(
     push_places(places, &path.quarter(corner), buffer)
 }
 
-/// Adds the written parts that begin in a quarter of such a square, where none of its halves is
-/// full.
+/// Adds the written parts that begin in a quarter of such a square, if none of its halves is full.
 #[inline(always)]
 fn push_single_quarter(
     full: FullQuarters,
@@ -107,7 +106,7 @@ fn push_single_quarter(
     push_single_places(places, corner, path, buffer)
 }
 
-/// Adds the written parts of a square of four places that isn't full.
+/// Adds the written parts of a square of four places that is not full.
 #[inline(never)]
 fn push_places(full: FullQuarters, path: &Path, buffer: &mut PartBuffer)
     requires { length buffer.old + 4 * PART_MOST ≤ BUFFER_MOST }
@@ -145,8 +144,8 @@ fn push_place(full: FullQuarters, corner: Corner, path: &Path, buffer: &mut Part
     }
 }
 
-/// Adds the written parts of a quarter of such a square, where none of the quarter's halves is
-/// full: the places that are held.
+/// Adds the written parts of a quarter of such a square, if none of the quarter's halves is full:
+/// the places in the land.
 #[inline(always)]
 fn push_single_places(full: FullQuarters, outer: Corner, path: &Path, buffer: &mut PartBuffer)
     requires { length buffer.old + 4 * PART_MOST ≤ BUFFER_MOST }
@@ -165,7 +164,7 @@ fn push_single_places(full: FullQuarters, outer: Corner, path: &Path, buffer: &m
     push_single_place(full, Corner::SE, outer, path, buffer);
 }
 
-/// Adds a place of such a quarter, if it is held.
+/// Adds a place of such a quarter, if it is in the land.
 #[inline(always)]
 fn push_single_place(
     full: FullQuarters,

@@ -3,7 +3,8 @@ ghost use Rattle.twp_spell.specs.steps.Spelling.{full_at, all_of, chosen_of};
 
 use twp_grid::{Corner, Side};
 
-/// Which quarters of a square are full: each place is held and none is of a lot.
+/// Which quarters of a square are full, that is, consist of places in the land that belong to no
+/// lot.
 #[derive(Clone, Copy)]
 pub struct FullQuarters {
     pub ne: bool,
@@ -26,7 +27,7 @@ impl FullQuarters {
         }
     }
 
-    /// Whether all are full.
+    /// Whether all quarters are full.
     #[inline(always)]
     pub fn all(self) -> bool
         ensures { result ≡ all_of self }
@@ -34,8 +35,8 @@ impl FullQuarters {
         self.ne && self.nw && self.sw && self.se
     }
 
-    /// Whether both quarters of some half are full: each half has one of two opposite quarters, and
-    /// one of the other two.
+    /// Whether both quarters of some half are full: every half has one of two opposite quarters,
+    /// and one of the other two.
     #[inline(always)]
     pub fn has_half(self) -> bool
         ensures { result ≡ is_some (chosen_of self) }
@@ -43,8 +44,8 @@ impl FullQuarters {
         (self.ne || self.sw) && (self.nw || self.se)
     }
 
-    /// Of a square that isn't full, the half that is written as one part: the first, in the order
-    /// north, south, east and west, of which both quarters are full.
+    /// The half of a square that is written as one part, if the square is not full: the first, in
+    /// the order north, south, east, and west, whose quarters are both full.
     #[inline(always)]
     pub fn chosen_half(self) -> Option<Side>
         ensures { result ≡ chosen_of self }

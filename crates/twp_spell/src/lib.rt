@@ -1,5 +1,5 @@
-//! The canonical text of a land: the parts that each section's land is written as, and the one text
-//! that is written of a land, which is read back as that land.
+//! The canonical text of land: the parts that the land in each section is written as, and the text
+//! of the whole, which is read back as that land.
 #![tactic(auto)]
 
 mod fine_parts;

@@ -9,23 +9,24 @@ use std::alloc::AllocError;
 use std::marker::Model;
 use twp_grid::{Corner, Side};
 
-/// The bytes of a half after a comma.
+/// The length of a half after a comma, in bytes.
 const HALF_BYTES: usize = 6;
 
-/// The bytes of a quarter after a comma.
+/// The length of a quarter after a comma, in bytes.
 const QUARTER_BYTES: usize = 7;
 
-/// The bytes that are kept of a place: a quarter after a comma, the quarter that it is of, and a
-/// path.
+/// The bytes that are kept for a place: a quarter after a comma, the quarter that contains it, and
+/// a path.
 const PLACE_BYTES: usize = QUARTER_BYTES + PATH_QUARTER_BYTES + PATH_BYTES;
 
-/// The places along a side of a fine square: two quarterings cut it into its places.
+/// The number of places along a side of a fine square, which two quarterings divide into its
+/// places.
 pub(crate) const FINE_SIDE: u8 = 1 << 2;
 
-/// The bytes of as many parts as a fine square has places.
+/// The length of as many parts as a fine square has places, in bytes.
 const BUFFER_BYTES: usize = FINE_SIDE as usize * FINE_SIDE as usize * PLACE_BYTES;
 
-/// Parts as they are written, each after a comma. No memory is taken for them.
+/// Parts as they are written, each after a comma. They need no allocation.
 #[derive(Drop)]
 pub(crate) struct PartBuffer {
     bytes: [u8; BUFFER_BYTES],
@@ -45,7 +46,7 @@ impl Model for PartBuffer {
 }
 
 impl PartBuffer {
-    /// No parts yet.
+    /// No parts.
     #[inline(always)]
     pub(crate) fn new() -> PartBuffer
         ensures { result ≡ [] }
@@ -56,9 +57,8 @@ impl PartBuffer {
         }
     }
 
-    /// Adds a quarter of the square that a path reaches. All bytes that are kept of the path are
-    /// copied, since a copy of a known length is quick; the next part is written over those after
-    /// the path's end.
+    /// Adds a quarter of the square that a path reaches. All bytes of the path are copied, because
+    /// a copy of a known length is fast; the next part overwrites those after the path's end.
     #[inline(always)]
     pub(crate) fn push_quarter(&mut self, corner: Corner, path: &Path)
         requires { length self.old + PART_MOST ≤ BUFFER_MOST }

@@ -1,4 +1,4 @@
-//! A square's written half, and its written quarter.
+//! The half and the quarters of a square, as they are written.
 ghost use Rattle.std.specs.Prelude.{◌≡◌, ◌↔◌, ◌+◌, ◌++◌, ◌≤◌, Some, length, IsTrue, OnOk};
 ghost use Rattle.std.specs.Prelude.{MatchOption, codes};
 ghost use Rattle.twp_grammar.specs.declared.item.Step.TheVariants.{Half, Quarter};
@@ -11,7 +11,7 @@ use crate::path::Path;
 use std::alloc::AllocError;
 use twp_grid::{Corner, Side};
 
-/// The chosen half that a quarter lies in, if it does.
+/// The chosen half, if the quarter lies in it.
 #[inline(always)]
 pub(crate) fn half_at(chosen: Option<Side>, corner: Corner) -> Option<Side>
     ensures { MatchOption result
@@ -27,7 +27,7 @@ pub(crate) fn half_at(chosen: Option<Side>, corner: Corner) -> Option<Side>
     None
 }
 
-/// Adds a half, where this is the first of its quarters.
+/// Adds a half, if this is the first of its quarters.
 #[inline(always)]
 pub(crate) fn push_half_if_first(side: Side, corner: Corner, path: &Path, buffer: &mut PartBuffer)
     requires { length buffer.old + PART_MOST ≤ BUFFER_MOST }
@@ -41,7 +41,7 @@ pub(crate) fn push_half_if_first(side: Side, corner: Corner, path: &Path, buffer
     }
 }
 
-/// Appends a half, where this is the first of its quarters.
+/// Appends a half, if this is the first of its quarters.
 #[inline(never)]
 pub(crate) fn write_half_if_first(
     side: Side,

@@ -7,14 +7,13 @@ ghost use Rattle.twp_grammar.specs.declared.item.Step.TheVariants.{Quarter};
 use std::marker::Model;
 use twp_grid::{Corner, PLACE_DIGITS};
 
-/// The bytes of one quarter.
+/// The length of one quarter in bytes.
 pub(crate) const PATH_QUARTER_BYTES: usize = 5;
 
-/// The bytes of the longest path that stands after a part: that of a place, without its own
-/// quarter.
+/// The length of the longest path after a part in bytes: that of a place, without its own quarter.
 pub(crate) const PATH_BYTES: usize = PATH_QUARTER_BYTES * (PLACE_DIGITS - 1);
 
-/// The quarters that reach a square, smallest first, as `NE1/4SW1/4`. No memory is taken for them.
+/// The quarters that reach a square, smallest first, such as `NE1/4SW1/4`. They need no allocation.
 #[derive(Drop)]
 pub(crate) struct Path {
     text: [u8; PATH_BYTES],
@@ -34,7 +33,7 @@ impl Model for Path {
 }
 
 impl Path {
-    /// The path of the section, which no quarter reaches.
+    /// The path of the section itself, without quarters.
     pub(crate) fn whole() -> Path
         ensures { result ≡ [] }
     {
@@ -44,7 +43,7 @@ impl Path {
         }
     }
 
-    /// The path of a quarter of the square. What is longer than the bytes that are kept loses its end.
+    /// The path of a quarter of the square. If it is too long to be kept, its end is cut off.
     #[inline(always)]
     pub(crate) fn quarter(&self, corner: Corner) -> Path
         ensures { result ≡ take PATH_MOST (step_text (Quarter corner) ++ self.now) }
@@ -56,7 +55,7 @@ impl Path {
         Path { text, len }
     }
 
-    /// How many bytes the path has.
+    /// The length of the path in bytes.
     #[inline(always)]
     pub(crate) fn len(&self) -> usize
         ensures value { result ≡ length self.now }
@@ -65,7 +64,7 @@ impl Path {
         self.len
     }
 
-    /// The path's bytes, followed by others.
+    /// The path's bytes, with other bytes after them.
     #[inline(always)]
     pub(crate) fn bytes(&self) -> &[u8; PATH_BYTES]
         ensures { take (length self.now) result.now ≡ self.now }

@@ -1,4 +1,4 @@
-//! The canonical text of a land: its sections by rising number, each with its lots and its parts.
+//! The canonical text of land: its sections by ascending number, each with its lots and its parts.
 ghost use Rattle.std.specs.Prelude.{◌≡◌, ◌+◌, ◌++◌, ◌<◌, [], OnOk, IfOk, codes, decimal};
 ghost use Rattle.twp_grid.specs.Places.{PLACE_DIGITS};
 ghost use Rattle.twp_spell.specs.Listing.{AreListed};
@@ -13,10 +13,10 @@ use std::alloc::{AllocError, Global};
 use twp_grid::{Block, EastWest, NorthSouth, SECTIONS, Section, Township, lot_count};
 use twp_land::Land;
 
-/// The canonical text of a land of a township, such as `T. 2 N., R. 3 W.,` and, on the next line,
-/// `sec. 14, N1/2, SE1/4.`: its sections by rising number, each with `all` or with the lots and the
-/// aliquot parts that are held. The empty land's text is empty. A lot is named where some place of
-/// it is held.
+/// The canonical text of land in a township, such as `T. 2 N., R. 3 W.,` and, on the next line,
+/// `sec. 14, N1/2, SE1/4.`: its sections by ascending number, each with `all` or with the lots and
+/// aliquot parts in the land. The text of empty land is empty. A lot is named if the land contains
+/// some place of it.
 pub fn spell<L: Land>(alloc: Global, land: &L, township: Township) -> Result<Vec<u8>, AllocError>
     ensures text { IfOk result
         (λ text. IsCanonicalText PLACE_DIGITS township (L.places land.now) text.items) }
@@ -30,7 +30,7 @@ pub fn spell<L: Land>(alloc: Global, land: &L, township: Township) -> Result<Vec
     Ok(text)
 }
 
-/// Appends a section after those before it, where some place of it is held.
+/// Appends a section after those before it, if the land contains some place of it.
 fn write_if_held<L: Land>(
     alloc: Global,
     land: &L,
@@ -49,7 +49,7 @@ fn write_if_held<L: Land>(
     write_section(alloc, land, section, text)
 }
 
-/// Appends what comes before a section: the heading's line, or the end of the line before.
+/// Appends the text before a section: the heading's line, or the end of the previous line.
 fn write_lead(township: Township, text: &mut Vec<u8>) -> Result<(), AllocError>
     ensures first { text.old.items ≡ []
         → OnOk result (text.new.items ≡ heading_line township) }
@@ -63,7 +63,7 @@ fn write_lead(township: Township, text: &mut Vec<u8>) -> Result<(), AllocError>
     text.extend_from_slice(b"\n")
 }
 
-/// Appends the end of the last line, where there is a line.
+/// Appends the end of the last line, if there are any lines.
 fn write_end(text: &mut Vec<u8>) -> Result<(), AllocError>
     ensures none { text.old.items ≡ [] → OnOk result (text.new.items ≡ []) }
     ensures some { ¬ (text.old.items ≡ [])
@@ -112,7 +112,7 @@ fn east_west_name(direction: EastWest) -> &'static [u8]
     }
 }
 
-/// Appends a section of which some place is held, with its list.
+/// Appends a section that the land meets, with its list.
 fn write_section<L: Land>(
     alloc: Global,
     land: &L,
@@ -131,14 +131,14 @@ fn write_section<L: Land>(
     write_parts(land, section, text)
 }
 
-/// Appends the list of a section that is held whole, after a comma.
+/// Appends the list of a section that the land contains wholly, after a comma.
 fn write_all(text: &mut Vec<u8>) -> Result<(), AllocError>
     ensures { OnOk result (text.new.items ≡ text.old.items ++ codes ", all") }
 {
     text.extend_from_slice(b", all")
 }
 
-/// Appends the lots of a section that are held, as `, lot 3` or `, lots 1, 2, 4`.
+/// Appends the lots of a section that are in the land, such as `, lot 3` or `, lots 1, 2, 4`.
 fn write_held_lots<L: Land>(
     alloc: Global,
     land: &L,
@@ -152,7 +152,7 @@ fn write_held_lots<L: Land>(
     write_lots(&lots, text)
 }
 
-/// The lots of a section of which some place is held, by rising number.
+/// The lots of a section that the land meets, by ascending number.
 pub fn held_lots<L: Land>(alloc: Global, land: &L, section: Section) -> Result<Vec<u8>, AllocError>
     ensures { IfOk result (λ lots.
         AreListed (IsLotHeld PLACE_DIGITS section (L.places land.now section)) ◌<◌ lots.items) }
@@ -184,7 +184,7 @@ fn write_lots(lots: &[u8], text: &mut Vec<u8>) -> Result<(), AllocError>
     Ok(())
 }
 
-/// What comes before the numbers of this many lots.
+/// The text before the numbers of this many lots.
 fn lots_lead(count: usize) -> &'static [u8]
     ensures one { count ≡ 1 → result.now ≡ codes ", lot " }
     ensures several { ¬ (count ≡ 1) → result.now ≡ codes ", lots " }

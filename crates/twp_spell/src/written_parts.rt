@@ -19,8 +19,8 @@ use std::alloc::AllocError;
 use twp_grid::{Block, Corner, PLACES_TO_POSITION, Section, lot_at};
 use twp_land::{Land, holds_of_lot};
 
-/// Appends the written parts of what a land holds of a section off its lots, each after a comma.
-/// The section isn't held whole.
+/// Appends the written parts of the land in a section off its lots, each after a comma. The land
+/// does not contain the whole section.
 pub(crate) fn write_parts<L: Land>(
     land: &L,
     section: Section,
@@ -34,7 +34,7 @@ pub(crate) fn write_parts<L: Land>(
     write_square(land, section, Block::whole(), &Path::whole(), text)
 }
 
-/// Appends the written parts of a square that isn't full, each after a comma.
+/// Appends the written parts of a square that is not full, each after a comma.
 #[cycle(descent)]
 fn write_square<L: Land>(
     land: &L,
@@ -65,7 +65,7 @@ fn write_square<L: Land>(
     write_quarter(land, section, block, full, Corner::SE, path, text)
 }
 
-/// Appends the written parts that begin in a quarter of a square that isn't full.
+/// Appends the written parts that begin in a quarter of a square that is not full.
 #[cycle(descent)]
 #[inline(always)]
 fn write_quarter<L: Land>(
@@ -95,8 +95,8 @@ fn write_quarter<L: Land>(
         return write_full_quarter(corner, path, text);
     }
     let quarter = block.quarter(corner).unwrap();
-    // A place can't be cut further. None comes here, since a fine square is written by itself; the
-    // tests show that the descent ends without a word on fine squares.
+    // A place cannot be divided further. None gets here, because fine squares are written
+    // separately; the tests show that on fine squares this descent ends and writes nothing.
     if quarter.width() == 1 {
         return Ok(());
     }
@@ -106,8 +106,8 @@ fn write_quarter<L: Land>(
     write_square(land, section, quarter, &path.quarter(corner), text)
 }
 
-/// Appends the written parts of a fine square that isn't full, of which each place is asked for. It
-/// lies in one position.
+/// Appends the written parts of a fine square that is not full, testing each of its places. It lies
+/// in one position.
 #[inline(never)]
 fn write_fine_square<L: Land>(
     land: &L,
@@ -167,7 +167,7 @@ fn full_quarters<L: Land>(land: &L, section: Section, block: Block) -> FullQuart
     }
 }
 
-/// Which of four places are held. The south-eastern one has this column and row.
+/// Which of four places are in the land. The one in the southeast has this column and row.
 #[inline(always)]
 fn held_places<L: Land>(land: &L, section: Section, column: u8, row: u8) -> FullQuarters
     requires column { column + 1 < places_across PLACE_DIGITS }
@@ -185,7 +185,7 @@ fn held_places<L: Land>(land: &L, section: Section, column: u8, row: u8) -> Full
     }
 }
 
-/// Whether each place of a quarter of a block is held and none is of a lot.
+/// Whether a quarter of a block consists of places in the land that belong to no lot.
 #[inline(always)]
 fn quarter_is_full<L: Land>(land: &L, section: Section, block: Block, corner: Corner) -> bool
     requires { CanQuarter block }
@@ -197,7 +197,7 @@ fn quarter_is_full<L: Land>(land: &L, section: Section, block: Block, corner: Co
     is_full(land, section, block.quarter(corner).unwrap())
 }
 
-/// Whether each place of a block is held and none is of a lot.
+/// Whether a block consists of places in the land that belong to no lot.
 #[inline(always)]
 fn is_full<L: Land>(land: &L, section: Section, block: Block) -> bool
     ensures { (part : Part) → IsBlockOf PLACE_DIGITS part block

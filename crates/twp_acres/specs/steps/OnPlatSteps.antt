@@ -1,5 +1,5 @@
--- What the runs are made of: what they read, and their answers on the plat of the notes. No public
--- promise speaks of it.
+-- The steps of the runs: what they read, and their answers on the plat of the notes. No public
+-- contract cites this module.
 use Rattle.std.specs.Prelude.{◌≡◌, ℕ, List, Result, Ok, Err}
 use Rattle.twp_plat.specs.Plats.{TownshipPlat}
 use Rattle.twp_area.specs.declared.account.Account.{Account}
@@ -18,7 +18,7 @@ abbrev pub IsTextRead : {V : Type 0} → (V → List ℕ) → List ℕ → Resul
 IsTextRead items description (Ok text) = items text ≡ description
 IsTextRead items description (Err stopped) = IfRefused stopped (IsNoText description)
 
--- the plat of the notes, and the bytes of the description; or the refusal of the two
+-- the plat of the notes, and the bytes of the description; or the refusal of the two texts
 abbrev pub AreRead : List ℕ → List ℕ → Result Texts Stop → Type 0
 AreRead notes description (Ok read) =
     ArePlatted notes read.plat × (read.description.items ≡ description)

@@ -1,4 +1,5 @@
--- What the stages of a run come to, and how a stop is answered. No public promise speaks of it.
+-- The results of the stages of a run, and how a stop is answered. No public contract cites this
+-- module.
 use Rattle.std.specs.Prelude.{◌≡◌, ℕ, Bool, List, Result, Ok, Err, ⊤}
 use Rattle.twp_grid.specs.Townships.{Designation}
 use Rattle.twp_acres.specs.Answers.{Describe, IsNoDescription}
@@ -11,7 +12,7 @@ use Rattle.twp_acres.specs.declared.verdict.RunFault.TheVariants as run
 use Rattle.twp_acres.specs.declared.stop.Stop.{Stop}
 use Rattle.twp_acres.specs.declared.stop.Stop.TheVariants as stop
 
--- the stop is a refusal, or this holds of its fault
+-- the stop is a refusal, or its fault has this property
 abbrev pub IfFailed : Stop → (RunFault → Type 0) → Type 0
 IfFailed (stop.Refused refusal) Holds = ⊤
 IfFailed (stop.Failed fault) Holds = Holds fault
@@ -23,7 +24,7 @@ IsDescribed places township description (Ok land) = Describe township descriptio
 IsDescribed places township description (Err stopped) =
     IfRefused stopped (IsNoDescription township description)
 
--- a stop is answered by its refusal, unless memory runs out, or by its fault
+-- the answer for a stop is its refusal, unless memory runs out, or its fault
 abbrev pub AnswersStop : Stop → Result Answer RunFault → Type 0
 AnswersStop (stop.Refused refusal) (Ok answer) =
     (answer.text.items ≡ refusal_line refusal) × (answer.verdict ≡ verdict.Refused refusal)

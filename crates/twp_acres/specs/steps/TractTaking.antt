@@ -1,5 +1,5 @@
--- How an account grows by one tract, and why the next record is refused. No public promise speaks
--- of it.
+-- How an account grows by one tract, and why the next record is refused. No public contract cites
+-- this module.
 use Rattle.std.specs.Prelude.{◌≡◌, ℕ, ◌+◌, ◌-◌, ◌≤◌, ◌<◌, ◌||◌, Bool, true, false}
 use Rattle.std.specs.Prelude.{List, ◌++◌, length, ⊤}
 use Rattle.std.specs.Str.{bytes_eq}
@@ -27,14 +27,14 @@ use Rattle.twp_acres.specs.declared.stop.Stop.TheVariants as stop
 use Rattle.twp_acres.specs.declared.tract_fault.TractFault.{TractFault}
 use Rattle.twp_acres.specs.declared.tract_fault.TractFault.TheVariants as fault
 
--- what an account of tracts has: their names, all their places, their figures and their lines
+-- the parts of an account of tracts: their names, all their places, their figures, and their lines
 pub record Tally : Type 0 where
   pub names : Names
   pub places : ℕ → ℕ → ℕ → Bool
   pub totals : Totals
   pub text : List ℕ
 
--- the tally of an account, whose land holds these places
+-- the tally of an account, given the places of its land
 abbrev pub tally_of : {L : Type 0} → (L → ℕ → ℕ → ℕ → Bool) → RunningAccount L → Tally
 tally_of places account = record {
   names = account.names;
@@ -49,7 +49,7 @@ pub record AreTotals (plat : TownshipPlat) (places : ℕ → ℕ → ℕ → Boo
   pub total_is : IsLandArea PLACE_DIGITS plat places totals.total
   pub remaining_is : IsLandArea PLACE_DIGITS plat (other_places places) totals.remaining
 
--- the figures after so much was taken from what remained
+-- the figures after this area was subtracted from the remaining one
 pub record TakesArea (area : Fraction) (old new : Totals) : Type 0 where
   pub total_is : new.total.units ≡ old.total.units + area.units
   pub remaining_is : new.remaining.units ≡ old.remaining.units - area.units
@@ -72,18 +72,18 @@ pub record TakesTract (plat : TownshipPlat) (fields : Fields) (old new : Tally) 
   pub totals_are : AreTotals plat new.places new.totals
   pub text_is : new.text ≡ old.text ++ tract_line (name_in fields) hundredths
 
--- a place that the tally has is in the record's land
+-- the record's land contains a place of the tally
 pub record OverlapsTally (township : Designation) (fields : Fields) (tally : Tally) : Type 0 where
   pub more : ℕ → ℕ → ℕ → Bool
   pub land : Describe township (description_in fields) more
   pub shared : SharePlace tally.places more
 
--- the record is a tract's, with a name that the tally doesn't have
+-- the record is a tract's, with a name that is not in the tally
 abbrev pub IsNamedAnew : Fields → Tally → Type 0
 IsNamedAnew fields tally =
     IsTractRecord fields × (has_name tally.names (name_in fields) ≡ false)
 
--- the numbered record isn't taken, for this fault and none before it
+-- the numbered record is refused: this is why, and no earlier reason applies
 abbrev pub IsTractRefused : Designation → Fields → Tally → ℕ → TractFault → Type 0
 IsTractRefused township fields tally number (fault.TractRow at_) =
     (at_ ≡ number) × ¬ IsTractRecord fields
@@ -97,12 +97,12 @@ IsTractRefused township fields tally number (fault.TractsOverlap at_) =
 IsTractRefused township fields tally number fault.Memory = ⊤
 IsTractRefused township fields tally number other = ⊥
 
--- the fault of the numbered record whose description stopped for this
+-- the fault of the numbered record, whose description stopped for this reason
 abbrev pub fault_of_stop : Stop → ℕ → TractFault
 fault_of_stop (stop.Refused inner) number = fault.TractRefused number inner
 fault_of_stop (stop.Failed failed) number = fault.Memory
 
--- the tally is that of the first so many records, which are tracts
+-- the tally is that of the first records, up to this number, which are tracts
 pub record IsTallyOf (plat : TownshipPlat) (rows : List Fields) (count : ℕ) (tally : Tally)
     : Type 0 where
   pub tracts : AreTracts plat.township rows count
@@ -117,7 +117,7 @@ pub record IsTallyOf (plat : TownshipPlat) (rows : List Fields) (count : ℕ) (t
   pub lines_are : AreTractLines plat rows count lines
   pub text_is : tally.text ≡ text_of lines
 
--- the lines of the figures of all tracts and of the other places were appended
+-- the lines of the figures of all tracts and of all other places were appended
 pub record EndsAccount (plat : TownshipPlat) (places : ℕ → ℕ → ℕ → Bool) (old new : List ℕ)
     : Type 0 where
   pub total : ℕ
@@ -126,7 +126,7 @@ pub record EndsAccount (plat : TownshipPlat) (places : ℕ → ℕ → ℕ → B
   pub remaining_is : AreHundredthsOf plat (other_places places) remaining
   pub text_is : new ≡ old ++ total_lines total remaining
 
--- so many of the records are tracts, and the next one isn't taken, for its first fault
+-- this many of the records are tracts, and the next one is refused for its first fault
 pub record IsNextRefused (township : Designation) (rows : List Fields) (tract_fault : TractFault)
     : Type 0 where
   pub index : ℕ
@@ -137,7 +137,7 @@ pub record IsNextRefused (township : Designation) (rows : List Fields) (tract_fa
   pub first : (other : TractFault) → HasAt township rows index other
       → turn_of tract_fault ≤ turn_of other
 
--- the records are one tract too many, or one of them is refused, or memory ran out
+-- there is one tract too many, or one of the records is refused, or memory ran out
 abbrev pub AreTractsRefused : Designation → List Fields → TractFault → Type 0
 AreTractsRefused township rows fault.TooManyTracts =
     (TRACTS_MOST < length rows) × AreTracts township rows TRACTS_MOST

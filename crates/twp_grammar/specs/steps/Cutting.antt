@@ -1,6 +1,6 @@
--- How the reader cuts the first token off bytes that begin with no white space. No public promise
--- speaks of it; proofs/Cuts shows that it is the one token that the bytes begin with. Past the end
--- a byte is read as 0.
+-- How the reader splits off the first token of bytes that do not begin with white space. No public
+-- contract cites this module; proofs/Cuts shows that it is the only token that the bytes begin
+-- with. After the end, a byte is read as 0.
 use Rattle.std.specs.Prelude.{◌==◌, ◌&&◌, ℕ, Bool, not, ◌+◌, ◌<◌, ◌≤◌, nat_le, List, length, take, drop}
 use Rattle.std.specs.Prelude.{Option, Some, None, slice_index, if◌then◌else◌}
 use Rattle.std.specs.Char.{is_ascii_alphabetic, is_ascii_digit, to_ascii_lowercase}
@@ -21,7 +21,7 @@ lexeme kind size = record { kind = kind; size = size }
 abbrev pub small_letter : ℕ → Option ℕ
 small_letter byte = if is_ascii_alphabetic byte then Some (to_ascii_lowercase byte) else None
 
--- a byte that is no white space
+-- a byte that is not white space
 abbrev pub is_dark : ℕ → Bool
 is_dark byte = not (is_white byte)
 
@@ -29,22 +29,22 @@ is_dark byte = not (is_white byte)
 abbrev pub letters_in_front : List ℕ → ℕ
 letters_in_front bytes = prefix_len is_ascii_alphabetic bytes
 
--- the word of all the letters at the start
+-- the word of all letters at the start
 unfoldable pub cut_word : List ℕ → Lexeme
 cut_word bytes =
     lexeme (kind_of_word (take (letters_in_front bytes) bytes)) (letters_in_front bytes)
 
--- what this many digits are
+-- the kind of this many digits
 abbrev pub numeral_of : ℕ → List ℕ → Lexeme
 numeral_of size bytes =
     if nat_le size 4 then lexeme (Number (digits_value 10 (take size bytes))) size
     else lexeme BadNumber size
 
--- the number of all the digits at the start
+-- the number of all digits at the start
 unfoldable pub cut_number : List ℕ → Lexeme
 cut_number bytes = numeral_of (prefix_len is_ascii_digit bytes) bytes
 
--- the bytes begin with 1, / and this one
+-- the bytes begin with 1, /, and this byte
 abbrev pub one_over : List ℕ → ℕ → Bool
 one_over bytes last =
     (slice_index bytes 0 == 49) && (slice_index bytes 1 == 47) && (slice_index bytes 2 == last)
@@ -74,13 +74,13 @@ cut bytes =
     else if is_ascii_digit (slice_index bytes 0) then cut_digits bytes
     else cut_mark (slice_index bytes 0) (slice_index bytes 1)
 
--- the token that follows a place of a text, after any white space
+-- the next token after a place in a text, after any white space
 pub record IsFirstIn (text : List ℕ) (from : ℕ) (token : Token) : Type 0 where
   pub starts : StartsWith from (drop from text) token (drop (token.at + length token.text) text)
   pub further : from < token.at + length token.text
   pub within : token.at + length token.text ≤ length text
 
--- the first token of a text from a place on, or None where that is white space
+-- the first token of a text from a place on, or None if the rest is white space
 abbrev pub GivesFirst : List ℕ → ℕ → Option Piece → Type 0
 GivesFirst text from None = AllPass is_white (drop from text)
 GivesFirst text from (Some token) = IsFirstIn text from (seen token)

@@ -1,4 +1,4 @@
--- Which sections stand in the western column, by their numbers.
+-- Which sections are in the western column, by their numbers.
 use Rattle.std.specs.Prelude.{ℕ, ◌==◌, ◌||◌, Bool}
 
 -- the sections of the western column

@@ -6,11 +6,11 @@ use Rattle.twp_grid.specs.Places.{PLACE_DIGITS, places_across}
 use Rattle.twp_grid.specs.Spans.{Rectangle, in_rectangle}
 use Rattle.twp_grid.specs.Totals.{one_where}
 
--- a lane has a bit for each column
+-- the number of bits in a lane: one for each column
 abbrev pub LANE_BITS : ℕ
 LANE_BITS = places_across PLACE_DIGITS
 
--- a lane of so many bits for each row, and in it the bits of the columns that the block has there
+-- a lane with this many bits for each row, with the bits of the block's columns in the block's rows
 pub record AreBlockLanes (block : Rectangle) (lanes : List ℕ) : Type 0 where
   pub count : length lanes ≡ places_across PLACE_DIGITS
   pub below : (row : ℕ) → row < places_across PLACE_DIGITS

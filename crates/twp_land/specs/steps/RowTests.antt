@@ -1,21 +1,21 @@
--- What is done to rows of tests.
+-- Operations on rows of tests.
 use Rattle.std.specs.Prelude.{◌≡◌, ℕ, ◌+◌, ◌<◌, ◌&&◌, ◌||◌, not, Bool, true, false}
 use Rattle.std.specs.Prelude.{List, [], length, slice_index_or}
 use Rattle.twp_grid.specs.Places.{PLACE_DIGITS, places_across}
 use Rattle.twp_grid.specs.Spans.{Span, in_span, Rectangle}
 use Rattle.twp_grid.specs.Totals.{total, one_where}
 
--- of a row's tests from a start, some holds
+-- some of a row's tests in a span is true
 abbrev pub SomeHeld : List Bool → ℕ → ℕ → Type 0
 SomeHeld row start len =
     (along : ℕ) × (along < len) × (slice_index_or row (start + along) false ≡ true)
 
--- of a row's tests from a start, each holds
+-- each of a row's tests in a span is true
 abbrev pub EachHeld : List Bool → ℕ → ℕ → Type 0
 EachHeld row start len =
     (along : ℕ) → along < len → slice_index_or row (start + along) false ≡ true
 
--- how many hold
+-- how many tests are true
 abbrev pub count_in_row : List Bool → ℕ → ℕ → ℕ
 count_in_row row start len = total len (λ along. one_where (slice_index_or row (start + along) false))
 
@@ -48,18 +48,18 @@ pub record AreCleared (rows : List (List Bool)) (block : Rectangle) (cleared : L
   pub outside : (row : ℕ) → row < places_across PLACE_DIGITS → in_span block.rows row ≡ false
       → slice_index_or cleared row [] ≡ slice_index_or rows row []
 
--- some test holds in both rows
+-- some test is true in both rows
 abbrev pub ShareInRow : List Bool → List Bool → Type 0
 ShareInRow row other = (column : ℕ) × (column < places_across PLACE_DIGITS)
     × (slice_index_or row column false ≡ true) × (slice_index_or other column false ≡ true)
 
--- each test holds where it does in either row
+-- each test is true exactly if it is true in either row
 abbrev pub IsJoined : List Bool → List Bool → List Bool → Type 0
 IsJoined row other joined = (column : ℕ) → column < places_across PLACE_DIGITS
     → slice_index_or joined column false
     ≡ (slice_index_or row column false || slice_index_or other column false)
 
--- each test holds where it does in both rows
+-- each test is true exactly if it is true in both rows
 abbrev pub IsCommon : List Bool → List Bool → List Bool → Type 0
 IsCommon row other common = (column : ℕ) → column < places_across PLACE_DIGITS
     → slice_index_or common column false

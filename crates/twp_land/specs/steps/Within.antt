@@ -1,4 +1,4 @@
--- What is kept lies in the township: the proofs of the law of `Land` and `Plot`.
+-- Stored sets lie in the township: the proofs of the law of `Land` and `Plot`.
 use Rattle.std.proofs.Common.{◌≡◌, ℕ, ◌-◌, Bool, true, false, List, Option, Some, None, nat_le}
 use Rattle.std.proofs.Common.{nat_lt, arith}
 use Rattle.std.specs.List.{slice_get}
@@ -18,19 +18,19 @@ place_of column row place =
     let parts = and_parts below_width below_height place in
     (grind (arith, nat_tests), grind (arith, nat_tests))
 
--- what is kept as rows lies in the section
+-- a set stored as rows lies in the section
 pub row_within : (rows : List (List Bool)) (column row : ℕ)
     → held_by_row rows column row ≡ true → IsPlace PLACE_DIGITS column row
 row_within rows column row held =
     place_of column row (and_parts (is_place PLACE_DIGITS column row) _ held).0
 
--- what is kept as lanes lies in the section
+-- a set stored as lanes lies in the section
 pub lane_within : (lanes : List ℕ) (column row : ℕ)
     → held_by_lane lanes column row ≡ true → IsPlace PLACE_DIGITS column row
 lane_within lanes column row held =
     place_of column row (and_parts (is_place PLACE_DIGITS column row) _ held).0
 
--- what is kept by section is a section's, and what its part holds
+-- a set stored by section contains only places of a section, which its part there contains
 pub held_within : {P : Type 0} (held : P → ℕ → ℕ → Bool) (plots : List P) (section column row : ℕ)
     → ((plot : P) (column row : ℕ) → held plot column row ≡ true → IsPlace PLACE_DIGITS column row)
     → held_by_section held plots section column row ≡ true

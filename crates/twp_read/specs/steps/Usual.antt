@@ -1,5 +1,6 @@
 -- What the reader takes as a whole, though it is several tokens. No public promise speaks of it.
-use Rattle.std.specs.Prelude.{◌≡◌, ◌⊎◌, ◌≤◌, ◌<◌, ℕ, ◌+◌, true, List, [], ◌∷◌, ◌++◌, Option, Some, None}
+use Rattle.std.specs.Prelude.{◌≡◌, ◌⊎◌, ◌≤◌, ◌<◌, ◌==◌, ◌||◌, ◌&&◌, ℕ, ◌+◌, Bool, true, false, List, [], ◌∷◌}
+use Rattle.std.specs.Prelude.{◌++◌, Option, Some, None}
 use Rattle.std.specs.Prelude.{length}
 use Rattle.std.specs.Prelude.{drop}
 use Rattle.std.specs.List.{prefix_len}
@@ -17,23 +18,37 @@ use Rattle.twp_read.specs.declared.usual.list.Listed.{Listed}
 use Rattle.twp_read.specs.declared.usual.list.Listed.TheVariants as listed
 use Rattle.twp_grammar.specs.declared.state.State.{State}
 use Rattle.twp_grammar.specs.declared.state.State.TheVariants as past
-use Rattle.twp_grammar.specs.Tokens.{Token, StartsWith, HasTokens, is_white, kind_among, words}
+use Rattle.twp_grammar.specs.Tokens.{Token, StartsWith, HasTokens, is_white, begins_with, kind_among, words}
 use Rattle.twp_grammar.specs.steps.Cutting.{small_letter}
 use Rattle.twp_grammar.specs.declared.item.Numeral.{Numeral}
 use Rattle.twp_grammar.specs.Grammar.{number}
 use Rattle.twp_grammar.specs.Machine.{next}
 use Rattle.twp_read.specs.steps.TokenSteps.{run, take_number}
 use Rattle.twp_read.specs.steps.BadTokens.{NoneBad}
+use Rattle.twp_read.specs.declared.reached.Reached.{Reached}
+use Rattle.twp_read.specs.declared.watch.ListWord.{ListWord}
+use Rattle.twp_read.specs.declared.watch.ListWord.TheVariants as word
+use Rattle.twp_read.specs.steps.Watching.{AreUsual, is_step, is_section, is_heading, end_from}
+pub use Rattle.twp_read.specs.Doubts.{end_of}
 
--- The tokens of a text between two places lead the machine from a state and items to others.
+-- The tokens of a text between two places lead the machine from a state and items to others. None of them is
+-- left to the reader's loop, and no white space follows the last one if it ends a step.
 pub record Leads (text : List ℕ) (at : ℕ) (state : State) (items : List Item)
     (to : ℕ) (behind : State) (grown : List Item) : Type 0 where
   pub tokens : List Token
   pub cut : (left : List Token) → HasTokens to (drop to text) left
       → HasTokens at (drop at text) (tokens ++ left)
   pub walked : run (Some state) items tokens ≡ Some (behind, grown)
+  pub usual : AreUsual at (Some state) tokens
+  pub stays : is_step behind ≡ true → to ≡ end_from at tokens
   pub forward : at ≤ to
   pub within : to ≤ length text
+
+-- after the usual words what follows is taken as a whole; after others nothing is
+abbrev pub MovesOn : ListWord → List ℕ → Reached → List Item → List Item → Reached → Type 0
+MovesOn it text from items grown to =
+    ((it ≡ word.Usual) × Leads text from.at from.state items to.at to.state grown)
+    ⊎ ((to ≡ from) × (grown ≡ items))
 
 -- what the letters of a step are, and what its fraction is
 abbrev pub letters_of : Step → Kind
@@ -46,10 +61,6 @@ letters_of (step.Quarter corner) = Corner corner
 abbrev pub fraction_of : Step → Kind
 fraction_of (step.Half side) = Half
 fraction_of (step.Quarter corner) = Quarter
-
--- where a token ends
-abbrev pub end_of : Token → ℕ
-end_of token = token.at + length token.text
 
 -- at a place of a text stands a token of this kind, of this many bytes
 pub record StandsAt (text : List ℕ) (at : ℕ) (kind : Kind) (size : ℕ) : Type 0 where
@@ -94,10 +105,23 @@ BeginWithStep first second third fourth fifth it size =
     ⊎ (AreHalf first it × (size ≡ 3) × (second ≡ 0xC2) × (third ≡ 0xBD))
     ⊎ (AreQuarter first second it × (size ≡ 4) × (third ≡ 0xC2) × (fourth ≡ 0xBC))
 
--- a number is the next token of a text from a place on, and ends at another
+abbrev pub begins_with_zero : List ℕ → Bool
+begins_with_zero bytes = begins_with (λ byte. byte == 48) bytes
+
+-- a number that the bytes begin with may be doubtful in a state: the second one of a list of sections, or one
+-- of a heading that begins with a zero
+abbrev pub may_be_doubtful : State → List ℕ → Bool
+may_be_doubtful state bytes = is_section state || (is_heading state && begins_with_zero bytes)
+
+-- a word that joins two numbers of a list, or two parts, may be doubtful in a state
+abbrev pub joins_doubtfully : State → Bool
+joins_doubtfully state = is_step state || is_section state
+
+-- a number is the next token of a text from a place on, and ends at another, unless it may be doubtful
 abbrev pub IsNumberBehind : List ℕ → ℕ → Numeral → ℕ → Type 0
 IsNumberBehind text from it end =
     (state behind : State) (items : List Item) → next state number ≡ Some behind
+    → may_be_doubtful state (drop it.at text) ≡ false
     → Leads text from state items end behind (take_number state it items)
 
 -- all the white space from a place on ends at another
@@ -124,7 +148,6 @@ abbrev pub listed_in : State → Option Listed
 listed_in past.LotNumber = Some listed.Lots
 listed_in past.LotLast = Some listed.Lots
 listed_in past.LotInclusive = Some listed.Lots
-listed_in past.SectionNumber = Some listed.Sections
 listed_in past.ListNumber = Some listed.Sections
 listed_in past.ListLast = Some listed.Sections
 listed_in past.ListInclusive = Some listed.Sections

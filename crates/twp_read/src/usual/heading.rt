@@ -1,15 +1,16 @@
 //! A heading in its usual spelling, as `T. 2 N., R. 3 W.,`.
-ghost use Rattle.std.specs.Prelude.{◌≡◌, ◌≤◌, ◌∷◌, ◌+◌, List, length, IfOk, IfSome};
+ghost use Rattle.std.specs.Prelude.{◌≡◌, ◌≤◌, ◌∷◌, ◌+◌, List, length, drop, false, IfOk, IfSome};
 ghost use Rattle.twp_grammar.specs.declared.item.Item.{Item as TakenItem};
 ghost use Rattle.twp_read.specs.declared.item_change.Change.TheVariants.{TownshipSide, RangeSide};
 ghost use Rattle.twp_read.specs.steps.TokenSteps.{with_newest};
-ghost use Rattle.twp_read.specs.steps.Usual.{Leads};
+ghost use Rattle.twp_read.specs.steps.Usual.{Leads, IsNumberBehind, begins_with_zero};
 ghost use Rattle.twp_grammar.specs.Sentences.{TEXT_LIMIT};
 
 use crate::items::Items;
+use crate::lexeme::byte_at;
 use crate::reached::Reached;
 use crate::usual::bytes::goes_on;
-use crate::usual::list::number_behind;
+use crate::usual::list::{UsualNumber, number_at};
 use std::alloc::AllocError;
 use twp_grammar::{Item, State};
 use twp_grid::{EastWest, NorthSouth};
@@ -75,9 +76,9 @@ fn heading_of(text: &[u8], at: usize) -> Option<UsualHeading>
     if !goes_on(text, at, b"T. ") {
         return None;
     }
-    let number = number_behind(text, at + TOWNSHIP)?;
+    let number = plain_number(text, at + TOWNSHIP)?;
     let north_south = township_side(text, number.end)?;
-    let range = number_behind(text, number.end + TOWNSHIP_SIDE)?;
+    let range = plain_number(text, number.end + TOWNSHIP_SIDE)?;
     let east_west = range_side(text, range.end)?;
     Some(UsualHeading {
         number: number.numeral.value,
@@ -86,6 +87,21 @@ fn heading_of(text: &[u8], at: usize) -> Option<UsualHeading>
         east_west,
         end: range.end + RANGE_SIDE,
     })
+}
+
+/// The number right at a place, if it doesn't begin with a zero.
+#[inline(always)]
+fn plain_number(text: &[u8], at: usize) -> Option<UsualNumber>
+    requires place { at ≤ length text.now }
+    requires limit { length text.now ≤ TEXT_LIMIT }
+    ensures number { IfSome result (λ it. IsNumberBehind text.now at it.numeral it.end) }
+    ensures plain { IfSome result (λ it. begins_with_zero (drop it.numeral.at text.now) ≡ false) }
+    ensures within { IfSome result (λ it. it.end ≤ length text.now) }
+{
+    if byte_at(text, at, 0) == b'0' {
+        return None;
+    }
+    number_at(text, at)
 }
 
 /// The township's side, if it is spelled as ` N., R. `.

@@ -6,6 +6,8 @@ ghost use Rattle.twp_grammar.specs.declared.item.Item.{Item as TakenItem};
 ghost use Rattle.twp_read.specs.steps.Usual.{IsNumberBehind, IsBehindWhite, Leads, entry_of};
 ghost use Rattle.twp_read.specs.steps.Usual.{state_behind, last_state_behind, listed_in};
 ghost use Rattle.twp_read.specs.steps.Usual.{listed_behind_and, listed_behind_to};
+ghost use Rattle.twp_read.specs.steps.Usual.{joins_doubtfully};
+ghost use Rattle.twp_read.specs.steps.Watching.{is_step};
 ghost use Rattle.twp_grammar.specs.Sentences.{TEXT_LIMIT};
 
 use crate::item_change::Change;
@@ -42,8 +44,7 @@ impl Listed {
     {
         match state {
             State::LotNumber | State::LotLast | State::LotInclusive => Some(Listed::Lots),
-            State::SectionNumber | State::ListNumber => Some(Listed::Sections),
-            State::ListLast | State::ListInclusive => Some(Listed::Sections),
+            State::ListNumber | State::ListLast | State::ListInclusive => Some(Listed::Sections),
             _ => None,
         }
     }
@@ -131,6 +132,7 @@ pub fn number_at(text: &[u8], at: usize) -> Option<UsualNumber>
     requires place { at ≤ length text.now }
     requires limit { length text.now ≤ TEXT_LIMIT }
     ensures number { IfSome result (λ it. IsNumberBehind text.now at it.numeral it.end) }
+    ensures here { IfSome result (λ it. it.numeral.at ≡ at) }
     ensures within { IfSome result (λ it. it.end ≤ length text.now) }
     ensures forward { IfSome result (λ it. at < it.end) }
 {
@@ -150,10 +152,11 @@ pub fn number_at(text: &[u8], at: usize) -> Option<UsualNumber>
     })
 }
 
-/// Passes over white space.
+/// Passes over white space, but not after a step, where it may be doubtful.
 #[inline(always)]
 pub fn ahead(text: &[u8], from: Reached) -> Reached
-    requires { from.at ≤ length text.now }
+    requires place { from.at ≤ length text.now }
+    requires state { is_step from.state ≡ false }
     ensures leads { (items : List TakenItem)
         → Leads text.now from.at from.state items result.at result.state items }
     ensures same { result.state ≡ from.state }
@@ -179,6 +182,22 @@ pub fn behind_list_comma(text: &[u8], comma: Reached, next: usize) -> Reached
     }
 }
 
+/// Passes over the comma after the number of a section, and the white space after it.
+#[inline(always)]
+fn behind_section_comma(text: &[u8], from: Reached) -> Reached
+    requires { from.at ≤ length text.now }
+    ensures { (items : List TakenItem)
+        → Leads text.now from.at from.state items result.at result.state items }
+{
+    let State::SectionNumber = from.state else {
+        return from;
+    };
+    if !goes_on(text, from.at, b",") {
+        return from;
+    }
+    behind_list_comma(text, from, behind_white(text, from.at + COMMA))
+}
+
 /// The place after `and`, or after `to` or a word for it, in either case, if one stands right there
 /// and may follow the tokens so far.
 #[inline(always)]
@@ -189,6 +208,9 @@ pub fn behind_joining_word(text: &[u8], from: Reached) -> Option<Reached>
     ensures forward { IfSome result (λ word. from.at < word.at) }
 {
     if !begins_joining_word(byte_at(text, from.at, 0)) {
+        return None;
+    }
+    if may_join_doubtfully(from.state) {
         return None;
     }
     let word = lexeme_at(text, from.at);
@@ -203,6 +225,17 @@ pub fn behind_joining_word(text: &[u8], from: Reached) -> Option<Reached>
         }),
         _ => None,
     }
+}
+
+/// Whether the word may be doubtful in a state: after a step, or after the number of a section.
+#[inline(always)]
+fn may_join_doubtfully(state: State) -> bool
+    ensures { result ≡ joins_doubtfully state }
+{
+    matches!(
+        state,
+        State::Step | State::SectionNumber | State::SectionComma
+    )
 }
 
 /// Whether `and`, `to`, `thru` or `through` may begin with a byte.
@@ -224,7 +257,7 @@ impl Items {
             (λ to. Leads text.now from.at from.state self.old to.at to.state self.new) }
     {
         if Listed::in_state(from.state).is_none() {
-            return Ok(from);
+            return Ok(behind_section_comma(text, from));
         }
         let mut reached = self.take_numbers(text, from)?;
         'words: while let Some(word) = behind_joining_word(text, reached) {

@@ -1,6 +1,6 @@
--- What each step of resolving does with an item: it is taken into the land of the items before it,
--- or its first fault is answered. No public promise speaks of it; proofs/ResolvingFacts shows that
--- the steps lead to the land of all items, or to the first fault.
+-- What each step of resolving does with an item: it is added to the land of the items before it, or
+-- its first fault is returned. No public contract cites this module; proofs/ResolvingFacts shows
+-- that the steps lead to the land of all items, or to the first fault.
 use Rattle.std.specs.Prelude.{◌≡◌, ◌==◌, ◌&&◌, nat_le, ℕ, ◌≤◌, Bool, List, drop}
 use Rattle.std.specs.Prelude.{Option}
 use Rattle.std.specs.Option.{option_map_or}
@@ -37,26 +37,26 @@ lots_from g section first last other column row =
     is_place g column row
     && ((section == other) && is_lot_from first last (lot_of_place g section column row))
 
--- none of these places was held, and now they all are
+-- the land contained none of these places, and now it contains them all
 pub record AreAdded (places old new : ℕ → ℕ → ℕ → Bool) : Type 0 where
   pub apart : ¬ SharePlace old places
   pub added : new ≡ union old places
 
--- the item lies on the plat, none of its places was held, and now they all are
+-- the item lies on the plat; the land contained none of its places, and now it contains them all
 pub record IsTaken (g : ℕ) (township : Designation) (section : ℕ) (some : Item)
     (old new : ℕ → ℕ → ℕ → Bool) : Type 0 where
   pub lies : LiesOnPlat g township section some
   pub apart : ¬ SharePlace old (item_places g (item_of section some))
   pub added : new ≡ union old (item_places g (item_of section some))
 
--- the item, after items of this land, has the fault, and none of a lesser number
+-- the item, after items with this land, has the fault, and none with a smaller number
 pub record IsItemsFirstFault (g : ℕ) (township : Designation) (section : ℕ) (some : Item)
     (earlier : ℕ → ℕ → ℕ → Bool) (fault : PlaceFault) : Type 0 where
   pub is : HasFault g township earlier section some fault
   pub first : (other : PlaceFault) → HasFault g township earlier section some other
       → number_of fault ≤ number_of other
 
--- the item by itself has a fault
+-- the item has a fault, whatever the items before it
 pub record HasSomeFault (g : ℕ) (township : Designation) (section : ℕ) (some : Item) : Type 0 where
   pub fault : PlaceFault
   pub is : HasFault g township no_places section some fault
@@ -65,13 +65,13 @@ pub record HasSomeFault (g : ℕ) (township : Designation) (section : ℕ) (some
 abbrev pub number_of_section : Option ℕ → ℕ
 number_of_section section = option_map_or (λ number. number) section 0
 
--- a heading, or sections: what may stand where no section was named yet
+-- a heading, or sections: the items that may come before any section is named
 abbrev pub IsBeforeParts : Item → Type 0
 IsBeforeParts (item.Heading number north_south range east_west at) = Unit {0}
 IsBeforeParts (item.Sections first last whole) = Unit {0}
 IsBeforeParts other = ⊥
 
--- what steps leave, from the last to the one at an index
+-- the block that steps reach, from the last to the one at an index
 pub record IsCutTo (g : ℕ) (steps : List Step) (index : ℕ) (block : Rectangle) : Type 0 where
   pub within : AreWithin g (cuts_of (drop index steps))
   pub block_is : block ≡ reached g (cuts_of (drop index steps))

@@ -1,4 +1,4 @@
--- What each step of the search for two items that share land finds.
+-- The result of each step of the search for two items that share land.
 use Rattle.std.specs.Prelude.{◌≡◌, ℕ, ◌<◌, Bool, List, Some, slice_get}
 use Rattle.twp_grid.specs.Townships.{Designation}
 use Rattle.twp_land.specs.Lands.{intersection, SharePlace}
@@ -8,7 +8,7 @@ use Rattle.twp_resolve.specs.declared.place_fault.PlaceFault.{PlaceFault}
 use Rattle.twp_resolve.specs.declared.place_fault.PlaceFault.TheVariants as fault
 use Rattle.twp_resolve.specs.SharedLand.{places_at, AreRefusedForOverlap}
 
--- the fault is that land is named again
+-- the fault is that land is named twice
 abbrev pub IsOverlap : PlaceFault → Type 0
 IsOverlap some = (at : ℕ) × (some ≡ fault.Overlap at)
 
@@ -20,14 +20,14 @@ pub record IsRefusedItem (g : ℕ) (township : Designation) (items : List Item) 
   pub part_is : (some : Item) → slice_get items index ≡ Some some
       → slice_get (parts_of items) index ≡ Some (item_of section some)
 
--- the items are refused because the one at the index names land again, and these are its places
+-- the items are refused because the item at the index names land again, and these are its places
 pub record IsRefusedLand (g : ℕ) (township : Designation) (items : List Item) (index : ℕ)
     (places : ℕ → ℕ → ℕ → Bool) : Type 0 where
   pub refused : AreRefusedForOverlap g township items
   pub index_is : refused.fault_is.index ≡ index
   pub places_are : places ≡ places_at g items index
 
--- the first item that shares a place with a later one, and these are the places that both name
+-- the first item that shares a place with a later one, and the places that both name
 pub record IsFirstSharing (g : ℕ) (items : List Item) (earlier later : ℕ)
     (places : ℕ → ℕ → ℕ → Bool) : Type 0 where
   pub in_turn : earlier < later

@@ -1,5 +1,5 @@
--- How the parts of a section are written by descent from it: quarter by quarter. No public promise
--- speaks of it; proofs/DescentLists shows that they are the section's written parts.
+-- How the parts of a section are written by descending from it, quarter by quarter. No public
+-- contract cites this module; proofs/DescentLists shows that they are the section's written parts.
 use Rattle.std.specs.Prelude.{◌≡◌, ◌^◌, ◌-◌, ◌*◌, ◌+◌, ◌⊎◌, ◌↔◌, ◌&&◌, if◌then◌else◌, ℕ, Bool, IsTrue, List}
 use Rattle.std.specs.Prelude.{[], ◌∷◌}
 use Rattle.std.specs.Prelude.{◌++◌, Option, Some, None, map, codes}
@@ -25,7 +25,7 @@ unfoldable pub square_quarters : Part → List Corner
 square_quarters (square quarters) = quarters
 square_quarters (half_of_square side quarters) = quarters
 
--- the quarters reach the square or a square in it
+-- the quarters reach the square, or a square in it
 abbrev pub IsUnder : List Corner → List Corner → Type 0
 IsUnder quarters [] = [] ≡ quarters
 IsUnder quarters (corner ∷ parent) = ((corner ∷ parent) ≡ quarters) ⊎ IsUnder quarters parent
@@ -37,7 +37,7 @@ quarter_on S = SW
 quarter_on E = NE
 quarter_on W = NW
 
--- A part of a square begins in a quarter: it lies in the quarter, or is the half whose first
+-- A part of a square begins in a quarter: it lies in the quarter, or it is the half whose first
 -- quarter this is.
 abbrev pub BeginsIn : List Corner → Corner → Part → Type 0
 BeginsIn parent corner part = IsUnder (corner ∷ parent) (square_quarters part)
@@ -49,38 +49,38 @@ AreOfSquare g held quarters parts =
     AreListed (λ part. IsWritten g held part × IsUnder quarters (square_quarters part))
     (StandsAhead g) parts
 
--- the written parts of a square that begin in a quarter of it
+-- the written parts of a square that begin in one of its quarters
 abbrev pub AreOfQuarter : ℕ → (ℕ → ℕ → Bool) → List Corner → Corner → List Part → Type 0
 AreOfQuarter g held parent corner parts =
     AreListed (λ part. IsWritten g held part × BeginsIn parent corner part) (StandsAhead g) parts
 
--- the block holds the part's places
+-- the block contains exactly the part's places
 pub record IsBlockOf (g : ℕ) (part : Part) (block : Rectangle) : Type 0 where
   pub within : AreWithin g (cuts_of (steps_of_part part))
   pub block_is : block ≡ reached g (cuts_of (steps_of_part part))
 
--- the square's chosen half, or that none of its halves is full
+-- the square's chosen half, or None if none of its halves is full
 abbrev pub IsChoice : ℕ → (ℕ → ℕ → Bool) → List Corner → Option Side → Type 0
 IsChoice g held quarters (Some side) = IsChosenHalf g held quarters side
 IsChoice g held quarters None = (side : Side) → ¬ IsFull g held (half_of_square side quarters)
 
--- the quarter at this corner is given as full
+-- whether the quarter at this corner is marked as full
 abbrev pub full_at : FullQuarters → Corner → Bool
 full_at full NE = full.ne
 full_at full NW = full.nw
 full_at full SW = full.sw
 full_at full SE = full.se
 
--- of a square, these quarters are full and the others aren't
+-- these quarters of a square are full and the others are not
 abbrev pub AreFull : ℕ → (ℕ → ℕ → Bool) → List Corner → FullQuarters → Type 0
 AreFull g held quarters full =
     (corner : Corner) → IsTrue (full_at full corner) ↔ IsFull g held (square (corner ∷ quarters))
 
--- all four are given as full
+-- all four are marked as full
 abbrev pub all_of : FullQuarters → Bool
 all_of full = full.ne && (full.nw && (full.sw && full.se))
 
--- the first half of which both quarters are full
+-- the first half whose quarters are both full
 abbrev pub chosen_of : FullQuarters → Option Side
 chosen_of full =
     if full.ne && full.nw then Some N
@@ -89,29 +89,29 @@ chosen_of full =
     else if full.nw && full.sw then Some W
     else None
 
--- the square's quarter doesn't lie in its chosen half
+-- the square's quarter does not lie in its chosen half
 abbrev pub IsOffChosen : ℕ → (ℕ → ℕ → Bool) → List Corner → Corner → Type 0
 IsOffChosen g held quarters corner =
     (side : Side) → IsChosenHalf g held quarters side → ¬ IsOnSide side corner
 
--- the places along a side of a fine square, which two quarterings cut into its places
+-- the number of places along a side of a fine square, which two quarterings divide into its places
 abbrev pub FINE_SIDE : ℕ
 FINE_SIDE = 2 ^ 2
 
--- the bytes of a quarter, as NE1/4
+-- the length of a quarter such as NE1/4, in bytes
 abbrev pub QUARTER_LENGTH : ℕ
 QUARTER_LENGTH = 5
 
--- the bytes of the longest path that stands after a part: that of a place, without its own quarter
+-- the length of the longest path after a part, in bytes: that of a place, without its own quarter
 abbrev pub PATH_MOST : ℕ
 PATH_MOST = QUARTER_LENGTH * (PLACE_DIGITS - 1)
 
--- the bytes that are kept of a part: a quarter after a comma and a space, the quarter that it is of,
--- and a path
+-- the bytes that are kept for a part: a quarter after a comma and a space, the quarter that
+-- contains it, and a path
 abbrev pub PART_MOST : ℕ
 PART_MOST = 2 + QUARTER_LENGTH + QUARTER_LENGTH + PATH_MOST
 
--- the bytes of as many parts as a fine square has places
+-- the length of as many parts as a fine square has places, in bytes
 abbrev pub BUFFER_MOST : ℕ
 BUFFER_MOST = FINE_SIDE * FINE_SIDE * PART_MOST
 
@@ -123,7 +123,7 @@ quarters_text quarters = flat_map step_text (map (λ corner. Quarter corner) qua
 abbrev pub parts_text : List Part → List ℕ
 parts_text parts = flat_map (λ part. codes ", " ++ part_text part) parts
 
--- the parts of which this holds were appended to a text
+-- the parts with this property were appended to a text
 pub record AreWritten (these : List Part → Type 0) (old new : List ℕ) : Type 0 where
   pub parts : List Part
   pub are : these parts

@@ -1,5 +1,5 @@
--- How the canonical text of a land is written section by section. No public promise speaks of it;
--- proofs/SpellingFacts shows that it ends with the whole text.
+-- How the canonical text of land is written section by section. No public contract cites this
+-- module; proofs/SpellingFacts shows that it ends with the whole text.
 use Rattle.std.specs.Prelude.{◌≡◌, ℕ, ◌<◌, Bool, List, [], ◌∷◌, ◌++◌, codes}
 use Rattle.std.specs.List.{flat_map, join_by, AllZip}
 use Rattle.twp_grid.specs.Townships.{Designation}
@@ -11,7 +11,7 @@ use Rattle.twp_spell.specs.CanonicalText.{heading_line, line_end}
 abbrev pub entries_text : List (List ℕ) → List ℕ
 entries_text entries = flat_map (λ entry. codes ", " ++ entry) entries
 
--- the section's lots that are held were appended to a text
+-- the section's lots in the land were appended to a text
 pub record HasLots (g section : ℕ) (held : ℕ → ℕ → Bool) (old new : List ℕ) : Type 0 where
   pub lots : List ℕ
   pub are : AreListed (IsLotHeld g section held) ◌<◌ lots
@@ -24,7 +24,7 @@ pub record HasSection (g : ℕ) (places : ℕ → ℕ → ℕ → Bool) (section
   pub is : IsSectionText g places section line
   pub text_is : new ≡ old ++ line
 
--- lines without the end of the last
+-- lines without the end of the last line
 abbrev pub lines_begun : Designation → List (List ℕ) → List ℕ
 lines_begun township [] = []
 lines_begun township (text ∷ more) =

@@ -1,6 +1,6 @@
--- What was read stays read, and what stopped the run is refused.
+-- The texts that were read do not change, and a stop is answered with its refusal.
 use Rattle.std.proofs.Common.{refl}
-use Rattle.twp_text.specs.TextFaults.{TEXT_LIMIT}
+use Rattle.twp_read.specs.TextFaults.{TEXT_LIMIT}
 use Rattle.twp_acres.specs.Answers.{IsRefusal}
 use Rattle.twp_acres.specs.AccountAnswers.{IsAcresAnswerBy}
 use Rattle.twp_acres.specs.steps.OnPlatSteps.{IsAcresAnswerOn}

@@ -1,4 +1,4 @@
--- A list of too many bytes is refused for that.
+-- A list with too many bytes is refused for that.
 use Rattle.twp_acres.proofs.FirstTractFaults.{large_first}
 use Rattle.twp_acres.proofs.on_plat.account_on.Goals as goal
 

@@ -1,4 +1,4 @@
--- What stopped the run is refused.
+-- A stop is answered with its refusal.
 use Rattle.std.proofs.Common.{refl}
 use Rattle.twp_notes.specs.FieldNotes.{NOTES_MOST}
 use Rattle.twp_plat.specs.Plats.{TownshipPlat}

@@ -6,7 +6,7 @@ use Rattle.twp_acres.specs.PlatAnswers.{section_name, lot_text, total_text, lots
 use Rattle.twp_acres.proofs.PlatTexts.{texts_begin, texts_grow, texts_end, on_ok}
 use Rattle.twp_acres.proofs.plat_answer.write_section.Goals as goal
 
--- the texts of the section's lots, by their numbers
+-- the texts of the section's lots, by number
 abbrev texts : PlatFigures → ℕ → ℕ → List ℕ
 texts figures section lot = lot_text lot (figures.lots section lot)
 

@@ -1,4 +1,4 @@
--- Where the notes make no plat the list is as it was.
+-- If the notes make no plat, the list is unchanged.
 use Rattle.std.proofs.Common.{inl, refl}
 use Rattle.std.specs.Prelude.{⊤}
 use Rattle.twp_plat.specs.Plats.{TownshipPlat}

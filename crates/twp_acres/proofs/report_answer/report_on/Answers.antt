@@ -1,4 +1,4 @@
--- Where reading failed there is no answer; too many bytes are refused.
+-- If reading failed, there is no answer; too many bytes are refused.
 use Rattle.std.proofs.Common.{[]}
 use Rattle.std.specs.Prelude.{unwrap_or}
 use Rattle.std.proofs.lemmas.Result.{err_from_is_err_and}

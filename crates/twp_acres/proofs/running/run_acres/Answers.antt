@@ -1,4 +1,4 @@
--- It is the run by the exact account; of the bytes that the sources tell there is one answer.
+-- It is the run by the exact account; for the known bytes of the sources, there is only one answer.
 use Rattle.std.proofs.Common.{refl}
 use Rattle.twp_acres.specs.AcresAnswers.{IsAcresAnswer, acres_line}
 use Rattle.twp_acres.specs.Answers.{refusal_line}

@@ -1,4 +1,4 @@
--- Where reading failed there is no refusal.
+-- If reading failed, there is no refusal.
 use Rattle.std.proofs.Common.{[]}
 use Rattle.std.specs.Prelude.{unwrap_or}
 use Rattle.std.proofs.lemmas.Result.{err_from_is_err_and}

@@ -1,9 +1,9 @@
--- Where the notes make no plat the description is as it was.
+-- If the notes make no plat, the description is unchanged.
 use Rattle.std.proofs.Common.{[], inr, refl}
 use Rattle.std.specs.Prelude.{unwrap_or}
 use Rattle.std.proofs.lemmas.Result.{err_from_is_err_and}
 use Rattle.twp_plat.specs.Plats.{TownshipPlat}
-use Rattle.twp_text.specs.TextFaults.{TEXT_LIMIT}
+use Rattle.twp_read.specs.TextFaults.{TEXT_LIMIT}
 use Rattle.twp_acres.specs.declared.stop.Stop.TheVariants as stop
 use Rattle.twp_acres.proofs.RunFacts.{some_bytes, refused_of_notes}
 use Rattle.twp_acres.proofs.StopFacts.{first_stopped, other_stop, other_value, second_read}

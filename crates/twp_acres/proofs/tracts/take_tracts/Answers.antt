@@ -1,4 +1,4 @@
--- The next record's tract is taken, or has the first fault; where no record is left all were taken.
+-- The next record's tract is added, or has the first fault; if no record is left, all were added.
 use Rattle.std.proofs.Common.{◌≡◌, refl, sym, ◌∙◌, length, subst, arith}
 use Rattle.std.proofs.lemmas.Result.{err_from_is_err_and}
 use Rattle.twp_notes.specs.Records.{records_left}

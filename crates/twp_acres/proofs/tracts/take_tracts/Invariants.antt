@@ -4,7 +4,7 @@ use Rattle.twp_acres.specs.Tracts.{TRACTS_MOST}
 use Rattle.twp_acres.specs.steps.TractTaking.{tally_of, IsTallyOf}
 use Rattle.twp_acres.proofs.tracts.take_tracts.Given as goal
 
--- the tracts so far were taken, and the other records are left
+-- the tracts so far were added, and the other records remain
 abbrev pub invariant-records : goal.invariant-records
 invariant-records g l = record {
   reading : IsReading l.records;

@@ -2,7 +2,7 @@ use Rattle.std.proofs.Common.{◌≡◌, ◌-◌, ◌≤◌, false, length, take
 use Rattle.std.specs.Io.KnownBytes.{Appends}
 use Rattle.twp_acres.proofs.writing.write_whole.Given as goal
 
--- the writer is open still, and has taken the bytes so far
+-- the writer has not failed, and has taken the bytes so far
 abbrev pub invariant-pieces : goal.invariant-pieces
 invariant-pieces g l = record {
   is_open : g.W.Sink.has_failed l.out ≡ false;

@@ -1,4 +1,4 @@
--- One place of a position decides of which lot all its places are.
+-- One place of a position determines the lot of all its places.
 use Rattle.std.proofs.Common.{arith}
 use Rattle.twp_land.proofs.LotBlocks.{lot_is_below, small_holds}
 use Rattle.twp_land.proofs.lot_places.holds_of_lot.Goals as goal

@@ -1,4 +1,4 @@
--- Blocks share a place where their columns cross and their rows do.
+-- Blocks share a place if their columns overlap and their rows overlap.
 use Rattle.twp_land.proofs.LotBlocks.{share_place, sharing}
 use Rattle.twp_land.proofs.lot_places.share_place.Goals as goal
 

@@ -1,4 +1,5 @@
--- A lot's block holds the places of the lot, so a block that shares none with them holds no lot's place.
+-- A lot's block contains the lot's places, so a block that shares none with it contains no place of
+-- the lot.
 use Rattle.std.proofs.Common.{◌≡◌, Some, refl, sym, ◌∙◌, inl, inr, arith}
 use Rattle.std.proofs.lemmas.Bool.{cases_lt}
 use Rattle.twp_grid.specs.Lots.{position_of_lot}

@@ -1,4 +1,4 @@
--- A lot's block is full or not met, exactly where the lot is held whole or not at all.
+-- A lot's block is full or not met exactly if the lot is contained wholly or not at all.
 use Rattle.std.proofs.Common.{◌≡◌, Some, refl, sym, ◌∙◌, inl, inr, arith, below_more}
 use Rattle.std.proofs.lemmas.Bool.{cases_lt}
 use Rattle.twp_grid.specs.Lots.{position_of_lot}

@@ -1,4 +1,5 @@
--- A step that is taken leaves the next block, and one that can't be taken says that the part is too fine.
+-- A step that can be taken leads to the next block, and one that cannot means that the part is too
+-- small.
 use Rattle.std.proofs.Common.{◌≡◌, ◌-◌, Some, slice_get, sym, ◌∙◌, arith}
 use Rattle.twp_grid.specs.Places.{PLACE_DIGITS}
 use Rattle.twp_resolve.proofs.ChainFacts.{cut_none, cut_next, cut_stuck}

@@ -1,4 +1,5 @@
--- A step that is taken leaves the next block, and one that can't be taken says that the part is too fine.
+-- A step that can be taken leads to the next block, and one that cannot means that the part is too
+-- small.
 use Rattle.std.proofs.Common.{◌-◌, ◌∙◌, arith}
 use Rattle.std.proofs.lemmas.Option.{slice_get-get_or}
 use Rattle.twp_grid.specs.Places.{PLACE_DIGITS}

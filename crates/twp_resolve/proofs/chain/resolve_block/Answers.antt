@@ -1,4 +1,4 @@
--- A block holds of a lot, or shares a place with what came before, or is taken.
+-- A block contains land of a lot, or shares a place with the items before it, or is added.
 use Rattle.twp_resolve.proofs.ChainFaults.{is_on_lot, chain_taken, chain_refused}
 use Rattle.twp_resolve.proofs.chain.resolve_block.Goals as goal
 

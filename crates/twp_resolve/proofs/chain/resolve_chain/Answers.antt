@@ -1,4 +1,4 @@
--- A part is too fine, or its block is taken.
+-- A part is too small, or its block is added.
 use Rattle.twp_resolve.proofs.ChainFaults.{is_too_fine}
 use Rattle.twp_resolve.proofs.chain.resolve_chain.Goals as goal
 

@@ -1,4 +1,4 @@
--- A quarter that is taken leaves the next block.
+-- A quarter that can be taken leads to the next block.
 use Rattle.std.proofs.Common.{◌-◌, ◌∙◌, arith}
 use Rattle.std.proofs.lemmas.Option.{slice_get-get_or}
 use Rattle.twp_grid.specs.Places.{PLACE_DIGITS}

@@ -1,4 +1,4 @@
--- Lot by lot, what is added grows by a block that held nothing of the land before.
+-- Lot by lot, the added places grow by a block that shares none with the land before.
 use Rattle.std.proofs.Common.{◌≡◌, ◌-◌, ◌+◌, Some, sym, subst, ◌∙◌, arith}
 use Rattle.std.proofs.lemmas.Result.{err_from_is_err_and}
 use Rattle.twp_grid.specs.Lots.{position_of_lot}

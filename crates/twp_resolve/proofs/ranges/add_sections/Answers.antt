@@ -1,4 +1,4 @@
--- Section by section, what is added grows by a block that held nothing of the land before.
+-- Section by section, the added places grow by a block that shares none with the land before.
 use Rattle.std.proofs.Common.{◌≡◌, ◌-◌, ◌+◌, subst, arith}
 use Rattle.std.proofs.lemmas.Result.{err_from_is_err_and}
 use Rattle.twp_grid.specs.Places.{PLACE_DIGITS}

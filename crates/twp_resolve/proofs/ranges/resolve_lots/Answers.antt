@@ -1,4 +1,4 @@
--- Order, first lot, last lot, and then the places.
+-- The order, the first lot, the last lot, and then the places.
 use Rattle.std.proofs.lemmas.Result.{err_from_is_err_and}
 use Rattle.twp_resolve.proofs.RangeFaults.{lots_backward, lots_no_first, lots_no_last, lots_taken}
 use Rattle.twp_resolve.proofs.RangeFaults.{lots_refused}

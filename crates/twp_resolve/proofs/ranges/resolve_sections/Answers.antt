@@ -1,4 +1,4 @@
--- First section, last section, order, and then the places.
+-- The first section, the last section, the order, and then the places.
 use Rattle.std.proofs.Common.{◌≡◌, true}
 use Rattle.std.proofs.lemmas.Result.{err_from_is_err_and}
 use Rattle.twp_resolve.proofs.RangeFaults.{sections_no_first, sections_no_last, sections_backward}

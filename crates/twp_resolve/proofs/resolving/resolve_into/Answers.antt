@@ -1,5 +1,5 @@
--- The items are taken one after another; the first of them with a fault has the first fault, and at the end
--- the land is that of all items.
+-- The items are added one after another; the first of them with a fault has the first fault, and at
+-- the end the land is that of all items.
 use Rattle.std.proofs.Common.{sym, subst, refl, arith}
 use Rattle.std.proofs.lemmas.Result.{err_from_is_err_and}
 use Rattle.twp_grid.specs.Places.{PLACE_DIGITS}

@@ -1,4 +1,4 @@
--- An item that shares land with the refused one, or one more that doesn't; at the end there is no such case.
+-- An item that shares land with the refused one, or one more that does not; the end is not reached.
 use Rattle.std.proofs.Common.{sym, subst, arith}
 use Rattle.twp_grid.specs.Places.{PLACE_DIGITS}
 use Rattle.twp_resolve.specs.steps.ResolvingSteps.{number_of_section}

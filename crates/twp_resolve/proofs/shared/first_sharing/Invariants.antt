@@ -5,7 +5,7 @@ use Rattle.twp_resolve.proofs.ResolvingFacts.{SectionKnown}
 use Rattle.twp_resolve.proofs.SharedFacts.{AreApart}
 use Rattle.twp_resolve.proofs.shared.first_sharing.Given as goal
 
--- no item so far shares land with the later one, and parts of a section come after it
+-- no item so far shares land with the later one, and the remaining parts have a section
 abbrev pub invariant-loop-index : goal.invariant-loop-index
 invariant-loop-index g l = record {
   apart : AreApart PLACE_DIGITS l.items l.index (number_of_section l.section) l.later;

@@ -1,4 +1,4 @@
--- The refused item by itself has no fault, and its places are the land.
+-- The refused item has no fault of its own, and its places are the land.
 use Rattle.std.proofs.Common.{refl}
 use Rattle.std.proofs.lemmas.Option.{slice_get_read}
 use Rattle.twp_grid.specs.Places.{PLACE_DIGITS}

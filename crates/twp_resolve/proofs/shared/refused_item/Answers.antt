@@ -1,4 +1,4 @@
--- The item with the first fault is the refused one, where this is an overlap.
+-- The item with the first fault is the refused one, if the fault is an overlap.
 use Rattle.std.proofs.Common.{sym, subst, arith}
 use Rattle.std.proofs.lemmas.Option.{slice_get_within}
 use Rattle.twp_grid.specs.Places.{PLACE_DIGITS}

@@ -4,7 +4,7 @@ use Rattle.twp_resolve.specs.steps.ResolvingSteps.{number_of_section}
 use Rattle.twp_resolve.proofs.ResolvingFacts.{AreTaken, SectionKnown}
 use Rattle.twp_resolve.proofs.shared.refused_item.Given as goal
 
--- the items so far are taken, and parts of a section come after it
+-- the items so far were added, and the remaining parts have a section
 abbrev pub invariant-loop-index : goal.invariant-loop-index
 invariant-loop-index g l = record {
   taken : AreTaken PLACE_DIGITS l.township l.items l.index (number_of_section l.section)

@@ -1,4 +1,4 @@
--- Quarter by quarter, the parts of the square are written, each by itself where no half is full.
+-- Quarter by quarter, the parts of the square are written, each on its own if no half is full.
 use Rattle.std.proofs.Common.{sym, ◌∙◌, arith}
 use Rattle.twp_grid.specs.Places.{PLACE_DIGITS}
 use Rattle.twp_spell.proofs.HalfQuarters.{no_choice}

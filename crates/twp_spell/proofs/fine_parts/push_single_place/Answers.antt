@@ -1,4 +1,4 @@
--- Where no half is full, a place is written as a quarter or not at all.
+-- If no half is full, a place is written as a quarter or not at all.
 use Rattle.std.proofs.Common.{◌∷◌, ◌++◌, sym, ap, ◌∙◌, arith}
 use Rattle.twp_spell.specs.CanonicalText.{step_text}
 use Rattle.twp_grammar.specs.declared.item.Step.TheVariants.{Quarter}

@@ -1,4 +1,4 @@
--- Where no half is full, a quarter of a fine square is written as a quarter or by its places.
+-- If no half is full, a quarter of a fine square is written as a quarter or by its places.
 use Rattle.std.proofs.Common.{◌∷◌, sym, ◌∙◌, arith}
 use Rattle.std.proofs.lemmas.Bool.{false≢true}
 use Rattle.twp_grid.specs.Places.{PLACE_DIGITS}

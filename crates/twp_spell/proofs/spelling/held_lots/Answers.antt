@@ -1,4 +1,4 @@
--- A lot whose block is met is held.
+-- A lot is in the land if the land meets its block.
 use Rattle.std.proofs.Common.{◌≡◌, Some, sym, ◌∙◌, arith}
 use Rattle.std.proofs.lemmas.Bool.{false≢true}
 use Rattle.twp_grid.specs.Lots.{position_of_lot}

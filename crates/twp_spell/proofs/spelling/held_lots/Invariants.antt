@@ -5,7 +5,7 @@ use Rattle.twp_spell.specs.CanonicalText.{IsLotHeld}
 use Rattle.twp_spell.proofs.SpellingFacts.{Below}
 use Rattle.twp_spell.proofs.spelling.held_lots.Given as goal
 
--- the lots so far that are held
+-- the lots so far that are in the land
 abbrev pub invariant-loop-lot : goal.invariant-loop-lot
 invariant-loop-lot g l = record {
   listed : AreListed (Below (IsLotHeld PLACE_DIGITS l.section (g.L.Land.places l.land l.section)) l.lot) ◌<◌

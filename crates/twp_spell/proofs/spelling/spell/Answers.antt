@@ -1,4 +1,4 @@
--- Section by section, what is written of the land grows, and then it ends.
+-- Section by section, the text grows, and then it ends.
 use Rattle.std.proofs.Common.{arith}
 use Rattle.twp_grid.specs.Places.{PLACE_DIGITS}
 use Rattle.twp_spell.proofs.SpellingFacts.{begun_none, begun_all}

@@ -1,4 +1,4 @@
--- A section of which no place is held is passed over, and any other is written after those before it.
+-- A section without places in the land is skipped, and any other is written after those before it.
 use Rattle.std.proofs.Common.{◌+◌, sym, ◌∙◌}
 use Rattle.std.proofs.lemmas.Bool.{false≢true}
 use Rattle.twp_grid.specs.Places.{PLACE_DIGITS}

@@ -1,4 +1,4 @@
--- A section is held whole, or its lots and its parts are written.
+-- The land contains the section wholly, or the section's lots and parts are written.
 use Rattle.std.proofs.Common.{◌≡◌, ◌++◌, codes, decimal, sym, ap, ◌∙◌}
 use Rattle.std.proofs.lemmas.Bool.{false≢true}
 use Rattle.twp_grid.specs.Places.{PLACE_DIGITS}

@@ -1,4 +1,4 @@
--- What begins in each quarter of a square is written, one quarter after the other.
+-- The parts that begin in each quarter of a square are written, one quarter after another.
 use Rattle.std.proofs.Common.{◌<◌, length, inl, inr, codes, refl, sym, ◌∙◌, ◌∷◌, ◌++◌, arith}
 use Rattle.twp_spell.specs.CanonicalText.{step_text}
 use Rattle.twp_grammar.specs.declared.item.Step.TheVariants.{Quarter}

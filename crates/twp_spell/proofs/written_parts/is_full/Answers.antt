@@ -1,4 +1,4 @@
--- A block is full off the lots where each place is held and none is of a lot.
+-- A block is full off the lots if each of its places is in the land and belongs to no lot.
 use Rattle.twp_grid.specs.Places.{PLACE_DIGITS}
 use Rattle.twp_spell.proofs.SquareBlocks.{judged_off, judged_short}
 use Rattle.twp_spell.proofs.written_parts.is_full.Goals as goal

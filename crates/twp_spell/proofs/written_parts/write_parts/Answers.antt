@@ -1,4 +1,4 @@
--- The section is the greatest square.
+-- The section is the largest square.
 use Rattle.std.proofs.Common.{[]}
 use Rattle.twp_grid.specs.Places.{PLACE_DIGITS}
 use Rattle.twp_spell.proofs.WritingFacts.{section_written, whole_held, whole_of}

@@ -1,4 +1,4 @@
--- The set of names has one name more.
+-- The set has one more name.
 use Rattle.std.proofs.Common.{◌∙◌}
 use Rattle.std.specs.Str.{bytes_eq}
 use Rattle.twp_acres.specs.steps.Names.{has_name}

@@ -1,4 +1,5 @@
--- The record is a tract's with a new name, and its land is taken, or has a place that was taken before.
+-- The record is a tract's with a new name, and its land is added, or shares a place with the tracts
+-- before it.
 use Rattle.std.proofs.Common.{refl, sym, ◌∙◌}
 use Rattle.twp_acres.proofs.FirstTractFaults.{description_refused}
 use Rattle.twp_acres.proofs.TractAreas.{taken_from, totals_next}
@@ -20,8 +21,8 @@ returns-then-meets_land-clause-fault g c =
       refl,
       (tract.0, anew),
       record {
-        more = g.L.Land.places c.describe_into.new.land;
-        land = rw (c.township.ensures, tract.2) at c.in_default-describe_into.ensures.land;
+        more = g.L.Land.places c.describe_noting.new.land;
+        land = rw (c.township.ensures, tract.2) at c.in_default-describe_noting.ensures.land;
         shared = c.meets_land.ensures.0 c.if-meets_land.true;
       },
     )
@@ -42,9 +43,9 @@ returns-clause-taken g c =
       is_record = tract.0;
       is_new = anew;
       names_are = rw tract.1 at c.in_ok-add.ensures.names;
-      more = g.L.Land.places c.describe_into.new.land;
-      land = rw (c.township.ensures, tract.2) at c.in_default-describe_into.ensures.land;
-      whole = c.in_default-describe_into.ensures.whole_lots;
+      more = g.L.Land.places c.describe_noting.new.land;
+      land = rw (c.township.ensures, tract.2) at c.in_default-describe_noting.ensures.land;
+      whole = c.in_default-describe_noting.ensures.whole_lots;
       apart = λ shared. absurd (cc (c.meets_land.ensures.1 shared));
       places_are = c.add_land.ensures;
       hundredths = c.hundredths.result;

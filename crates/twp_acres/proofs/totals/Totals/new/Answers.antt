@@ -1,4 +1,4 @@
--- Nothing is taken, and the whole township is left.
+-- Nothing is taken, and the whole township remains.
 use Rattle.std.proofs.Common.{ap, ◌∙◌}
 use Rattle.twp_measure.specs.Areas.{Fraction}
 use Rattle.twp_acres.proofs.TractAreas.{totals_none}

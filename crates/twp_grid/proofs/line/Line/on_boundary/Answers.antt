@@ -1,4 +1,4 @@
--- A line beside one section alone stands on the boundary.
+-- A line with a section on one side only is on the boundary.
 use Rattle.std.proofs.Common.{◌≤◌, ◌<◌, arith, rules}
 use Rattle.twp_grid.proofs.LineFacts.{OnBoundary, on_boundary}
 use Rattle.twp_grid.proofs.line.Line.on_boundary.Goals as goal

@@ -1,4 +1,4 @@
--- The sum of what the rows hold.
+-- The sum of the rows' counts.
 use Rattle.std.proofs.Common.{◌≡◌, sym, ◌∙◌, arith}
 use Rattle.twp_land.proofs.RowFacts.{count_in_rows-zero, count_in_rows-next, count_of_rows}
 use Rattle.twp_land.proofs.rows.RowsPlot.count.Goals as goal

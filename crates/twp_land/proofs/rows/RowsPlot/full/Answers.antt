@@ -1,4 +1,4 @@
--- Rows of which each place is held.
+-- Rows that each contain all the places.
 use Rattle.std.proofs.Common.{refl, arith}
 use Rattle.twp_land.proofs.RowFacts.{full_of_rows}
 use Rattle.twp_land.proofs.rows.RowsPlot.full.Goals as goal

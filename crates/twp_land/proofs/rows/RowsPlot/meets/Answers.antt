@@ -1,4 +1,4 @@
--- A row in which some place is held, or no such row.
+-- A row that contains some of the places, or no such row.
 use Rattle.std.proofs.Common.{◌<◌, refl, arith, below_more}
 use Rattle.twp_land.proofs.RowFacts.{meets_found, meets_nowhere}
 use Rattle.twp_land.proofs.rows.RowsPlot.meets.Goals as goal

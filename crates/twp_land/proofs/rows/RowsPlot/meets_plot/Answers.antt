@@ -1,4 +1,4 @@
--- A row in which both hold some place, or no such row.
+-- A row in which the sets share a place, or no such row.
 use Rattle.std.proofs.Common.{arith, below_more}
 use Rattle.twp_land.proofs.JoinFacts.{rows_apart}
 use Rattle.twp_land.proofs.rows.RowsPlot.meets_plot.Goals as goal

@@ -1,4 +1,4 @@
--- One more section is emptied; after the last one nothing is left.
+-- One more section is emptied; after the last one no place is left.
 use Rattle.std.proofs.Common.{◌+◌, arith, length-set, ◌∙◌}
 use Rattle.twp_land.proofs.LandFacts.{cleared_next}
 use Rattle.twp_land.proofs.LandRanges.{none_within, within_wider}

@@ -4,7 +4,7 @@ use Rattle.twp_land.specs.Lands.{LieWithin}
 use Rattle.twp_land.specs.Storage.{held_by_section}
 use Rattle.twp_land.proofs.sections.SectionsLand.clear.Given as goal
 
--- what is left lies in the sections from here on
+-- the remaining places lie in the sections from here on
 abbrev pub invariant-loop-index : goal.invariant-loop-index
 invariant-loop-index g l = record {
   all : length l.self.plots ≡ SECTION_COUNT;

@@ -1,4 +1,4 @@
--- Of one more section what both hold is kept.
+-- The places of one more section that are in both sets are kept.
 use Rattle.std.proofs.Common.{◌+◌, refl, arith, length-set, ◌∙◌}
 use Rattle.twp_land.proofs.CommonLands.{common_first, common_next, common_within, common_all}
 use Rattle.twp_land.proofs.sections.SectionsLand.keep_common.Goals as goal

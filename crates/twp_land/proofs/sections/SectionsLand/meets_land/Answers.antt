@@ -1,4 +1,4 @@
--- A section of which both hold some place, or no such section.
+-- A section in which the sets share a place, or no such section.
 use Rattle.std.proofs.Common.{refl, arith}
 use Rattle.twp_land.proofs.LandFacts.{share_found, apart_next}
 use Rattle.twp_land.proofs.sections.SectionsLand.meets_land.Goals as goal

@@ -1,4 +1,4 @@
--- A section of which the two hold different places, or no such section.
+-- A section in which the sets contain different places, or no such section.
 use Rattle.std.proofs.Common.{arith}
 use Rattle.twp_land.proofs.LandFacts.{same_at, same_next}
 use Rattle.twp_land.proofs.sections.SectionsLand.same.Goals as goal

@@ -1,10 +1,10 @@
-use Rattle.std.proofs.Common.{length, drop, ◌-◌}
-use Rattle.twp_read.proofs.ReaderFacts.{Front}
+use Rattle.std.proofs.Common.{length, ◌-◌}
+use Rattle.twp_read.proofs.Watched.{Watched}
 use Rattle.twp_read.proofs.description.Description.read_within.Given as goal
 
--- the tokens so far led here, with these items
+-- the tokens so far led here, with these items, and were watched
 abbrev pub invariant-tokens : goal.invariant-tokens
-invariant-tokens l = Front l.text l.reached.at (drop l.reached.at l.text) l.reached.state l.items
+invariant-tokens l = Watched l.text l.reached.at l.reached.state l.items l.watch
 
 abbrev pub decreases-tokens : goal.decreases-tokens
 decreases-tokens l = length l.text - l.reached.at

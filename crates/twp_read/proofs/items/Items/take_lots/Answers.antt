@@ -21,4 +21,4 @@ returns c =
     (leads_then text from.at from.state items word past.Lot begun end past.LotNumber
     (Lots number number ∷ begun)
     (c.in-Some.ensures.leads items)
-    (c.in-Some-number_behind.ensures.number past.Lot past.LotNumber begun refl))
+    (c.in-Some-number_behind.ensures.number past.Lot past.LotNumber begun refl refl))

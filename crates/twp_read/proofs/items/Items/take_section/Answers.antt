@@ -1,4 +1,4 @@
-use Rattle.std.proofs.Common.{◌+◌, ℕ, List, [], ◌∷◌, true, refl, sym, subst, ◌∙◌, ap}
+use Rattle.std.proofs.Common.{drop, ◌+◌, ℕ, List, [], ◌∷◌, true, refl, sym, subst, ◌∙◌, ap}
 use Rattle.twp_grammar.specs.declared.item.Item.{Item}
 use Rattle.twp_grammar.specs.declared.item.Item.TheVariants.{Sections}
 use Rattle.twp_grammar.specs.declared.item.Numeral.{Numeral}
@@ -6,7 +6,7 @@ use Rattle.twp_read.specs.declared.reached.Reached.{Reached}
 use Rattle.twp_grammar.specs.declared.state.State.TheVariants as past
 use Rattle.twp_read.specs.steps.TokenSteps.{before_parts}
 use Rattle.twp_read.specs.steps.Usual.{Leads}
-use Rattle.twp_read.proofs.FrontFacts.{colon_leads, section_taken}
+use Rattle.twp_read.proofs.FrontFacts.{colon_leads, section_taken, section_plain}
 use Rattle.twp_read.proofs.Leading.{leads_then}
 use Rattle.twp_read.proofs.items.Items.take_section.Goals as goal
 
@@ -25,7 +25,8 @@ returns-then-not-goes_on c =
     let number_leads : Leads text word.at word.state items end past.SectionNumber numbered =
     subst (λ (its : List Item). Leads text word.at word.state items end past.SectionNumber its)
     (section_taken word.state number items c.in-Some.ensures.number)
-    (c.in-Some-number_behind.ensures.number word.state past.SectionNumber items c.in-Some.ensures.number) in
+    (c.in-Some-number_behind.ensures.number word.state past.SectionNumber items c.in-Some.ensures.number
+    (section_plain word.state (drop number.at text) c.in-Some.ensures.number)) in
     subst (λ (its : List Item). Leads text from.at from.state items end past.SectionNumber its)
     (sym c.in_ok-push.ensures)
     (leads_then text from.at from.state items word.at word.state items end past.SectionNumber numbered
@@ -44,7 +45,8 @@ returns c =
     let number_leads : Leads text word.at word.state items end past.SectionNumber numbered =
     subst (λ (its : List Item). Leads text word.at word.state items end past.SectionNumber its)
     (section_taken word.state number items c.in-Some.ensures.number)
-    (c.in-Some-number_behind.ensures.number word.state past.SectionNumber items c.in-Some.ensures.number) in
+    (c.in-Some-number_behind.ensures.number word.state past.SectionNumber items c.in-Some.ensures.number
+    (section_plain word.state (drop number.at text) c.in-Some.ensures.number)) in
     subst (λ (its : List Item). Leads text from.at from.state items (end + 1) past.BeforePart its)
     (sym (c.in_ok-before_parts.ensures ∙ ap (before_parts past.SectionNumber) c.in_ok-push.ensures))
     (leads_then text from.at from.state items end past.SectionNumber numbered (end + 1) past.BeforePart parted

@@ -9,8 +9,8 @@ use Rattle.twp_read.proofs.FrontFacts.{township_leads}
 use Rattle.twp_read.proofs.Leading.{leads_then}
 use Rattle.twp_read.proofs.usual.heading.heading_of.Goals as goal
 
-pub number_behind-requires-2-clause-place : goal.number_behind-requires-2-clause-place
-number_behind-requires-2-clause-place c = (c.in_ok-north_south.ensures []).within
+pub plain_number-requires-2-clause-place : goal.plain_number-requires-2-clause-place
+plain_number-requires-2-clause-place c = (c.in_ok-north_south.ensures []).within
 
 pub returns : goal.returns
 returns c items =
@@ -36,7 +36,8 @@ returns c items =
     numbered
     (township_leads text at items (c.if-not-goes_on.ensures.spelled refl)
     (c.if-not-goes_on.ensures.within refl))
-    (c.in_ok-number.ensures.number past.TownshipStop past.TownshipNumber begun refl))
+    (c.in_ok-number.ensures.number past.TownshipStop past.TownshipNumber begun refl
+    c.in_ok-number.ensures.plain))
     (c.in_ok-north_south.ensures numbered))
-    (c.in_ok-range.ensures.number past.RangeStop past.RangeNumber sided refl))
+    (c.in_ok-range.ensures.number past.RangeStop past.RangeNumber sided refl c.in_ok-range.ensures.plain))
     (c.in_ok-east_west.ensures ranged)

@@ -5,4 +5,4 @@ pub returns-clause-leads : goal.returns-clause-leads
 returns-clause-leads c items =
     white_leads c.args.text.now c.args.from.at c.behind_white.result c.args.from.state items
     c.behind_white.ensures.value
-    c.behind_white.ensures.range
+    c.behind_white.ensures.range c.requires.state

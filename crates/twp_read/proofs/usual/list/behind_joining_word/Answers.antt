@@ -4,6 +4,7 @@ use Rattle.std.specs.List.{prefix_len}
 use Rattle.twp_grammar.specs.Tokens.{is_white}
 use Rattle.twp_grammar.specs.declared.kind.Kind.TheVariants.{And, To}
 use Rattle.twp_read.proofs.NumberFacts.{EndsWithin, right_here, word_ends, word_leads}
+use Rattle.twp_read.proofs.WatchFacts.{and_is_usual, to_is_usual}
 use Rattle.twp_read.proofs.usual.list.behind_joining_word.Goals as goal
 
 pub overflow_add-result : goal.overflow_add-result
@@ -31,6 +32,7 @@ returns-in_ok-next-in-And-clause-leads c =
     word_leads c.args.text.now c.args.from.at c.args.from.at c.lexeme_at-word.result And
     c.args.from.state c.in_ok-next-in-And.field-0 here (omega arith)
     c.lexeme_at-word.ensures c.in-And.is (sym c.next.ensures ∙ c.in_ok-next-in-And.was) (λ place items. refl)
+    (λ token. and_is_usual c.args.from.state c.args.from.at token (sym c.if-may_join_doubtfully.ensures))
 
 pub returns-in_ok-next-in-And-clause-forward : goal.returns-in_ok-next-in-And-clause-forward
 returns-in_ok-next-in-And-clause-forward c =
@@ -69,6 +71,7 @@ returns-in_ok-next-in-To-clause-leads c =
     c.args.from.state c.in_ok-next-in-To.field-0 here (omega arith)
     c.lexeme_at-word.ensures c.in-To.is (sym c.next-in-To.ensures ∙ c.in_ok-next-in-To.was)
     (λ place items. refl)
+    (λ token. to_is_usual c.args.from.state c.args.from.at token (sym c.if-may_join_doubtfully.ensures))
 
 pub returns-in_ok-next-in-To-clause-forward : goal.returns-in_ok-next-in-To-clause-forward
 returns-in_ok-next-in-To-clause-forward c =

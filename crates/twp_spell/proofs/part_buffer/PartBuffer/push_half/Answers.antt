@@ -1,4 +1,4 @@
--- The half stands after the parts so far, and the path after the half.
+-- The half comes after the parts so far, and the path after the half.
 use Rattle.std.proofs.Common.{◌+◌, ◌++◌, refl, codes, ◌∙◌, arith, append_assoc}
 use Rattle.twp_spell.specs.CanonicalText.{step_text}
 use Rattle.twp_grammar.specs.declared.item.Step.TheVariants.{Half}

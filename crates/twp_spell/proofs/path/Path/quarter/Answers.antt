@@ -1,4 +1,4 @@
--- The quarter's bytes stand ahead of as many of the path's as there is room for.
+-- The quarter's bytes are followed by as many of the path's as there is room for.
 use Rattle.std.proofs.Common.{◌∙◌}
 use Rattle.twp_spell.proofs.PathFacts.{longer_path}
 use Rattle.twp_spell.proofs.path.Path.quarter.Goals as goal

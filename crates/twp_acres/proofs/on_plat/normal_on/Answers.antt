@@ -1,9 +1,0 @@
--- The text is that of the places which the description names.
-use Rattle.twp_acres.proofs.on_plat.normal_on.Goals as goal
-
-pub returns : goal.returns
-returns c = record {
-  places = _;
-  described = rw c.township.ensures at c.in_ok-describe_into.ensures.land;
-  text_is = rw c.township-2.ensures at c.in_ok-spell.ensures.text;
-}

@@ -1,0 +1,260 @@
+-- Tokens that cloud no text have no doubtful place.
+use Rattle.std.proofs.Common.{◌≡◌, ℕ, ◌&&◌, ◌||◌, not, Bool, true, false, List, [], ◌∷◌, Option, Some, None}
+use Rattle.std.proofs.Common.{refl, sym, ap, subst, ◌∙◌, ltb, if◌then◌else◌}
+use Rattle.twp_grammar.specs.declared.kind.Kind.{Kind}
+use Rattle.twp_grammar.specs.declared.kind.Kind.TheVariants.{Sec, Lot, And, To, Of, T, R, NorthSouth}
+use Rattle.twp_grammar.specs.declared.kind.Kind.TheVariants.{EastWest}
+use Rattle.twp_grammar.specs.declared.kind.Kind.TheVariants.{Corner, Half, Quarter, Number, Comma, Colon}
+use Rattle.twp_grammar.specs.declared.kind.Kind.TheVariants.{Stop}
+use Rattle.twp_grammar.specs.declared.state.State.{State}
+use Rattle.twp_grammar.specs.declared.state.State.TheVariants as past
+use Rattle.twp_grammar.specs.Tokens.{Token}
+use Rattle.twp_grammar.specs.Grammar.{class_of, sec, lot, t, r, half, quarter}
+use Rattle.twp_grammar.specs.Machine.{next}
+use Rattle.twp_read.specs.declared.watch.ListWord.{ListWord}
+use Rattle.twp_read.specs.declared.watch.ListWord.TheVariants as word
+use Rattle.twp_read.specs.declared.doubt.DoubtfulPlace.{DoubtfulPlace}
+use Rattle.twp_read.specs.Doubts.{end_of, begins_step, is_of_step, is_number, is_and, is_of, joined_at}
+use Rattle.twp_read.specs.Doubts.{after_steps, begin_with_of, begin_with_part_of, joins_part, shared_at}
+use Rattle.twp_read.specs.Doubts.{is_singular, begin_with_number, begin_with_and_number, joins_number}
+use Rattle.twp_read.specs.Doubts.{begin_several, are_several_behind, are_several, several_at, is_padded}
+use Rattle.twp_read.specs.Doubts.{padded_number, padded_behind, padded_at, doubt_behind, with_place, doubts}
+use Rattle.twp_read.specs.steps.Watching.{begins_list, clouds, word_behind, Unclouded, is_heading}
+use Rattle.twp_read.specs.steps.Watching.{is_lot_join}
+use Rattle.twp_read.proofs.NoSeveral.{none_if_false, none_of_word, no_sections, no_lots}
+
+-- no token is `of`
+abbrev pub NoOf : List Token → Type 0
+NoOf [] = Unit {0}
+NoOf (token ∷ tokens) = (is_of token.kind ≡ false) × NoOf tokens
+
+-- where a kind of token leads
+behind_half : (ands : Bool) (it : ListWord) (end : ℕ) (state : State) (tokens : List Token)
+    → Unclouded ands it end (next state half) tokens → Unclouded ands it end (Some past.Step) tokens
+behind_half ands it end past.Side tokens u = u
+behind_half ands it end _ tokens u = absurd u
+
+behind_quarter : (ands : Bool) (it : ListWord) (end : ℕ) (state : State) (tokens : List Token)
+    → Unclouded ands it end (next state quarter) tokens → Unclouded ands it end (Some past.Step) tokens
+behind_quarter ands it end past.Corner tokens u = u
+behind_quarter ands it end _ tokens u = absurd u
+
+behind_t : (ands : Bool) (it : ListWord) (end : ℕ) (state : State) (tokens : List Token)
+    → Unclouded ands it end (next state t) tokens → Unclouded ands it end (Some past.Township) tokens
+behind_t ands it end past.Start tokens u = u
+behind_t ands it end _ tokens u = absurd u
+
+behind_r : (ands : Bool) (it : ListWord) (end : ℕ) (state : State) (tokens : List Token)
+    → Unclouded ands it end (next state r) tokens → Unclouded ands it end (Some past.Range) tokens
+behind_r ands it end past.TownshipSide tokens u = u
+behind_r ands it end past.TownshipSideStop tokens u = u
+behind_r ands it end past.TownshipComma tokens u = u
+behind_r ands it end _ tokens u = absurd u
+
+-- JOINED
+letters_clear : (ands : Bool) (it : ListWord) (end : ℕ) (token : Token) (kind : Kind)
+    → clouds ands it past.Step end token kind ≡ false → (begins_step kind && ltb end token.at) ≡ false
+letters_clear ands it end token (NorthSouth which) h = h
+letters_clear ands it end token (EastWest which) h = h
+letters_clear ands it end token (Corner which) h = h
+letters_clear ands it end token _ h = refl
+
+none_joined : (ands : Bool) (it : ListWord) (fraction : Token) (tokens : List Token)
+    → Unclouded ands it (end_of fraction) (Some past.Step) tokens → joined_at fraction tokens ≡ None
+none_joined ands it fraction [] u = refl
+none_joined ands it fraction (letters ∷ more) u =
+    none_if_false (begins_step letters.kind && ltb (end_of fraction) letters.at) _
+    (letters_clear ands it (end_of fraction) letters letters.kind u.0)
+
+-- PADDED
+left_false : (a b : Bool) → (a || b) ≡ false → a ≡ false
+left_false false b h = refl
+left_false true b h = cc h
+
+none_padded : (ands : Bool) (it : ListWord) (end : ℕ) (state : State) (tokens : List Token)
+    → is_heading state ≡ true
+    → Unclouded ands it end (Some state) tokens → padded_number tokens ≡ None
+none_padded ands it end state [] in_heading u = refl
+none_padded ands it end state (token ∷ more) in_heading u =
+    none_if_false (is_number token.kind && is_padded token.text) _ (by_kind token.kind state in_heading u.0)
+  where
+    by_kind : (kind : Kind) (state : State) → is_heading state ≡ true
+        → clouds ands it state end token kind ≡ false
+        → (is_number kind && is_padded token.text) ≡ false
+    by_kind (Number value) past.Township heading h = left_false (is_padded token.text) false h
+    by_kind (Number value) past.TownshipStop heading h = left_false (is_padded token.text) false h
+    by_kind (Number value) past.Range heading h = left_false (is_padded token.text) false h
+    by_kind (Number value) past.RangeStop heading h = left_false (is_padded token.text) false h
+    by_kind (Number value) _ heading h = cc heading
+    by_kind _ state heading h = refl
+
+none_of_township : (ands : Bool) (it : ListWord) (end : ℕ) (tokens : List Token)
+    → Unclouded ands it end (Some past.Township) tokens → padded_at tokens ≡ None
+none_of_township ands it end [] u = refl
+none_of_township ands it end (token ∷ more) u = by_kind token.kind u.1
+  where
+    by_kind : (kind : Kind)
+        → Unclouded ands (word_behind kind token.text (next past.Township (class_of kind)) it) (end_of token)
+        (next past.Township (class_of kind)) more
+        → padded_behind kind token more ≡ None
+    by_kind Stop v = none_padded ands _ (end_of token) past.TownshipStop more refl v
+    by_kind _ v = none_padded ands it end past.Township (token ∷ more) refl u
+
+none_of_range : (ands : Bool) (it : ListWord) (end : ℕ) (tokens : List Token)
+    → Unclouded ands it end (Some past.Range) tokens → padded_at tokens ≡ None
+none_of_range ands it end [] u = refl
+none_of_range ands it end (token ∷ more) u = by_kind token.kind u.1
+  where
+    by_kind : (kind : Kind)
+        → Unclouded ands (word_behind kind token.text (next past.Range (class_of kind)) it) (end_of token)
+        (next past.Range (class_of kind)) more
+        → padded_behind kind token more ≡ None
+    by_kind Stop v = none_padded ands _ (end_of token) past.RangeStop more refl v
+    by_kind _ v = none_padded ands it end past.Range (token ∷ more) refl u
+
+-- SHARED
+abbrev in_steps : State → Bool
+in_steps past.Side = true
+in_steps past.Corner = true
+in_steps past.Step = true
+in_steps past.TownshipSide = true
+in_steps past.RangeSide = true
+in_steps _ = false
+
+abbrev in_steps_at : Option State → Bool
+in_steps_at None = true
+in_steps_at (Some state) = in_steps state
+
+letters_lead : (state : State) (kind : Kind) → begins_step kind ≡ true
+    → in_steps_at (next state (class_of kind)) ≡ true
+letters_lead past.Start (NorthSouth which) h = refl
+letters_lead _ (NorthSouth which) h = refl
+letters_lead _ (EastWest which) h = refl
+letters_lead _ (Corner which) h = refl
+letters_lead state _ h = cc h
+
+steps_lead : (state : State) (kind : Kind) → is_of_step kind ≡ true
+    → in_steps_at (next state (class_of kind)) ≡ true
+steps_lead past.Start Half h = refl
+steps_lead _ Half h = refl
+steps_lead _ Quarter h = refl
+steps_lead _ (NorthSouth which) h = refl
+steps_lead _ (EastWest which) h = refl
+steps_lead _ (Corner which) h = refl
+steps_lead state _ h = cc h
+
+no_and : (it word_more : ListWord) (end : ℕ) (state : State) (token : Token) (more : List Token) (kind : Kind)
+    → in_steps state ≡ true → clouds false it state end token kind ≡ false
+    → Unclouded false word_more (end_of token) (next state (class_of kind)) more
+    → (is_and kind && begin_with_part_of more) ≡ false
+no_and it word_more end past.Step token more And h c u = cc c
+no_and it word_more end past.Side token more And h c u = absurd u
+no_and it word_more end past.Corner token more And h c u = absurd u
+no_and it word_more end past.TownshipSide token more And h c u = absurd u
+no_and it word_more end past.RangeSide token more And h c u = absurd u
+no_and it word_more end _ token more And h c u = cc h
+no_and it word_more end _ token more _ h c u = refl
+
+no_join : (it : ListWord) (end : ℕ) (o : Option State) (tokens : List Token) → in_steps_at o ≡ true
+    → Unclouded false it end o tokens → joins_part (after_steps tokens) ≡ false
+no_join it end None tokens h u = absurd u
+no_join it end (Some state) [] h u = refl
+no_join it end (Some state) (token ∷ more) h u =
+    by_step (is_of_step token.kind) refl
+    (λ lead.
+    no_join (word_behind token.kind token.text (next state (class_of token.kind)) it) (end_of token)
+    (next state (class_of token.kind)) more lead u.1)
+  where
+    by_step : (b : Bool) → is_of_step token.kind ≡ b
+        → (in_steps_at (next state (class_of token.kind)) ≡ true → joins_part (after_steps more) ≡ false)
+        → joins_part (if b then after_steps more else token ∷ more) ≡ false
+    by_step true is go_on = go_on (steps_lead state token.kind is)
+    by_step false is go_on =
+        no_and it (word_behind token.kind token.text (next state (class_of token.kind)) it) end state token
+        more token.kind h u.0 u.1
+
+-- without `of`
+no_of_behind : (tokens : List Token) → NoOf tokens → NoOf (after_steps tokens)
+no_of_behind [] none = tt
+no_of_behind (token ∷ more) none = by_step (is_of_step token.kind) (no_of_behind more none.1)
+  where
+    by_step : (b : Bool) → NoOf (after_steps more) → NoOf (if b then after_steps more else token ∷ more)
+    by_step true behind = behind
+    by_step false behind = none
+
+no_of_first : (tokens : List Token) → NoOf tokens → begin_with_of tokens ≡ false
+no_of_first [] none = refl
+no_of_first (token ∷ more) none = none.0
+
+and_false : (b c : Bool) → c ≡ false → (b && c) ≡ false
+and_false true c h = h
+and_false false c h = refl
+
+no_part_of : (tokens : List Token) → NoOf tokens → begin_with_part_of tokens ≡ false
+no_part_of [] none = refl
+no_part_of (token ∷ more) none =
+    and_false (begins_step token.kind) (begin_with_of (after_steps more))
+    (no_of_first (after_steps more) (no_of_behind more none.1))
+
+no_part_joined : (tokens : List Token) → NoOf tokens → joins_part tokens ≡ false
+no_part_joined [] none = refl
+no_part_joined (token ∷ more) none =
+    and_false (is_and token.kind) (begin_with_part_of more) (no_part_of more none.1)
+
+none_shared : (ands : Bool) (it : ListWord) (end : ℕ) (o : Option State) (tokens : List Token)
+    → Unclouded ands it end o tokens → (ands ≡ true → NoOf tokens) → shared_at tokens ≡ None
+none_shared ands it end None tokens u none = absurd u
+none_shared ands it end (Some state) [] u none = refl
+none_shared true it end (Some state) (letters ∷ more) u none =
+    none_if_false (begins_step letters.kind && joins_part (after_steps more)) _
+    (and_false (begins_step letters.kind) (joins_part (after_steps more))
+    (no_part_joined (after_steps more) (no_of_behind more (none refl).1)))
+none_shared false it end (Some state) (letters ∷ more) u none =
+    none_if_false (begins_step letters.kind && joins_part (after_steps more)) _
+    (by_letters (begins_step letters.kind) refl)
+  where
+    by_letters : (b : Bool) → begins_step letters.kind ≡ b → (b && joins_part (after_steps more)) ≡ false
+    by_letters false is = refl
+    by_letters true is =
+        no_join (word_behind letters.kind letters.text (next state (class_of letters.kind)) it)
+        (end_of letters) (next state (class_of letters.kind)) more (letters_lead state letters.kind is) u.1
+
+-- all of them
+none_behind : (ands : Bool) (it : ListWord) (state : State) (token : Token) (tokens : List Token)
+    (kind : Kind)
+    → Unclouded ands (word_behind kind token.text (next state (class_of kind)) it) (end_of token)
+    (next state (class_of kind)) tokens
+    → (ands ≡ true → NoOf tokens) → doubt_behind kind token tokens ≡ None
+none_behind ands it state token tokens Half u none =
+    none_joined ands _ token tokens (behind_half ands _ (end_of token) state tokens u)
+none_behind ands it state token tokens Quarter u none =
+    none_joined ands _ token tokens (behind_quarter ands _ (end_of token) state tokens u)
+none_behind ands it state token tokens Sec u none =
+    none_of_word ands state it token tokens Sec (no_sections ands state it token tokens u)
+none_behind ands it state token tokens Lot u none =
+    none_of_word ands state it token tokens Lot (no_lots ands state it token tokens u)
+none_behind ands it state token tokens T u none =
+    none_of_township ands _ (end_of token) tokens (behind_t ands _ (end_of token) state tokens u)
+none_behind ands it state token tokens R u none =
+    none_of_range ands _ (end_of token) tokens (behind_r ands _ (end_of token) state tokens u)
+none_behind ands it state token tokens (Number value) u none =
+    none_shared ands _ (end_of token) (next state (class_of (Number value))) tokens u none
+none_behind ands it state token tokens Comma u none =
+    none_shared ands _ (end_of token) (next state (class_of Comma)) tokens u none
+none_behind ands it state token tokens Colon u none =
+    none_shared ands _ (end_of token) (next state (class_of Colon)) tokens u none
+none_behind ands it state token tokens And u none =
+    none_shared ands _ (end_of token) (next state (class_of And)) tokens u none
+none_behind ands it state token tokens _ u none = refl
+
+pub no_doubts : (ands : Bool) (it : ListWord) (end : ℕ) (o : Option State) (tokens : List Token)
+    → Unclouded ands it end o tokens → (ands ≡ true → NoOf tokens) → doubts tokens ≡ []
+no_doubts ands it end None tokens u none = absurd u
+no_doubts ands it end (Some state) [] u none = refl
+no_doubts ands it end (Some state) (token ∷ more) u none =
+    let word_more : ListWord = word_behind token.kind token.text (next state (class_of token.kind)) it in
+    let none_more : ands ≡ true → NoOf more = λ yes. (none yes).1 in
+    let none_here : doubt_behind token.kind token more ≡ None =
+    none_behind ands it state token more token.kind u.1 none_more in
+    ap (λ (o : Option DoubtfulPlace). with_place o (doubts more)) none_here
+    ∙ no_doubts ands word_more (end_of token) (next state (class_of token.kind)) more u.1 none_more

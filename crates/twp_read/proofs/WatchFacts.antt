@@ -1,0 +1,206 @@
+-- What is taken in its usual spelling is not left to the reader's loop, and white space after a step is.
+use Rattle.std.proofs.Common.{◌≡◌, ℕ, ◌+◌, ◌≤◌, ◌&&◌, ◌||◌, ◌==◌, not, Bool, true, false, List, [], ◌∷◌, ◌++◌}
+use Rattle.std.proofs.Common.{Option, Some, None, length, drop, refl, sym, ap, subst, ◌∙◌, arith, ltb}
+use Rattle.std.specs.Option.{is_some}
+use Rattle.std.proofs.lemmas.Bool.{le-ltb}
+use Rattle.std.proofs.lemmas.List.{append-nil, drop-drop}
+use Rattle.std.proofs.Math.Seq.{drop-append_seam}
+use Rattle.twp_grid.specs.declared.block.Side.TheVariants as side
+use Rattle.twp_grammar.specs.declared.item.Item.{Item}
+use Rattle.twp_grammar.specs.declared.item.Step.{Step}
+use Rattle.twp_grammar.specs.declared.item.Step.TheVariants as step
+use Rattle.twp_grammar.specs.declared.kind.Kind.{Kind}
+use Rattle.twp_grammar.specs.declared.kind.Kind.TheVariants.{And, To, NorthSouth, EastWest, Corner, Number}
+use Rattle.twp_grammar.specs.declared.state.State.{State}
+use Rattle.twp_grammar.specs.declared.state.State.TheVariants as past
+use Rattle.twp_grammar.specs.Tokens.{Token, StartsWith}
+use Rattle.twp_grammar.specs.Grammar.{Class, class_of, comma, lot}
+use Rattle.twp_grammar.specs.Machine.{next}
+use Rattle.twp_read.specs.Doubts.{end_of, is_padded}
+use Rattle.twp_read.specs.steps.TokenSteps.{run, take_token}
+use Rattle.twp_read.specs.steps.Usual.{letters_of, fraction_of, may_be_doubtful, begins_with_zero}
+use Rattle.twp_read.specs.steps.Usual.{joins_doubtfully}
+use Rattle.twp_read.specs.steps.Watching.{is_step, is_section, is_heading, is_lot_join, is_usual, AreUsual}
+use Rattle.twp_read.specs.steps.Watching.{end_from}
+
+-- what a step doesn't continue with begins at no step
+pub not_step : (class : Class) (state behind : State) → next past.Step class ≡ None
+    → next state class ≡ Some behind → is_step state ≡ false
+not_step class past.Step behind none is =
+    let both : ◌≡◌ {A = Option State} None (Some behind) = sym none ∙ is in
+    cc both
+not_step class _ behind none is = refl
+
+abbrev is_step_at : Option State → Bool
+is_step_at None = false
+is_step_at (Some state) = is_step state
+
+comma_ends_no_step : (state : State) → is_step_at (next state comma) ≡ false
+comma_ends_no_step past.TownshipSide = refl
+comma_ends_no_step _ = refl
+
+pub comma_no_step : (state behind : State) → next state comma ≡ Some behind → is_step behind ≡ false
+comma_no_step state behind is = sym (ap is_step_at is) ∙ comma_ends_no_step state
+
+-- no part begins after a step
+pub part_no_step : (state : State) → is_some (next state lot) ≡ true → is_step state ≡ false
+part_no_step past.Step h = cc h
+part_no_step _ h = refl
+
+pub no_white_after_step : (state : State) (at to : ℕ) → is_step state ≡ true → is_step state ≡ false → to ≡ at
+no_white_after_step state at to step no_step =
+    let both : true ≡ false = sym step ∙ no_step in
+    absurd (cc both)
+
+-- one token
+pub usual_token : (at : ℕ) (state behind : State) (token : Token) → is_usual state at token token.kind ≡ true
+    → next state (class_of token.kind) ≡ Some behind → AreUsual at (Some state) (token ∷ [])
+usual_token at state behind token usual is =
+    (usual, subst (λ (o : Option State). AreUsual (end_of token) o []) (sym is) tt)
+
+-- where the token before ends matters only after a step
+moved_letters : (b : Bool) (mid at place : ℕ) → (b ≡ true → mid ≡ at) → not (b && ltb mid place) ≡ true
+    → not (b && ltb at place) ≡ true
+moved_letters false mid at place same h = refl
+moved_letters true mid at place same h = subst (λ n. not (ltb n place) ≡ true) (same refl) h
+
+moved_token : (state : State) (mid at : ℕ) (token : Token) (kind : Kind) → (is_step state ≡ true → mid ≡ at)
+    → is_usual state mid token kind ≡ true → is_usual state at token kind ≡ true
+moved_token state mid at token (NorthSouth which) same h =
+    moved_letters (is_step state) mid at token.at same h
+moved_token state mid at token (EastWest which) same h =
+    moved_letters (is_step state) mid at token.at same h
+moved_token state mid at token (Corner which) same h =
+    moved_letters (is_step state) mid at token.at same h
+moved_token state mid at token _ same h = h
+
+pub moved_usual : (state : State) (mid at : ℕ) (tokens : List Token) → (is_step state ≡ true → mid ≡ at)
+    → AreUsual mid (Some state) tokens → AreUsual at (Some state) tokens
+moved_usual state mid at [] same usual = tt
+moved_usual state mid at (token ∷ tokens) same usual =
+    (moved_token state mid at token token.kind same usual.0, usual.1)
+
+abbrev state_of : State → Option (State × List Item) → State
+state_of other None = other
+state_of other (Some reached) = reached.0
+
+-- tokens after others
+pub usual_then : (at mid : ℕ) (o : Option State) (its : List Item) (between : State) (some : List Item)
+    (fs gs : List Token)
+    → AreUsual at o fs → run o its fs ≡ Some (between, some) → (is_step between ≡ true → mid ≡ end_from at fs)
+    → AreUsual mid (Some between) gs → AreUsual at o (fs ++ gs)
+usual_then at mid None its between some fs gs usual walked stays more = absurd usual
+usual_then at mid (Some state) its between some [] gs usual walked stays more =
+    let same : state ≡ between = ap (state_of state) walked in
+    subst (λ (s : State). AreUsual at (Some s) gs) (sym same) (moved_usual between mid at gs stays more)
+usual_then at mid (Some state) its between some (token ∷ fs) gs usual walked stays more = (
+  usual.0,
+  usual_then (end_of token) mid (next state (class_of token.kind)) (take_token state token.kind token.at its)
+      between some fs gs usual.1 walked stays more,
+)
+
+pub end_from-append : (at : ℕ) (fs gs : List Token) → end_from at (fs ++ gs) ≡ end_from (end_from at fs) gs
+end_from-append at [] gs = refl
+end_from-append at (token ∷ fs) gs = end_from-append (end_of token) fs gs
+
+pub stays_then : (at mid to : ℕ) (between : State) (some : List Item) (behind : State) (grown : List Item)
+    (fs gs : List Token)
+    → (is_step between ≡ true → mid ≡ end_from at fs) → run (Some between) some gs ≡ Some (behind, grown)
+    → (is_step behind ≡ true → to ≡ end_from mid gs) → is_step behind ≡ true → to ≡ end_from at (fs ++ gs)
+stays_then at mid to between some behind grown fs [] first walked last is =
+    let same : between ≡ behind = ap (state_of between) walked in
+    let begun : is_step between ≡ true = ap is_step same ∙ is in
+    last is ∙ first begun ∙ ap (end_from at) (sym (append-nil fs))
+stays_then at mid to between some behind grown fs (token ∷ gs) first walked last is =
+    last is ∙ sym (end_from-append at fs (token ∷ gs))
+
+-- a token right where the one before it ends
+pub usual_here : (state : State) (at : ℕ) (token : Token) (kind : Kind) → token.kind ≡ kind → token.at ≡ at
+    → is_usual state token.at token kind ≡ true → is_usual state at token token.kind ≡ true
+usual_here state at token kind kind_is here h =
+    subst (λ (k : Kind). is_usual state at token k ≡ true) (sym kind_is)
+    (subst (λ (n : ℕ). is_usual state n token kind ≡ true) here h)
+
+not_before_itself : (b : Bool) (n : ℕ) → not (b && ltb n n) ≡ true
+not_before_itself false n = refl
+not_before_itself true n = rw (le-ltb n n (omega arith)) refl
+
+pub letters_are_usual : (state : State) (it : Step) (token : Token)
+    → is_usual state token.at token (letters_of it) ≡ true
+letters_are_usual state (step.Half side.N) token = not_before_itself (is_step state) token.at
+letters_are_usual state (step.Half side.S) token = not_before_itself (is_step state) token.at
+letters_are_usual state (step.Half side.E) token = not_before_itself (is_step state) token.at
+letters_are_usual state (step.Half side.W) token = not_before_itself (is_step state) token.at
+letters_are_usual state (step.Quarter which) token = not_before_itself (is_step state) token.at
+
+pub fraction_is_usual : (state : State) (it : Step) (token : Token)
+    → is_usual state token.at token (fraction_of it) ≡ true
+fraction_is_usual state (step.Half which) token = refl
+fraction_is_usual state (step.Quarter which) token = refl
+
+neither : (a b : Bool) → (a || b) ≡ false → (a ≡ false) × (b ≡ false)
+neither false b h = (refl, h)
+neither true b h = cc h
+
+number_usual : (section heading zero_first padded join : Bool)
+    → (section || (heading && zero_first)) ≡ false → (zero_first ≡ false → padded ≡ false)
+    → not (((section && true) || (heading && padded)) || (join && false)) ≡ true
+number_usual true heading zero_first padded join h plain = cc h
+number_usual false false zero_first padded false h plain = refl
+number_usual false false zero_first padded true h plain = refl
+number_usual false true zero_first padded false h plain = rw (plain h) refl
+number_usual false true zero_first padded true h plain = rw (plain h) refl
+
+not_padded : (digits rest : List ℕ) → begins_with_zero (digits ++ rest) ≡ false → is_padded digits ≡ false
+not_padded [] rest h = refl
+not_padded (digit ∷ []) rest h = refl
+not_padded (digit ∷ second ∷ more) rest h = h
+
+-- a token's text where it is
+pub text_there : (text : List ℕ) (from : ℕ) (token : Token) (rest : List ℕ)
+    → StartsWith from (drop from text) token rest → drop token.at text ≡ token.text ++ rest
+text_there text from token rest starts =
+    ap (λ n. drop n text) starts.place
+    ∙ sym (drop-drop (length starts.space) from text)
+    ∙ ap (drop (length starts.space)) starts.spelled
+    ∙ drop-append_seam starts.space (token.text ++ rest)
+
+pub number_is_usual : (text : List ℕ) (from : ℕ) (state : State) (token : Token) (value : ℕ) (rest : List ℕ)
+    → StartsWith from (drop from text) token rest → token.kind ≡ Number value
+    → may_be_doubtful state (drop token.at text) ≡ false
+    → is_usual state from token token.kind ≡ true
+number_is_usual text from state token value rest starts kind_is sure =
+    subst (λ (k : Kind). is_usual state from token k ≡ true) (sym kind_is)
+    (number_usual (is_section state) (is_heading state) (begins_with_zero (drop token.at text))
+    (is_padded token.text) (is_lot_join state) sure
+    (λ plain.
+    not_padded token.text rest (sym (ap begins_with_zero (text_there text from token rest starts)) ∙ plain)))
+
+-- `and` and `to` in lists
+word_usual : (section step_there : Bool) → (step_there || section) ≡ false
+    → not ((section && true) || (step_there && true)) ≡ true
+word_usual section true h = cc h
+word_usual true false h = cc h
+word_usual false false h = refl
+
+pub and_is_usual : (state : State) (from : ℕ) (token : Token) → joins_doubtfully state ≡ false
+    → is_usual state from token And ≡ true
+and_is_usual state from token h = word_usual (is_section state) (is_step state) h
+
+to_usual : (section step_there : Bool) → (step_there || section) ≡ false → not (section && true) ≡ true
+to_usual section true h = cc h
+to_usual true false h = cc h
+to_usual false false h = refl
+
+pub to_is_usual : (state : State) (from : ℕ) (token : Token) → joins_doubtfully state ≡ false
+    → is_usual state from token To ≡ true
+to_is_usual state from token h = to_usual (is_section state) (is_step state) h
+
+-- a number that doesn't begin with a zero
+pub no_zero : (bytes : List ℕ) → (begins_with_zero bytes ≡ true → ⊥) → begins_with_zero bytes ≡ false
+no_zero [] h = refl
+no_zero (byte ∷ bytes) h = no_zero_bool (byte == 48) h
+  where
+    no_zero_bool : (b : Bool) → (b ≡ true → ⊥) → b ≡ false
+    no_zero_bool false h = refl
+    no_zero_bool true h = absurd (h refl)

@@ -1,0 +1,42 @@
+//! Places that can be read in two ways, though the grammar reads them in one.
+
+/// Why a place of a description can be read in two ways.
+#[derive(Clone, Copy, PartialEq, Eq)]
+pub enum Doubt {
+    /// White space between two steps, without `of`, as in `NE1/4 SW1/4`: one part, or two.
+    Joined,
+    /// A part without `of`, `and`, and a part with `of`, as in `W1/2 and NE1/4 of SE1/4`: two parts, or both
+    /// of the SE1/4.
+    Shared,
+    /// The word `sec`, `section`, or `lot`, in the singular, and several numbers, as in `Sec 5, 1, 2`: three
+    /// sections, or two lots of section 5.
+    Several,
+    /// A number of a heading that begins with a zero, as in `T. 0020 N.`: township 20, or township 2, since
+    /// registers write a fraction digit last.
+    Padded,
+}
+
+/// A place that can be read in two ways, and why.
+#[derive(Clone, Copy, PartialEq, Eq)]
+pub struct DoubtfulPlace {
+    pub doubt: Doubt,
+    /// The offset of the second step, the first part, the word, or the number.
+    pub at: usize,
+}
+
+/// The doubtful places of a text.
+#[derive(Clone, Copy, PartialEq, Eq)]
+pub struct Doubts {
+    pub first: DoubtfulPlace,
+    /// How many more there are.
+    pub others: usize,
+}
+
+/// Whether a text may have a doubtful place.
+#[derive(Clone, Copy, PartialEq, Eq)]
+pub enum Clarity {
+    /// It has none.
+    Clear,
+    /// It has one, or one is not ruled out.
+    Unclear,
+}
