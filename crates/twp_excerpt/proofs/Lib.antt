@@ -1,2 +1,16 @@
-pub mod SpotFacts
+pub mod AddingFacts
+pub mod BegunFacts
+pub mod EndFacts
+pub mod ExcerptFacts
+pub mod FitFacts
+pub mod HexFacts
+pub mod LastSign
+pub mod LineEndFacts
+pub mod LookFacts
+pub mod MessageFacts
+pub mod PieceFacts
+pub mod SameFacts
 pub mod ShownFacts
+pub mod SignFacts
+pub mod SoFar
+pub mod SpotFacts

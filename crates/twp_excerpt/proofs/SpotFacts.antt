@@ -15,7 +15,7 @@ use Rattle.bstr.proofs.lemmas.PieceLemmas.{piece-bounds, value-1}
 use Rattle.memchr.specs.Find.{IsLastByte, is_byte}
 use Rattle.twp_excerpt.specs.Spots.{size_in, first_size, columns_within, columns, is_feed, line_start}
 
--- how many bytes pass a test, from a place back
+-- how many bytes pass a test, going back from a place
 abbrev pub passed_before : (ℕ → Bool) → List ℕ → ℕ → ℕ
 passed_before test text at = prefix_len test (reverse (take at text))
 
@@ -75,7 +75,7 @@ not_feed text at place before other = by_byte (cases_Bool (get_or text place 0 =
         absurd (other (subst (λ b. (b == 10) ≡ true) (sym (get_or-take at text place 0 before)) is))
     by_byte (inr is_no) = ap not is_no
 
--- the place behind the last line feed before a place
+-- the index after the last line feed before a place
 pub start_found : (text : List ℕ) (at : ℕ) (feed : ℕ) → at ≤ length text
     → IsLastByte (is_byte 10) (take at text) (Some feed) → feed + 1 ≡ line_start text at
 start_found text at feed within (last, is) =
@@ -99,7 +99,7 @@ start_missing text at within nowhere =
     (λ place low high. not_feed text at place high (nowhere place low (omega (arith, long)))) in
     omega (arith, after, none_at_start (λ byte. not (is_feed byte)) text)
 
--- the first character, or byte, takes a byte at least, and no more than there are
+-- the first character, or byte, takes at least one byte, and no more than there are
 size_in_bounds : (char : Option ℕ) (size n : ℕ) → 1 ≤ size → size ≤ n
     → (0 < size_in char size) × (size_in char size ≤ n)
 size_in_bounds None size n some fits = (omega arith, omega arith)
@@ -111,7 +111,7 @@ first_size_bounds bytes some =
     let bounds = piece-bounds bytes some in
     size_in_bounds (decoded bytes).char (decoded bytes).size (length bytes) bounds.0 bounds.2
 
--- a byte of ASCII is a character of its own
+-- an ASCII byte is a character
 pub ascii_takes_one : (bytes : List ℕ) (at : ℕ) → at < length bytes → slice_index bytes at < 128
     → 1 ≡ first_size (drop at bytes)
 ascii_takes_one bytes at within low =
@@ -124,7 +124,7 @@ ascii_takes_one bytes at within low =
     (omega (arith, length-drop at bytes), omega (arith, first, low)) in
     sym (ap (λ piece. size_in piece.char piece.size) read)
 
--- enough fuel is enough
+-- more fuel than enough makes no difference
 same_columns : (n m : ℕ) (bytes : List ℕ) → length bytes ≤ n → length bytes ≤ m
     → columns_within n bytes ≡ columns_within m bytes
 unfolding columns_within
@@ -162,7 +162,7 @@ unfolding columns_within
 no_columns [] none = refl
 no_columns (byte ∷ rest) none = let no : ⊥ = omega arith in absurd no
 
--- bytes of ASCII take a column each
+-- ASCII bytes take one column each
 ascii_columns_from : (bytes : List ℕ) → IsAscii bytes → (left at : ℕ) → at + left ≡ length bytes
     → columns (drop at bytes) ≡ left
 ascii_columns_from bytes low zero at all =
@@ -176,7 +176,7 @@ ascii_columns_from bytes low (suc left) at all =
 pub ascii_columns : (bytes : List ℕ) → IsAscii bytes → length bytes ≡ columns bytes
 ascii_columns bytes low = sym (ascii_columns_from bytes low (length bytes) 0 (omega arith))
 
--- the loop that counts: another character, and none left
+-- the loop that counts: one more character, and the end
 pub columns_next : (bytes : List ℕ) (at count size : ℕ) → at < length bytes
     → size ≡ first_size (drop at bytes) → count + columns (drop at bytes) ≡ columns bytes
     → (count + 1) + columns (drop (at + size) bytes) ≡ columns bytes

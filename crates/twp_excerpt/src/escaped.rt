@@ -1,24 +1,28 @@
-//! Text of which a terminal shows all: what can't be seen, or isn't UTF-8, is escaped.
-ghost use Rattle.std.specs.Prelude.{◌≡◌, ℕ, ◌<◌, ◌≤◌, ◌++◌, true, Some, length, string_bytes};
-ghost use Rattle.std.specs.Prelude.{encode_utf8, OnOk};
+//! Text that a terminal shows in full: invisible characters, and bytes that are not UTF-8, are
+//! escaped.
+ghost use Rattle.std.specs.Prelude.{◌≡◌, ◌<◌, ◌≤◌, ◌++◌, ◌==◌, ◌∷◌, [], true, length, string_bytes, OnOk};
+ghost use Rattle.std.specs.Prelude.{if◌then◌else◌};
+ghost use Rattle.std.specs.Fmt.{digits};
 ghost use Rattle.std.specs.List.{list_all};
-ghost use Rattle.bstr.specs.Utf8.{decoded};
+ghost use Rattle.twp_excerpt.specs.declared.escaped.Look.TheVariants.{Plain, Letter};
 ghost use Rattle.twp_excerpt.specs.Shown.{AddsShown, IsShownText, is_shown};
-ghost use Rattle.twp_excerpt.specs.steps.Looks.{IsSafe, is_printable};
-ghost use Rattle.twp_excerpt.specs.declared.escaped.Look.TheVariants.{Plain};
+ghost use Rattle.twp_excerpt.specs.Signs.{Adding, Sign as SignOf, escaped, first_sign, width, hex_digit};
+ghost use Rattle.twp_excerpt.specs.Signs.{letter_escape, byte_escape, code_escape};
+ghost use Rattle.twp_excerpt.specs.steps.Looks.{IsSafe, IsDrawn, IsDrawnLast, IsDrawnInLine};
+ghost use Rattle.twp_excerpt.specs.steps.Looks.{is_printable, look_of, look_text};
 
 use crate::shown::is_shown;
 use bstr::{decode_last_utf8, decode_utf8};
 use std::alloc::AllocError;
 use unicode_width::UnicodeWidthChar;
 
-/// Appends a text that is safe to show in a terminal. Characters that can be seen stay as they are,
-/// a backslash too. Line feeds, carriage returns, and tabs are written `\n`, `\r`, and `\t`; other
-/// ASCII control characters, and bytes that are part of no character of UTF-8, as `\x1B`; and all
-/// other characters as `\u{202E}`: those that can't be seen, and those that turn, join, or hide
-/// others. Where memory runs out, a front of that text is appended.
-#[tactic(auto, using(crate::proofs::ShownFacts::adds_trans))]
+/// Appends a text that is safe to show in a terminal. Visible characters, including backslashes,
+/// are left as they are. Line feeds, carriage returns, and tabs are written `\n`, `\r`, and `\t`;
+/// other ASCII control characters, and bytes that belong to no UTF-8 character, as `\x1B`; and all
+/// other characters as `\u{202E}`: those that are invisible, and those that reverse, join, or hide
+/// others. If memory runs out, only a prefix of that text is appended.
 pub fn write_escaped(bytes: &[u8], out: &mut String) -> Result<(), AllocError>
+    ensures escaped { Adding (escaped bytes.now) result (string_bytes out.old) (string_bytes out.new) }
     ensures safe { AddsShown (string_bytes out.old) (string_bytes out.new) }
     ensures same { IsShownText bytes.now → OnOk result
         (string_bytes out.new ≡ string_bytes out.old ++ bytes.now) }
@@ -32,10 +36,10 @@ pub fn write_escaped(bytes: &[u8], out: &mut String) -> Result<(), AllocError>
     Ok(())
 }
 
-/// How a character, or a byte that is part of none, is shown.
+/// How a character, or a byte that belongs to none, is shown.
 #[derive(Clone, Copy)]
 pub(crate) enum Look {
-    /// As the character that it is.
+    /// As the character itself.
     Plain(char),
     /// As a backslash and this letter.
     Letter(char),
@@ -45,23 +49,22 @@ pub(crate) enum Look {
     Code(char),
 }
 
-/// The first character of some bytes, or their first byte where that is part of no character.
+/// The first character of some bytes, or their first byte if that belongs to no character.
 #[derive(Clone, Copy)]
 pub(crate) struct Sign {
     pub(crate) look: Look,
-    /// How many bytes it takes.
+    /// How many bytes the sign takes.
     pub(crate) size: usize,
 }
 
 impl Sign {
-    /// The sign that bytes begin with.
+    /// The sign at the start of some bytes.
     pub(crate) fn first(bytes: &[u8]) -> Sign
         requires { 0 < length bytes.now }
         ensures safe { IsSafe result.look }
         ensures some { 0 < result.size }
         ensures within { result.size ≤ length bytes.now }
-        ensures same { (code : ℕ) → (decoded bytes.now).char ≡ Some code → is_shown code ≡ true
-            → (result.look ≡ Plain code) × (result.size ≡ (decoded bytes.now).size) }
+        ensures first { IsDrawn (first_sign bytes.now) result }
     {
         match decode_utf8(bytes) {
             (Some(character), size) => Sign {
@@ -75,12 +78,13 @@ impl Sign {
         }
     }
 
-    /// The sign that bytes end with.
+    /// The sign at the end of some bytes.
     pub(crate) fn last(bytes: &[u8]) -> Sign
         requires { 0 < length bytes.now }
         ensures safe { IsSafe result.look }
         ensures some { 0 < result.size }
         ensures within { result.size ≤ length bytes.now }
+        ensures last { IsDrawnLast bytes.now result }
     {
         match decode_last_utf8(bytes) {
             (Some(character), size) => Sign {
@@ -94,15 +98,16 @@ impl Sign {
         }
     }
 
-    /// The sign as it is shown in a line, where a tab is a space.
+    /// How the sign is shown in a line, where a tab is shown as a space.
     pub(crate) fn in_line(self) -> Sign
         requires { IsSafe self.look }
         ensures safe { IsSafe result.look }
         ensures size { result.size ≡ self.size }
+        ensures drawn { (sign : SignOf) → IsDrawn sign self → IsDrawnInLine sign result }
     {
         match self.look {
-            Look::Letter('t') => Sign {
-                look: Look::Plain(' '),
+            Look::Letter(letter) => Sign {
+                look: Look::of_letter_in_line(letter),
                 size: self.size,
             },
             _ => self,
@@ -114,7 +119,7 @@ impl Look {
     /// How a character is shown.
     fn of(character: char) -> Look
         ensures safe { IsSafe result }
-        ensures same { is_shown character ≡ true → result ≡ Plain character }
+        ensures look { result ≡ look_of character }
     {
         if is_shown(character) {
             return Look::Plain(character);
@@ -128,24 +133,38 @@ impl Look {
         }
     }
 
-    /// How many columns it takes.
+    /// How an escape with a letter is shown in a line: a tab as a space, and any other as the
+    /// escape.
+    fn of_letter_in_line(letter: char) -> Look
+        requires { is_printable letter ≡ true }
+        ensures safe { IsSafe result }
+        ensures look { result ≡ (if letter == 116 then Plain 32 else Letter letter) }
+    {
+        if letter == 't' {
+            return Look::Plain(' ');
+        }
+        Look::Letter(letter)
+    }
+
+    /// How many columns it takes when shown.
     pub(crate) fn columns(self) -> usize
-        ensures { result ≤ 12 }
+        requires { IsSafe self }
+        ensures width { result ≡ width (look_text self) }
+        ensures few { result ≤ 12 }
     {
         match self {
             Look::Plain(character) => character.width().unwrap_or(0),
             Look::Letter(_) => 2,
             Look::Byte(_) => 4,
-            Look::Code(character) => 4 + hex_digits(u32::from(character)) as usize,
+            Look::Code(character) => 4 + hex_digits(character as u32),
         }
     }
 
-    /// Appends it.
+    /// Appends the character or the escape.
     pub(crate) fn write(self, out: &mut String) -> Result<(), AllocError>
         requires { IsSafe self }
+        ensures added { Adding (look_text self) result (string_bytes out.old) (string_bytes out.new) }
         ensures safe { AddsShown (string_bytes out.old) (string_bytes out.new) }
-        ensures same { (code : ℕ) → self ≡ Plain code → OnOk result
-            (string_bytes out.new ≡ string_bytes out.old ++ encode_utf8 code) }
     {
         match self {
             Look::Plain(character) => push_shown(character, out),
@@ -157,69 +176,68 @@ impl Look {
 }
 
 /// Appends a backslash and a letter.
-#[tactic(auto, using(crate::proofs::ShownFacts::adds_trans))]
 fn write_letter(letter: char, out: &mut String) -> Result<(), AllocError>
-    requires { is_shown letter ≡ true }
-    ensures { AddsShown (string_bytes out.old) (string_bytes out.new) }
+    requires { is_printable letter ≡ true }
+    ensures { Adding (letter_escape letter) result (string_bytes out.old) (string_bytes out.new) }
 {
     push_printable("\\", out)?;
     push_shown(letter, out)
 }
 
 /// Appends a byte as `\x1B`.
-#[tactic(auto, using(crate::proofs::ShownFacts::adds_trans))]
 fn write_byte(byte: u8, out: &mut String) -> Result<(), AllocError>
-    ensures { AddsShown (string_bytes out.old) (string_bytes out.new) }
+    ensures { Adding (byte_escape byte) result (string_bytes out.old) (string_bytes out.new) }
 {
     push_printable("\\x", out)?;
-    push_hex_digit(u32::from(byte / 16), out)?;
-    push_hex_digit(u32::from(byte % 16), out)
+    push_hex_digit(byte / 16, out)?;
+    push_hex_digit(byte % 16, out)
 }
 
 /// Appends a character as `\u{202E}`.
-#[tactic(auto, using(crate::proofs::ShownFacts::adds_trans))]
 fn write_code(character: char, out: &mut String) -> Result<(), AllocError>
-    ensures { AddsShown (string_bytes out.old) (string_bytes out.new) }
+    ensures { Adding (code_escape character) result (string_bytes out.old) (string_bytes out.new) }
 {
     push_printable("\\u{", out)?;
-    write_hex(u32::from(character), out)?;
+    write_hex(character as u32, out)?;
     push_printable("}", out)
 }
 
 /// Appends a number in hexadecimal digits.
-#[tactic(auto, using(crate::proofs::ShownFacts::adds_trans))]
 fn write_hex(number: u32, out: &mut String) -> Result<(), AllocError>
-    ensures { AddsShown (string_bytes out.old) (string_bytes out.new) }
+    ensures { Adding (digits 16 true number) result (string_bytes out.old) (string_bytes out.new) }
 {
-    let digits = hex_digits(number);
-    for place in 0..digits {
-        let behind = digits - 1 - place;
-        push_hex_digit((number >> (4 * behind)) % 16, out)?;
+    if number < 16 {
+        return push_hex_digit(number as u8, out);
     }
-    Ok(())
+    write_hex(number / 16, out)?;
+    push_hex_digit((number % 16) as u8, out)
 }
 
-/// How many hexadecimal digits a number has, other than leading zeros. Of 0 that is none.
-fn hex_digits(number: u32) -> u32
-    ensures { result ≤ 8 }
+/// How many hexadecimal digits a number has.
+fn hex_digits(number: u32) -> usize
+    ensures value { result ≡ length (digits 16 true number) }
+    ensures few { result ≤ 8 }
 {
-    (35 - number.leading_zeros()) / 4
+    if number < 16 {
+        return 1;
+    }
+    hex_digits(number / 16) + 1
 }
 
 /// Appends a hexadecimal digit.
-fn push_hex_digit(digit: u32, out: &mut String) -> Result<(), AllocError>
+fn push_hex_digit(digit: u8, out: &mut String) -> Result<(), AllocError>
     requires { digit < 16 }
-    ensures { AddsShown (string_bytes out.old) (string_bytes out.new) }
+    ensures { Adding (hex_digit digit ∷ []) result (string_bytes out.old) (string_bytes out.new) }
 {
-    push_shown(hex_digit(digit) as char, out)
+    push_shown(digit_character(digit) as char, out)
 }
 
 /// A hexadecimal digit.
-fn hex_digit(digit: u32) -> u8
+fn digit_character(digit: u8) -> u8
     requires { digit < 16 }
-    ensures { (0x20 ≤ result) × (result ≤ 0x7E) }
+    ensures value { result ≡ hex_digit digit }
+    ensures printable { (0x20 ≤ result) × (result ≤ 0x7E) }
 {
-    let digit = digit as u8;
     if digit < 10 {
         b'0' + digit
     } else {
@@ -230,9 +248,8 @@ fn hex_digit(digit: u32) -> u8
 /// Appends a character that is shown.
 pub(crate) fn push_shown(character: char, out: &mut String) -> Result<(), AllocError>
     requires { is_shown character ≡ true }
+    ensures added { Adding (character ∷ []) result (string_bytes out.old) (string_bytes out.new) }
     ensures safe { AddsShown (string_bytes out.old) (string_bytes out.new) }
-    ensures same { OnOk result
-        (string_bytes out.new ≡ string_bytes out.old ++ encode_utf8 character) }
 {
     out.push(character)
 }
@@ -240,7 +257,8 @@ pub(crate) fn push_shown(character: char, out: &mut String) -> Result<(), AllocE
 /// Appends printable ASCII.
 pub(crate) fn push_printable(text: &str, out: &mut String) -> Result<(), AllocError>
     requires { list_all is_printable text.now ≡ true }
-    ensures { AddsShown (string_bytes out.old) (string_bytes out.new) }
+    ensures added { Adding text.now result (string_bytes out.old) (string_bytes out.new) }
+    ensures safe { AddsShown (string_bytes out.old) (string_bytes out.new) }
 {
     out.push_str(text)
 }

@@ -1,29 +1,40 @@
-//! The line of a text on which a place stands, with carets below the part that is meant.
-ghost use Rattle.std.specs.Prelude.{◌≡◌, ◌≤◌, ◌++◌, ◌∷◌, [], true, length, string_bytes, IsTrue};
-ghost use Rattle.std.specs.Prelude.{OnOk};
+//! The line of a text that contains a place, with carets below the underlined part.
+ghost use Rattle.std.specs.Prelude.{◌≡◌, ◌<◌, ◌≤◌, ◌++◌, ◌∷◌, [], ℕ, true, false, not, nat_le, length};
+ghost use Rattle.std.specs.Prelude.{string_bytes, replicate, IsTrue, OnOk};
 ghost use Rattle.std.specs.List.{list_all};
+ghost use Rattle.twp_excerpt.specs.Excerpts.{View as ViewOf, excerpt, view_in, line_end, line_text};
+ghost use Rattle.twp_excerpt.specs.Excerpts.{line_width, front_within, end_within, begun, dots};
+ghost use Rattle.twp_excerpt.specs.Excerpts.{Piece, front_piece, end_piece, front_text, end_text, gutter};
+ghost use Rattle.twp_excerpt.specs.Excerpts.{empty_gutter, numbered_line, caret_line};
 ghost use Rattle.twp_excerpt.specs.Shown.{AddsLines, AddsShown, AddsTwoLines, is_shown};
+ghost use Rattle.twp_excerpt.specs.Signs.{Adding, signs};
+ghost use Rattle.twp_excerpt.specs.Spots.{line_start};
 ghost use Rattle.twp_excerpt.specs.steps.Looks.{is_printable};
+ghost use Rattle.twp_excerpt.specs.steps.Views.{IsPart, IsKept};
 
 use crate::escaped::{Sign, push_printable, push_shown};
 use crate::spot::{Span, start_of_line};
 use itoa::Buffer;
+use memchr::memchr;
 use std::alloc::AllocError;
 
-/// The most columns that a line of an excerpt takes.
+/// The most columns of a line in an excerpt.
 pub(crate) const COLUMNS: usize = 100;
 
-/// What stands where text was left out.
+/// The text that marks an omission.
 pub(crate) const DOTS: &str = "..";
 
-/// Appends the line on which a span starts, behind the number that is given for it, and a line with
-/// carets below the span as far as it is on that line, at least one. Each of the two is ended by a
-/// line feed and takes 100 columns at most: of a long line, what is around the span's start is
-/// shown, with two dots where text was left out. A tab is shown as a space, and what isn't safe to
-/// show is escaped. Where memory runs out, a front of all that is appended.
+/// Appends the line on which a span starts, after the line number that is passed in, and a line
+/// with carets below as much of the span as is on that line, at least one caret. Each of the two
+/// lines ends with a line feed and is at most 100 columns wide. Of a longer line, the part around
+/// the span's start is shown, and two dots mark each omission. A tab is shown as a space, and
+/// anything that is not safe to show is escaped. If memory runs out, only a prefix of all this is
+/// appended.
 pub fn write_excerpt(text: &[u8], span: Span, line: u32, out: &mut String) -> Result<(), AllocError>
     requires ordered { span.start ≤ span.end }
     requires within { span.end ≤ length text.now }
+    ensures excerpt { Adding (excerpt text.now span.start span.end line) result
+        (string_bytes out.old) (string_bytes out.new) }
     ensures safe { AddsLines (string_bytes out.old) (string_bytes out.new) }
     ensures lines { OnOk result (AddsTwoLines (string_bytes out.old) (string_bytes out.new)) }
 {
@@ -36,53 +47,75 @@ pub fn write_excerpt(text: &[u8], span: Span, line: u32, out: &mut String) -> Re
     end_line(out)
 }
 
-/// What is kept of some bytes of a line.
+/// The part that is kept of some bytes of a line.
 #[derive(Clone, Copy)]
 pub(crate) struct Part<'a> {
     bytes: &'a [u8],
-    /// Whether bytes were left out, for which two dots stand.
+    /// Whether bytes were omitted; two dots mark the omission.
     cut: bool,
-    /// The columns that the part takes, those of the dots with it.
+    /// The columns of the part, including those of the dots.
     pub(crate) columns: usize,
 }
 
 impl<'a> Part<'a> {
-    /// Appends the front of bytes, and dots where they go on.
+    /// Appends a prefix of bytes, and dots if more bytes follow.
     #[tactic(auto, using(crate::proofs::ShownFacts::adds_trans))]
     pub(crate) fn write_front(&self, out: &mut String) -> Result<(), AllocError>
-        ensures { AddsShown (string_bytes out.old) (string_bytes out.new) }
+        ensures added { (piece : Piece) → IsPart piece self.now
+            → Adding (front_text piece) result (string_bytes out.old) (string_bytes out.new) }
+        ensures safe { AddsShown (string_bytes out.old) (string_bytes out.new) }
     {
         write_in_line(self.bytes, out)?;
         write_dots(self.cut, out)
     }
 
-    /// Appends the end of bytes, behind dots where there are more.
+    /// Appends a suffix of bytes, after dots if there are more bytes before it.
     #[tactic(auto, using(crate::proofs::ShownFacts::adds_trans))]
     fn write_end(&self, out: &mut String) -> Result<(), AllocError>
-        ensures { AddsShown (string_bytes out.old) (string_bytes out.new) }
+        ensures added { (piece : Piece) → IsPart piece self.now
+            → Adding (end_text piece) result (string_bytes out.old) (string_bytes out.new) }
+        ensures safe { AddsShown (string_bytes out.old) (string_bytes out.new) }
     {
         write_dots(self.cut, out)?;
         write_in_line(self.bytes, out)
     }
 }
 
-/// What an excerpt shows.
+impl<'a> Part<'a> {
+    /// The prefix of bytes that fits in a number of columns, given a shorter prefix of them.
+    fn widened(self, bytes: &'a [u8], room: usize) -> Part<'a>
+        requires short { IsTrue self.cut → 2 ≤ room }
+        requires whole { self.cut ≡ false → self.columns ≤ room }
+        requires roomy { room ≤ 100 }
+        ensures piece { (least : ℕ) → IsPart (front_piece least (signs bytes.now)) self.entry
+            → IsPart (front_piece room (signs bytes.now)) result }
+        ensures fits { result.columns ≤ room }
+    {
+        if self.cut {
+            return front_of(bytes, room);
+        }
+        self
+    }
+}
+
+/// The parts of a line that an excerpt shows.
 #[derive(Clone, Copy)]
 struct View<'a> {
-    /// Of the line ahead of the span.
+    /// The part of the line before the span.
     before: Part<'a>,
-    /// Of the line from the span's start on.
+    /// The part of the line from the span's start on.
     ahead: Part<'a>,
     /// How many carets there are.
     carets: usize,
 }
 
 impl<'a> View<'a> {
-    /// What is shown of a span's line in so many columns.
+    /// The parts that are shown of a span's line in a number of columns.
     fn of(text: &'a [u8], span: Span, room: usize) -> View<'a>
         requires ordered { span.start ≤ span.end }
         requires within { span.end ≤ length text.now }
-        requires roomy { (8 ≤ room) × (room ≤ 100) }
+        requires roomy { (8 ≤ room) × (room ≤ 95) }
+        ensures { IsKept (view_in room text.now span.start span.end) result }
     {
         let start = start_of_line(text, span.start);
         let end = end_of_line(text, start, span.start);
@@ -91,11 +124,7 @@ impl<'a> View<'a> {
         let line_ahead = &text[place..end];
         let least = front_of(line_ahead, room - room / 2);
         let before = end_of(line_before, room - least.columns.max(1));
-        let ahead = if least.cut {
-            front_of(line_ahead, room - before.columns)
-        } else {
-            least
-        };
+        let ahead = least.widened(line_ahead, room - before.columns);
         let marked = columns_until(ahead.bytes, span.end.min(end) - place);
         View {
             before,
@@ -108,18 +137,23 @@ impl<'a> View<'a> {
     #[tactic(auto, using(crate::proofs::ShownFacts::adds_trans))]
     fn write_text(&self, number: &str, out: &mut String) -> Result<(), AllocError>
         requires { list_all is_printable number.now ≡ true }
-        ensures { AddsShown (string_bytes out.old) (string_bytes out.new) }
+        ensures added { (view : ViewOf) → IsKept view self.now
+            → Adding (numbered_line number.now view) result
+            (string_bytes out.old) (string_bytes out.new) }
+        ensures safe { AddsShown (string_bytes out.old) (string_bytes out.new) }
     {
         write_gutter(number, out)?;
         self.before.write_end(out)?;
         self.ahead.write_front(out)
     }
 
-    /// Appends the line of carets, below a line whose number has so many digits.
+    /// Appends the line of carets, below a line whose number has this many digits.
     #[tactic(auto, using(crate::proofs::ShownFacts::adds_trans))]
     fn write_carets(&self, digits: usize, out: &mut String) -> Result<(), AllocError>
         requires { digits ≤ 40 }
-        ensures { AddsShown (string_bytes out.old) (string_bytes out.new) }
+        ensures added { (view : ViewOf) → IsKept view self.now
+            → Adding (caret_line digits view) result (string_bytes out.old) (string_bytes out.new) }
+        ensures safe { AddsShown (string_bytes out.old) (string_bytes out.new) }
     {
         write_empty_gutter(digits, out)?;
         push_many(' ', self.before.columns, out)?;
@@ -127,15 +161,17 @@ impl<'a> View<'a> {
     }
 }
 
-/// Where a line ends that starts at a place, ahead of its line feed or of the carriage return and
-/// line feed; a further place on the line is given, from which the line feed is looked for.
+/// Where the line that contains a place ends: before its line feed, or before its carriage return
+/// and line feed. A further place on the line is also given, from which to look for the line feed.
 fn end_of_line(text: &[u8], start: usize, at: usize) -> usize
+    requires starts { start ≡ line_start text.now at }
     requires ordered { start ≤ at }
     requires within { at ≤ length text.now }
+    ensures value { result ≡ line_end text.now at }
     ensures behind { start ≤ result }
     ensures within { result ≤ length text.now }
 {
-    let Some(feed) = text[at..].iter().position(|byte| *byte == b'\n') else {
+    let Some(feed) = memchr(b'\n', &text[at..]) else {
         return text.len();
     };
     let end = at + feed;
@@ -146,9 +182,11 @@ fn end_of_line(text: &[u8], start: usize, at: usize) -> usize
     }
 }
 
-/// The front of some bytes that fits in so many columns, with the dots if it isn't all.
+/// The prefix of some bytes that fits in a number of columns, including the dots if it is not all
+/// of them.
 pub(crate) fn front_of(bytes: &[u8], room: usize) -> Part<'_>
     requires { (2 ≤ room) × (room ≤ 100) }
+    ensures piece { IsPart (front_piece room (signs bytes.now)) result }
     ensures fits { result.columns ≤ room }
     ensures dots { IsTrue result.cut → 2 ≤ result.columns }
 {
@@ -163,10 +201,13 @@ pub(crate) fn front_of(bytes: &[u8], room: usize) -> Part<'_>
     }
 }
 
-/// The front of some bytes that fits in so many columns, without dots.
+/// The prefix of some bytes that fits in a number of columns, without dots.
 fn front_within(bytes: &[u8], room: usize) -> Part<'_>
     requires { room ≤ 100 }
-    ensures { result.columns ≤ room }
+    ensures kept { signs result.bytes.now ≡ front_within room (signs bytes.now) }
+    ensures cut { result.cut ≡ not (nat_le (line_width (signs bytes.now)) room) }
+    ensures columns { result.columns ≡ line_width (signs result.bytes.now) }
+    ensures fits { result.columns ≤ room }
 {
     let mut at = 0;
     let mut columns = 0;
@@ -186,10 +227,12 @@ fn front_within(bytes: &[u8], room: usize) -> Part<'_>
     }
 }
 
-/// The end of some bytes that fits in so many columns, with the dots if it isn't all.
+/// The suffix of some bytes that fits in a number of columns, including the dots if it is not all
+/// of them.
 fn end_of(bytes: &[u8], room: usize) -> Part<'_>
     requires { (2 ≤ room) × (room ≤ 100) }
-    ensures { result.columns ≤ room }
+    ensures piece { IsPart (end_piece room (signs bytes.now)) result }
+    ensures fits { result.columns ≤ room }
 {
     let whole = end_within(bytes, room);
     if !whole.cut {
@@ -202,10 +245,13 @@ fn end_of(bytes: &[u8], room: usize) -> Part<'_>
     }
 }
 
-/// The end of some bytes that fits in so many columns, without dots.
+/// The suffix of some bytes that fits in a number of columns, without dots.
 fn end_within(bytes: &[u8], room: usize) -> Part<'_>
     requires { room ≤ 100 }
-    ensures { result.columns ≤ room }
+    ensures kept { signs result.bytes.now ≡ end_within room (signs bytes.now) }
+    ensures cut { result.cut ≡ not (nat_le (line_width (signs bytes.now)) room) }
+    ensures columns { result.columns ≡ line_width (signs result.bytes.now) }
+    ensures fits { result.columns ≤ room }
 {
     let mut at = bytes.len();
     let mut columns = 0;
@@ -225,9 +271,12 @@ fn end_within(bytes: &[u8], room: usize) -> Part<'_>
     }
 }
 
-/// The columns of the characters that begin ahead of a place in some bytes, counted as far as a
-/// line of an excerpt reaches.
-fn columns_until(bytes: &[u8], place: usize) -> usize {
+/// The columns of the characters that begin before a place in some bytes, counted no further than
+/// the width of an excerpt's line.
+fn columns_until(bytes: &[u8], place: usize) -> usize
+    requires { line_width (signs bytes.now) < 100 }
+    ensures { result ≡ line_width (begun place (signs bytes.now)) }
+{
     let mut at = 0;
     let mut columns = 0;
     while at < place && at < bytes.len() && columns < COLUMNS {
@@ -238,38 +287,46 @@ fn columns_until(bytes: &[u8], place: usize) -> usize {
     columns
 }
 
-/// Appends what stands before a numbered line.
+/// Appends the gutter before a numbered line.
 #[tactic(auto, using(crate::proofs::ShownFacts::adds_trans))]
 fn write_gutter(number: &str, out: &mut String) -> Result<(), AllocError>
     requires { list_all is_printable number.now ≡ true }
-    ensures { AddsShown (string_bytes out.old) (string_bytes out.new) }
+    ensures added { Adding (gutter number.now) result (string_bytes out.old) (string_bytes out.new) }
+    ensures safe { AddsShown (string_bytes out.old) (string_bytes out.new) }
 {
     push_printable("  ", out)?;
     push_printable(number, out)?;
     push_printable(" | ", out)
 }
 
-/// Appends what stands before the carets, below a number of so many digits.
+/// Appends the gutter before the carets, below a line number with this many digits.
 #[tactic(auto, using(crate::proofs::ShownFacts::adds_trans))]
 fn write_empty_gutter(digits: usize, out: &mut String) -> Result<(), AllocError>
     requires { digits ≤ 40 }
-    ensures { AddsShown (string_bytes out.old) (string_bytes out.new) }
+    ensures added { Adding (empty_gutter digits) result (string_bytes out.old) (string_bytes out.new) }
+    ensures safe { AddsShown (string_bytes out.old) (string_bytes out.new) }
 {
     push_many(' ', 2 + digits, out)?;
     push_printable(" | ", out)
 }
 
-/// Appends the dots where something was cut.
+/// Appends the dots if something was omitted.
 fn write_dots(cut: bool, out: &mut String) -> Result<(), AllocError>
-    ensures { AddsShown (string_bytes out.old) (string_bytes out.new) }
+    ensures added { Adding (dots cut) result (string_bytes out.old) (string_bytes out.new) }
+    ensures safe { AddsShown (string_bytes out.old) (string_bytes out.new) }
 {
-    push_printable(if cut { DOTS } else { "" }, out)
+    if !cut {
+        return Ok(());
+    }
+    push_printable(DOTS, out)
 }
 
-/// Appends bytes of a line.
+/// Appends bytes as they are shown in a line.
 #[tactic(auto, using(crate::proofs::ShownFacts::adds_trans))]
 fn write_in_line(bytes: &[u8], out: &mut String) -> Result<(), AllocError>
-    ensures { AddsShown (string_bytes out.old) (string_bytes out.new) }
+    ensures added { Adding (line_text (signs bytes.now)) result
+        (string_bytes out.old) (string_bytes out.new) }
+    ensures safe { AddsShown (string_bytes out.old) (string_bytes out.new) }
 {
     let mut at = 0;
     while at < bytes.len() {
@@ -280,14 +337,18 @@ fn write_in_line(bytes: &[u8], out: &mut String) -> Result<(), AllocError>
     Ok(())
 }
 
-/// Appends a character many times.
+/// Appends a character a number of times.
 #[tactic(auto, using(crate::proofs::ShownFacts::adds_trans))]
 fn push_many(character: char, count: usize, out: &mut String) -> Result<(), AllocError>
     requires { is_shown character ≡ true }
-    ensures { AddsShown (string_bytes out.old) (string_bytes out.new) }
+    ensures added { Adding (replicate count character) result
+        (string_bytes out.old) (string_bytes out.new) }
+    ensures safe { AddsShown (string_bytes out.old) (string_bytes out.new) }
 {
-    for _ in 0..count {
+    let mut left = count;
+    while left > 0 {
         push_shown(character, out)?;
+        left -= 1;
     }
     Ok(())
 }
@@ -296,6 +357,7 @@ fn push_many(character: char, count: usize, out: &mut String) -> Result<(), Allo
 pub(crate) fn end_line(out: &mut String) -> Result<(), AllocError>
     ensures safe { AddsLines (string_bytes out.old) (string_bytes out.new) }
     ensures feed { OnOk result (string_bytes out.new ≡ string_bytes out.old ++ 10 ∷ []) }
+    ensures added { Adding (10 ∷ []) result (string_bytes out.old) (string_bytes out.new) }
 {
     out.push('\n')
 }

@@ -1,14 +1,17 @@
-//! Where a byte of a text stands for a reader, and excerpts of a text that are safe to show in a
-//! terminal: its characters as far as they can be seen and move nothing, and escapes for all else.
+//! The line and column of a byte in a text, and excerpts of a text that are safe to show in a
+//! terminal: characters that are visible and move nothing are shown, and everything else is
+//! escaped.
 #![tactic(auto)]
 
 mod escaped;
 mod excerpt;
+mod message;
 mod shown;
 mod spot;
 mod wrapped;
 
 pub use escaped::write_escaped;
 pub use excerpt::write_excerpt;
+pub use message::{Extract, Heading, Message};
 pub use spot::{Span, Spot, end_of_text, first_size, spot_of};
 pub use wrapped::{columns_of, write_wrapped};

@@ -1,4 +1,4 @@
-//! Which characters a terminal may be given as they are.
+//! Which characters may be sent to a terminal unchanged.
 ghost use Rattle.std.specs.Prelude.{◌≡◌};
 ghost use Rattle.std.specs.Int.{is_in_range};
 ghost use Rattle.twp_excerpt.specs.Shown.{is_beyond_text, is_blank_letter, is_control, is_odd_mark};
@@ -6,7 +6,7 @@ ghost use Rattle.twp_excerpt.specs.Shown.{is_shown};
 
 use unicode_width::UnicodeWidthChar;
 
-/// Whether a character is shown as it is.
+/// Whether a character is shown unchanged.
 #[tactic(auto, unfolding(crate::specs::Shown::is_shown))]
 pub(crate) fn is_shown(character: char) -> bool
     ensures { result ≡ is_shown character }
@@ -28,7 +28,7 @@ fn is_control(code: u32) -> bool
     is_among(code, 0, 0x1F) || is_among(code, 0x7F, 0xA0) || code == 0xAD
 }
 
-/// Marks of direction, spaces of odd widths, joiners, separators, and invisible operators.
+/// Marks of direction, spaces of unusual widths, joiners, separators, and invisible operators.
 fn is_odd_mark(code: u32) -> bool
     ensures { result ≡ is_odd_mark code }
 {
@@ -48,8 +48,8 @@ fn is_blank_letter(code: u32) -> bool
     is_among(code, 0x115F, 0x1160) || code == 0x2800 || code == 0x3164 || code == 0xFFA0
 }
 
-/// Surrogates and private characters, all from the tags on, variation selectors, the byte order
-/// mark, annotations, and numbers that are no characters.
+/// Surrogates and private-use characters, everything from the tags on, variation selectors, the
+/// byte order mark, annotations, and noncharacters.
 fn is_beyond_text(code: u32) -> bool
     ensures { result ≡ is_beyond_text code }
 {
@@ -62,7 +62,7 @@ fn is_beyond_text(code: u32) -> bool
         || 0xFFFE <= code % 0x10000
 }
 
-/// Whether a code is one of those from a first to a last.
+/// Whether a code is in a range, both ends included.
 fn is_among(code: u32, first: u32, last: u32) -> bool
     ensures { result ≡ is_in_range first last code }
 {

@@ -1,4 +1,4 @@
-//! Places in a text: lines, columns, and where the text ends but for white space.
+//! Places in a text: lines, columns, and the end of the text without trailing white space.
 ghost use Rattle.std.specs.Prelude.{◌≡◌, ◌+◌, ◌<◌, ◌≤◌, ◌^◌, length, count_by, drop, take};
 ghost use Rattle.twp_excerpt.specs.Spots.{columns, column_of, end_of, first_size};
 ghost use Rattle.twp_excerpt.specs.Spots.{is_feed, is_white, line_of, line_start};
@@ -6,22 +6,22 @@ ghost use Rattle.twp_excerpt.specs.Spots.{is_feed, is_white, line_of, line_start
 use bstr::decode_utf8;
 use memchr::memrchr;
 
-/// Where a byte of a text stands. Both numbers count from 1.
+/// The position of a byte in a text. Both numbers count from 1.
 #[derive(Clone, Copy, PartialEq, Eq)]
 pub struct Spot {
     pub line: u32,
     pub column: u32,
 }
 
-/// Bytes of a text, from an offset up to another.
+/// Bytes of a text, from one offset up to, but not including, another.
 #[derive(Clone, Copy, PartialEq, Eq)]
 pub struct Span {
     pub start: usize,
     pub end: usize,
 }
 
-/// Where the byte at an offset stands, or the end of the text. A line feed ends its line, and a
-/// column is a character of UTF-8 or a byte that is part of none.
+/// The position of the byte at an offset, or of the end of the text. A line feed ends its line, and
+/// a column is a UTF-8 character or a byte that belongs to none.
 pub fn spot_of(text: &[u8], at: usize) -> Spot
     requires within { at ≤ length text.now }
     requires short { length text.now + 1 < 2 ^ 32 }
@@ -37,8 +37,8 @@ pub fn spot_of(text: &[u8], at: usize) -> Spot
     }
 }
 
-/// The offset behind the last byte that is no white space (a space, a tab, a line feed, or a
-/// carriage return), or 0 where there is none.
+/// The offset after the last byte that is not white space (a space, a tab, a line feed, or a
+/// carriage return), or 0 if there is no such byte.
 pub fn end_of_text(text: &[u8]) -> usize
     ensures end { result ≡ end_of text.now }
     ensures within { result ≤ length text.now }
@@ -50,7 +50,7 @@ pub fn end_of_text(text: &[u8]) -> usize
     end
 }
 
-/// Where the line of a place begins.
+/// The start of the line that contains a place.
 pub(crate) fn start_of_line(text: &[u8], at: usize) -> usize
     requires { at ≤ length text.now }
     ensures value { result ≡ line_start text.now at }
@@ -62,7 +62,7 @@ pub(crate) fn start_of_line(text: &[u8], at: usize) -> usize
     }
 }
 
-/// How many line feeds there are.
+/// The number of line feeds.
 fn line_feeds(text: &[u8]) -> usize
     ensures value { result ≡ count_by is_feed text.now }
     ensures within { result ≤ length text.now }
@@ -70,7 +70,7 @@ fn line_feeds(text: &[u8]) -> usize
     text.iter().filter(|byte| **byte == b'\n').count()
 }
 
-/// How many columns the bytes take. Most lines are ASCII, of which each byte takes one.
+/// How many columns the bytes take. Most lines are ASCII, where each byte takes one.
 #[tactic(auto, using(crate::proofs::SpotFacts::ascii_columns))]
 fn columns(bytes: &[u8]) -> usize
     ensures value { result ≡ columns bytes.now }
@@ -88,7 +88,7 @@ fn columns(bytes: &[u8]) -> usize
     count
 }
 
-/// How many bytes the character at a place takes, or 1 where none begins there. Nothing of ASCII has to
+/// How many bytes the character at a place takes, or 1 if none begins there. ASCII does not have to
 /// be decoded.
 #[tactic(auto, using(crate::proofs::SpotFacts::ascii_takes_one))]
 #[inline(always)]
@@ -104,7 +104,7 @@ fn size_at(bytes: &[u8], at: usize) -> usize
     first_size(&bytes[at..])
 }
 
-/// How many bytes the first character of UTF-8 takes, or 1 where no character begins the bytes.
+/// How many bytes the first UTF-8 character takes, or 1 if the bytes do not begin with a character.
 pub fn first_size(bytes: &[u8]) -> usize
     requires { 0 < length bytes.now }
     ensures value { result ≡ first_size bytes.now }

@@ -1,33 +1,33 @@
-//! Text that is broken into lines no wider than those of an excerpt.
-ghost use Rattle.std.specs.Prelude.{◌≡◌, ◌≤◌, true, string_bytes, IfOk};
+//! Text broken into lines no wider than those of an excerpt.
+ghost use Rattle.std.specs.Prelude.{◌≡◌, ◌≤◌, true, string_bytes, IfOk, OnOk};
 ghost use Rattle.std.specs.List.{list_all};
-ghost use Rattle.twp_excerpt.specs.Shown.{AddsLines};
+ghost use Rattle.twp_excerpt.specs.Shown.{AddsEnded, AddsLines};
 ghost use Rattle.twp_excerpt.specs.steps.Looks.{is_printable};
 
 use crate::escaped::{Sign, push_printable};
 use crate::excerpt::{COLUMNS, DOTS, end_line, front_of};
 use std::alloc::AllocError;
 
-/// How far the lines after the first are indented.
+/// The indentation of lines after the first.
 const INDENT: &str = "  ";
 
-/// The columns of a line that words may take. The last line leaves room for a space and two dots.
+/// The columns that words may take in a line. The last line leaves room for a space and two dots.
 const LAST_LINE: usize = COLUMNS - 1 - DOTS.len();
 
 /// A place on one of the lines.
 #[derive(Clone, Copy)]
 struct Place {
-    /// The columns that the line takes up to there.
+    /// The columns of the line before the place.
     columns: usize,
-    /// Whether a word is before it on the line.
+    /// Whether a word precedes it on the line.
     is_after_word: bool,
-    /// How many more lines may begin.
+    /// How many more lines can begin.
     lines: usize,
-    /// Whether the last line was full, and dots were written.
+    /// Whether the last line is full, and dots were written.
     is_full: bool,
 }
 
-/// How many columns a text takes once it is escaped.
+/// How many columns a text takes after it is escaped.
 pub fn columns_of(text: &str) -> usize {
     let bytes = text.as_bytes();
     let mut at = 0;
@@ -40,10 +40,11 @@ pub fn columns_of(text: &str) -> usize {
     columns
 }
 
-/// Appends a text to a line of which some columns are taken, and ends the line. Text that is too wide is
-/// broken at spaces into lines of at most 100 columns, at most so many of them; those after the first are
-/// indented by two spaces. What doesn't fit on the last one is left out, and two dots say so. The text is
-/// escaped. If memory runs out, only the front of those lines is appended.
+/// Appends a text to a line on which some columns are taken, and ends the line. Text that is too
+/// wide is broken at spaces into lines of at most 100 columns, up to a number of lines; those after
+/// the first are indented by two spaces. A word after a space and a line feed begins a new line. If
+/// the text does not fit, the rest is omitted, and two dots mark the omission. The text is escaped. If memory runs out, only a prefix of those lines is
+/// appended.
 #[tactic(auto, using(crate::proofs::ShownFacts::adds_trans))]
 pub fn write_wrapped(
     text: &str,
@@ -52,6 +53,7 @@ pub fn write_wrapped(
     out: &mut String,
 ) -> Result<(), AllocError>
     ensures safe { AddsLines (string_bytes out.old) (string_bytes out.new) }
+    ensures ended { OnOk result (AddsEnded (string_bytes out.old) (string_bytes out.new)) }
 {
     let mut place = Place {
         columns,
@@ -67,18 +69,21 @@ pub fn write_wrapped(
     end_line(out)
 }
 
-/// Appends a word at a place, or at the beginning of the next line if it doesn't fit there.
+/// Appends a word at a place, or at the beginning of the next line if it doesn't fit there or a line feed is before
+/// it.
 #[tactic(auto, using(crate::proofs::ShownFacts::adds_trans, crate::proofs::ShownFacts::lines_of_shown))]
 fn write_word(word: &str, place: Place, out: &mut String) -> Result<Place, AllocError>
     ensures safe { AddsLines (string_bytes out.old) (string_bytes out.new) }
 {
     let gap = if place.is_after_word { " " } else { "" };
+    let is_next = word.starts_with('\n');
+    let word = word.strip_prefix('\n').unwrap_or(word);
     let columns = place
         .columns
         .saturating_add(gap.len())
         .saturating_add(columns_of(word));
     let most = if place.lines == 0 { LAST_LINE } else { COLUMNS };
-    if columns <= most {
+    if columns <= most && !is_next {
         write_after(gap, word, COLUMNS, out)?;
         return Ok(Place {
             columns,
@@ -103,7 +108,8 @@ fn write_word(word: &str, place: Place, out: &mut String) -> Result<Place, Alloc
     })
 }
 
-/// Appends some spaces and the front of a word that fits in so many columns. Gives the columns of that front.
+/// Appends some spaces and the prefix of a word that fits in a number of columns. Returns the
+/// columns of that prefix.
 #[tactic(auto, using(crate::proofs::ShownFacts::adds_trans, crate::proofs::ShownFacts::lines_of_shown))]
 fn write_after(spaces: &str, word: &str, room: usize, out: &mut String) -> Result<usize, AllocError>
     requires spaces { list_all is_printable spaces.now ≡ true }

@@ -21,10 +21,10 @@ use Rattle.twp_acres.specs.declared.verdict.Verdict.{Verdict}
 use Rattle.twp_acres.specs.declared.verdict.Verdict.TheVariants.{Refused}
 use Rattle.twp_acres.proofs.OneAnswer.{not_platted, not_described, one_plat_refusal, one_refusal, one_plat}
 use Rattle.twp_explain.specs.Refusals.{IsOfNone, IsNotOf, DescribeLand}
-use Rattle.twp_findings.specs.Findings.{IfFound}
-use Rattle.twp_findings.specs.declared.explanation.Explanation.{Explanation}
-use Rattle.twp_findings.specs.declared.finding.Stop.{Stop}
-use Rattle.twp_findings.specs.declared.finding.Stop.TheVariants as stop
+use Rattle.twp_explain.specs.Findings.{IfFound}
+use Rattle.twp_explain.specs.declared.explanation.Explanation.{Explanation}
+use Rattle.twp_explain.specs.declared.finding.Failure.{Failure}
+use Rattle.twp_explain.specs.declared.finding.Failure.TheVariants as stop
 
 -- what holds where there is a refusal, of one that there is
 pub held : (answered : Option Refusal) (refusal : Refusal) (Held : Type 0)
@@ -33,14 +33,14 @@ held None refusal Held is held_if = absurd (cc is)
 held (Some some) refusal Held is held_if = held_if
 
 -- what was found of a refusal is of the fault that has it
-pub of_fault : (stopped : Stop) (refusal : Refusal) (answered : Option Refusal)
+pub of_fault : (stopped : Failure) (refusal : Refusal) (answered : Option Refusal)
     → answered ≡ Some refusal → IfFound stopped (λ found. found ≡ refusal)
     → IfFound stopped (λ found. answered ≡ Some found)
 of_fault (stop.Found finding) refusal answered is found = cc (is, found)
 of_fault stop.Memory refusal answered is found = tt
 
 -- notes that are refused make no plat
-pub notes_refused : (stopped : Stop) (bytes : List ℕ) (fault : NotesFault)
+pub notes_refused : (stopped : Failure) (bytes : List ℕ) (fault : NotesFault)
     → IfSome (notes_faults.refusal_of fault) (λ _. notes_faults.IsFirstFault bytes fault)
     → IfFound stopped (λ found. notes_faults.refusal_of fault ≡ Some found)
     → IfFound stopped (IsNoPlat bytes)
@@ -54,7 +54,7 @@ notes_refused (stop.Found finding) bytes fault first is =
 notes_refused stop.Memory bytes fault first is = tt
 
 -- notes whose lines are out of their limits make no plat
-pub lines_refused : (stopped : Stop) (bytes : List ℕ) (notes : FieldNotes) (fault : PlatFault)
+pub lines_refused : (stopped : Failure) (bytes : List ℕ) (notes : FieldNotes) (fault : PlatFault)
     → AreNotes bytes notes → plat_faults.IsFirstFault notes fault
     → IfFound stopped (λ found. plat_faults.refusal_of fault ≡ Some found)
     → IfFound stopped (IsNoPlat bytes)
@@ -63,7 +63,7 @@ lines_refused (stop.Found finding) bytes notes fault are first is =
 lines_refused stop.Memory bytes notes fault are first is = tt
 
 -- a text that isn't read is no description
-pub text_refused : (stopped : Stop) (township : Designation) (bytes : List ℕ) (fault : TextFault)
+pub text_refused : (stopped : Failure) (township : Designation) (bytes : List ℕ) (fault : TextFault)
     → IfSome (text_faults.refusal_of fault) (λ _. text_faults.IsFirstTextFault bytes fault)
     → IfFound stopped (λ found. text_faults.refusal_of fault ≡ Some found)
     → IfFound stopped (IsNoDescription township bytes)
@@ -77,7 +77,7 @@ text_refused (stop.Found finding) township bytes fault first is =
 text_refused stop.Memory township bytes fault first is = tt
 
 -- items that don't lie on the plat are no description of land on it
-pub items_refused : (stopped : Stop) (township : Designation) (bytes : List ℕ) (items : List Item)
+pub items_refused : (stopped : Failure) (township : Designation) (bytes : List ℕ) (items : List Item)
     (fault : PlaceFault)
     → IsReadAs bytes items → place_faults.IsFirstPlaceFault PLACE_DIGITS township items fault
     → IfFound stopped (λ found. place_faults.refusal_of fault ≡ Some found)
@@ -92,7 +92,7 @@ pub platted_is_none : (bytes : List ℕ) (plat : TownshipPlat) (verdict : Verdic
 platted_is_none bytes plat verdict are refusal none said = not_platted bytes refusal plat none are
 
 -- where what was found isn't the verdict, no refusal of the notes is
-pub other_than_found : (Is : Refusal → Type 0) (stopped : Stop) (verdict : Verdict)
+pub other_than_found : (Is : Refusal → Type 0) (stopped : Failure) (verdict : Verdict)
     → ((r r' : Refusal) → Is r → Is r' → r ≡ r') → IfFound stopped Is → IsNotOf stopped verdict
     → IsOfNone Is verdict
 other_than_found Is (stop.Found finding) verdict one found other refusal is said =
@@ -100,7 +100,7 @@ other_than_found Is (stop.Found finding) verdict one found other refusal is said
 other_than_found Is stop.Memory verdict one found other refusal is said = absurd other
 
 -- and so where nothing was told of the notes, or of the land, since the verdict is another
-pub none_of_notes : {E : Type 0} (result : Result (Option Explanation) E) (bytes : List ℕ) (stopped : Stop)
+pub none_of_notes : {E : Type 0} (result : Result (Option Explanation) E) (bytes : List ℕ) (stopped : Failure)
     (verdict : Verdict)
     → IfFound stopped (IsNoPlat bytes)
     → IfOk result (λ told. told ≡ None → IsNotOf stopped verdict)
@@ -110,7 +110,7 @@ none_of_notes (Ok told) bytes stopped verdict found none = λ is.
 none_of_notes (Err fault) bytes stopped verdict found none = tt
 
 pub none_of_land : {E : Type 0} (result : Result (Option Explanation) E) (notes description : List ℕ)
-    (stopped : Stop) (verdict : Verdict)
+    (stopped : Failure) (verdict : Verdict)
     → IfFound stopped (IsRefusal notes description)
     → IfOk result (λ told. told ≡ None → IsNotOf stopped verdict)
     → IfOk result (λ told. told ≡ None → IsOfNone (IsRefusal notes description) verdict)
@@ -120,13 +120,13 @@ none_of_land (Ok told) notes description stopped verdict found none = λ is.
 none_of_land (Err fault) notes description stopped verdict found none = tt
 
 -- notes that make no plat are refused, whatever the description
-pub of_land : (notes description : List ℕ) (stopped : Stop) → IfFound stopped (IsNoPlat notes)
+pub of_land : (notes description : List ℕ) (stopped : Failure) → IfFound stopped (IsNoPlat notes)
     → IfFound stopped (IsRefusal notes description)
 of_land notes description (stop.Found finding) none = inl none
 of_land notes description stop.Memory none = tt
 
 -- and so is a description that is of no land on their plat
-pub of_description : (notes description : List ℕ) (plat : TownshipPlat) (stopped : Stop)
+pub of_description : (notes description : List ℕ) (plat : TownshipPlat) (stopped : Failure)
     → ArePlatted notes plat → IfFound stopped (IsNoDescription plat.township description)
     → IfFound stopped (IsRefusal notes description)
 of_description notes description plat (stop.Found finding) are none =

@@ -1,4 +1,7 @@
 pub mod FindingFacts
-pub mod SharingFacts
 pub mod ListFacts
+pub mod MessageFacts
 pub mod ShownFacts
+pub mod UnderlinedFacts
+pub mod SharingFacts
+pub mod NoteFacts

@@ -7,27 +7,27 @@ use Rattle.std.proofs.lemmas.List.Sums.{AllPass-from_list_all}
 use Rattle.twp_excerpt.specs.Spots.{is_white, end_of, line_of, column_of}
 use Rattle.twp_excerpt.specs.declared.spot.Spot.{Spot}
 use Rattle.twp_grid.specs.declared.refusal.Refusal.{Refusal}
-use Rattle.twp_hints.specs.Sights.{shown_place}
+use Rattle.twp_diagnose.specs.Sights.{shown_place}
 use Rattle.twp_read.specs.TextFaults as text_faults
 use Rattle.twp_read.specs.declared.fault.TextFault.{TextFault}
 use Rattle.twp_read.specs.declared.fault.TextFault.TheVariants as faults
-use Rattle.twp_findings.specs.Findings.{IfFound, IsStopOf, IsOf}
-use Rattle.twp_findings.specs.ShownPlaces.{BeginsAt, ShowsAt, ShowsRefused, as_a_whole, there, at_the_end}
-use Rattle.twp_findings.specs.ShownPlaces.{IfShown, TOO_LARGE}
-use Rattle.twp_findings.specs.Spots.{MOST_BYTES, in_file, IsSpotIn, IsSpotAt, IsSpotOf}
-use Rattle.twp_findings.specs.declared.explanation.Explanation.{Explanation}
-use Rattle.twp_findings.specs.declared.explanation.Given.{Given}
-use Rattle.twp_findings.specs.declared.finding.Finding.{Finding}
-use Rattle.twp_findings.specs.declared.finding.Place.{Place}
-use Rattle.twp_findings.specs.declared.finding.Stop.{Stop}
-use Rattle.twp_findings.specs.declared.finding.Stop.TheVariants as stop
+use Rattle.twp_explain.specs.Findings.{IfFound, IsStopOf, IsOf}
+use Rattle.twp_explain.specs.ShownPlaces.{BeginsAt, ShowsAt, ShowsRefused, as_a_whole, there, at_the_end}
+use Rattle.twp_explain.specs.ShownPlaces.{IfShown, TOO_LARGE}
+use Rattle.twp_diagnose.specs.Spots.{MOST_BYTES, in_file, IsSpotIn, IsSpotAt, IsSpotOf}
+use Rattle.twp_explain.specs.declared.explanation.Explanation.{Explanation}
+use Rattle.twp_diagnose.specs.declared.given.Given.{Given}
+use Rattle.twp_explain.specs.declared.finding.Finding.{Finding}
+use Rattle.twp_diagnose.specs.declared.location.Location.{Location}
+use Rattle.twp_explain.specs.declared.finding.Failure.{Failure}
+use Rattle.twp_explain.specs.declared.finding.Failure.TheVariants as stop
 use Rattle.twp_acres.specs.Answers.{MakePlat, IsNoPlat}
 use Rattle.twp_acres.proofs.OneAnswer.{not_platted}
 use Rattle.twp_explain.specs.ToldPlaces.{IsSpotOfStop, IsSpotRefused, IsToldWhereRefused}
 
 -- ---- what was found of a description shows where it is refused
 
-begins_refused : (bytes : List ℕ) (refusal : Refusal) (place : Place) (ends : Bool)
+begins_refused : (bytes : List ℕ) (refusal : Refusal) (place : Location) (ends : Bool)
     → list_all is_white (drop refusal.at bytes) ≡ ends
     → BeginsAt bytes (cond ends (end_of bytes) refusal.at) place → ShowsRefused bytes refusal place
 begins_refused bytes refusal place true ends begins =
@@ -39,7 +39,7 @@ abbrev number_of : Option Refusal → ℕ
 number_of None = 0
 number_of (Some refusal) = refusal.number
 
-shows_refused : (bytes : List ℕ) (fault : TextFault) (refusal : Refusal) (place : Place)
+shows_refused : (bytes : List ℕ) (fault : TextFault) (refusal : Refusal) (place : Location)
     → text_faults.refusal_of fault ≡ Some refusal
     → ShowsAt bytes fault (shown_place bytes refusal.at) place → ShowsRefused bytes refusal place
 shows_refused bytes faults.TooLarge refusal place is shows = as_a_whole (sym (ap number_of is)) shows
@@ -52,7 +52,7 @@ shows_refused bytes (faults.Syntax at_ expected) refusal place is shows =
 shows_refused bytes faults.Memory refusal place is shows =
     begins_refused bytes refusal place (list_all is_white (drop refusal.at bytes)) refl shows
 
-pub text_shown : {Error : Type 0} (Is : Type 0) (found : Result Finding Error) (stopped : Stop)
+pub text_shown : {Error : Type 0} (Is : Type 0) (found : Result Finding Error) (stopped : Failure)
     (bytes : List ℕ) (fault : TextFault) (refusal : Refusal)
     → text_faults.refusal_of fault ≡ Some refusal → IsStopOf found stopped
     → IfOk found (λ finding. finding.refusal ≡ refusal)
@@ -65,7 +65,7 @@ text_shown Is (Ok finding) stopped bytes fault refusal has stop_is same shows is
 text_shown Is (Err error) stopped bytes fault refusal has stop_is same shows is =
     subst (IfShown bytes) (sym stop_is) tt
 
-pub items_shown : {Error : Type 0} (Is : Type 0) (found : Result Finding Error) (stopped : Stop)
+pub items_shown : {Error : Type 0} (Is : Type 0) (found : Result Finding Error) (stopped : Failure)
     (bytes : List ℕ) (refusal : Refusal)
     → IsStopOf found stopped → IfOk found (λ finding. finding.refusal ≡ refusal)
     → IfOk found (λ finding. Is → BeginsAt bytes refusal.at finding.place) → Is → IfShown bytes stopped
@@ -86,13 +86,13 @@ same_spot file at at' spot same is = record {
   column = subst (λ n. spot.column ≡ column_of file.bytes.now n) same is.column;
 }
 
-told_at : (file : Given) (refusal : Refusal) (place : Place) (spot : Option Spot) (at : ℕ)
+told_at : (file : Given) (refusal : Refusal) (place : Location) (spot : Option Spot) (at : ℕ)
     → BeginsAt file.bytes.now at place → ((s : Spot) → IsSpotIn file at s → IsSpotRefused file refusal s)
     → IsSpotOf file place spot
     → MatchOption spot ((refusal.number ≡ TOO_LARGE) ⊎ (MOST_BYTES < length file.bytes.now))
     (IsSpotRefused file refusal)
 told_at file refusal place spot at begins refused is =
-    go spot (subst (λ (p : Place). IsSpotOf file p spot) begins.is_part is)
+    go spot (subst (λ (p : Location). IsSpotOf file p spot) begins.is_part is)
   where
     go : (s : Option Spot) → IsSpotAt file begins.span.start s
         → MatchOption s ((refusal.number ≡ TOO_LARGE) ⊎ (MOST_BYTES < length file.bytes.now))
@@ -102,12 +102,12 @@ told_at file refusal place spot at begins refused is =
         let starts : begins.span.start ≡ min at (length file.bytes.now) = begins.starts in
         refused s (same_spot file begins.span.start at s (omega arith) here)
 
-told_refused : (file : Given) (refusal : Refusal) (place : Place) (spot : Option Spot)
+told_refused : (file : Given) (refusal : Refusal) (place : Location) (spot : Option Spot)
     → ShowsRefused file.bytes.now refusal place → IsSpotOf file place spot
     → MatchOption spot ((refusal.number ≡ TOO_LARGE) ⊎ (MOST_BYTES < length file.bytes.now))
     (IsSpotRefused file refusal)
 told_refused file refusal place spot (as_a_whole large whole) is =
-    let none : spot ≡ None = subst (λ (p : Place). IsSpotOf file p spot) whole is in
+    let none : spot ≡ None = subst (λ (p : Location). IsSpotOf file p spot) whole is in
     subst (λ (s : Option Spot). MatchOption s
     ((refusal.number ≡ TOO_LARGE) ⊎ (MOST_BYTES < length file.bytes.now)) (IsSpotRefused file refusal))
     (sym none) (inl large)
@@ -116,7 +116,7 @@ told_refused file refusal place spot (there begins) is =
 told_refused file refusal place spot (at_the_end white begins) is =
     told_at file refusal place spot (end_of file.bytes.now) begins (λ s here. inr (white, here)) is
 
-pub told_where : (file : Given) (stopped : Stop) (explanation : Explanation)
+pub told_where : (file : Given) (stopped : Failure) (explanation : Explanation)
     → IfShown file.bytes.now stopped → IsOf stopped explanation.refusal
     → IsSpotOfStop file stopped explanation → IsToldWhereRefused file explanation
 told_where file (stop.Found finding) explanation shown of spot =
@@ -126,7 +126,7 @@ told_where file stop.Memory explanation shown of spot = absurd of
 
 -- what is told of what was found is told where the description is refused
 pub tells_where : {Error : Type 0} (result : Result (Option Explanation) Error) (file : Given)
-    (stopped : Stop) → IfShown file.bytes.now stopped
+    (stopped : Failure) → IfShown file.bytes.now stopped
     → IfOk result (λ told. IfSome told (λ explanation. IsOf stopped explanation.refusal))
     → IfOk result (λ told. IfSome told (IsSpotOfStop file stopped))
     → IfOk result (λ told. IfSome told (IsToldWhereRefused file))
@@ -136,14 +136,14 @@ tells_where (Ok None) file stopped shown of spot = tt
 tells_where (Err error) file stopped shown of spot = tt
 
 -- what was found is of the refusal that is told
-pub found_is : (Is : Refusal → Type 0) (stopped : Stop) (refusal : Refusal) → IfFound stopped Is
+pub found_is : (Is : Refusal → Type 0) (stopped : Failure) (refusal : Refusal) → IfFound stopped Is
     → IsOf stopped refusal → Is refusal
 found_is Is (stop.Found finding) refusal found of = subst Is of found
 found_is Is stop.Memory refusal found of = absurd of
 
 -- of notes that make a plat nothing is told
 pub platted_tells_none : {Error : Type 0} (result : Result (Option Explanation) Error) (bytes : List ℕ)
-    (stopped : Stop) (Told : Explanation → Type 0)
+    (stopped : Failure) (Told : Explanation → Type 0)
     → IfFound stopped (IsNoPlat bytes)
     → IfOk result (λ told. IfSome told (λ explanation. IsOf stopped explanation.refusal))
     → MakePlat bytes → IfOk result (λ told. IfSome told Told)

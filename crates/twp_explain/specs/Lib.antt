@@ -1,3 +1,8 @@
+pub mod Findings
+pub mod ShownMessages
+pub mod ShownPlaces
+pub mod Underlined
 pub mod Refusals
 pub mod steps
 pub mod ToldPlaces
+pub mod ShownNotes

@@ -9,15 +9,15 @@ use Rattle.twp_acres.specs.TractFaults.{IsFirstTractFault, refusal_of, verdict_o
 use Rattle.twp_acres.specs.declared.tract_fault.TractFault.{TractFault}
 use Rattle.twp_acres.specs.declared.verdict.Verdict.{Verdict}
 use Rattle.twp_acres.specs.declared.verdict.Verdict.TheVariants.{Accepted, Refused, TractRefused}
-use Rattle.twp_findings.specs.declared.finding.Stop.{Stop}
-use Rattle.twp_findings.specs.declared.finding.Stop.TheVariants.{Found, Memory}
+use Rattle.twp_explain.specs.declared.finding.Failure.{Failure}
+use Rattle.twp_explain.specs.declared.finding.Failure.TheVariants.{Found, Memory}
 
 -- the verdict is none of these refusals
 abbrev pub IsOfNone : (Refusal → Type 0) → Verdict → Type 0
 IsOfNone Is verdict = (refusal : Refusal) → Is refusal → verdict ≢ Refused refusal
 
 -- something was found, and the verdict is another
-abbrev pub IsNotOf : Stop → Verdict → Type 0
+abbrev pub IsNotOf : Failure → Verdict → Type 0
 IsNotOf (Found finding) verdict = verdict ≢ Refused finding.refusal
 IsNotOf Memory verdict = ⊥
 

@@ -4,15 +4,15 @@ use Rattle.std.specs.List.{AllPass}
 use Rattle.twp_excerpt.specs.Spots.{is_white, end_of}
 use Rattle.twp_excerpt.specs.declared.spot.Spot.{Spot}
 use Rattle.twp_grid.specs.declared.refusal.Refusal.{Refusal}
-use Rattle.twp_findings.specs.ShownPlaces.{TOO_LARGE}
-use Rattle.twp_findings.specs.Spots.{MOST_BYTES, IsSpotIn, IsSpotOf}
-use Rattle.twp_findings.specs.declared.explanation.Explanation.{Explanation}
-use Rattle.twp_findings.specs.declared.explanation.Given.{Given}
-use Rattle.twp_findings.specs.declared.finding.Stop.{Stop}
-use Rattle.twp_findings.specs.declared.finding.Stop.TheVariants.{Found, Memory}
+use Rattle.twp_explain.specs.ShownPlaces.{TOO_LARGE}
+use Rattle.twp_diagnose.specs.Spots.{MOST_BYTES, IsSpotIn, IsSpotOf}
+use Rattle.twp_explain.specs.declared.explanation.Explanation.{Explanation}
+use Rattle.twp_diagnose.specs.declared.given.Given.{Given}
+use Rattle.twp_explain.specs.declared.finding.Failure.{Failure}
+use Rattle.twp_explain.specs.declared.finding.Failure.TheVariants.{Found, Memory}
 
 -- the spot is the one of what was found
-abbrev pub IsSpotOfStop : Given → Stop → Explanation → Type 0
+abbrev pub IsSpotOfStop : Given → Failure → Explanation → Type 0
 IsSpotOfStop file (Found finding) explanation =
     (finding.refusal ≡ explanation.refusal) × IsSpotOf file finding.place explanation.spot
 IsSpotOfStop file Memory explanation = ⊤

@@ -8,13 +8,17 @@ ghost use Rattle.twp_resolve.specs.PlaceFaults.{refusal_of as refusal_of_places}
 ghost use Rattle.twp_acres.specs.Answers.{ArePlatted, MakePlat, IsNoPlat, IsNoDescription, IsRefusal};
 ghost use Rattle.twp_explain.specs.Refusals.{IsOfNone, IsNotOf, DescribeLand};
 ghost use Rattle.twp_explain.specs.ToldPlaces.{IsSpotOfStop, IsToldWhereRefused};
-ghost use Rattle.twp_findings.specs.Findings.{IfFound, IsOf};
-ghost use Rattle.twp_findings.specs.ShownPlaces.{IsTextOf, IfShown};
+ghost use Rattle.twp_explain.specs.Findings.{IfFound, IsOf};
+ghost use Rattle.twp_explain.specs.ShownMessages.{ShowsFault, ShowsIn};
+ghost use Rattle.twp_explain.specs.ShownPlaces.{IsTextOf, IfShown};
 ghost use Rattle.twp_acres.specs.declared.verdict.Verdict.TheVariants.{Refused};
 
+use crate::explanation::Explanation;
+use crate::finding::Failure;
+use crate::{notes, places, plat, text};
 use std::alloc::{AllocError, Global};
 use twp_acres::Verdict;
-use twp_findings::{Explanation, Given, Origin, Stop, notes, places, plat, text};
+use twp_diagnose::{Given, Origin};
 use twp_grid::{Bytes, Township};
 use twp_land::Lanes;
 use twp_notes::{Notes, NotesFault};
@@ -35,6 +39,7 @@ pub fn explain_plat(
         verdict ≡ Refused explanation.refusal)) }
     ensures none { IfOk result (λ told. told ≡ None
         → IsOfNone (IsNoPlat notes.now.bytes.now) verdict) }
+    ensures shows { IfOk result (λ told. IfSome told (ShowsIn notes.now)) }
 {
     match plat_of(alloc, notes) {
         Ok(_) => Ok(None),
@@ -58,6 +63,7 @@ pub fn explain_land(
         (IsToldWhereRefused description.now)) }
     ensures none { IfOk result (λ told. told ≡ None
         → IsOfNone (IsRefusal notes.now.bytes.now description.now.bytes.now) verdict) }
+    ensures shows { IfOk result (λ told. IfSome told (ShowsFault notes.now description.now)) }
 {
     let plat = match plat_of(alloc, notes) {
         Ok(plat) => plat,
@@ -74,7 +80,7 @@ pub fn explain_land(
 pub(crate) fn tell(
     alloc: Global,
     file: &Given<'_>,
-    stop: Stop,
+    stop: Failure,
     verdict: Verdict,
 ) -> Result<Option<Explanation>, AllocError>
     ensures found { IfOk result (λ told. IfSome told (λ explanation.
@@ -83,8 +89,9 @@ pub(crate) fn tell(
         verdict ≡ Refused explanation.refusal)) }
     ensures spot { IfOk result (λ told. IfSome told (IsSpotOfStop file.now stop)) }
     ensures none { IfOk result (λ told. told ≡ None → IsNotOf stop verdict) }
+    ensures shows { IfOk result (λ told. IfSome told (ShowsIn file.now)) }
 {
-    let Stop::Found(finding) = stop else {
+    let Failure::Found(finding) = stop else {
         return Err(AllocError);
     };
     if verdict != Verdict::Refused(finding.refusal) {
@@ -96,7 +103,7 @@ pub(crate) fn tell(
 /// The plat of field notes, or what is wrong with them.
 #[tactic(auto, using(crate::proofs::FindingFacts::notes_refused, crate::proofs::FindingFacts::lines_refused))]
 #[inline(never)]
-pub(crate) fn plat_of(alloc: Global, file: &Given<'_>) -> Result<Plat, Stop>
+pub(crate) fn plat_of(alloc: Global, file: &Given<'_>) -> Result<Plat, Failure>
     ensures plat { IfOk result (λ plat. ArePlatted file.now.bytes.now plat) }
     ensures found { IfErr result (λ stop. IfFound stop (IsNoPlat file.now.bytes.now)) }
 {
@@ -113,25 +120,25 @@ pub(crate) fn plat_of(alloc: Global, file: &Given<'_>) -> Result<Plat, Stop>
 /// What is wrong with notes that have a fault.
 #[tactic(auto, using(crate::proofs::FindingFacts::of_fault))]
 #[inline(never)]
-fn stop_of_notes(alloc: Global, file: &Given<'_>, fault: NotesFault) -> Stop
+fn stop_of_notes(alloc: Global, file: &Given<'_>, fault: NotesFault) -> Failure
     ensures { IfFound result (λ refusal. refusal_of_notes fault ≡ Some refusal) }
 {
     let Some(refusal) = fault.refusal() else {
-        return Stop::Memory;
+        return Failure::Memory;
     };
-    Stop::of(refusal, notes::find(alloc, file, fault, refusal))
+    Failure::of(refusal, notes::find(alloc, file, fault, refusal))
 }
 
 /// What is wrong with notes that make no plat.
 #[tactic(auto, using(crate::proofs::FindingFacts::of_fault))]
 #[inline(never)]
-fn stop_of_plat(alloc: Global, file: &Given<'_>, notes: &Notes, fault: PlatFault) -> Stop
+fn stop_of_plat(alloc: Global, file: &Given<'_>, notes: &Notes, fault: PlatFault) -> Failure
     ensures { IfFound result (λ refusal. refusal_of_plat fault ≡ Some refusal) }
 {
     let Some(refusal) = fault.refusal() else {
-        return Stop::Memory;
+        return Failure::Memory;
     };
-    Stop::of(refusal, plat::find(alloc, file, notes, fault, refusal))
+    Failure::of(refusal, plat::find(alloc, file, notes, fault, refusal))
 }
 
 /// Goes through a text that describes land of a township, or gives what is wrong with it.
@@ -142,7 +149,7 @@ pub(crate) fn describe(
     origin: &Origin<'_>,
     bytes: &[u8],
     township: Township,
-) -> Result<(), Stop>
+) -> Result<(), Failure>
     ensures land { IfOk result (λ _. DescribeLand township bytes.now) }
     ensures found { IfErr result (λ stop. IfFound stop (IsNoDescription township bytes.now)) }
     ensures shown { IsTextOf origin.now bytes.now → IfErr result (IfShown bytes.now) }
@@ -160,14 +167,14 @@ pub(crate) fn describe(
 /// What is wrong with a text that isn't read.
 #[tactic(auto, using(crate::proofs::FindingFacts::of_fault, crate::proofs::ShownFacts::text_shown))]
 #[inline(never)]
-fn stop_of_text(alloc: Global, origin: &Origin<'_>, bytes: &[u8], fault: TextFault) -> Stop
+fn stop_of_text(alloc: Global, origin: &Origin<'_>, bytes: &[u8], fault: TextFault) -> Failure
     ensures refusal { IfFound result (λ refusal. refusal_of_text fault ≡ Some refusal) }
     ensures shown { IsTextOf origin.now bytes.now → IfShown bytes.now result }
 {
     let Some(refusal) = fault.refusal() else {
-        return Stop::Memory;
+        return Failure::Memory;
     };
-    Stop::of(refusal, text::find(alloc, origin, bytes, fault, refusal))
+    Failure::of(refusal, text::find(alloc, origin, bytes, fault, refusal))
 }
 
 /// What is wrong with a description that names no land on the plat of the township.
@@ -180,14 +187,14 @@ fn stop_of_places(
     description: &Description,
     township: Township,
     fault: PlaceFault,
-) -> Stop
+) -> Failure
     ensures refusal { IfFound result (λ refusal. refusal_of_places fault ≡ Some refusal) }
     ensures shown { IsTextOf origin.now bytes.now → IfShown bytes.now result }
 {
     let Some(refusal) = fault.refusal() else {
-        return Stop::Memory;
+        return Failure::Memory;
     };
-    Stop::of(
+    Failure::of(
         refusal,
         places::find(alloc, origin, bytes, description, township, fault, refusal),
     )

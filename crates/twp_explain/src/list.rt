@@ -1,13 +1,15 @@
 //! The explanation of a refused list of tracts.
 ghost use Rattle.std.specs.Prelude.{◌≡◌, ◌<◌, ◌≤◌, Some, None, length, IfOk, IfSome};
 ghost use Rattle.twp_acres.specs.TractFaults.{IsFirstTractFault, refusal_of, verdict_of};
+ghost use Rattle.twp_explain.specs.ShownMessages.{ShowsFault, ShowsIn};
 ghost use Rattle.twp_explain.specs.Refusals.{IsListRefusal, HasAccount, first_refusal};
 
 use crate::explaining::{plat_of, tell};
+use crate::explanation::Explanation;
 use crate::tracts;
 use std::alloc::{AllocError, Global};
 use twp_acres::{TRACTS_LIMIT, TractFault, Verdict, account_of_tracts};
-use twp_findings::{Explanation, Given};
+use twp_diagnose::Given;
 use twp_grid::{Refusal, Township};
 use twp_plat::Plat;
 
@@ -24,6 +26,7 @@ pub fn explain_list(
         IsListRefusal notes.now.bytes.now tracts.now.bytes.now verdict explanation.refusal)) }
     ensures verdict { IfOk result (λ told. IfSome told (λ explanation.
         first_refusal verdict ≡ Some explanation.refusal)) }
+    ensures shows { IfOk result (λ told. IfSome told (ShowsFault notes.now tracts.now)) }
 {
     let plat = match plat_of(alloc, notes) {
         Ok(plat) => plat,
@@ -59,7 +62,8 @@ pub(crate) fn tell_fault(
     fault: TractFault,
     refusal: Refusal,
 ) -> Result<Explanation, AllocError>
-    ensures { IfOk result (λ explanation. explanation.refusal ≡ refusal) }
+    ensures refusal { IfOk result (λ explanation. explanation.refusal ≡ refusal) }
+    ensures shows { IfOk result (ShowsIn tracts.now) }
 {
     let finding = tracts::find(alloc, tracts, township, fault, refusal)?;
     finding.tell(alloc, tracts)

@@ -1,176 +1,245 @@
-//! The one thing that is noted of accepted input: a line that ends between two steps of an aliquot
-//! part. A line break is not a comma; a user who meant one gets too little land.
-ghost use Rattle.std.specs.Prelude.{◌≤◌, length, IfOk, MatchOption};
-ghost use Rattle.twp_marks.specs.JoinedSteps.{HasNoJoinedStep, IsFirstJoinedStep};
+//! Notes on accepted input: on a place of a description that can be read in two ways. A note names the reading
+//! with its acres, and the way to write the other one with its acres.
+ghost use Rattle.std.specs.Prelude.{◌≡◌, IfOk, IfSome, MatchOption};
+ghost use Rattle.twp_explain.specs.ShownNotes.{IsNoteOf, ShowsNoteIn};
 
-use crate::listed::Listed;
+mod acres;
+mod heading;
+mod lists;
+mod parts;
+mod sentence;
+mod span;
+mod spelled;
+
+use crate::explanation::Note;
+use crate::located::message_at;
+use crate::note::acres::Reckoner;
+use crate::note::sentence::sentence_of;
+use crate::note::span::end_of_place;
 use csv::ByteRecord;
 use std::alloc::{AllocError, Global};
-use twp_acres::TRACTS_MOST;
-use twp_excerpt::Span;
-use twp_findings::{Given, Note, Origin, Place, begin_message};
-use twp_grammar::Kind;
-use twp_grid::{Corner, EastWest, NorthSouth};
-use twp_marks::{first_joined_step, may_join_steps};
+use twp_acres::{Account, TRACTS_MOST, read_plat};
+use twp_diagnose::{Given, Listed, Location, Origin};
+use twp_excerpt::{Span, write_escaped};
+use twp_grid::Bytes;
 use twp_notes::Records;
-use twp_read::Tokens;
+use twp_plat::Plat;
+use twp_read::{Doubts, doubts_in};
 
 /// The most records of a list: the heading, and one for each tract.
 const RECORDS_MOST: u32 = TRACTS_MOST + 1;
 
-/// What is noted of a description that was accepted: the first place where a line ends between two
-/// steps of an aliquot part. None where there is no such place.
-pub fn note_land(alloc: Global, description: &Given<'_>) -> Result<Option<Note>, AllocError>
-    ensures { IfOk result (λ told. MatchOption told (HasNoJoinedStep description.now.bytes.now)
-        (λ note. IsFirstJoinedStep description.now.bytes.now note.at)) }
+/// What is noted of a description that was accepted on the plat of field notes, by an account: its first
+/// doubtful place. None if there is no such place.
+pub fn note_land(
+    alloc: Global,
+    notes: &Given<'_>,
+    description: &Given<'_>,
+    account: Account,
+) -> Result<Option<Note>, AllocError>
+    ensures note { IfOk result (IsNoteOf description.now.bytes.now) }
+    ensures shows { IfOk result (λ told. IfSome told (ShowsNoteIn description.now)) }
 {
-    if !may_join_steps(description.bytes) {
-        return Ok(None);
-    }
-    note_text(alloc, &Origin::of_file(*description), description.bytes)
-}
-
-/// What is noted of a list of tracts that was accepted: the first such place in a description.
-pub fn note_list(alloc: Global, tracts: &Given<'_>) -> Result<Option<Note>, AllocError> {
-    if !may_join_steps(tracts.bytes) {
-        return Ok(None);
-    }
-    let Some(number) = first_joined_tract(alloc, tracts.bytes)? else {
+    let Some(doubts) = doubts_in(alloc, description.bytes)? else {
         return Ok(None);
     };
-    let Some(listed) = Listed::numbered(alloc, *tracts, number)? else {
-        return Ok(None);
-    };
-    let origin = Origin::of_field(*tracts, listed.span(1).start);
-    note_text(alloc, &origin, listed.field(1))
+    let plat = plat_of(alloc, notes);
+    note_on(alloc, plat.as_ref(), description, account, doubts)
 }
 
-/// The number of the first record of a list whose description has such a place.
+/// The same on a plat that is kept.
+pub fn note_description(
+    alloc: Global,
+    plat: &Plat,
+    description: &Given<'_>,
+    account: Account,
+) -> Result<Option<Note>, AllocError>
+    ensures note { IfOk result (IsNoteOf description.now.bytes.now) }
+    ensures shows { IfOk result (λ told. IfSome told (ShowsNoteIn description.now)) }
+{
+    let Some(doubts) = doubts_in(alloc, description.bytes)? else {
+        return Ok(None);
+    };
+    note_on(alloc, Some(plat), description, account, doubts)
+}
+
+/// What is noted of the first doubtful place of a description that is a file, on a plat if there is one.
+fn note_on(
+    alloc: Global,
+    plat: Option<&Plat>,
+    description: &Given<'_>,
+    account: Account,
+    doubts: Doubts,
+) -> Result<Option<Note>, AllocError>
+    ensures at { IfOk result (λ told. MatchOption told ⊥ (λ note. note.at ≡ doubts.first.at)) }
+    ensures shows { IfOk result (λ told. IfSome told (ShowsNoteIn description.now)) }
+{
+    let reckoner = Reckoner { plat, account };
+    let mut sentence = String::new(alloc);
+    sentence.push_str("note: ")?;
+    let origin = Origin::of_file(*description);
+    let note = note_place(
+        alloc,
+        &reckoner,
+        &origin,
+        description.bytes,
+        doubts,
+        sentence,
+    )?;
+    Ok(Some(note))
+}
+
+/// What is noted of a list of tracts that was accepted on the plat of field notes: the first doubtful place in
+/// a description.
+pub fn note_list(
+    alloc: Global,
+    notes: &Given<'_>,
+    tracts: &Given<'_>,
+) -> Result<Option<Note>, AllocError>
+    ensures shows { IfOk result (λ told. IfSome told (ShowsNoteIn tracts.now)) }
+{
+    let Some(found) = doubts_of_list(alloc, tracts.bytes)? else {
+        return Ok(None);
+    };
+    let plat = plat_of(alloc, notes);
+    note_tract(alloc, plat.as_ref(), tracts, found)
+}
+
+/// The same on a plat that is kept.
+pub fn note_tracts(
+    alloc: Global,
+    plat: &Plat,
+    tracts: &Given<'_>,
+) -> Result<Option<Note>, AllocError>
+    ensures shows { IfOk result (λ told. IfSome told (ShowsNoteIn tracts.now)) }
+{
+    let Some(found) = doubts_of_list(alloc, tracts.bytes)? else {
+        return Ok(None);
+    };
+    note_tract(alloc, Some(plat), tracts, found)
+}
+
+/// The plat of field notes, if they make one and there is memory for it.
+fn plat_of(alloc: Global, notes: &Given<'_>) -> Option<Plat> {
+    read_plat(alloc, &mut Bytes::new(notes.bytes)).ok()
+}
+
+/// The doubtful places of a list, and the record of the first.
+#[derive(Clone, Copy)]
+struct ListDoubts {
+    /// The number of the record, from 1.
+    record: u32,
+    doubts: Doubts,
+}
+
+/// The doubtful places in the descriptions of a list of tracts.
 #[inline(never)]
-fn first_joined_tract(alloc: Global, bytes: &[u8]) -> Result<Option<u32>, AllocError> {
+fn doubts_of_list(alloc: Global, bytes: &[u8]) -> Result<Option<ListDoubts>, AllocError> {
     let mut records = Records::new(alloc, bytes);
     let mut row = ByteRecord::new(alloc);
-    'records: for number in 1..RECORDS_MOST + 1 {
+    let mut found = None;
+    'records: for record in 1..RECORDS_MOST + 1 {
         if !records.read(&mut row)? {
-            return Ok(None);
+            return Ok(found);
         }
         if let Some(description) = row.get(1) {
-            if first_joined_step(description).is_some() {
-                return Ok(Some(number));
+            if let Some(doubts) = doubts_in(alloc, description)? {
+                found = Some(with_more(found, record, doubts));
             }
         }
     }
-    Ok(None)
+    Ok(found)
 }
 
-/// What is noted of a text.
-#[inline(never)]
-fn note_text(alloc: Global, origin: &Origin<'_>, bytes: &[u8]) -> Result<Option<Note>, AllocError>
-    ensures { IfOk result (λ told. MatchOption told (HasNoJoinedStep bytes.now)
-        (λ note. IsFirstJoinedStep bytes.now note.at)) }
+/// The doubtful places of a list with those of one more record.
+fn with_more(found: Option<ListDoubts>, record: u32, doubts: Doubts) -> ListDoubts {
+    match found {
+        None => ListDoubts { record, doubts },
+        Some(first) => ListDoubts {
+            record: first.record,
+            doubts: Doubts {
+                first: first.doubts.first,
+                others: first
+                    .doubts
+                    .others
+                    .saturating_add(doubts.others)
+                    .saturating_add(1),
+            },
+        },
+    }
+}
+
+/// What is noted of the first doubtful place of a list of tracts.
+fn note_tract(
+    alloc: Global,
+    plat: Option<&Plat>,
+    tracts: &Given<'_>,
+    found: ListDoubts,
+) -> Result<Option<Note>, AllocError>
+    ensures shows { IfOk result (λ told. IfSome told (ShowsNoteIn tracts.now)) }
 {
-    let Some(at) = first_joined_step(bytes) else {
+    let Some(listed) = Listed::numbered(alloc, *tracts, found.record)? else {
         return Ok(None);
     };
-    let start = part_start(bytes, at);
-    let end = part_end(bytes, at);
-    let sentence = sentence_of(alloc, &bytes[start..at], &bytes[at..end])?;
-    let span = Span {
-        start: origin.in_file(at),
-        end: origin.in_file(end),
+    let origin = Origin::of_field(*tracts, listed.span(1).start);
+    let reckoner = Reckoner {
+        plat,
+        account: Account::Exact,
     };
-    let (_, text) = begin_message(alloc, &origin.file, Place::Part(span), sentence.as_str())?;
-    Ok(Some(Note { at, text }))
+    let mut sentence = String::new(alloc);
+    sentence.push_str("note: tract ")?;
+    write_escaped(listed.field(0), &mut sentence)?;
+    sentence.push_str(": ")?;
+    let note = note_place(
+        alloc,
+        &reckoner,
+        &origin,
+        listed.field(1),
+        found.doubts,
+        sentence,
+    )?;
+    Ok(Some(note))
 }
 
-/// What is said of a part whose steps are written in two pieces.
-fn sentence_of(alloc: Global, first: &[u8], second: &[u8]) -> Result<String, AllocError> {
-    let mut text = String::new(alloc);
-    text.push_str("note: ")?;
-    write_steps(first, &mut text)?;
-    write_steps(second, &mut text)?;
-    text.push_str(" is read as one part, the ")?;
-    write_steps(first, &mut text)?;
-    text.push_str(" of the ")?;
-    write_steps(second, &mut text)?;
-    text.push_str("; if two parts were meant, write a comma after ")?;
-    write_steps(first, &mut text)?;
-    Ok(text)
-}
-
-/// Appends the steps of a part as they are usually written.
-fn write_steps(bytes: &[u8], text: &mut String) -> Result<(), AllocError> {
-    let mut tokens = Tokens::new(bytes);
-    while let Some(token) = tokens.next() {
-        text.push_str(usual_text(token.kind))?;
-    }
-    Ok(())
-}
-
-/// How a token of a step is usually written. Nothing for `of` and `the`.
-fn usual_text(kind: Kind) -> &'static str {
-    match kind {
-        Kind::NorthSouth(NorthSouth::N) => "N",
-        Kind::NorthSouth(NorthSouth::S) => "S",
-        Kind::EastWest(EastWest::E) => "E",
-        Kind::EastWest(EastWest::W) => "W",
-        Kind::Corner(Corner::NE) => "NE",
-        Kind::Corner(Corner::NW) => "NW",
-        Kind::Corner(Corner::SW) => "SW",
-        Kind::Corner(Corner::SE) => "SE",
-        Kind::Half => "1/2",
-        Kind::Quarter => "1/4",
-        _ => "",
-    }
-}
-
-/// Whether a token stands in aliquot parts, within their steps or between them.
-fn is_of_part(kind: Kind) -> bool {
-    matches!(
-        kind,
-        Kind::NorthSouth(_)
-            | Kind::EastWest(_)
-            | Kind::Corner(_)
-            | Kind::Half
-            | Kind::Quarter
-            | Kind::Of
-            | Kind::The
-    )
-}
-
-/// Where the run of an aliquot part's tokens begins that goes on up to a place.
-fn part_start(bytes: &[u8], at: usize) -> usize
-    requires { at ≤ length bytes.now }
-    ensures { result ≤ at }
+/// What is noted of the first doubtful place of a text, with a sentence that has begun.
+#[inline(never)]
+fn note_place(
+    alloc: Global,
+    reckoner: &Reckoner<'_>,
+    origin: &Origin<'_>,
+    bytes: &[u8],
+    doubts: Doubts,
+    begun: String,
+) -> Result<Note, AllocError>
+    ensures at { IfOk result (λ note. note.at ≡ doubts.first.at) }
+    ensures shows { IfOk result (ShowsNoteIn origin.now.file) }
 {
-    let mut start = at;
-    let mut is_within = false;
-    let mut tokens = Tokens::new(&bytes[..at]);
-    while let Some(token) = tokens.next() {
-        if !is_of_part(token.kind) {
-            is_within = false;
-        } else if !is_within {
-            start = token.at.min(at);
-            is_within = true;
-        }
-    }
-    start
+    let place = doubts.first;
+    let sentence = sentence_of(alloc, reckoner, bytes, place, begun)?;
+    let span = Span {
+        start: origin.in_file(place.at),
+        end: origin.in_file(end_of_place(bytes, place)),
+    };
+    let others = others_of(alloc, doubts.others)?;
+    let (spot, text) = message_at(
+        alloc,
+        &origin.file,
+        Location::Part(span),
+        sentence.as_str(),
+        others.as_str(),
+    )?;
+    Ok(Note {
+        at: place.at,
+        spot,
+        text,
+    })
 }
 
-/// Where the run of an aliquot part's tokens ends that begins at a place.
-fn part_end(bytes: &[u8], at: usize) -> usize
-    requires { at ≤ length bytes.now }
-    ensures from { at ≤ result }
-    ensures within { result ≤ length bytes.now }
-{
-    let mut size = 0;
-    let (_, left) = bytes.split_at(at);
-    let mut tokens = Tokens::new(left);
-    while let Some(token) = tokens.next() {
-        if !is_of_part(token.kind) {
-            break;
-        }
-        size = token.at.saturating_add(token.text.len());
+/// How many more places there are; empty if there are no more.
+fn others_of(alloc: Global, others: usize) -> Result<String, AllocError> {
+    match others {
+        0 => Ok(String::new(alloc)),
+        1 => format!(in alloc; "1 more such place"),
+        _ => format!(in alloc; "{others} more such places"),
     }
-    at + size.min(left.len())
 }

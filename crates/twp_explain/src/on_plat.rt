@@ -4,14 +4,17 @@ ghost use Rattle.std.specs.Prelude.{◌≡◌, Some, None, IfOk, IfSome};
 ghost use Rattle.twp_acres.specs.Answers.{MakePlat, IsNoPlat, IsNoDescription};
 ghost use Rattle.twp_acres.specs.TractFaults.{IsFirstTractFault, refusal_of};
 ghost use Rattle.twp_explain.specs.Refusals.{DescribeLand, HasAccount};
+ghost use Rattle.twp_explain.specs.ShownMessages.{ShowsIn};
 ghost use Rattle.twp_explain.specs.ToldPlaces.{IsSpotOfStop, IsToldWhereRefused};
-ghost use Rattle.twp_findings.specs.Findings.{IsOf};
+ghost use Rattle.twp_explain.specs.Findings.{IsOf};
 
 use crate::explaining::{describe, plat_of};
+use crate::explanation::Explanation;
+use crate::finding::Failure;
 use crate::list::{fault_of, tell_fault};
 use std::alloc::{AllocError, Global};
 use twp_acres::TractFault;
-use twp_findings::{Explanation, Given, Origin, Stop};
+use twp_diagnose::{Given, Origin};
 use twp_grid::Township;
 use twp_plat::Plat;
 
@@ -20,6 +23,7 @@ pub fn explain_notes(alloc: Global, notes: &Given<'_>) -> Result<Option<Explanat
     ensures refusal { IfOk result (λ told. IfSome told (λ explanation.
         IsNoPlat notes.now.bytes.now explanation.refusal)) }
     ensures none { IfOk result (λ told. told ≡ None → MakePlat notes.now.bytes.now) }
+    ensures shows { IfOk result (λ told. IfSome told (ShowsIn notes.now)) }
 {
     match plat_of(alloc, notes) {
         Ok(_) => Ok(None),
@@ -38,6 +42,7 @@ pub fn explain_description(
     ensures spot { IfOk result (λ told. IfSome told (IsToldWhereRefused description.now)) }
     ensures none { IfOk result (λ told. told ≡ None
         → DescribeLand township description.now.bytes.now) }
+    ensures shows { IfOk result (λ told. IfSome told (ShowsIn description.now)) }
 {
     let origin = Origin::of_file(*description);
     match describe(alloc, &origin, description.bytes, township) {
@@ -66,6 +71,7 @@ pub fn explain_tracts(
     ensures refusal { IfOk result (λ told. IfSome told (λ it.
         refusal_of it.fault ≡ Some it.explanation.refusal)) }
     ensures none { IfOk result (λ told. told ≡ None → HasAccount plat.now tracts.now.bytes.now) }
+    ensures shows { IfOk result (λ told. IfSome told (λ it. ShowsIn tracts.now it.explanation)) }
 {
     let Some(fault) = fault_of(alloc, plat, tracts.bytes)? else {
         return Ok(None);
@@ -78,11 +84,12 @@ pub fn explain_tracts(
 }
 
 /// The message of a stop, where memory didn't run out.
-fn tell_stop(alloc: Global, file: &Given<'_>, stop: Stop) -> Result<Explanation, AllocError>
+fn tell_stop(alloc: Global, file: &Given<'_>, stop: Failure) -> Result<Explanation, AllocError>
     ensures refusal { IfOk result (λ explanation. IsOf stop explanation.refusal) }
     ensures spot { IfOk result (IsSpotOfStop file.now stop) }
+    ensures shows { IfOk result (ShowsIn file.now) }
 {
-    let Stop::Found(finding) = stop else {
+    let Failure::Found(finding) = stop else {
         return Err(AllocError);
     };
     finding.tell(alloc, file)

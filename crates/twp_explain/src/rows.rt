@@ -1,10 +1,12 @@
 //! Records of a list that are no heading or no tract.
 ghost use Rattle.std.specs.Prelude.{◌≡◌};
 
-use crate::listed::Listed;
+use crate::finding::Finding;
+use crate::note_faults::write_count;
+use crate::quoted::write_quoted;
 use std::alloc::{AllocError, Global};
+use twp_diagnose::{Listed, Location, Origin};
 use twp_excerpt::{Span, write_escaped};
-use twp_findings::{Finding, Origin, Place, write_count, write_quoted};
 use twp_read::{Description, TextFault};
 
 /// The fields of the heading.
@@ -25,15 +27,15 @@ pub(crate) fn tell(
     ensures refusal { finding.new.refusal ≡ finding.old.refusal }
 {
     if listed.number() == 1 {
-        finding.place = Place::Field(listed.span(heading_place(listed)));
+        finding.place = Location::Field(listed.span(heading_place(listed)));
         write_heading_fault(listed, &mut finding.sentence)?;
     } else if listed.len() != HEADING.len() {
-        finding.place = Place::Field(listed.span(listed.len().min(HEADING.len())));
+        finding.place = Location::Field(listed.span(listed.len().min(HEADING.len())));
         finding.sentence.push_str("this record has ")?;
         write_count(listed.len(), &mut finding.sentence)?;
         finding.sentence.push_str(", not 2")?;
     } else {
-        finding.place = Place::Field(name_span(listed));
+        finding.place = Location::Field(name_span(listed));
         write_name_fault(listed, &mut finding.sentence)?;
     }
     write_help(alloc, listed, &mut finding.help)

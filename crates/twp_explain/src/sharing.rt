@@ -17,7 +17,7 @@ use twp_resolve::resolve_into;
 /// The first tract of a list that shares land with the one that so many come before: how many come
 /// before it. Sets a land to what the two share. None where there is no such tract.
 #[inline(never)]
-pub(crate) fn first_sharing_tract<L: Land>(
+pub fn first_sharing_tract<L: Land>(
     alloc: Global,
     bytes: &[u8],
     township: Township,

@@ -2,14 +2,15 @@
 ghost use Rattle.std.specs.Prelude.{◌≡◌, IfOk};
 
 use crate::explaining::describe;
-use crate::listed::Listed;
+use crate::finding::{Failure, Finding};
+use crate::places::write_land;
 use crate::rows;
 use crate::sharing::first_sharing_tract;
 use csv::ByteRecord;
 use std::alloc::{AllocError, Global};
 use twp_acres::TractFault;
+use twp_diagnose::{Given, Listed, Location, Origin};
 use twp_excerpt::write_escaped;
-use twp_findings::{Finding, Given, Origin, Place, Stop, write_land};
 use twp_grid::{Refusal, Township};
 use twp_land::{Land, Lanes};
 use twp_notes::Records;
@@ -34,7 +35,7 @@ pub(crate) fn find(
     };
     let mut finding = Finding {
         refusal,
-        place: Place::Line(listed.start()),
+        place: Location::Line(listed.start()),
         sentence: String::new(alloc),
         help: String::new(alloc),
     };
@@ -64,7 +65,7 @@ fn find_none(alloc: Global, fault: TractFault, refusal: Refusal) -> Result<Findi
     }
     Ok(Finding {
         refusal,
-        place: Place::Whole,
+        place: Location::Whole,
         sentence,
         help,
     })
@@ -87,7 +88,7 @@ fn tell_many(listed: &Listed<'_>, finding: &mut Finding) -> Result<(), AllocErro
 fn tell_name(alloc: Global, listed: &Listed<'_>, finding: &mut Finding) -> Result<(), AllocError>
     ensures refusal { finding.new.refusal ≡ finding.old.refusal }
 {
-    finding.place = Place::Field(listed.span(0));
+    finding.place = Location::Field(listed.span(0));
     write_tract(listed, &mut finding.sentence)?;
     finding
         .sentence
@@ -133,13 +134,13 @@ fn tell_description(
     write_tract(listed, &mut finding.sentence)?;
     let origin = Origin::of_field(listed.file, listed.span(1).start);
     let inner = match describe(alloc, &origin, listed.field(1), township) {
-        Err(Stop::Found(inner)) => inner,
-        Err(Stop::Memory) => return Err(AllocError),
+        Err(Failure::Found(inner)) => inner,
+        Err(Failure::Memory) => return Err(AllocError),
         Ok(()) => return finding.sentence.push_str(" has an invalid description"),
     };
     finding.sentence.push_str(": ")?;
     finding.sentence.push_str(inner.sentence.as_str())?;
-    if inner.place != Place::Whole {
+    if inner.place != Location::Whole {
         finding.place = inner.place;
     }
     if inner.refusal.number == 42

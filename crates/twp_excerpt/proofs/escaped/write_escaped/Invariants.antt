@@ -1,15 +1,17 @@
-use Rattle.std.proofs.Common.{string_bytes, length, drop, ◌-◌, ◌≤◌}
-use Rattle.twp_excerpt.specs.Shown.{AddsShown, IsShownText}
-use Rattle.twp_excerpt.proofs.ShownFacts.{LeavesShown}
+use Rattle.std.proofs.Common.{string_bytes, length, ◌-◌, ◌≤◌}
+use Rattle.twp_excerpt.specs.Shown.{AddsShown}
+use Rattle.twp_excerpt.specs.Signs.{escaped, written}
+use Rattle.twp_excerpt.proofs.AddingFacts.{AddedSoFar}
+use Rattle.twp_excerpt.proofs.SoFar.{left_at}
 use Rattle.twp_excerpt.proofs.escaped.write_escaped.Given as goal
 
--- what was added is shown, and of a text that is shown it is the part so far
+-- the characters that were added are shown, and are the text so far
 abbrev pub invariant-loop-at : goal.invariant-loop-at
 invariant-loop-at l = record {
   within : l.at ≤ length l.bytes;
   safe : AddsShown (string_bytes l.initial.out) (string_bytes l.out);
-  same : IsShownText l.bytes
-      → LeavesShown (string_bytes l.initial.out) l.bytes (string_bytes l.out) (drop l.at l.bytes);
+  added : AddedSoFar (escaped l.bytes) (left_at written l.bytes l.at) (string_bytes l.initial.out)
+      (string_bytes l.out);
 }
 
 abbrev pub decreases-loop-at : goal.decreases-loop-at

@@ -1,8 +1,15 @@
 use Rattle.std.proofs.Common.{length, ◌≤◌}
+use Rattle.twp_excerpt.proofs.EndFacts.{EndSoFar}
 use Rattle.twp_excerpt.proofs.excerpt.end_within.Given as goal
 
+-- the signs so far fit, and the suffix continues backward with those that fit in the room that is
+-- left
 abbrev pub invariant-loop-at : goal.invariant-loop-at
-invariant-loop-at l = record { within : l.at ≤ length l.bytes; fits : l.columns ≤ l.room }
+invariant-loop-at l = record {
+  within : l.at ≤ length l.bytes;
+  fits : l.columns ≤ l.room;
+  so_far : EndSoFar l.bytes l.room l.at l.columns;
+}
 
 abbrev pub decreases-loop-at : goal.decreases-loop-at
 decreases-loop-at l = l.at

@@ -2,7 +2,7 @@ use Rattle.std.proofs.Common.{◌≡◌, ◌+◌, ◌-◌, ◌≤◌, drop, leng
 use Rattle.twp_excerpt.specs.Spots.{columns}
 use Rattle.twp_excerpt.proofs.spot.columns.Given as goal
 
--- what is counted and what is left make the whole
+-- the columns counted so far and the remaining ones make the total
 abbrev pub invariant-loop-at : goal.invariant-loop-at
 invariant-loop-at l = record {
   within : l.at ≤ length l.bytes;

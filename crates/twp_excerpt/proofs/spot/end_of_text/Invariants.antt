@@ -3,7 +3,7 @@ use Rattle.twp_excerpt.specs.Spots.{is_white, end_of}
 use Rattle.twp_excerpt.proofs.SpotFacts.{passed_before}
 use Rattle.twp_excerpt.proofs.spot.end_of_text.Given as goal
 
--- behind the place so far is white space alone
+-- only white space follows the index so far
 abbrev pub invariant-loop-end : goal.invariant-loop-end
 invariant-loop-end l = record {
   within : l.end ≤ length l.text;

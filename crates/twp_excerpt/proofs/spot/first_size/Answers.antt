@@ -1,4 +1,4 @@
--- A character takes a byte at least, and no more than there are.
+-- A character takes at least one byte, and no more than there are.
 use Rattle.std.proofs.Common.{arith}
 use Rattle.bstr.proofs.lemmas.PieceLemmas.{piece-bounds}
 use Rattle.twp_excerpt.proofs.spot.first_size.Goals as goal

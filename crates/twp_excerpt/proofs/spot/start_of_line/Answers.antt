@@ -1,4 +1,4 @@
--- The line begins behind the last line feed before the place, or with the text.
+-- The line begins after the last line feed before the place, or where the text begins.
 use Rattle.twp_excerpt.proofs.SpotFacts.{start_found, start_missing}
 use Rattle.twp_excerpt.proofs.spot.start_of_line.Goals as goal
 

@@ -1,10 +1,11 @@
 -- Nothing is told of land on the plat of the notes, or where the refusal is another.
 use Rattle.std.proofs.Common.{ap, subst}
 use Rattle.twp_acres.specs.Answers.{IsNoDescription}
-use Rattle.twp_findings.specs.Findings.{IfFound}
+use Rattle.twp_explain.specs.Findings.{IfFound}
 use Rattle.twp_explain.specs.Refusals.{DescribeLand}
 use Rattle.twp_explain.proofs.FindingFacts.{land_is_none, none_of_land, of_land, of_description}
 use Rattle.twp_explain.specs.ToldPlaces.{IsToldWhereRefused}
+use Rattle.twp_explain.proofs.MessageFacts.{shows_notes, shows_text}
 use Rattle.twp_explain.proofs.ShownFacts.{platted_tells_none, tells_where}
 use Rattle.twp_explain.proofs.explaining.explain_land.Goals as goal
 
@@ -46,3 +47,14 @@ returns-in-Err-describe-clause-spot c = λ makes.
       same = ap (λ file. file.bytes.now) c.of_file-origin.ensures.file;
     }))
     c.tell-in-Err-describe.ensures.found c.tell-in-Err-describe.ensures.spot
+
+pub returns-in-Err-clause-shows : goal.returns-in-Err-clause-shows
+returns-in-Err-clause-shows c =
+    shows_notes c.tell.result c.args.notes.now c.args.description.now c.in-Err.stop c.in-Err.ensures.found
+    c.tell.ensures.found c.tell.ensures.shows
+
+pub returns-in-Err-describe-clause-shows : goal.returns-in-Err-describe-clause-shows
+returns-in-Err-describe-clause-shows c =
+    shows_text c.tell-in-Err-describe.result c.args.notes.now c.args.description.now
+    (c.in-Ok.plat, c.in-Ok.ensures.plat)
+    c.tell-in-Err-describe.ensures.shows

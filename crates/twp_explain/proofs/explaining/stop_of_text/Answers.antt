@@ -1,5 +1,5 @@
 use Rattle.std.proofs.Common.{sym}
-use Rattle.twp_findings.specs.ShownPlaces.{IsTextOf}
+use Rattle.twp_explain.specs.ShownPlaces.{IsTextOf}
 use Rattle.twp_explain.proofs.ShownFacts.{text_shown}
 use Rattle.twp_explain.proofs.explaining.stop_of_text.Goals as goal
 

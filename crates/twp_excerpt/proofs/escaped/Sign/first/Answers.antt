@@ -1,6 +1,7 @@
--- A character takes a byte at least, and no more than there are.
-use Rattle.std.proofs.Common.{arith}
+-- A character takes at least one byte, and no more than there are.
+use Rattle.std.proofs.Common.{arith, sym, ◌∙◌}
 use Rattle.bstr.proofs.lemmas.PieceLemmas.{piece-bounds}
+use Rattle.twp_excerpt.proofs.LookFacts.{drawn_char}
 use Rattle.twp_excerpt.proofs.escaped.Sign.first.Goals as goal
 
 pub returns-in-Some-default-clause-some : goal.returns-in-Some-default-clause-some
@@ -10,3 +11,10 @@ returns-in-Some-default-clause-some c =
 pub returns-in-Some-default-clause-within : goal.returns-in-Some-default-clause-within
 returns-in-Some-default-clause-within c =
     omega (arith, c.decode.ensures.size, (piece-bounds c.args.bytes.now c.requires).2)
+
+pub returns-in-Some-default-clause-first : goal.returns-in-Some-default-clause-first
+returns-in-Some-default-clause-first c =
+    drawn_char c.args.bytes.now c.in-Some-default.character c.decode.result.1 c.of.result
+    (sym c.decode.ensures.char ∙ c.in-Some-default.is-0)
+    c.of.ensures.look
+    c.decode.ensures.size

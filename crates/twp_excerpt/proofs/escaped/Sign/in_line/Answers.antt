@@ -1,7 +1,11 @@
--- A space is shown.
+-- An escape without a letter is not that of a tab.
 use Rattle.std.proofs.Common.{refl}
-use Rattle.twp_excerpt.proofs.ShownFacts.{shown_printable}
+use Rattle.twp_excerpt.proofs.LookFacts.{other_drawn}
 use Rattle.twp_excerpt.proofs.escaped.Sign.in_line.Goals as goal
 
-pub returns-in-Letter-t-clause-safe : goal.returns-in-Letter-t-clause-safe
-returns-in-Letter-t-clause-safe c = shown_printable 32 refl
+pub returns-in_default : goal.returns-in_default
+returns-in_default c = record {
+  safe = c.requires;
+  size = refl;
+  drawn = λ sign is. other_drawn sign c.args.self c.in_default.not-Letter is;
+}

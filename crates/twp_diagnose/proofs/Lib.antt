@@ -1,0 +1,9 @@
+pub mod StepFacts
+pub mod ChainFacts
+pub mod MarkFacts
+pub mod HeadingFacts
+pub mod NearFacts
+pub mod PartFacts
+pub mod SightFacts
+pub mod SignFacts
+pub mod OriginFacts

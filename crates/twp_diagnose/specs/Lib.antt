@@ -1,0 +1,7 @@
+pub mod Marks
+pub mod PartOfLots
+pub mod SharedText
+pub mod Sights
+pub mod Origins
+pub mod Spots
+pub mod steps

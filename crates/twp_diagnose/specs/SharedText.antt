@@ -1,0 +1,15 @@
+-- The spelling of the land that two items of a description name.
+use Rattle.std.specs.Prelude.{ℕ, Bool, List}
+use Rattle.twp_grid.specs.Townships.{Designation}
+use Rattle.twp_grammar.specs.declared.item.Item.{Item}
+use Rattle.twp_resolve.specs.SharedLand.{AreFirstSharing}
+use Rattle.twp_spell.specs.CanonicalText.{IsCanonicalText}
+use Rattle.twp_diagnose.specs.declared.shared_land.Shared.{Shared}
+
+-- the items are refused for the later of the two; the earlier is the first that names a place of
+-- it, and the text is the one spelling of the places that both name
+pub record TellsShared (g : ℕ) (township : Designation) (items : List Item) (told : Shared)
+    : Type 0 where
+  pub places : ℕ → ℕ → ℕ → Bool
+  pub both : AreFirstSharing g township items told.items places
+  pub text_is : IsCanonicalText g township places told.text.items

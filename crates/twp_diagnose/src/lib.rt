@@ -1,0 +1,26 @@
+//! What is wrong with refused input, and where. This crate finds data and makes no sentences: the bytes of
+//! a token, an aliquot part, or a record's field; where a text is in its file; the land that two items
+//! share; and the lots that a part includes.
+#![tactic(auto)]
+
+mod given;
+mod listed;
+mod location;
+mod lots_held;
+mod mark;
+mod numbers;
+mod origin;
+mod records;
+mod shared_land;
+mod sight;
+
+pub use given::Given;
+pub use listed::Listed;
+pub use location::{Location, spot_in, spot_of_place};
+pub use lots_held::{PartOfLots, part_of_lots};
+pub use mark::{chain_span, heading_span, range_span, token_span};
+pub use numbers::{is_short_number, number_in, thousandths, thousandths_of};
+pub use origin::Origin;
+pub use records::Record;
+pub use shared_land::{Shared, shared_land_text};
+pub use sight::{Sight, TokenAt};

@@ -1,0 +1,135 @@
+//! What is seen of a text where it is refused.
+ghost use Rattle.std.specs.Prelude.{◌≡◌, ◌≤◌, ◌↔◌, length, drop, IsTrue};
+ghost use Rattle.std.specs.List.{AllPass};
+ghost use Rattle.twp_excerpt.specs.Spots.{is_white};
+ghost use Rattle.twp_grammar.specs.declared.kind.Kind.TheVariants.{BadByte};
+ghost use Rattle.twp_diagnose.specs.Sights.{shown_place, TakesSign};
+
+use twp_excerpt::{end_of_text, first_size};
+use twp_grammar::{Expected, Kind};
+use twp_grid::Refusal;
+use twp_read::Tokens;
+
+/// A token of a text, or a character that is not allowed in a description. It has no bytes where the
+/// text begins or ends.
+#[derive(Clone, Copy)]
+pub struct TokenAt<'a> {
+    /// Its bytes.
+    pub bytes: &'a [u8],
+    /// Whether it ends where the refused one begins; of a sign after that, whether neither a comma
+    /// nor a period is between it and the sign before it.
+    pub is_joined: bool,
+}
+
+/// What stands at a refused place and around it.
+#[derive(Clone, Copy)]
+pub struct Sight<'a> {
+    /// The refusal's number.
+    pub number: u8,
+    /// What could stand at the place, for a fault of syntax.
+    pub expected: Option<Expected>,
+    /// Where the sign at the place begins in the text, or where the text ends but for white space.
+    pub start: usize,
+    /// The text.
+    pub text: &'a [u8],
+    /// The text before that place.
+    pub ahead: &'a [u8],
+    /// The sign before the place.
+    pub before: TokenAt<'a>,
+    /// The sign at the place.
+    pub at: TokenAt<'a>,
+    /// The text after that sign.
+    pub rest: &'a [u8],
+}
+
+impl<'a> Sight<'a> {
+    /// What is seen of a text where it is refused.
+    pub fn of(text: &'a [u8], refusal: Refusal, expected: Option<Expected>) -> Sight<'a>
+        ensures start { result.start ≡ shown_place text.now refusal.at }
+        ensures sign { TakesSign (drop refusal.at text.now) (length result.at.bytes.now) }
+    {
+        let at = (refusal.at as usize).min(text.len());
+        let (ahead, behind) = text.split_at(at);
+        let (sign, rest) = behind.split_at(size_of_sign(behind));
+        Sight {
+            number: refusal.number,
+            expected,
+            start: if sign.is_empty() {
+                end_of_text(text)
+            } else {
+                at
+            },
+            text,
+            ahead,
+            before: last_sign(ahead),
+            at: TokenAt {
+                bytes: sign,
+                is_joined: false,
+            },
+            rest,
+        }
+    }
+
+    /// The sign this many signs after the refused one, from 0. Commas and periods don't count.
+    pub fn after(&self, index: usize) -> TokenAt<'a> {
+        let mut left = index;
+        let mut is_joined = true;
+        for token in Tokens::new(self.rest) {
+            if matches!(token.kind, Kind::Comma | Kind::Stop) {
+                is_joined = false;
+                continue;
+            }
+            if left == 0 {
+                return TokenAt {
+                    bytes: token.text,
+                    is_joined,
+                };
+            }
+            left -= 1;
+            is_joined = true;
+        }
+        NOTHING
+    }
+}
+
+/// What stands where a text begins or ends.
+const NOTHING: TokenAt<'static> = TokenAt {
+    bytes: &[],
+    is_joined: false,
+};
+
+/// How many bytes the sign takes that begins some bytes: all of its token, all of a character that
+/// begins no token, or one byte that begins no character. None where nothing but white space follows.
+fn size_of_sign(bytes: &[u8]) -> usize
+    ensures within { result ≤ length bytes.now }
+    ensures white { result ≡ 0 → AllPass is_white bytes.now }
+    ensures dark { AllPass is_white bytes.now → result ≡ 0 }
+    ensures sign { TakesSign bytes.now result }
+{
+    let Some(token) = Tokens::new(bytes).next() else {
+        return 0;
+    };
+    if is_bad_byte(token.kind) {
+        return first_size(bytes);
+    }
+    token.text.len()
+}
+
+/// Whether a token is a byte that begins none.
+fn is_bad_byte(kind: Kind) -> bool
+    ensures { IsTrue result ↔ (kind ≡ BadByte) }
+{
+    matches!(kind, Kind::BadByte)
+}
+
+/// The last sign of some bytes.
+fn last_sign(bytes: &[u8]) -> TokenAt<'_> {
+    let mut last = NOTHING;
+    for token in Tokens::new(bytes) {
+        last = TokenAt {
+            bytes: token.text,
+            is_joined: bytes.len() - token.text.len().min(bytes.len()) == token.at,
+        };
+    }
+    last
+}

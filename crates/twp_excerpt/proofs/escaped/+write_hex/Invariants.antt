@@ -1,0 +1,4 @@
+use Rattle.twp_excerpt.proofs.escaped.+write_hex.Given as goal
+
+abbrev pub decreases-write_hex : goal.decreases-write_hex
+decreases-write_hex l = l.number

@@ -1,0 +1,142 @@
+//! Messages about a place in a file.
+ghost use Rattle.std.specs.Prelude.{IfOk, OnOk, string_bytes};
+ghost use Rattle.twp_excerpt.specs.Messages.{AddsHelp, IsMessage, message_head, extract_text};
+ghost use Rattle.twp_excerpt.specs.Messages.{heading_text, number_text};
+ghost use Rattle.twp_excerpt.specs.Shown.{AddsLines, AddsShown};
+ghost use Rattle.twp_excerpt.specs.Signs.{Adding};
+
+use crate::escaped::{push_printable, write_escaped};
+use crate::excerpt::write_excerpt;
+use crate::spot::{Span, Spot};
+use crate::wrapped::{columns_of, write_wrapped};
+use itoa::Buffer;
+use std::alloc::{AllocError, Global};
+
+/// The most lines of a sentence. With as many lines of help and the two lines of an excerpt, a
+/// message takes 8.
+const SENTENCE_LINES: usize = 3;
+
+/// The most lines of help.
+const HELP_LINES: usize = 3;
+
+/// The place that a message names after the file.
+#[derive(Clone, Copy)]
+pub enum Heading {
+    /// The file as a whole.
+    File,
+    /// A line.
+    Line(u32),
+    /// A line and a column.
+    Place(Spot),
+}
+
+/// A line of a text to be shown.
+#[derive(Clone, Copy)]
+pub struct Extract<'a> {
+    /// The text.
+    pub text: &'a [u8],
+    /// The part that is underlined; the line on which it starts is shown.
+    pub span: Span,
+    /// The number of that line.
+    pub line: u32,
+}
+
+/// A message about a place in a file.
+#[derive(Clone, Copy)]
+pub struct Message<'a> {
+    /// The file's name.
+    pub name: &'a str,
+    /// The place in the file.
+    pub heading: Heading,
+    /// What is wrong there, or what is noted.
+    pub sentence: &'a str,
+    /// The excerpt to show, if any.
+    pub extract: Option<Extract<'a>>,
+    /// How to correct it, or related facts. Empty if there are none.
+    pub help: &'a str,
+}
+
+impl Message<'_> {
+    /// The text of the message: lines of at most 100 columns, each with a line feed at its end.
+    pub fn text(&self, alloc: Global) -> Result<String, AllocError>
+        ensures { IfOk result (λ text. IsMessage self.now (string_bytes text)) }
+    {
+        let mut text = String::new(alloc);
+        write_head(self.name, self.heading, &mut text)?;
+        let columns = columns_of(text.as_str());
+        write_wrapped(self.sentence, columns, SENTENCE_LINES, &mut text)?;
+        write_extract(self.extract, &mut text)?;
+        write_help(self.help, &mut text)?;
+        Ok(text)
+    }
+}
+
+/// Appends the file's name and the place in it.
+#[tactic(auto, using(crate::proofs::ShownFacts::adds_trans))]
+fn write_head(name: &str, heading: Heading, out: &mut String) -> Result<(), AllocError>
+    ensures head { Adding (message_head name.now heading) result
+        (string_bytes out.old) (string_bytes out.new) }
+    ensures safe { AddsShown (string_bytes out.old) (string_bytes out.new) }
+{
+    push_printable("township: ", out)?;
+    write_escaped(name.as_bytes(), out)?;
+    write_heading(heading, out)?;
+    push_printable(": ", out)
+}
+
+/// Appends the line and the column of a heading.
+#[tactic(auto, using(crate::proofs::ShownFacts::adds_trans, crate::proofs::AddingFacts::adding_none))]
+fn write_heading(heading: Heading, out: &mut String) -> Result<(), AllocError>
+    ensures heading { Adding (heading_text heading) result
+        (string_bytes out.old) (string_bytes out.new) }
+    ensures safe { AddsShown (string_bytes out.old) (string_bytes out.new) }
+{
+    match heading {
+        Heading::File => Ok(()),
+        Heading::Line(line) => write_number(line, out),
+        Heading::Place(spot) => {
+            write_number(spot.line, out)?;
+            write_number(spot.column, out)
+        }
+    }
+}
+
+/// Appends a colon and a number.
+#[tactic(auto, using(crate::proofs::ShownFacts::adds_trans))]
+fn write_number(number: u32, out: &mut String) -> Result<(), AllocError>
+    ensures number { Adding (number_text number) result
+        (string_bytes out.old) (string_bytes out.new) }
+    ensures safe { AddsShown (string_bytes out.old) (string_bytes out.new) }
+{
+    let mut buffer = Buffer::new();
+    push_printable(":", out)?;
+    push_printable(buffer.format(number), out)
+}
+
+/// Appends an excerpt of a text, if there is one to show.
+#[tactic(auto, using(crate::proofs::ShownFacts::adds_none, crate::proofs::AddingFacts::adding_none))]
+fn write_extract(extract: Option<Extract<'_>>, out: &mut String) -> Result<(), AllocError>
+    ensures extract { Adding (extract_text extract.entry) result
+        (string_bytes out.old) (string_bytes out.new) }
+    ensures safe { AddsLines (string_bytes out.old) (string_bytes out.new) }
+{
+    let Some(Extract { text, span, line }) = extract else {
+        return Ok(());
+    };
+    let end = span.end.min(text.len());
+    let start = span.start.min(end);
+    write_excerpt(text, Span { start, end }, line, out)
+}
+
+/// Appends the help, if there is any.
+#[tactic(auto, using(crate::proofs::ShownFacts::adds_trans, crate::proofs::ShownFacts::lines_of_shown))]
+fn write_help(help: &str, out: &mut String) -> Result<(), AllocError>
+    ensures help { OnOk result (AddsHelp help.now (string_bytes out.old) (string_bytes out.new)) }
+    ensures safe { AddsLines (string_bytes out.old) (string_bytes out.new) }
+{
+    if help.is_empty() {
+        return Ok(());
+    }
+    push_printable("  ", out)?;
+    write_wrapped(help, 2, HELP_LINES, out)
+}

@@ -1,6 +1,0 @@
-use Rattle.twp_notes.specs.Records.{IsReading}
-use Rattle.twp_explain.proofs.note.first_joined_tract.Given as goal
-
--- the records are read one after another
-abbrev pub invariant-records : goal.invariant-records
-invariant-records l = IsReading l.records

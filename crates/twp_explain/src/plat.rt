@@ -1,0 +1,143 @@
+//! Why field notes make no plat.
+ghost use Rattle.std.specs.Prelude.{◌≡◌, IfOk};
+
+use crate::finding::Finding;
+use crate::half_mile_hints::write_half_mile_hint;
+use crate::lines::{half_mile, last_quarter_mile, write_chains, write_side};
+use crate::note_hints::advice_on;
+use std::alloc::{AllocError, Global};
+use twp_diagnose::{Given, Location, Record};
+use twp_grid::{Line, Refusal};
+use twp_notes::{Notes, Returned};
+use twp_plat::{CLOSING_LEAST, CLOSING_MOST, HALF_LEAST, HALF_MOST, HalfMile, PlatFault};
+
+/// The fields of the distances to the quarter corner and to the end of the line.
+const QUARTER: usize = 3;
+
+const CORNER: usize = 4;
+
+/// What is told of notes that make no plat.
+pub fn find(
+    alloc: Global,
+    file: &Given<'_>,
+    notes: &Notes,
+    fault: PlatFault,
+    refusal: Refusal,
+) -> Result<Finding, AllocError>
+    ensures refusal { IfOk result (λ finding. finding.refusal ≡ refusal) }
+{
+    let Some(line) = line_of(fault) else {
+        return Ok(Finding {
+            refusal,
+            place: Location::Whole,
+            sentence: fault.to_string(alloc)?,
+            help: String::new(alloc),
+        });
+    };
+    let record = Record::of_line(alloc, file.bytes, line)?;
+    let returned = notes.line(line);
+    Ok(Finding {
+        refusal,
+        place: place_of(&record, field_of(fault)),
+        sentence: sentence(alloc, line, returned, fault)?,
+        help: help(
+            alloc,
+            line,
+            returned,
+            fault,
+            advice_of(&record, refusal, fault),
+        )?,
+    })
+}
+
+/// Where a field of a record is shown.
+fn place_of(record: &Option<Record<'_>>, field: usize) -> Location {
+    match record {
+        Some(record) => Location::Field(record.span(field, field)),
+        None => Location::Whole,
+    }
+}
+
+/// What mends a record, where its text tells it.
+fn advice_of(
+    record: &Option<Record<'_>>,
+    refusal: Refusal,
+    fault: PlatFault,
+) -> Option<&'static str> {
+    match record {
+        Some(record) => advice_on(refusal.number, record, field_of(fault)),
+        None => None,
+    }
+}
+
+/// What is told of a line besides its fault: its index, and some advice, or else a hint from its
+/// distances.
+fn help(
+    alloc: Global,
+    line: Line,
+    returned: Returned,
+    fault: PlatFault,
+    advice: Option<&'static str>,
+) -> Result<String, AllocError> {
+    let mut help = String::new(alloc);
+    write!(help, "section line {}; ", line.index())?;
+    match advice {
+        Some(advice) => help.push_str(advice)?,
+        None => write_half_mile_hint(line, returned, fault, &mut help)?,
+    }
+    Ok(help)
+}
+
+/// The line that a fault is on.
+fn line_of(fault: PlatFault) -> Option<Line> {
+    let (PlatFault::Irregular { line, .. }
+    | PlatFault::ClosingShort(line)
+    | PlatFault::ClosingLong(line)) = fault;
+    Line::at_index(line)
+}
+
+/// The field of a record that is to blame for a fault: the distance that ends the half mile.
+fn field_of(fault: PlatFault) -> usize {
+    match fault {
+        PlatFault::Irregular {
+            half: HalfMile::First,
+            ..
+        } => QUARTER,
+        _ => CORNER,
+    }
+}
+
+/// What is out of its limits on a line, and by how much.
+fn sentence(
+    alloc: Global,
+    line: Line,
+    returned: Returned,
+    fault: PlatFault,
+) -> Result<String, AllocError> {
+    let mut text = String::new(alloc);
+    match fault {
+        PlatFault::Irregular { half, .. } => {
+            write!(text, "the {half} half mile ")?;
+            write_side(line, &mut text)?;
+            let length = half_mile(returned, half);
+            write_limits(length, HALF_LEAST, HALF_MOST, &mut text)?;
+        }
+        _ => {
+            text.push_str("the last quarter mile ")?;
+            write_side(line, &mut text)?;
+            let length = last_quarter_mile(returned);
+            write_limits(length, CLOSING_LEAST, CLOSING_MOST, &mut text)?;
+        }
+    }
+    Ok(text)
+}
+
+/// Appends a length and its limits, all in thousandths of a chain.
+fn write_limits(length: i64, least: u32, most: u32, out: &mut String) -> Result<(), AllocError> {
+    out.push_str(" is ")?;
+    write_chains(length, out)?;
+    out.push_str(" chains; allowed: ")?;
+    write_chains(i64::from(least), out)?;
+    out.push_str(" to ")?;
+    write_chains(i64::from(most), out)
+}

@@ -1,2 +1,0 @@
-pub mod OriginFacts
-pub mod ShownFacts

@@ -1,2 +1,0 @@
-pub mod SightFacts
-pub mod SignFacts

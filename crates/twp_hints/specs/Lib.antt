@@ -1,2 +1,0 @@
-pub mod steps
-pub mod Sights

@@ -1,9 +1,0 @@
-pub mod StepFacts
-pub mod ChainFacts
-pub mod MarkFacts
-pub mod HeadingFacts
-pub mod NearFacts
-pub mod JoinedFacts
-pub mod BetweenFacts
-pub mod LineEndFacts
-pub mod PartFacts

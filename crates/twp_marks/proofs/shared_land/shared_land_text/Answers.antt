@@ -1,5 +1,0 @@
--- The text is that of the land which the two items share.
-use Rattle.twp_marks.proofs.shared_land.shared_land_text.Goals as goal
-
-pub returns : goal.returns
-returns c = record { places = _; both = c.in-Some.ensures; text_is = c.in_ok-text.ensures.text }

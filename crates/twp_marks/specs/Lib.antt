@@ -1,5 +1,0 @@
-pub mod Marks
-pub mod PartOfLots
-pub mod SharedText
-pub mod JoinedSteps
-pub mod steps
