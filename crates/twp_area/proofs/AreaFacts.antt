@@ -1,4 +1,4 @@
--- The steps of the code that adds areas up.
+-- The steps of the code that adds areas.
 use Rattle.std.proofs.Common.{◌≡◌, ℕ, zero, suc, ◌+◌, ◌-◌, ◌*◌, ◌<◌, ◌≤◌, Bool, Option, Some}
 use Rattle.std.proofs.Common.{IfSome, ap, refl, sym, ◌∙◌, arith}
 use Rattle.std.specs.Option.{SomeIff}
@@ -28,7 +28,7 @@ use Rattle.twp_area.proofs.SectionSums.{none_held}
 use Rattle.twp_area.proofs.FigureFacts.{plat_figures}
 use Rattle.twp_area.proofs.LotSums.{sum_by_lots}
 
--- where a lot is
+-- the place of a lot
 pub record LotAt (section lot column row : ℕ) : Type 0 where
   pub position : position_of_lot section lot ≡ Some (column, row)
   pub within : IsPosition column row
@@ -39,7 +39,7 @@ pub lot_at_is : (section lot : ℕ) (found : Option (ℕ × ℕ)) (p : ℕ × �
 lot_at_is section lot found p is within there =
     record { position = sym is ∙ there; within = rw there at within }
 
--- one more is added
+-- one more term is added
 pub grows : (n k units more : ℕ) → 1 ≤ n → units ≤ (n - 1) * k → more ≤ k → units + more ≤ (n + 1 - 1) * k
 grows zero k units more first most added = absurd (omega arith)
 grows (suc n) k units more first most added =
@@ -48,7 +48,7 @@ grows (suc n) k units more first most added =
     let least : units ≤ n * k = rw e at most in
     rw e' (omega arith)
 
--- what is added up of a section is bounded
+-- the sum for a section is bounded
 pub bounded : (lots units places over regular : ℕ) → lots ≤ LOTS_MOST → places ≤ SECTION_PLACES_MOST
     → units ≤ lots * (CLOSING_MOST * CLOSING_MOST * over) → regular ≡ REGULAR_PLACE_UNITS * (over * places)
     → units + regular ≤ SECTION_UNITS_MOST * over
@@ -59,12 +59,12 @@ bounded lots units places over regular few few' most is =
     let second = mul-le over places over SECTION_PLACES_MOST (omega arith) few' in
     omega arith
 
--- the sums over the places of sections 1, 2 and so on
+-- the sums over the places of sections 1, 2, and so on
 abbrev pub sections_sum : (ℕ → ℕ → ℕ → ℕ) → (ℕ → ℕ → ℕ → Bool) → ℕ → ℕ
 sections_sum pieces places count =
     total count (λ before. section_sum PLACE_DIGITS (pieces (before + 1)) (places (before + 1)))
 
--- what was added up of so many sections
+-- the sum for a number of sections
 abbrev pub IsSumOf : Account → TownshipPlat → (ℕ → ℕ → ℕ → Bool) → ℕ → ℕ → Type 0
 IsSumOf account plat places count units =
     (pieces : ℕ → ℕ → ℕ → ℕ) → AreUnitsBy account plat pieces
@@ -96,7 +96,7 @@ sum-next account plat places number section units more first is so_far added pie
         → OF_POSITION * (u + m) ≡ sum
     both u m s s' sum e e' is = omega arith
 
--- the sum over more sections, of which no place is held
+-- the sum over more sections, none of whose places is in the set
 sum-without : (pieces : ℕ → ℕ → ℕ → ℕ) (places : ℕ → ℕ → ℕ → Bool) (count more : ℕ)
     → ((section : ℕ) → count < section → section ≤ count + more
     → ¬ Meets (places section) (whole_block PLACE_DIGITS))
@@ -114,7 +114,7 @@ sum-without pieces places count (suc more) none =
     next : count + suc more ≡ count + more + 1
     next = omega arith
 
--- no place is held before the first section
+-- the set contains no place before its first section
 pub sum-first : (account : Account) (plat : TownshipPlat) (places : ℕ → ℕ → ℕ → Bool) (first last : ℕ)
     → LieWithin places first last → IsSumOf account plat places (first - 1) 0
 sum-first account plat places first last within pieces are =
@@ -123,7 +123,7 @@ sum-first account plat places first last within pieces are =
     let all : 0 + (first - 1) ≡ first - 1 = omega arith in
     sym (sym (ap (sections_sum pieces places) all) ∙ none ∙ total-zero _)
 
--- no place is held behind the last section
+-- the set contains no place after its last section
 pub sum-last : (account : Account) (plat : TownshipPlat) (places : ℕ → ℕ → ℕ → Bool)
     (first last number units : ℕ)
     → LieWithin places first last → 1 ≤ number → last < number → number ≤ 37
@@ -134,18 +134,18 @@ sum-last account plat places first last number units within least behind most so
     let all : number - 1 + (37 - number) ≡ 36 = omega arith in
     so_far pieces are ∙ sym (sym (ap (sections_sum pieces places) all) ∙ none)
 
--- no place is held at all
+-- the set is empty
 pub sum-none : (account : Account) (plat : TownshipPlat) (places : ℕ → ℕ → ℕ → Bool) → places ≡ no_places
     → IsSumOf account plat places (37 - 1) 0
 sum-none account plat places none = sum-first account plat places 37 36 (nothing_within places 37 36 none)
 
--- the value of a fraction in bounds
+-- the value of a fraction within bounds
 pub area_is : (units over : ℕ) (found : Option Fraction) (area : Fraction)
     → SomeIff found (IsArea units over) (record { units = units; over = over }) → found ≡ Some area
     → area ≡ record { units = units; over = over }
 area_is units over found area is there = (rw there at is).1
 
--- what was added up of all sections is the land's area
+-- the sum over all sections is the land's area
 pub land_area : (account : Account) (plat : TownshipPlat) (places : ℕ → ℕ → ℕ → Bool) (number units over : ℕ)
     (area : Fraction)
     → IsPlat plat → HasWholeLots PLACE_DIGITS places

@@ -1,4 +1,4 @@
--- One land, one area; and the areas of disjoint lands add up.
+-- Land has only one area, and the areas of disjoint land add up.
 use Rattle.std.proofs.Common.{◌≡◌, ℕ, ◌+◌, ◌*◌, ◌/◌, ◌<◌, ◌≤◌, ◌-◌, ◌||◌, ◌&&◌, not, Bool, true}
 use Rattle.std.proofs.Common.{false, ap, refl, sym, ◌∙◌, arith, if◌then◌else◌}
 use Rattle.std.proofs.Math.Nat.{le_of_mul-le-mul_left, mul-sub}
@@ -21,7 +21,7 @@ use Rattle.twp_area.specs.LandAreas.{township_sum}
 use Rattle.twp_area.specs.Laws.{OneLandArea, DisjointSumsAdd, DisjointAreasAdd, township_places}
 use Rattle.twp_plat.proofs.SectionPieces.{same_pieces}
 
--- sums over the places of a township of functions that agree there
+-- equal sums over the places of a township, for functions that agree there
 pub township-ext : (g : ℕ) (f f' : ℕ → ℕ → ℕ → ℕ)
     → ((section column row : ℕ) → IsSection section → column < places_across g → row < places_across g
     → f section column row ≡ f' section column row)
@@ -60,7 +60,7 @@ township-both g f f' =
     ∙ total-both SECTION_COUNT (λ before. total_over (whole_block g) (f (before + 1)))
     (λ before. total_over (whole_block g) (f' (before + 1)))
 
--- a set has one sum, whichever way its pieces are given
+-- a set has only one sum, whichever pieces are given
 one_sum : (g : ℕ) → POSITIONS_ACROSS ≤ places_across g
     → (plat : TownshipPlat) (places : ℕ → ℕ → ℕ → Bool) (pieces pieces' : ℕ → ℕ → ℕ → ℕ)
     → ArePieces plat pieces → ArePieces plat pieces'
@@ -83,8 +83,8 @@ some_places g fits = square (places_to_position g) (quarter (places_across g) fi
     square : (n : ℕ) → 0 < n → 0 < n * n
     square n some = let least = mul-le 1 1 n n some some in omega arith
 
--- of a set that lies in another one, the units are no more than the other's, and what is left of it has the
--- rest
+-- if a set lies within another one, its units are no more than the other's, and the rest of the
+-- other set has the remaining units
 pub rest_within : (g : ℕ) → POSITIONS_ACROSS ≤ places_across g
     → (plat : TownshipPlat) (outer places : ℕ → ℕ → ℕ → Bool) (area whole : Fraction)
     → ((section column row : ℕ) → IsSection section → column < places_across g → row < places_across g
@@ -125,12 +125,13 @@ rest_within g fits plat outer places area whole inside is all =
         let within : u ≤ w = le_of_mul-le-mul_left {m = u} {n = w} {k = n} (omega arith) some in
         (within, mul-sub n w u ∙ omega (arith, e, e'))
 
--- each place of a section is one of the township
+-- each place of a section is a place of the township
 pub is_place_of : (g section column row : ℕ) → IsSection section → column < places_across g
     → row < places_across g → township_places g section column row ≡ true
 is_place_of g section column row range in_column in_row = grind (arith, nat_tests)
 
--- of a set's places in the township, the units are no more than the township's, and the others have the rest
+-- the units of a set's places in the township are no more than the township's, and the other places
+-- have the remaining units
 pub rest_of_places : (g : ℕ) → POSITIONS_ACROSS ≤ places_across g
     → (plat : TownshipPlat) (places : ℕ → ℕ → ℕ → Bool) (area whole : Fraction)
     → IsLandArea g plat places area → IsLandArea g plat (township_places g) whole

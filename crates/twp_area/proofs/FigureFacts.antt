@@ -1,4 +1,4 @@
--- The figures of a plat: there are some, and they are one.
+-- The figures of a plat exist and are unique.
 use Rattle.std.proofs.Common.{◌≡◌, ℕ, ◌+◌, ◌*◌, ◌/◌, ◌<◌, Option}
 use Rattle.std.proofs.Common.{Some, refl, arith}
 use Rattle.std.specs.Prelude.{unwrap_or}
@@ -24,14 +24,14 @@ use Rattle.twp_area.specs.PlatFigures.{AreFigures}
 use Rattle.twp_area.proofs.AreaLaws.{one_land_area}
 use Rattle.twp_area.proofs.WholeAreas.{section_area_is_of_land, township_area_is_of_land}
 
--- where a lot is
+-- the place of a lot
 in_position : (section lot column row : ℕ) → IsSection section
     → position_of_lot section lot ≡ Some (column, row) → IsPosition column row
 in_position section lot column row range is =
     let there = fills section column row lot range ((lots_match section column row lot range).1 is) in
     (there.in_column, there.in_row)
 
--- the figure of a lot is one
+-- a lot has only one figure
 pub same_lot : (plat : TownshipPlat) (figures : PlatFigures) (section lot h : ℕ) → IsSection section
     → AreFigures plat figures → IsFigureOfLot plat section lot h → h ≡ figures.lots section lot
 same_lot plat figures section lot h range are is =
@@ -39,7 +39,7 @@ same_lot plat figures section lot h range are is =
     (in_position section lot is.column is.row range is.position_is) is.figure_is
     (are.lots section lot is.column is.row range is.position_is)
 
--- the figure of a section is one
+-- a section has only one figure
 pub same_section : (plat : TownshipPlat) (section h h' : ℕ) (area : Fraction) → IsSection section
     → IsSectionArea plat section area → IsRounded area h
     → IsSectionFigure plat section h' → h ≡ h'
@@ -50,7 +50,7 @@ same_section plat section h h' area range area_is rounded is =
     (section_area_is_of_land plat section is.area range is.area_is) in
     one_rounding is.area h h' (rw same at rounded) is.rounded
 
--- the figure of the township is one
+-- the township has only one figure
 pub same_township : (plat : TownshipPlat) (h h' : ℕ) (area : Fraction) → IsTownshipArea plat area
     → IsRounded area h → IsTownshipFigure plat h' → h ≡ h'
 same_township plat h h' area area_is rounded is =
@@ -59,7 +59,7 @@ same_township plat h h' area area_is rounded is =
     (township_area_is_of_land plat area area_is) (township_area_is_of_land plat is.area is.area_is) in
     one_rounding is.area h h' (rw same at rounded) is.rounded
 
--- so many units over the plat's denominator, rounded
+-- a number of units over the plat's denominator, rounded
 abbrev hundredths_of : TownshipPlat → ℕ → ℕ
 hundredths_of plat units = (2 * units + 100000 * over_of plat) / (2 * (100000 * over_of plat))
 
@@ -100,7 +100,7 @@ figures_of plat area is some =
       },
     )
 
--- a plat's denominator isn't 0
+-- a plat's denominator is not 0
 over_some : (plat : TownshipPlat) → 0 < over_of plat
 unfolding over_of
 over_some plat = some (closing_quarter_of plat (west_run 0 5)) (closing_quarter_of plat (north_run 0 6))

@@ -1,4 +1,4 @@
--- Where each place is cut into four, the areas of lands are the same.
+-- If each place is divided into four, the areas of land are the same.
 use Rattle.std.proofs.Common.{◌≡◌, ◌==◌, ℕ, suc, ◌+◌, ◌*◌, ◌/◌, ◌<◌, ◌≤◌, ◌↔◌, Bool, filter, sum_by}
 use Rattle.std.proofs.Common.{if◌then◌else◌, sym, ap, ◌∙◌, arith}
 use Rattle.std.proofs.Math.Path.{fun_ext}
@@ -93,7 +93,7 @@ same_area g plat places area fits = (forth, back)
           (position_of_four g fits) (township_of_four g is.pieces places fits) is.sum_is;
     }
 
--- the lots that are held, and the places off the lots
+-- the lots in the set, and its places off the lots
 same_lots : (g : ℕ) (places : ℕ → ℕ → ℕ → Bool) → POSITIONS_ACROSS ≤ places_across g
     → lots_held (suc g) (finer_land places) ≡ lots_held g places
 same_lots g places fits =

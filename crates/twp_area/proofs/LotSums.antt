@@ -1,4 +1,4 @@
--- Sums over the places of a land with whole lots: its lots that are held, and its places off the lots.
+-- Sums over the places of land with whole lots: over its lots, and its places off the lots.
 use Rattle.std.proofs.Common.{◌≡◌, ◌==◌, ℕ, ◌+◌, ◌*◌, ◌<◌, ◌≤◌, ◌&&◌, Bool, true, false, List, []}
 use Rattle.std.proofs.Common.{◌∷◌, Option, Some, None, ap, refl, sym, ◌∙◌, arith, cond}
 use Rattle.std.proofs.Common.{if◌then◌else◌, is_none}
@@ -25,7 +25,7 @@ use Rattle.twp_area.specs.steps.Accounts.{position_units}
 use Rattle.twp_area.proofs.PositionSums.{positions-ext, positions-both, positions-scale}
 use Rattle.twp_area.proofs.PositionSums.{total_blocks}
 
--- the sum over a section's places by positions, each of p by p places
+-- the sum over a section's places by positions of p by p places each
 by_fours : (p : ℕ) (f : ℕ → ℕ → ℕ) → total (4 * p) (λ up. total (4 * p) (λ along. f (0 + along) (0 + up)))
     ≡ over_positions (λ column row.
     total p (λ up. total p (λ along. f (column * p + along) (row * p + up))))
@@ -56,11 +56,11 @@ by_position g fits f =
     ap (λ n. total n (λ up. total n (λ along. f (0 + along) (0 + up)))) (position_has_places g fits).1
     ∙ by_fours (places_to_position g) f
 
--- how many of a position's places are held
+-- how many of a position's places the set contains
 abbrev held_of : ℕ → (ℕ → ℕ → Bool) → ℕ → ℕ → ℕ
 held_of g held column row = count_held held (position_block g column row)
 
--- the sum over a position's places is its units times the places that are held
+-- the sum over a position's places is its units times the number of its places in the set
 position_sum : (g : ℕ) (units : ℕ → ℕ → ℕ) (held : ℕ → ℕ → Bool) (column row : ℕ)
     → total_over (position_block g column row) (piece_where_held g units held)
     ≡ units column row * held_of g held column row
@@ -82,7 +82,7 @@ position_sum g units held column row =
     where_held true u = omega arith
     where_held false u = omega arith
 
--- of a position's places, those off the lots are all or none
+-- the places of a position are all off the lots, or none are
 off_of : (g section column row : ℕ) (held : ℕ → ℕ → Bool)
     → held_of g (off_lots g section held) column row
     ≡ (if is_none (lot_at_position section column row) then held_of g held column row else 0)
@@ -120,7 +120,7 @@ off_of g section column row held =
         (λ along _. neither (held (column * places_to_position g + along)
         (row * places_to_position g + up))))
 
--- a lot is held whole or not at all
+-- a lot is contained wholly or not at all
 all_or_none : (g section number column row : ℕ) (held : ℕ → ℕ → Bool) → 0 < places_to_position g
     → IsWholeOrNot g section number held → lot_at_position section column row ≡ Some number
     → held_of g held column row
@@ -156,13 +156,13 @@ all_or_none g section number column row held some whole is =
         rw (first column, first row) is in
         whole.alike (column * p + along) (row * p + up) (column * p) (row * p) there at
 
--- the units of a position's lot, where it is held
+-- the units of a position's lot, if the set contains it
 abbrev lot_value : (g : ℕ) → (ℕ → ℕ → ℕ) → (section : ℕ) → (ℕ → ℕ → Bool) → ℕ → ℕ → ℕ
 lot_value g lot_units section held column row =
     option_map_or (λ number. if held_of g held column row ==
     places_of_position g then lot_units section number else 0) (lot_at_position section column row) 0
 
--- what a position counts: its lot, where it is held, and its places off the lots
+-- the amount for a position: its lot, if the set contains it, and its places off the lots
 at_position : (g : ℕ) (lot_units : ℕ → ℕ → ℕ) (regular section : ℕ) (held : ℕ → ℕ → Bool) (column row : ℕ)
     (found : Option ℕ) → 0 < places_to_position g
     → ((number : ℕ) → IsWholeOrNot g section number held) → lot_at_position section column row ≡ found
@@ -194,7 +194,7 @@ at_position g lot_units regular section held column row (Some number) some whole
         let differs : (n * 0 == n) ≡ false = ne_eqb (n * 0) n (λ e. absurd (omega arith)) in
         rw differs (omega arith)
 
--- what a section counts
+-- the amount for a section
 of_section : (g : ℕ) → POSITIONS_ACROSS ≤ places_across g
     → (lot_units : ℕ → ℕ → ℕ) (regular section : ℕ) (held : ℕ → ℕ → Bool)
     → ((number : ℕ) → IsWholeOrNot g section number held)
@@ -219,7 +219,7 @@ of_section g fits lot_units regular section held whole =
     ∙ ap (λ t. n * over_positions value + regular * t)
     (sym (by_position g fits (λ column row. one_where (off_lots g section held column row))))
 
--- what a function gives for the lot that fills a position, and else 0
+-- a function's value at the lot that fills a position, or 0 if none does
 abbrev pub at_lot : (Lot → ℕ) → ℕ → ℕ → ℕ → ℕ
 at_lot f section column row =
     option_map_or (λ number. f (lot section number column row)) (lot_at_position section column row) 0
@@ -230,7 +230,7 @@ pub over_table : (f : Lot → ℕ)
 unfolding total lots lot_at_position
 over_table f = omega arith
 
--- a sum over what a test leaves
+-- a sum over the numbers that pass a test
 pub filtered : (test : Lot → Bool) (f : Lot → ℕ) (table : List Lot) → sum_by f (filter test table)
     ≡ sum_by (λ l. if test l then f l else 0) table
 filtered test f [] = refl
@@ -253,7 +253,7 @@ filtered test f (l ∷ table) = by_test (test l) refl (filtered test f table)
         let right = sum_by-cons (λ l. if test l then f l else 0) l table in
         omega (arith, left, first, right, rest)
 
--- the sum over all places is that over the lots held and the places off the lots
+-- the sum over all places is the sum over the lots and the places off the lots
 pub sum_by_lots : (g : ℕ) → POSITIONS_ACROSS ≤ places_across g
     → (lot_units : ℕ → ℕ → ℕ) (regular : ℕ) (places : ℕ → ℕ → ℕ → Bool) → HasWholeLots g places
     → places_of_position g * sum_by (λ l. lot_units l.section l.number)

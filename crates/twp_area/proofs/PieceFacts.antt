@@ -1,4 +1,4 @@
--- The units of a position that is no lot's.
+-- The units of a position that is not a lot.
 use Rattle.std.proofs.Common.{◌≡◌, ℕ, ◌*◌, None, ap, refl, sym, ◌∙◌}
 use Rattle.twp_grid.specs.Winding.{IsSection}
 use Rattle.twp_grid.specs.Lots.{IsPosition, lot_at_position}

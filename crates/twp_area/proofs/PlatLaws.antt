@@ -36,11 +36,11 @@ use Rattle.twp_area.proofs.LotSums.{filtered, at_lot, over_table, sum_by_lots}
 use Rattle.twp_area.proofs.PositionSums.{positions-ext}
 use Rattle.twp_area.proofs.PieceFacts.{regular_units}
 
--- a plat's units of a lot
+-- the units of a lot on a plat
 abbrev units_of : PlatFigures → ℕ → ℕ → ℕ
 units_of figures section number = HUNDREDTH_OF_AN_ACRE * figures.lots section number
 
--- two sets of a plat's figures are alike at each lot
+-- two sets of figures of a plat agree at each lot
 lot_alike : (plat : TownshipPlat) (figures figures' : PlatFigures) (section column row number : ℕ)
     → AreFigures plat figures → AreFigures plat figures' → IsSection section
     → lot_at_position section column row ≡ Some number → figures.lots section number
@@ -56,7 +56,7 @@ lot_alike plat figures figures' section column row number are are' range is =
           are.lots section number column row range there.position;
     })
 
--- what is alike at the lots of the table has one sum
+-- functions that agree at the lots of the table have the same sum
 found_alike : (found : Option ℕ) (f f' : ℕ → ℕ)
     → ((number : ℕ) → found ≡ Some number → f number ≡ f' number) → option_map_or f found 0
     ≡ option_map_or f' found 0
@@ -79,7 +79,7 @@ table-ext f f' same =
     same (before + 1) column row number (omega arith, omega arith) is)))
     ∙ sym (over_table f')
 
--- the lots held have one sum of printed units
+-- the printed units of the lots in the set have only one sum
 printed_alike : (g : ℕ) (plat : TownshipPlat) (places : ℕ → ℕ → ℕ → Bool) (figures figures' : PlatFigures)
     → AreFigures plat figures → AreFigures plat figures'
     → sum_by (printed_units figures) (lots_held g places)
@@ -93,7 +93,7 @@ printed_alike g plat places figures figures' are are' =
     (lot_alike plat figures figures' section column row number are are' range is))
     ∙ sym (filtered (holds_lot g places) (printed_units figures') lots)
 
--- where places have a nominal share, positions have places
+-- if places have a nominal share, positions have places
 shared : (g share : ℕ) → places_of_position g * share ≡ 400000000 → POSITIONS_ACROSS ≤ places_across g
 shared g share is = go (places_across g) refl
   where
@@ -142,7 +142,7 @@ place_sum g plat places area whole is =
         let all : n * units ≡ n * lots + n * share * off = rw is (omega arith) in
         rw is' at all
 
--- whole lots of two sets are whole in both together
+-- if two sets contain lots wholly or not at all, so does their union
 both_whole : (g : ℕ) (places more : ℕ → ℕ → ℕ → Bool) → HasWholeLots g places → HasWholeLots g more
     → HasWholeLots g (union places more)
 both_whole g places more whole whole' section number range = record {
@@ -217,11 +217,11 @@ disjoint_plat_areas_add g plat places more area other whole whole' apart is is' 
         let parts : n * lots + n * share * off ≡ s + s' = rw (sym share_is) at both in
         cancelled (u + u') (lots + share * off) n some (omega arith)
 
--- the sum of what a function gives for each place of a township
+-- the sum of a function's values at each place of a township
 abbrev sum_over : ℕ → (ℕ → ℕ → ℕ → ℕ) → ℕ
 sum_over g f = total SECTION_COUNT (λ before. total_over (whole_block g) (f (before + 1)))
 
--- such sums in order, and multiples of them
+-- such sums in order, and their multiples
 township-le : (g : ℕ) (f f' : ℕ → ℕ → ℕ → ℕ)
     → ((section column row : ℕ) → IsSection section → column < places_across g
     → row < places_across g → f section column row ≤ f' section column row)
@@ -250,7 +250,7 @@ township-scale g k f =
     (λ up. total (places_across g) (λ along. f (before + 1) (0 + along) (0 + up))))
     ∙ total-scale SECTION_COUNT k (λ before. total_over (whole_block g) (f (before + 1)))
 
--- exact units and printed ones differ by half a hundredth of an acre at most, where there is a lot
+-- for a lot, the exact units and the printed units differ by at most half a hundredth of an acre
 record IsNear (over exact printed lots : ℕ) : Type 0 where
   above : exact ≤ over * printed + 50000 * over * lots
   below : over * printed ≤ exact + 50000 * over * lots

@@ -77,7 +77,7 @@ positions_differ a b f g in-a in-b same =
     total-ext 4 (λ c. g c r) (λ c. f c r) (λ c lt'. same c r lt' lt (λ h. other h.1))) in
     omega arith
 
--- a sum by stretches of one length
+-- a sum by groups of one length
 pub total_blocks : (m n : ℕ) (f : ℕ → ℕ) → total (m * n) f ≡ total m (λ q. total n (λ k. f (q * n + k)))
 unfolding total
 total_blocks zero n f = let none : zero * n ≡ 0 = omega arith in rw none refl

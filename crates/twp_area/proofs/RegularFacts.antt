@@ -1,4 +1,4 @@
--- The piece of a position that is no lot's: 20 by 20 chains, on each plat.
+-- The piece of a position that is not a lot: 20 by 20 chains, on each plat.
 use Rattle.std.proofs.Common.{◌≡◌, ◌==◌, ℕ, ◌+◌, ◌-◌, ◌*◌, ◌%◌, ◌≤◌, ◌<◌, ◌&&◌, Bool, true, false, Some, None}
 use Rattle.std.proofs.Common.{pos, refl, ap, sym, ◌∙◌, inl, inr, arith, if◌then◌else◌, nat_le}
 use Rattle.std.proofs.lemmas.Bool.{cases_eq}
@@ -38,7 +38,7 @@ regular_piece q column row in_column in_row wide high =
     whole_of_parts (piece q column row) 400000000 (4 * west_length q * north_length q) terms.top (omega arith)
     terms.numerator (rw (square_of (west_length q) (north_length q)) at in_parts)
 
--- the sections along the west are the western ones
+-- the sections along the west boundary are the western ones
 western_test : each 6
     (λ row. each 1 (λ a. each 1 (λ b. is_western_number (if row % 2 == 0 then 6 * row + 6 else 6 * row + 1))))
     ≡ true
@@ -58,8 +58,8 @@ western section row column stands west =
 northern : (section row column : ℕ) → StandsAt section row column → row ≡ 0 → nat_le section 6 ≡ true
 northern section row column stands north = let least : section ≤ 6 = omega arith in grind (arith, nat_tests)
 
--- a position of the last column of a western section is a lot, and so is one of the last row of a northern
--- one
+-- a position in the last column of a western section is a lot, and so is one in the last row of a
+-- northern section
 west_is_lot : (section column row : ℕ) → IsSection section → column < 4 → row < 4
     → is_western_number section ≡ true → column ≡ 3 → lot_at_position section column row ≡ None → ⊥
 west_is_lot section column row range in_column in_row west last none =
@@ -81,7 +81,7 @@ north_is_lot section column row range in_column in_row north last none =
     let test : (row == 3) ≡ true = grind (arith, nat_tests) in
     cc (rw (north, test) at code)
 
--- the piece of a position that is no lot's
+-- the piece of a position that is not a lot
 pub piece_off_lots : (plat : TownshipPlat) (section column row : ℕ) (q : ClosingQuarters) → IsPlat plat
     → IsSection section → AreClosingQuarters plat section q
     → column < 4 → row < 4 → lot_at_position section column row ≡ None

@@ -1,4 +1,4 @@
--- What a land holds of a section: its lots that are held, and its places off the lots.
+-- The land in a section: its lots, and its places off the lots.
 use Rattle.std.proofs.Common.{◌≡◌, ◌≢◌, ℕ, ◌+◌, ◌*◌, ◌<◌, ◌≤◌, Bool, true, false, Option, Some, None, ap}
 use Rattle.std.proofs.Common.{refl, sym, ◌∙◌, arith, if◌then◌else◌, nat_lt}
 use Rattle.std.proofs.lemmas.Bool.Decides.{nat_tests}
@@ -17,29 +17,29 @@ use Rattle.twp_area.specs.steps.Bounds.{REGULAR_UNITS, REGULAR_PLACE_UNITS}
 use Rattle.twp_area.proofs.PositionSums.{positions-ext, positions-le, positions-zero, positions-both}
 use Rattle.twp_area.proofs.PositionSums.{positions-scale, positions_differ, by_position}
 
--- the lot is numbered below n
+-- the lot has a number less than n
 abbrev pub is_below : Option ℕ → ℕ → Bool
 is_below None n = false
 is_below (Some lot) n = nat_lt lot n
 
--- what a function gives for a position whose lot is numbered below n, and else 0
+-- a function's value at a position whose lot has a number less than n; otherwise 0
 abbrev pub of_lots : ℕ → ℕ → (ℕ → ℕ → ℕ) → ℕ → ℕ → ℕ
 of_lots section n f column row = if is_below (lot_at_position section column row) n then f column row else 0
 
--- what a function gives for the other positions
+-- a function's value at the other positions
 abbrev pub off_lots : ℕ → ℕ → (ℕ → ℕ → ℕ) → ℕ → ℕ → ℕ
 off_lots section n f column row = if is_below (lot_at_position section column row) n then 0 else f column row
 
--- a position's places, where its first place is held
+-- the number of a position's places, if the set contains its first place; otherwise 0
 abbrev pub places_where : (ℕ → ℕ → Bool) → ℕ → ℕ → ℕ
 places_where held column row = if held (column * TO_POSITION) (row * TO_POSITION) then OF_POSITION else 0
 
--- a position's piece, where its first place is held
+-- a position's piece, if the set contains its first place; otherwise 0
 abbrev pub piece_where : (ℕ → ℕ → Bool) → (ℕ → ℕ → ℕ) → ℕ → ℕ → ℕ
 piece_where held pieces column row =
     if held (column * TO_POSITION) (row * TO_POSITION) then pieces column row else 0
 
--- as a test of the first place tells
+-- the same number, by a test of the first place
 pub places_held : (held : ℕ → ℕ → Bool) (column row : ℕ) (test : Bool)
     → test ≡ held (column * TO_POSITION) (row * TO_POSITION)
     → test ≡ true → places_where held column row ≡ OF_POSITION
@@ -61,7 +61,7 @@ pub piece_not_held : (held : ℕ → ℕ → Bool) (pieces : ℕ → ℕ → ℕ
 piece_not_held held pieces column row test is holds =
     ap (λ b. if b then pieces column row else 0) (sym is ∙ holds)
 
--- how many of a position's places are held
+-- how many of a position's places the set contains
 abbrev pub held_of : (ℕ → ℕ → Bool) → ℕ → ℕ → ℕ
 held_of held column row = count_held held (position_block PLACE_DIGITS column row)
 
@@ -80,7 +80,7 @@ of_lots-none section f range = positions-zero (of_lots section 1 f) (λ column r
         let test : nat_lt lot 1 ≡ false = grind (arith, nat_tests) in
         rw (is, test) refl
 
--- one lot more
+-- one more lot
 pub of_lots-next : (section n column row : ℕ) (f : ℕ → ℕ → ℕ) → IsSection section → n ≤ number_of_lots section
     → IsPosition column row → position_of_lot section n ≡ Some (column, row)
     → over_positions (of_lots section (n + 1) f) ≡ over_positions (of_lots section n f) + f column row
@@ -111,7 +111,7 @@ of_lots-next section n column row f range most position is =
         other (ap (λ (p : ℕ × ℕ). p.0) equal, ap (λ (p : ℕ × ℕ). p.1) equal) in
         rw (there, passed lot differs) refl
 
--- a section has no more places
+-- a section has no more than this many places
 pub few_places : (held : ℕ → ℕ → Bool) → count_held held (whole_block PLACE_DIGITS) ≤ SECTION_PLACES_MOST
 few_places held =
     let inner : (up : ℕ) → total ACROSS (λ along. one_where (held (0 + along) (0 + up))) ≤ ACROSS = λ up.
@@ -130,7 +130,7 @@ few_places held =
     one true = omega arith
     one false = omega arith
 
--- the places that are held, by positions
+-- the places in the set, by positions
 pub held_by_position : (held : ℕ → ℕ → Bool)
     → count_held held (whole_block PLACE_DIGITS) ≡ over_positions (held_of held)
 held_by_position held = by_position (λ column row. one_where (held column row))
@@ -140,7 +140,7 @@ along_position : (position k : ℕ) → k < TO_POSITION
     → position_along PLACE_DIGITS (position * TO_POSITION + k) ≡ position
 along_position position k below = omega arith
 
--- a lot is held whole or not at all, as its first place tells
+-- a lot is contained wholly or not at all, as its first place shows
 pub held_of_lot : (section lot column row : ℕ) (held : ℕ → ℕ → Bool)
     → IsWholeOrNot PLACE_DIGITS section lot held → lot_at_position section column row ≡ Some lot
     → held_of held column row ≡ places_where held column row
@@ -174,7 +174,7 @@ held_of_lot section lot column row held whole is =
         whole.alike (column * TO_POSITION + along) (row * TO_POSITION + up) (column * TO_POSITION)
         (row * TO_POSITION) there at
 
--- the sum over a position's places is its piece times the places that are held
+-- the sum over a position's places is its piece times the number of its places in the set
 pub position_sum : (held : ℕ → ℕ → Bool) (pieces : ℕ → ℕ → ℕ) (column row : ℕ)
     → total_over (position_block PLACE_DIGITS column row) (piece_where_held PLACE_DIGITS pieces held)
     ≡ pieces column row * held_of held column row
@@ -207,7 +207,7 @@ position_sum held pieces column row =
         rw (along_position column along in_along, along_position row up in_up)
         (where_held (held (column * TO_POSITION + along) (row * TO_POSITION + up)) (pieces column row))
 
--- so many of the places are taken off with a lot
+-- the places that are subtracted with lots are no more than all places in the set
 pub lots_within : (section n : ℕ) (held : ℕ → ℕ → Bool) → IsSection section
     → ((lot : ℕ) → IsWholeOrNot PLACE_DIGITS section lot held)
     → over_positions (of_lots section n (places_where held)) ≤ count_held held (whole_block PLACE_DIGITS)
@@ -227,7 +227,7 @@ lots_within section n held range whole =
         rw (held_of_lot section lot column row held (whole lot) is)
         (at_most (is_below (lot_at_position section column row) n) (places_where held column row))
 
--- the lots that are held, and the places off the lots, are all that is held
+-- the lots in the set and its places off the lots are the whole set
 record AtPosition (over section last : ℕ) (held : ℕ → ℕ → Bool) (pieces : ℕ → ℕ → ℕ) (column row : ℕ)
     : Type 0 where
   places_are : held_of held column row
@@ -236,7 +236,7 @@ record AtPosition (over section last : ℕ) (held : ℕ → ℕ → Bool) (piece
       ≡ OF_POSITION * of_lots section last (piece_where held pieces) column row
       + REGULAR_UNITS * over * off_lots section last (held_of held) column row
 
--- off its lots, a section's positions are regular
+-- off its lots, the positions of a section are regular
 abbrev pub AreRegular : ℕ → ℕ → (ℕ → ℕ → ℕ) → Type 0
 AreRegular over section pieces =
     (column row : ℕ) → IsPosition column row → lot_at_position section column row ≡ None
@@ -315,7 +315,7 @@ sum_of_section over section last count units held pieces are range whole most ta
         ≡ OF_POSITION * lots + REGULAR_UNITS * over * off
     product units count over lots off same same' = rw (same, same') (omega arith)
 
--- the sum over a section of which no place is held
+-- the sum over a section if the set contains no place of it
 pub none_held : (pieces : ℕ → ℕ → ℕ) (held : ℕ → ℕ → Bool) → ¬ Meets held (whole_block PLACE_DIGITS)
     → section_sum PLACE_DIGITS pieces held ≡ 0
 none_held pieces held none =

@@ -1,4 +1,4 @@
--- Whole sections, and the whole township: the sum over single places is the sum of the pieces.
+-- Whole sections and the whole township: the sum over single places is the sum of the pieces.
 use Rattle.std.proofs.Common.{◌≡◌, ◌≢◌, ℕ, ◌+◌, ◌-◌, ◌*◌, ◌<◌, ◌≤◌, Bool, true, false, ap, refl, sym, ◌∙◌}
 use Rattle.std.proofs.Common.{arith, nat_le, nat_lt}
 use Rattle.std.proofs.lemmas.Bool.{eq-eqb, ne_eqb}
@@ -14,7 +14,8 @@ use Rattle.twp_area.specs.Laws.{section_places, township_places, SectionAreaIsOf
 use Rattle.twp_area.proofs.PositionSums.{positions-ext, positions-scale, by_position, total_differs}
 use Rattle.twp_area.proofs.SectionSums.{held_of, position_sum}
 
--- the sum over a section's places by positions: each piece times the places that are held of it
+-- the sum over a section's places by positions: each piece times the number of its places in the
+-- set
 by_pieces : (pieces : ℕ → ℕ → ℕ) (held : ℕ → ℕ → Bool)
     → section_sum PLACE_DIGITS pieces held
     ≡ over_positions (λ column row. pieces column row * held_of held column row)
@@ -25,7 +26,7 @@ by_pieces pieces held =
     (λ column row. pieces column row * held_of held column row)
     (λ column row _ _. position_sum held pieces column row)
 
--- where all its places are held, a position counts once for each
+-- if the set contains all places of a position, it contains as many as a position has
 all_held : (held : ℕ → ℕ → Bool) (column row : ℕ) → column < 4 → row < 4
     → ((column row : ℕ) → column < ACROSS → row < ACROSS → held column row ≡ true)
     → held_of held column row ≡ OF_POSITION
@@ -40,7 +41,7 @@ all_held held column row in_column in_row all =
     ∙ total-same TO_POSITION 1)
     ∙ total-same TO_POSITION TO_POSITION
 
--- the sum over a section that is held whole
+-- the sum over a section that the set contains wholly
 section_whole : (pieces : ℕ → ℕ → ℕ) (held : ℕ → ℕ → Bool)
     → ((column row : ℕ) → column < ACROSS → row < ACROSS → held column row ≡ true)
     → section_sum PLACE_DIGITS pieces held ≡ OF_POSITION * over_positions pieces
@@ -54,7 +55,7 @@ section_whole pieces held all =
     order : (p : ℕ) → p * OF_POSITION ≡ OF_POSITION * p
     order p = omega arith
 
--- the sum over a section of which nothing is held
+-- the sum over a section of which the set contains nothing
 pub section_none : (pieces : ℕ → ℕ → ℕ) (held : ℕ → ℕ → Bool) → ((column row : ℕ) → held column row ≡ false)
     → section_sum PLACE_DIGITS pieces held ≡ 0
 section_none pieces held none =

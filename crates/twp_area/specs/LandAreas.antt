@@ -1,5 +1,6 @@
--- The area of a land on a plat, exact: a sum over single places. A place is an equal part of its
--- position, so its share of the area is the position's piece divided by the places of a position.
+-- The exact area of land on a plat: a sum over single places. A place is an equal part of its
+-- position, so its share of the area is the position's piece divided by the number of places in a
+-- position.
 use Rattle.std.specs.Prelude.{◌≡◌, ℕ, ◌+◌, ◌*◌, Bool, if◌then◌else◌}
 use Rattle.twp_measure.specs.Areas.{Fraction}
 use Rattle.twp_grid.specs.Winding.{SECTION_COUNT}
@@ -10,27 +11,27 @@ use Rattle.twp_plat.specs.Plats.{TownshipPlat}
 use Rattle.twp_plat.specs.Pieces.{over_of}
 use Rattle.twp_plat.specs.PlatAreas.{ArePieces}
 
--- the places of a position
+-- the number of places in a position
 abbrev pub places_of_position : ℕ → ℕ
 places_of_position g = places_to_position g * places_to_position g
 
--- the units of the piece that a place lies in, where the place is held, and else 0
+-- the units of the piece that a place lies in, if the set contains the place; otherwise 0
 abbrev pub piece_where_held : ℕ → (ℕ → ℕ → ℕ) → (ℕ → ℕ → Bool) → ℕ → ℕ → ℕ
 piece_where_held g pieces held column row =
     if held column row then pieces (position_along g column) (position_along g row) else 0
 
--- their sum over the places of a section
+-- the sum of these units over the places of a section
 abbrev pub section_sum : ℕ → (ℕ → ℕ → ℕ) → (ℕ → ℕ → Bool) → ℕ
 section_sum g pieces held = total_over (whole_block g) (piece_where_held g pieces held)
 
--- Their sum over the places of a township, section by section: of any set of places, whether or not
--- it holds lots whole.
+-- Their sum over the places of a township, section by section, for any set of places, whether or
+-- not it contains lots wholly.
 abbrev pub township_sum : ℕ → (ℕ → ℕ → ℕ → ℕ) → (ℕ → ℕ → ℕ → Bool) → ℕ
 township_sum g pieces places =
     total SECTION_COUNT (λ before. section_sum g (pieces (before + 1)) (places (before + 1)))
 
 -- The area of a set of places: the sum of their pieces, divided by the places of a position, over
--- the plat's denominator. Nothing is rounded, and the division leaves no rest.
+-- the plat's denominator. Nothing is rounded, and the division leaves no remainder.
 pub record IsLandArea (g : ℕ) (plat : TownshipPlat) (places : ℕ → ℕ → ℕ → Bool)
     (area : Fraction) : Type 0 where
   pub pieces : ℕ → ℕ → ℕ → ℕ

@@ -1,4 +1,4 @@
--- Laws over the areas of lands.
+-- Laws over the areas of land.
 use Rattle.std.specs.Prelude.{◌≡◌, ◌==◌, ◌&&◌, ℕ, ◌+◌, ◌≤◌, Bool, true}
 use Rattle.twp_measure.specs.Areas.{Fraction}
 use Rattle.twp_grid.specs.Lots.{POSITIONS_ACROSS}
@@ -10,26 +10,27 @@ use Rattle.twp_plat.specs.Plats.{TownshipPlat}
 use Rattle.twp_plat.specs.PlatAreas.{IsSectionArea, IsTownshipArea}
 use Rattle.twp_area.specs.LandAreas.{IsLandArea, township_sum}
 
--- no place is held by both
+-- no place is in both sets
 abbrev pub AreDisjoint : (ℕ → ℕ → ℕ → Bool) → (ℕ → ℕ → ℕ → Bool) → Type 0
 AreDisjoint places more = (section column row : ℕ)
     → places section column row ≡ true → more section column row ≡ true → ⊥
 
--- a set of places has one area
+-- a set of places has only one area
 abbrev pub OneLandArea : Type 0
 OneLandArea = (g : ℕ) → POSITIONS_ACROSS ≤ places_across g → (plat : TownshipPlat)
     (places : ℕ → ℕ → ℕ → Bool) (area area' : Fraction)
     → IsLandArea g plat places area → IsLandArea g plat places area' → area ≡ area'
 
--- The sum over the places of any two disjoint sets together is the sum of theirs: nothing is
--- divided yet, so the sets need not hold lots whole.
+-- The sum over the places of two disjoint sets together is the sum of theirs. Nothing is divided
+-- yet, so the sets need not contain lots wholly.
 abbrev pub DisjointSumsAdd : Type 0
 DisjointSumsAdd = (g : ℕ) (pieces : ℕ → ℕ → ℕ → ℕ) (places more : ℕ → ℕ → ℕ → Bool)
     → AreDisjoint places more
     → township_sum g pieces (union places more)
     ≡ township_sum g pieces places + township_sum g pieces more
 
--- the area of two disjoint sets together is the sum of theirs, where both come out in whole units
+-- the area of two disjoint sets together is the sum of their areas, if both are whole numbers of
+-- units
 abbrev pub DisjointAreasAdd : Type 0
 DisjointAreasAdd = (g : ℕ) → POSITIONS_ACROSS ≤ places_across g → (plat : TownshipPlat)
     (places more : ℕ → ℕ → ℕ → Bool) (area other : Fraction) → AreDisjoint places more

@@ -8,12 +8,12 @@ use Rattle.twp_area.specs.LandAreas.{IsLandArea}
 use Rattle.twp_area.specs.Laws.{AreDisjoint}
 use Rattle.twp_area.specs.PlatAccounts.{lots_held, IsPlatArea}
 
--- a set of places has one plat area
+-- a set of places has only one plat area
 abbrev pub OnePlatArea : Type 0
 OnePlatArea = (g : ℕ) (plat : TownshipPlat) (places : ℕ → ℕ → ℕ → Bool) (area area' : Fraction)
     → IsPlatArea g plat places area → IsPlatArea g plat places area' → area ≡ area'
 
--- the plat area of two disjoint sets with whole lots together is the sum of theirs
+-- the plat area of two disjoint sets with whole lots together is the sum of their plat areas
 abbrev pub DisjointPlatAreasAdd : Type 0
 DisjointPlatAreasAdd = (g : ℕ) (plat : TownshipPlat) (places more : ℕ → ℕ → ℕ → Bool)
     (area other : Fraction) → HasWholeLots g places → HasWholeLots g more
@@ -26,7 +26,7 @@ DisjointPlatAreasAdd = (g : ℕ) (plat : TownshipPlat) (places more : ℕ → �
 abbrev pub HALF_A_HUNDREDTH : ℕ
 HALF_A_HUNDREDTH = HUNDREDTH_OF_AN_ACRE / 2
 
--- two areas differ by at most so many units, either way; all is brought to one denominator
+-- two areas differ by at most a number of units, either way; both are converted to one denominator
 pub record DifferByAtMost (area other : Fraction) (units : ℕ) : Type 0 where
   pub above : area.units * other.over
       ≤ other.units * area.over + units * (area.over * other.over)
@@ -34,7 +34,7 @@ pub record DifferByAtMost (area other : Fraction) (units : ℕ) : Type 0 where
       ≤ area.units * other.over + units * (area.over * other.over)
 
 -- on each plat, a set's exact area and its plat area differ by at most half a hundredth of an acre
--- for each lot that it holds
+-- for each lot that it contains
 abbrev pub PlatAreaIsNear : Type 0
 PlatAreaIsNear = (g : ℕ) (plat : TownshipPlat) (places : ℕ → ℕ → ℕ → Bool)
     (exact printed : Fraction) → IsPlat plat → HasWholeLots g places

@@ -1,5 +1,5 @@
--- The figures that a plat prints: each is the exact area of what it stands for, rounded once, in
--- hundredths of an acre.
+-- The acreage figures that a plat shows. Each is the exact area of a lot, of a section, or of the
+-- township, rounded once, in hundredths of an acre.
 use Rattle.std.specs.Prelude.{◌≡◌, ℕ, Some}
 use Rattle.twp_measure.specs.Areas.{Fraction, IsRounded}
 use Rattle.twp_grid.specs.Winding.{IsSection}

@@ -1,4 +1,4 @@
-//! The accounts of a land: what its whole lots count.
+//! The two accounts of land, which differ in how they count whole lots.
 ghost use Rattle.std.specs.Prelude.{◌≡◌, ℕ, ◌*◌, ◌≤◌, ◌<◌, Some};
 ghost use Rattle.twp_grid.specs.Lots.{number_of_lots, position_of_lot};
 ghost use Rattle.twp_plat.specs.Closing.{CLOSING_MOST};
@@ -7,22 +7,20 @@ ghost use Rattle.twp_plat.specs.Pieces.{OVER_MOST};
 ghost use Rattle.twp_area.specs.steps.Accounts.{over_by, AreUnitsBy};
 
 use twp_grid::{Section, lot_place};
+use twp_measure::HUNDREDTH_OF_AN_ACRE;
 use twp_plat::Plat;
 
-/// Which area a whole lot counts with in the acreage run (this project's rule).
+/// Which area the acreage run counts for a whole lot (this project's rule).
 #[derive(Clone, Copy, PartialEq, Eq)]
 pub enum Account {
     /// The exact area of its position.
     Exact,
-    /// The acres that the plat prints of it.
+    /// The acreage that the plat shows for it.
     Plat,
 }
 
-/// A hundredth of an acre, in square thousandths of a chain.
-const HUNDREDTH_OF_AN_ACRE: u128 = 100_000;
-
 impl Account {
-    /// What the account's areas are divided by.
+    /// The number that the account's areas are divided by.
     pub(crate) fn over(self, plat: &Plat) -> u64
         ensures value { result ≡ over_by self plat.now }
         ensures range { (0 < result) × (result ≤ OVER_MOST) }
@@ -35,7 +33,7 @@ impl Account {
         }
     }
 
-    /// The area of a section's lot, in parts of the account's denominator.
+    /// The area of a lot of a section, in parts of the account's denominator.
     pub(crate) fn lot_units(self, plat: &Plat, section: Section, lot: u8) -> u128
         requires least { 1 ≤ lot }
         requires most { lot ≤ number_of_lots section }

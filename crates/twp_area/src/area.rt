@@ -15,18 +15,18 @@ use twp_land::Land;
 use twp_measure::Area;
 use twp_plat::{Plat, QUARTER_MILE};
 
-/// The places of a position.
+/// The number of places in a position.
 const PLACES_OF_POSITION: u32 = PLACES_TO_POSITION as u32 * PLACES_TO_POSITION as u32;
 
-/// The area of a position that is no lot, in square thousandths of a chain.
+/// The area of a position that is not a lot, in square thousandths of a chain.
 const REGULAR_POSITION: u128 = QUARTER_MILE as u128 * QUARTER_MILE as u128;
 
 /// The area of a place in such a position.
 const REGULAR_PLACE: u128 = REGULAR_POSITION / PLACES_OF_POSITION as u128;
 
-/// The area of a land: each place counts with its share of its position's area on the plat, which all
-/// places of the position have alike, and nothing is rounded (this project's rule; a lot is taken
-/// whole: Specifications for Descriptions of Land).
+/// The exact area of land: each place counts for its share of its position's area on the plat,
+/// which is the same for all places of the position, and nothing is rounded (this project's rule; a
+/// lot is taken whole: Specifications for Descriptions of Land).
 pub fn area_of<L: Land>(plat: &Plat, land: &L) -> Area
     requires whole { HasWholeLots PLACE_DIGITS (L.places land.now) }
     ensures { IsLandArea PLACE_DIGITS plat.now (L.places land.now) result }
@@ -34,8 +34,8 @@ pub fn area_of<L: Land>(plat: &Plat, land: &L) -> Area
     area_by(Account::Exact, plat, land)
 }
 
-/// The plat area of a land: each lot counts with the acres that the plat prints of it, and each
-/// place off the lots with its share of 40 acres (this project's rule).
+/// The plat area of land: each lot counts for its acreage as the plat shows it, and each place off
+/// the lots for its share of 40 acres (this project's rule).
 pub fn plat_area_of<L: Land>(plat: &Plat, land: &L) -> Area
     requires whole { HasWholeLots PLACE_DIGITS (L.places land.now) }
     ensures { IsPlatArea PLACE_DIGITS plat.now (L.places land.now) result }
@@ -43,7 +43,7 @@ pub fn plat_area_of<L: Land>(plat: &Plat, land: &L) -> Area
     area_by(Account::Plat, plat, land)
 }
 
-/// The area of a land by an account: `area_of` or `plat_area_of`.
+/// The area of land by an account: `area_of` or `plat_area_of`.
 pub fn area_by<L: Land>(account: Account, plat: &Plat, land: &L) -> Area
     requires whole { HasWholeLots PLACE_DIGITS (L.places land.now) }
     ensures { IsAreaBy account PLACE_DIGITS plat.now (L.places land.now) result }
@@ -63,9 +63,9 @@ pub fn area_by<L: Land>(account: Account, plat: &Plat, land: &L) -> Area
     Area::new(units, over).unwrap()
 }
 
-/// What a land holds of a section, in parts of the account's denominator. A lot is held whole, so
-/// one of its places tells whether it is held, and then its units are added; what is off the lots
-/// is counted.
+/// The area of the land in a section, in parts of the account's denominator. The land contains each
+/// lot wholly or not at all, so one place of a lot decides whether its units are added; the places
+/// off the lots are counted.
 fn units_in_section<L: Land>(account: Account, plat: &Plat, land: &L, section: Section) -> u128
     requires whole { HasWholeLots PLACE_DIGITS (L.places land.now) }
     ensures sum { (units : ℕ → ℕ → ℕ → ℕ) → AreUnitsBy account plat.now units
@@ -90,7 +90,7 @@ fn units_in_section<L: Land>(account: Account, plat: &Plat, land: &L, section: S
     units + regular_units(off_lots, over)
 }
 
-/// So many places that lie in no lot, in parts of a denominator.
+/// The area of a number of places that lie in no lot, in parts of a denominator.
 fn regular_units(places: u32, over: u64) -> u128
     requires places { places ≤ SECTION_PLACES_MOST }
     requires over { over ≤ OVER_MOST }

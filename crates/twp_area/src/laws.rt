@@ -1,24 +1,25 @@
-//! What holds of areas as they are defined: each law is a contract, and its function has nothing to
-//! do.
+//! Laws of areas that follow from their definitions. Each law is a contract, and its function does
+//! nothing.
 ghost use Rattle.twp_area.specs.Laws.{OneLandArea, DisjointSumsAdd, DisjointAreasAdd};
 ghost use Rattle.twp_area.specs.Laws.{SectionAreaIsOfLand, TownshipAreaIsOfLand};
 ghost use Rattle.twp_area.specs.PlatAccountLaws.{OnePlatArea, DisjointPlatAreasAdd};
 ghost use Rattle.twp_area.specs.PlatAccountLaws.{PlatAreaIsNear};
 
-/// A set of places has one area on a plat.
+/// A set of places has only one area on a plat.
 pub fn one_land_area()
     ensures { OneLandArea }
 {}
 
-/// The sum over the places of any two disjoint sets together is the sum of theirs, exactly: of the
-/// pieces that the places lie in, before these are divided among the places of a position.
+/// The sum over the places of two disjoint sets together is exactly the sum of theirs. These are
+/// sums of the pieces that the places lie in, before division by the number of places in a
+/// position.
 #[tactic(auto, using(crate::proofs::AreaLaws::disjoint_sums_add))]
 pub fn disjoint_sums_add()
     ensures { DisjointSumsAdd }
 {}
 
-/// So the area of two disjoint sets of places together is the sum of theirs, where both come out in
-/// whole units, as those of lands with whole lots do.
+/// So the area of two disjoint sets of places together is the sum of their areas, if both are whole
+/// numbers of units, as they are for land with whole lots.
 #[tactic(auto, using(crate::proofs::AreaLaws::disjoint_areas_add))]
 pub fn disjoint_areas_add()
     ensures { DisjointAreasAdd }
@@ -36,19 +37,19 @@ pub fn township_area_is_of_land()
     ensures { TownshipAreaIsOfLand }
 {}
 
-/// A set of places has one plat area.
+/// A set of places has only one plat area.
 pub fn one_plat_area()
     ensures { OnePlatArea }
 {}
 
-/// The plat area of two disjoint sets of places that hold their lots whole is, together, the sum of
-/// theirs.
+/// The plat area of two disjoint sets of places together is the sum of their plat areas, if both
+/// contain each lot wholly or not at all.
 pub fn disjoint_plat_areas_add()
     ensures { DisjointPlatAreasAdd }
 {}
 
-/// The exact area and the plat area of a set of places that holds its lots whole differ by at most
-/// half a hundredth of an acre for each lot that it holds.
+/// If a set of places contains each lot wholly or not at all, its exact area and its plat area
+/// differ by at most half a hundredth of an acre for each lot that it contains.
 pub fn plat_area_is_near()
     ensures { PlatAreaIsNear }
 {}

@@ -1,5 +1,5 @@
-//! The areas of lands on a plat, as exact fractions: a sum over places, or by the acres that the
-//! plat prints of whole lots.
+//! The areas of land on a plat, as exact fractions: a sum over places, or by the acreage that the
+//! plat shows for whole lots.
 #![tactic(auto)]
 
 mod account;

@@ -1,5 +1,6 @@
-//! Measures lands, by so many calls of one kind on mixed blocks of a land of one kind, and how a
-//! description is read, which is standard input. `make bench` counts the instructions of each.
+//! Measures operations on land, by a number of calls of one kind with mixed blocks on land of one
+//! kind, and the reading of a description from standard input. `make bench` counts the instructions
+//! of each.
 #![tactic(auto)]
 
 mod mixed;

@@ -8,7 +8,7 @@ pub struct Mixed {
 }
 
 impl Mixed {
-    /// The same ones each time, for each number that they begin with.
+    /// The same ones each time for the same seed.
     pub fn new(state: u32) -> Mixed {
         Mixed { state }
     }
@@ -21,13 +21,14 @@ impl Mixed {
         self.state >> 8
     }
 
-    /// Some section.
+    /// A section.
     pub fn section(&mut self) -> Section {
         let number = self.next();
         Section::at((number % 6) as u8, (number / 6 % 6) as u8)
     }
 
-    /// A block that halves of a section leave, as many as the finest part has or fewer.
+    /// A block that is reached from a section by halving it, at most as often as for the smallest
+    /// part.
     pub fn block(&mut self) -> Block {
         let mut block = Block::whole();
         let halves = self.next() % (2 * PLACE_DIGITS as u32 + 1);

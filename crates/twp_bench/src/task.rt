@@ -8,7 +8,7 @@ pub enum Kind {
 }
 
 impl Kind {
-    /// The land of a name.
+    /// The kind of land with a name.
     fn read(name: &str) -> Option<Kind> {
         match name {
             "grid" => Some(Kind::Grid),
@@ -23,12 +23,12 @@ impl Kind {
 pub enum Task {
     /// How a description is read.
     Text,
-    /// Some work on a land, so many times.
+    /// A kind of work on land, done a number of times.
     Land(Kind, Work, u32),
 }
 
 impl Task {
-    /// The task of three words.
+    /// The task given by three words.
     pub fn of_land(land: &str, work: &str, times: &str) -> Option<Task> {
         let times = times.parse::<u32>().ok()?;
         Some(Task::Land(Kind::read(land)?, Work::read(work)?, times))

@@ -1,7 +1,7 @@
 use crate::mixed::Mixed;
 use twp_land::Land;
 
-/// A kind of work on a land. `Blocks` makes the sections and blocks alone, for comparison.
+/// A kind of work on land. `Blocks` only makes the sections and blocks, for comparison.
 #[derive(Clone, Copy)]
 pub enum Work {
     Blocks,
@@ -9,12 +9,13 @@ pub enum Work {
     Meets,
     Full,
     Count,
-    /// Whether the land meets a block, and then the block is added, as a description's blocks are.
+    /// Tests whether the land meets a block, and then adds the block, as for a description's
+    /// blocks.
     Take,
 }
 
 impl Work {
-    /// The work of a name.
+    /// The kind of work with a name.
     pub fn read(name: &str) -> Option<Work> {
         match name {
             "blocks" => Some(Work::Blocks),
@@ -28,7 +29,7 @@ impl Work {
     }
 }
 
-/// Does the work so many times on a land of 200 mixed blocks, and gives a sum of what it answered.
+/// Does the work a number of times on land with 200 mixed blocks, and returns a sum of its results.
 pub fn measure<L: Land>(work: Work, times: u32) -> u32 {
     let mut mixed = Mixed::new(1796);
     let mut land = L::empty();

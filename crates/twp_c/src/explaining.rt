@@ -3,6 +3,7 @@ ghost use Rattle.std.specs.Prelude.{◌≡◌, ◌≢◌};
 ghost use Rattle.twp_calls.specs.Answers.{ACCEPTED, IsRefused};
 ghost use Rattle.twp_calls.specs.Calls.{IsVersionCall};
 ghost use Rattle.twp_calls.specs.Explanations.{ExplainsNotes, ExplainsDescription, ExplainsList};
+ghost use Rattle.twp_calls.specs.ShownTexts.{IsShownText};
 
 use std::alloc::Global;
 use twp_calls::{TownshipAnswer, TownshipPlat};
@@ -17,6 +18,8 @@ pub extern "C" fn township_explain_notes(
 ) -> TownshipAnswer
     ensures answer { ExplainsNotes notes.now text.old text.new result }
     ensures kept { ¬ IsRefused result.verdict → text.new ≡ text.old }
+    ensures shows { IsRefused result.verdict
+        → IsShownText notes.now name.now text.old text.new result }
 {
     twp_calls::township_explain_notes(alloc, notes, name, text)
 }
@@ -32,6 +35,8 @@ pub extern "C" fn township_explain_description(
 ) -> TownshipAnswer
     ensures answer { ExplainsDescription plat.now description.now text.old text.new result }
     ensures kept { ¬ IsRefused result.verdict → text.new ≡ text.old }
+    ensures shows { IsRefused result.verdict
+        → IsShownText description.now name.now text.old text.new result }
 {
     twp_calls::township_explain_description(alloc, plat, description, name, text)
 }
@@ -47,6 +52,8 @@ pub extern "C" fn township_explain_list(
 ) -> TownshipAnswer
     ensures answer { ExplainsList plat.now list.now text.old text.new result }
     ensures kept { ¬ IsRefused result.verdict → text.new ≡ text.old }
+    ensures shows { IsRefused result.verdict
+        → IsShownText list.now name.now text.old text.new result }
 {
     twp_calls::township_explain_list(alloc, plat, list, name, text)
 }

@@ -18,10 +18,10 @@ use Rattle.twp_acres.specs.OnPlats.{StopsOn}
 use Rattle.twp_acres.specs.declared.stop.Stop.{Stop}
 use Rattle.twp_acres.specs.declared.stop.Stop.TheVariants as stop
 use Rattle.twp_acres.proofs.OneAnswer.{one_description_refusal}
-use Rattle.twp_findings.specs.ShownPlaces.{TOO_LARGE}
-use Rattle.twp_findings.specs.Spots.{MOST_BYTES, IsSpotIn}
-use Rattle.twp_findings.specs.declared.explanation.Explanation.{Explanation}
-use Rattle.twp_findings.specs.declared.explanation.Given.{Given}
+use Rattle.twp_explain.specs.ShownPlaces.{TOO_LARGE}
+use Rattle.twp_diagnose.specs.Spots.{MOST_BYTES, IsSpotIn}
+use Rattle.twp_explain.specs.declared.explanation.Explanation.{Explanation}
+use Rattle.twp_diagnose.specs.declared.given.Given.{Given}
 use Rattle.twp_explain.specs.ToldPlaces.{IsSpotRefused, IsToldWhereRefused}
 use Rattle.twp_calls.specs.Answers.{refused}
 use Rattle.twp_calls.specs.Calls.{put, not_put}

@@ -15,8 +15,8 @@ use Rattle.twp_acres.specs.ReportAnswers.{IsAccountOf}
 use Rattle.twp_acres.specs.TractFaults.{IsFirstTractFault, refusal_of, verdict_of}
 use Rattle.twp_acres.specs.declared.tract_fault.TractFault.{TractFault}
 use Rattle.twp_acres.specs.declared.verdict.Verdict.{Verdict}
-use Rattle.twp_findings.specs.ShownPlaces.{TOO_LARGE}
-use Rattle.twp_findings.specs.declared.explanation.Explanation.{Explanation}
+use Rattle.twp_explain.specs.ShownPlaces.{TOO_LARGE}
+use Rattle.twp_explain.specs.declared.explanation.Explanation.{Explanation}
 use Rattle.twp_calls.specs.Answers.{ACCEPTED, bare, refused, verdict_answer}
 use Rattle.twp_calls.specs.Calls.{Answers, IsPut, OnPlat}
 use Rattle.twp_calls.specs.declared.answer.TownshipAnswer.{TownshipAnswer}

@@ -5,6 +5,8 @@ ghost use Rattle.twp_calls.specs.Answers.{ACCEPTED, IsRefused};
 ghost use Rattle.twp_calls.specs.Calls.{IsVersionCall};
 ghost use Rattle.twp_calls.specs.Explanations.{ExplainsNotes, ExplainsDescription, ExplainsList};
 ghost use Rattle.twp_calls.specs.Explanations.{IsTold, told_at};
+ghost use Rattle.twp_calls.specs.Names.{IsNameOf};
+ghost use Rattle.twp_calls.specs.ShownTexts.{IsShownText};
 
 use crate::answer::TownshipAnswer;
 use crate::plat::TownshipPlat;
@@ -28,6 +30,8 @@ pub fn township_explain_notes(
 ) -> TownshipAnswer
     ensures answer { ExplainsNotes notes.now text.old text.new result }
     ensures kept { ¬ IsRefused result.verdict → text.new ≡ text.old }
+    ensures shows { IsRefused result.verdict
+        → IsShownText notes.now name.now text.old text.new result }
 {
     let refused = match plat_of_notes(alloc, notes) {
         Ok(_) => return TownshipAnswer::bare(ACCEPTED),
@@ -52,6 +56,8 @@ pub fn township_explain_description(
 ) -> TownshipAnswer
     ensures answer { ExplainsDescription plat.now description.now text.old text.new result }
     ensures kept { ¬ IsRefused result.verdict → text.new ≡ text.old }
+    ensures shows { IsRefused result.verdict
+        → IsShownText description.now name.now text.old text.new result }
 {
     let Some(plat) = plat.plat() else {
         return TownshipAnswer::bare(NO_PLAT);
@@ -78,6 +84,8 @@ pub fn township_explain_list(
 ) -> TownshipAnswer
     ensures answer { ExplainsList plat.now list.now text.old text.new result }
     ensures kept { ¬ IsRefused result.verdict → text.new ≡ text.old }
+    ensures shows { IsRefused result.verdict
+        → IsShownText list.now name.now text.old text.new result }
 {
     let Some(plat) = plat.plat() else {
         return TownshipAnswer::bare(NO_PLAT);
@@ -107,6 +115,7 @@ pub fn township_version(text: &mut [u8]) -> TownshipAnswer
 
 /// A text by the name that was given for it, if that is one.
 fn given<'a>(name: &'a [u8], bytes: &'a [u8]) -> Given<'a>
+    ensures name { IsNameOf name.now result.name.now }
     ensures bytes { result.bytes.now ≡ bytes.now }
     ensures first_line { result.first_line ≡ 1 }
 {

@@ -1,6 +1,6 @@
-//! The program `township`: it reads the field notes of a township, and a description of land or a
-//! list of tracts with them, and writes a plat, acres, a canonical spelling or an account, or else
-//! a refusal. Without a word on its command line it reads a description and field notes from
+//! The program `township`: it reads the field notes of a township, and with them a description of
+//! land or a list of tracts, and writes a plat, acreage, a canonical description, or an account, or
+//! otherwise a refusal. With no command-line arguments, it reads a description and field notes from
 //! standard input.
 #![tactic(auto)]
 

@@ -1,5 +1,5 @@
--- What clap's rows hold once the defaults are looked at: each has a value, such as its id may have, and what
--- has a default has a row.
+-- clap's rows after the defaults are applied: each has a value that its id can have, and each
+-- argument with a default has a row.
 use Rattle.std.proofs.Common.{◌≡◌, ◌⊎◌, ◌++◌, ◌<◌, ◌||◌, Bool, true, false, List, [], ◌∷◌, length, Some, refl}
 use Rattle.std.proofs.Common.{inl, inr, subst, arith}
 use Rattle.std.specs.Prelude.{fold, slice_get, if◌then◌else◌}
@@ -17,9 +17,9 @@ use Rattle.clap.specs.declared.parser.matches.ValueSource.TheVariants.{DefaultVa
 use Rattle.twp_command.proofs.CommandWalk.{first_empty, second_empty, same_id, some_not_empty, EachMay, Good}
 use Rattle.twp_command.proofs.CommandWalk.{Fits, EachFits, with_values_good, taken_may, settled_good}
 
--- P says which values an id may have
+-- P says which values an id can have
 module _ (P : Text → Text → Type 0) where
-  -- a default is looked at where the argument has no row
+  -- a default is applied if the argument has no row
   default_good : (rows : List Row) (a : Rule) → Fits P a → Good P rows → default_fault rows a ≡ []
       → Good P (with_default rows a)
   default_good rows a fits g e = go (has_row a.id rows) e
@@ -53,14 +53,14 @@ module _ (P : Text → Text → Type 0) where
       defaults_good (with_default rows a) rest each.1 (default_good rows a each.0 g (first_empty _ _ e))
       (second_empty (default_fault rows a) _ e)
 
-  -- and the rows that it ends with are good
+  -- the resulting rows are good
   pub finished_good : (c : List Rule) (again : Bool) (h : Held) → EachFits P c → Good P h.rows
       → settle_fault c again h ≡ []
       → defaults_fault (settled c h).rows c ≡ [] → Good P (finished c h)
   finished_good c again h each g settles defaults =
       defaults_good (settled c h).rows c each (settled_good P c again h each g settles) defaults
 
-  -- what has a row has a first value, such as it may have
+  -- an argument with a row has a first value that it can have
   pub row_value : (id : Text) (rows : List Row) → Good P rows → has_row id rows ≡ true
       → (value : Text) × (first_of id rows ≡ Some value) × P id value
   row_value id [] h has = cc
@@ -82,7 +82,7 @@ module _ (P : Text → Text → Type 0) where
           let found = rest more in
           (found.0, rw t found.1, found.2)
 
--- what was given has a row
+-- an argument that is given has a row
 pub given_row : (id : Text) (rows : List Row) → is_given id rows ≡ true → has_row id rows ≡ true
 given_row id [] given = cc
 given_row id (r ∷ rs) given = go (bytes_eq r.id id) refl (given_row id rs)
@@ -92,7 +92,7 @@ given_row id (r ∷ rs) given = go (bytes_eq r.id id) refl (given_row id rs)
     go true t rest = refl
     go false t rest = rest (rw t at given)
 
--- more values for an id leave it a row, and leave every other id its own
+-- more values for an id leave it a row, and leave the rows of every other id unchanged
 with_values_row : (id : Text) (how : Reading) (source : ValueSource) (vs : List Text) (rows : List Row)
     → has_row id (with_values id how source vs rows) ≡ true
 with_values_row id how source vs [] = rw ((bytes_eq-Decides id id).1 refl) refl

@@ -1,5 +1,5 @@
--- What clap's walk over the words of a subcommand holds, where each argument needs a value or asks for help:
--- each row has a value, and its values are such as its id may have.
+-- What is true of clap's walk over the words of a subcommand if each argument either needs a value
+-- or asks for help: each row has a value, and its values are those that its id can have.
 use Rattle.std.proofs.Common.{zero, suc, ◌≡◌, ◌⊎◌, ◌++◌, ◌<◌, ◌&&◌, ℕ, Bool, true, false, List, [], ◌∷◌}
 use Rattle.std.proofs.Common.{length, drop, is_some, Option, Some, None, refl, inl, inr, sym, subst, arith}
 use Rattle.std.proofs.Common.{length-append}
@@ -48,7 +48,7 @@ same_id x y t = (bytes_eq-Decides x y).0 t
 pub some_not_empty : (v : Text) (vs : List Text) → is_empty (v ∷ vs) ≡ false
 some_not_empty v vs = ne_eqb _ _ (λ e. omega arith)
 
--- a step of the walk enters no `help`
+-- a step of the walk does not enter `help`
 abbrev pub PlainStep : Step → Type 0
 PlainStep (next w) = ⊤
 PlainStep (trailing p) = ⊤
@@ -59,22 +59,23 @@ PlainStep value = ⊤
 abbrev pub AsksForHelp : Rule → Type 0
 AsksForHelp a = action_of a ≡ Help
 
--- a use of the argument has a value at least
+-- a use of the argument has at least one value
 abbrev pub WantsValue : Rule → Type 0
 WantsValue a = nat_lt 0 (unwrap_or_range a.range).start_inclusive ≡ true
 
--- P says which values an id may have
+-- P says which values an id can have
 module _ (P : Text → Text → Type 0) where
   abbrev pub EachMay : Text → List Text → Type 0
   EachMay id [] = ⊤
   EachMay id (v ∷ vs) = P id v × EachMay id vs
 
-  -- each row has a value, and only such as its id may have
+  -- each row has a value, and only values that its id can have
   abbrev pub Good : List Row → Type 0
   Good [] = ⊤
   Good (r ∷ rs) = (0 < length r.values) × EachMay r.id r.values × Good rs
 
-  -- the argument asks for help, or needs a value, and its parser takes only such as its id may have
+  -- the argument asks for help, or needs a value, and its parser accepts only values that its id
+  -- can have
   abbrev pub Fits : Rule → Type 0
   Fits a = AsksForHelp a ⊎ (WantsValue a
       × ((v : Text) → value_kinds a.ignore_case (parser_of_value a.parser) v ≡ [] → P a.id v))
@@ -126,7 +127,7 @@ module _ (P : Text → Text → Type 0) where
           (longer, more_may r.id r.values (v ∷ vs) h.1 own, h.2)
       go false t rest = (h.0, h.1, rest)
 
-  -- values that the parser takes are such as the id may have
+  -- an id can have the values that the parser accepts
   pub taken_may : (a : Rule)
       → ((v : Text) → value_kinds a.ignore_case (parser_of_value a.parser) v ≡ [] → P a.id v)
       → (vs : List Text) → values_fault a vs ≡ [] → EachMay a.id vs
@@ -259,7 +260,7 @@ module _ (P : Text → Text → Type 0) where
           e
       go (Some x) (suc skip) below e = below (drop (length (encode_utf8 x)) flags) skip so_far h g e
 
-  -- the rows are good, and the walk goes on without help
+  -- the rows are good, and the walk continues without help
   pub record IsMet (met : Held × Step) : Type 0 where
     pub rows : Good met.0.rows
     pub step : PlainStep met.1
@@ -320,7 +321,7 @@ module _ (P : Text → Text → Type 0) where
       go (Some name) is e = record { rows = g; step = no_help s names waiting word name h help is e }
       go None is e = at (bytes_eq word (45 ∷ 45 ∷ [])) refl e
 
-  -- what holds of a walk whose words are no fault so far
+  -- the facts about a walk whose words have had no fault so far
   pub record IsWalked (w : Walk) : Type 0 where
     pub rows : Good w.held.rows
     pub stopped : StoppedWell w.stopped
@@ -373,7 +374,7 @@ module _ (P : Text → Text → Type 0) where
       let turned = turn_walked s names w word each help so_far (first_empty _ _ e) in
       walk_walked s names (walked s.rules names w word) rest each help turned (second_empty _ _ e)
 
-  -- a walk over all the words, where none is a fault
+  -- a walk over all the words, if none is a fault
   pub is_walked : (s : Shape) (names : Names) (words : List Text) → EachFits s.rules → RefusesHelp s names
       → walk_fault s names (walk_from nothing_held) words ≡ []
       → IsWalked (walk s.rules names nothing_held words)

@@ -1,4 +1,4 @@
--- The word `help`, where a command doesn't take it as a subcommand.
+-- The word `help`, for a command that does not accept it as a subcommand.
 use Rattle.std.proofs.Common.{◌≡◌, ◌⊎◌, Bool, true, false, List, [], Option, Some, None, refl, inl, inr}
 use Rattle.std.specs.Prelude.{⊤, codes}
 use Rattle.std.specs.Str.{bytes_eq}
@@ -6,7 +6,7 @@ use Rattle.clap.specs.Walk.{Held, Names, Text, Waiting, idle, option, positional
 use Rattle.clap.specs.Simple.{Shape}
 use Rattle.clap.specs.Faults.{other_fault}
 
--- the word is another one
+-- the word is not `help`
 abbrev pub IsNoHelp : Text → Type 0
 IsNoHelp name = bytes_eq name (codes "help") ≡ false
 
@@ -15,11 +15,11 @@ abbrev pub StoppedWell : Option (Text × List Text) → Type 0
 StoppedWell None = ⊤
 StoppedWell (Some p) = IsNoHelp p.0
 
--- help is no subcommand that a walk goes on with
+-- `help` is not a subcommand that a walk continues with
 abbrev pub RefusesHelp : Shape → Names → Type 0
 RefusesHelp s names = (s.disable_help_subcommand ≡ false) ⊎ (names ≡ [])
 
--- so a word that it goes on with is another one
+-- so a word that it continues with is another one
 pub no_help : (s : Shape) (names : Names) (waiting : Waiting) (word name : Text) (h : Held)
     → RefusesHelp s names
     → subcommand_met names waiting word ≡ Some name → other_fault s (Some name) word h ≡ [] → IsNoHelp name

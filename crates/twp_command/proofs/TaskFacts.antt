@@ -1,4 +1,4 @@
--- From what a parse entered to its task.
+-- From the subcommand that a parse entered to its task.
 use Rattle.std.proofs.Common.{◌≡◌, ◌⊎◌, ◌∙◌, ap, true, [], Option, Some, None, refl, sym, inl}
 use Rattle.std.proofs.Common.{inr, subst}
 use Rattle.std.specs.Prelude.{option_map, codes, List, Box}
@@ -30,7 +30,7 @@ module _ {Z : Type 0} where
 pub entered_name : (m : ArgMatches) → option_map (λ p. p.0) (subcommand_rows_of m) ≡ subcommand_name_of m
 entered_name m = entered_names (out-ArgMatches m).subcommand
 
--- what is neither `plat` nor `report` has a value for its description
+-- a subcommand that is neither `plat` nor `report` has a value for its description
 pub land_words : (entered : Option (Text × List Row)) (name : Text) (rows : List Row) → IsWhole entered
     → option_map (λ p. p.0) entered ≡ Some name → option_map (λ p. p.1) entered ≡ Some rows
     → (name ≡ codes "plat" → ⊥) → (name ≡ codes "report" → ⊥) → HasValue (codes "DESCRIPTION") rows
@@ -51,7 +51,7 @@ simple app is = rw is.2 refl
 simple_and_free : (app : App) → IsTownship app → is_simple_and_free app ≡ true
 simple_and_free app is = rw is.2 refl
 
--- what a parse that succeeds entered has all its values
+-- the subcommand that a successful parse entered has all its values
 pub parse_whole : (app : App) (words : List Text) (rows : List Row) (entered : Option (Text × List Row))
     → IsTownship app
     → (is_simple_and_free app ≡ true → fault_of app words ≡ [])
@@ -64,7 +64,7 @@ parse_whole app words rows entered is taken matches =
     (matches (simple app is)).1 ∙ ap (λ a. subcommand_of a words) is.2 in
     rw same (township_whole is.0 words is.1 none)
 
--- and its task is what the words ask for
+-- its task is the one that the words ask for
 pub parse_task : (app : App) (words : List Text) (rows : List Row) (entered : Option (Text × List Row))
     (task : Task)
     → IsTownship app
@@ -78,7 +78,7 @@ parse_task app words rows entered task is taken matches asks = record {
   entered = subst (λ e. IsTaskIn e task) (matches (simple app is)).1 asks;
 }
 
--- the error of a parse shows the fault of the words
+-- the error of a parse gives the fault of the words
 pub parse_fault : (app : App) (words : List Text) (kind : ErrorKind) (fault : TaskFault) → IsTownship app
     → (is_simple_and_free app ≡ true → (kind ≡ OutOfMemory) ⊎ IsAmong kind (fault_of app words))
     → ShowsAs kind fault → IsFaultOf words fault

@@ -1,5 +1,5 @@
--- Where clap's rule takes the words of the command line, the subcommand that they name has all its values,
--- and its option an account's name.
+-- If clap's rules accept the words of the command line, the subcommand that they name has all its
+-- values, and its option has an account's name.
 use Rattle.std.proofs.Common.{◌≡◌, ◌∙◌, ◌&&◌, ◌||◌, ap, Bool, true, false, not, List, [], ◌∷◌, Option}
 use Rattle.std.proofs.Common.{Some, None, is_some, refl, inl, inr, sym}
 use Rattle.std.specs.Prelude.{⊤, option_map, codes, find, if◌then◌else◌}
@@ -40,7 +40,7 @@ nothing_wanted false false false e = (refl, refl)
 abbrev is_missing : List Row → Rule → Bool
 is_missing rows a = a.required && not (is_given a.id rows)
 
--- what each step of a level says where none has a fault
+-- what each step of a level means if none has a fault
 record LevelPasses (s : Shape) (names : Names) (words : List Text) (has_subcommand : Bool) (below : Kinds)
     : Type 0 where
   pub walks : walk_fault s names (walk_from nothing_held) words ≡ []
@@ -82,7 +82,7 @@ level_passes s names words has_subcommand below e =
       arguments = wanted.1;
     }
 
--- the option has accounts' names for values
+-- the values of the option are accounts' names
 abbrev MayHave : Text → Text → Type 0
 MayHave id value = bytes_eq id (codes "ACCOUNT") ≡ true → (account : Account) × (value ≡ account_name account)
 
@@ -107,7 +107,7 @@ account_of_name value e = go (bytes_eq (codes "exact") value) (bytes_eq (codes "
     go false true t p e = (account.Plat, sym ((bytes_eq-Decides (codes "plat") value).0 p))
     go false false t p e = cc
 
--- what the option's parser takes is an account's name
+-- a value that the option's parser accepts is an account's name
 option_takes : (parser : ValueParser) (value : Text) → TakesAccounts parser
     → value_kinds false parser value ≡ [] → MayHave (codes "ACCOUNT") value
 option_takes (vp.Names names) value takes e is =
@@ -121,7 +121,7 @@ option_takes (vp.Names names) value takes e is =
     passed = passes (list_any (λ name. same_text false name.now value) names.now) e
 option_takes other value takes e is = absurd takes
 
--- what the words give a subcommand: rows as they may be, and none that is required is missing
+-- the rows that the words give a subcommand are valid, and no required word is missing
 record IsGiven (s : Shape) (words : List Text) : Type 0 where
   pub rows : Good MayHave (rows_after s.rules [] words)
   pub required : list_any (is_missing (rows_after s.rules [] words)) s.rules ≡ false
@@ -139,7 +139,7 @@ leaf_given s words each negates e =
       required = rw negates at level.arguments;
     }
 
--- what isn't missing has a value
+-- a word that is not missing has a value
 has_value : (id : Text) (rows : List Row) (rest : Bool) → Good MayHave rows
     → not (is_given id rows) || rest ≡ false → HasValue id rows
 has_value id rows rest good e =
@@ -164,7 +164,7 @@ help = built_leaf help_shape
 abbrev leaf_fault : Shape → List Text → Kinds
 leaf_fault s words = level_fault s [] nothing_held words false []
 
--- what the words after a subcommand give is whole, where none is a fault
+-- the words after a subcommand give it all its values, if none is a fault
 abbrev GivesWhole : List Text → Shape → Type 0
 GivesWhole words s = leaf_fault s words ≡ [] → IsWhole (Some (rows_at s words))
 
@@ -226,13 +226,13 @@ report_whole words e =
 abbrev named : List Shape → Text → Option Shape
 named subs name = find (λ s. answers_to name (label_of s)) subs
 
--- each of these subcommands that answers to the name gives what is whole
+-- each of these subcommands that has this name gets all its values
 abbrev AllWhole : Text → List Text → List Shape → Type 0
 AllWhole name words [] = ⊤
 AllWhole name words (s ∷ rest) =
     (answers_to name (label_of s) ≡ true → GivesWhole words s) × AllWhole name words rest
 
--- and so does the one that is entered
+-- so does the one that is entered
 one_of : (subs : List Shape) (name : Text) (words : List Text) → AllWhole name words subs
     → option_map_or (λ s. leaf_fault s words) (named subs name) [] ≡ []
     → is_some (option_map (λ s. rows_at s words) (named subs name)) ≡ true

@@ -1,4 +1,4 @@
--- The command line, in the words of clap's own rule.
+-- The command line, in the terms of clap's own rules.
 use Rattle.std.specs.Prelude.{◌≡◌, true, false, List, [], ◌∷◌, Some, map, codes}
 use Rattle.clap.specs.Walk.{texts}
 use Rattle.clap.specs.Words.{App, Rule, Shape, Text, new_rule}
@@ -8,7 +8,7 @@ use Rattle.clap.specs.declared.builder.value_parser.ValueParser.TheVariants.{Nam
 use Rattle.twp_area.specs.declared.account.Account.{Account}
 use Rattle.twp_area.specs.declared.account.Account.TheVariants.{Exact, Plat}
 
--- a word that a subcommand requires
+-- a required word of a subcommand
 abbrev pub required_word : Text → Rule
 required_word id = record (new_rule id) { required = true }
 
@@ -16,7 +16,7 @@ required_word id = record (new_rule id) { required = true }
 abbrev pub subcommand_of_rules : Text → List Rule → Shape
 subcommand_of_rules name rules = record (new_shape name) { rules = rules }
 
--- a subcommand, with the words that it requires in their order
+-- a subcommand, with its required words in order
 abbrev pub subcommand_with : Text → List Text → Shape
 subcommand_with name ids = subcommand_of_rules name (map required_word ids)
 
@@ -31,21 +31,21 @@ township_with subcommands = record {
 abbrev pub plat : Shape
 plat = subcommand_with (codes "plat") (codes "NOTES" ∷ [])
 
--- the account, as the command line names it
+-- the name of an account on the command line
 abbrev pub account_name : Account → Text
 account_name Exact = codes "exact"
 account_name Plat = codes "plat"
 
--- the parser takes these values, and no other
+-- the parser accepts these values and no others
 abbrev pub TakesOnly : List Text → ValueParser → Type 0
 TakesOnly values (Names names) = texts names.now ≡ values
 TakesOnly values other = ⊥
 
--- the parser takes the names of accounts
+-- the parser accepts the names of accounts
 abbrev pub TakesAccounts : ValueParser → Type 0
 TakesAccounts = TakesOnly (map account_name (Exact ∷ Plat ∷ []))
 
--- the option that names an account, the exact one where it isn't given
+-- the option that names an account; the exact one is the default
 abbrev pub account_option : ValueParser → Rule
 account_option parser = record (new_rule (codes "ACCOUNT")) {
   long = Some (codes "account");
@@ -59,23 +59,23 @@ acres parser = subcommand_of_rules (codes "acres")
     (required_word (codes "NOTES") ∷ required_word (codes "DESCRIPTION")
     ∷ account_option parser ∷ [])
 
--- the subcommand that speaks of a description of land on a plat
+-- the subcommand for a description of land on a plat
 abbrev pub normal : Shape
 normal = subcommand_with (codes "normal") (codes "NOTES" ∷ codes "DESCRIPTION" ∷ [])
 
--- the subcommand that speaks of a list of tracts on a plat
+-- the subcommand for a list of tracts on a plat
 abbrev pub report : Shape
 report = subcommand_with (codes "report") (codes "NOTES" ∷ codes "TRACTS" ∷ [])
 
--- the command `township`, whose option takes what the parser does
+-- the command `township`, whose option accepts the values of the parser
 abbrev pub township : ValueParser → App
 township parser = township_with (plat ∷ acres parser ∷ normal ∷ report ∷ [])
 
--- the command of the subcommands `plat`, `acres` and these others, in their order
+-- the command with the subcommands `plat`, `acres`, and these others, in this order
 abbrev pub IsTownshipWith : List Shape → App → Type 0
 IsTownshipWith others app = (parser : ValueParser) × TakesAccounts parser
     × (app ≡ township_with (plat ∷ acres parser ∷ others))
 
--- the program's command, with its subcommands in their order
+-- the program's command, with its subcommands in order
 abbrev pub IsTownship : App → Type 0
 IsTownship = IsTownshipWith (normal ∷ report ∷ [])

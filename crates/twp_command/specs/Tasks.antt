@@ -1,4 +1,4 @@
--- What a command line asks for.
+-- The task that a command line asks for.
 use Rattle.std.specs.Prelude.{◌≡◌, ◌≢◌, List, [], ◌∷◌, Option, Some, codes, ⊤}
 use Rattle.clap.specs.Words.{App, IsAmong, Row, Text, fault_of, first_of, subcommand_of}
 use Rattle.clap.specs.declared.error.kind.ErrorKind.{ErrorKind}
@@ -10,12 +10,12 @@ use Rattle.twp_command.specs.declared.task.Task.TheVariants.{Plat, Acres, Normal
 use Rattle.twp_command.specs.declared.task.TaskFault.{TaskFault}
 use Rattle.twp_command.specs.declared.task.TaskFault.TheVariants.{Usage, Help, Memory}
 
--- a word or an option of a subcommand, with the value that it has
+-- a word or an option of a subcommand, and its value
 pub record Given : Type 0 where
   pub word : Text
   pub value : Text
 
--- they have these values among the rows of a parse
+-- they have these values in the rows of a parse
 abbrev pub HaveValues : List Row → List Given → Type 0
 HaveValues rows [] = ⊤
 HaveValues rows (given ∷ more) =
@@ -30,18 +30,18 @@ given_description name = record { word = codes "DESCRIPTION"; value = name }
 abbrev pub given_tracts : Text → Given
 given_tracts name = record { word = codes "TRACTS"; value = name }
 
--- the value that the words give the option, or its default where they don't name it
+-- the value that the words give the option, or its default if they do not name it
 abbrev pub given_account : Account → Given
 given_account account = record { word = codes "ACCOUNT"; value = account_name account }
 
--- the subcommand that a task is asked for by
+-- the subcommand that asks for a task
 abbrev pub subcommand_name : Task → Text
 subcommand_name (Plat notes) = codes "plat"
 subcommand_name (Acres notes description account) = codes "acres"
 subcommand_name (Normal notes description) = codes "normal"
 subcommand_name (Report notes tracts) = codes "report"
 
--- the words and the option that it has, with the task's files and its account
+-- the subcommand's words and option, with the task's files and account
 abbrev pub given_of : Task → List Given
 given_of (Plat notes) = given_notes notes ∷ []
 given_of (Acres notes description account) =
@@ -55,20 +55,20 @@ pub record IsTaskIn (entered : Option (Text × List Row)) (task : Task) : Type 0
   pub entered_is : entered ≡ Some (subcommand_name task, rows)
   pub values_are : HaveValues rows (given_of task)
 
--- the words ask for the task: clap's rule takes them, and enters the task's subcommand
+-- the words ask for the task: clap's rules accept them, and enter the task's subcommand
 pub record IsTaskOf (words : List Text) (task : Task) : Type 0 where
   pub app : App
   pub is_township : IsTownship app
   pub taken : fault_of app words ≡ []
   pub entered : IsTaskIn (subcommand_of app words) task
 
--- clap's rule has a fault of this kind at the words
+-- by clap's rules, there is a fault of this kind in the words
 pub record HasKindAt (words : List Text) (kind : ErrorKind) : Type 0 where
   pub app : App
   pub is_township : IsTownship app
   pub among : IsAmong kind (fault_of app words)
 
--- the words are misused, or ask for help, as clap's rule says; or memory ran out
+-- the words are misused, or ask for help, by clap's rules; or memory ran out
 abbrev pub IsFaultOf : List Text → TaskFault → Type 0
 IsFaultOf words (Usage text) = (kind : ErrorKind) × HasKindAt words kind × (kind ≢ DisplayHelp)
 IsFaultOf words (Help text) = HasKindAt words DisplayHelp

@@ -10,10 +10,10 @@ ghost use Rattle.twp_command.specs.Commands.{report as the_report};
 use clap::{Arg, Command};
 use std::alloc::{AllocError, Global};
 
-/// The program's name in help and usage, whatever file it was called by.
+/// The program's name in help and usage, whatever the name of its file.
 const NAME: &str = "township";
 
-/// What help ends with: how the program is called.
+/// The end of the help text: how to call the program.
 const EXAMPLES: &str = "Examples:
   township plat notes.csv
   township acres notes.csv land.txt
@@ -23,7 +23,7 @@ const EXAMPLES: &str = "Examples:
 With no arguments, township reads standard input: a description of land on the
 first line, and then the field notes. It prints the acres.";
 
-/// What the help of `acres` ends with.
+/// The end of the help text of `acres`.
 const ACRES_EXAMPLES: &str = "Examples:
   township acres notes.csv land.txt
   township acres --account plat notes.csv land.txt";
@@ -31,7 +31,7 @@ const ACRES_EXAMPLES: &str = "Examples:
 /// The accounts, as the command line names them.
 static ACCOUNTS: [&str; 2] = ["exact", "plat"];
 
-/// The command line of the program: one of its subcommands, with its files.
+/// The command line of the program: one of its subcommands, and its files.
 pub(crate) fn township<'a>(alloc: Global) -> Result<Command<'a>, AllocError>
     ensures { IfOk result (λ command. IsTownship (app_of command)) }
 {
@@ -45,7 +45,7 @@ fn without_report<'a>(alloc: Global) -> Result<Command<'a>, AllocError>
     measures(alloc)?.subcommand(normal(alloc)?)
 }
 
-/// The command line with the subcommands that write acres of the plat or of one land.
+/// The command line with the subcommands that write the acres of a plat or of one description.
 fn measures<'a>(alloc: Global) -> Result<Command<'a>, AllocError>
     ensures { IfOk result (λ command. IsTownshipWith [] (app_of command)) }
 {

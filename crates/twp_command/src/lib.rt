@@ -1,4 +1,4 @@
-//! The command line of the program `township`: which words it takes, and what they ask for.
+//! The command line of the program `township`: which words it accepts, and what task they ask for.
 #![tactic(auto)]
 
 mod command;

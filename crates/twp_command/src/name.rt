@@ -2,7 +2,8 @@ use std::alloc::{AllocError, Global};
 use std::fmt;
 use std::marker::Model;
 
-/// The name of a file, as a word of the command line gives it: any text, even an empty one.
+/// The name of a file, as it is given in a word of the command line: any text, including the empty
+/// one.
 #[derive(Debug, Drop)]
 pub struct Name {
     text: String,
@@ -19,7 +20,7 @@ impl Model for Name {
 impl Name {
     ghost use Rattle.std.specs.Prelude.{◌≡◌, IfOk};
 
-    /// The name that is written so.
+    /// The name that is written like this.
     pub(crate) fn new(alloc: Global, text: &str) -> Result<Name, AllocError>
         ensures { IfOk result (λ name. name ≡ text.now) }
     {

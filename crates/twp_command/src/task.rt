@@ -46,13 +46,13 @@ pub enum Task {
     },
 }
 
-/// Why the words of a command line give no task.
+/// Why the words of a command line are not a task.
 #[derive(Debug, Drop, Error)]
 pub enum TaskFault {
-    /// The words aren't as the command takes them. The text says why, and how it is used.
+    /// The words do not follow the command's rules. The text says why, and gives the usage.
     #[error("{text}")]
     Usage { text: String },
-    /// The words ask for help, which the text gives.
+    /// The words ask for help, which is in the text.
     #[error("{text}")]
     Help { text: String },
     /// Memory ran out.
@@ -60,7 +60,7 @@ pub enum TaskFault {
     Memory,
 }
 
-/// Reads the words of a command line, of which the first is the program's name.
+/// Reads the words of a command line. The first is the program's name.
 #[inline(never)]
 pub fn read_task(alloc: Global, words: Vec<String>) -> Result<Task, TaskFault>
     ensures task { IfOk result (IsTaskOf (map string_bytes words.items)) }
@@ -109,7 +109,7 @@ fn task_of(alloc: Global, matches: &ArgMatches<'_>) -> Result<Task, AllocError>
     Ok(Task::Normal { notes, description })
 }
 
-/// The value of a word, which has one.
+/// The value of a word that has one.
 fn name_of(alloc: Global, found: &ArgMatches<'_>, word: &str) -> Result<Name, AllocError>
     requires value { HasValue word.now (rows_of (found_of found.now)) }
     ensures name { IfOk result (λ name.
@@ -134,7 +134,7 @@ fn account_of(found: &ArgMatches<'_>) -> Account
     }
 }
 
-/// The value of a word, where it has one.
+/// The value of a word, if it has one.
 fn value_of<'a>(found: &ArgMatches<'a>, word: &str) -> Option<&'a str>
     ensures { option_map (λ s. s.now) result ≡ first_of word.now (rows_of (found_of found.now)) }
 {

@@ -1,10 +1,10 @@
-//! Makes one call that takes memory, on an input whose answer is known, and tells what it answered
-//! and what it left. `scripts/growths.sh` refuses the call each growth of its memory in turn, and
-//! `scripts/single_calls.sh` compares what is told, of an input that is none too.
+//! Makes one call that allocates memory, on an input whose answer is known, and prints the answer
+//! and the bytes that it left. `tests/program/growths.sh` makes each growth of memory in the call fail in
+//! turn, and `tests/program/test_calls.py` compares what is printed, also for invalid input.
 //!
-//! All that a call needs is made before the line `calling` is written, and its answer is written as
-//! soon as it is there. So what the process grows between its first write and its second is grown
-//! by the call.
+//! Everything that a call needs is made before the line `calling` is written, and its answer is
+//! written as soon as it is known. So any growth between the process's first write and its second
+//! is due to the call.
 #![tactic(auto)]
 
 mod reading;
@@ -19,7 +19,7 @@ fn main(rt: HostRuntime) -> io::Result<ExitCode> {
     let mut words = env::args(&rt)?;
     let _program = words.next();
     let (Some(call), Some(input), room) = (words.next(), words.next(), words.next()) else {
-        eprintln!(rt; "twp_growth CALL INPUT [ROOM]: scripts/single_calls.sh has the calls")?;
+        eprintln!(rt; "twp_growth CALL INPUT [ROOM]: tests/program/test_calls.py has the calls")?;
         return Ok(ExitCode::from(2));
     };
     if let Some(room) = room {

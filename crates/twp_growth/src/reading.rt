@@ -1,4 +1,4 @@
-//! Calls that make a value, which is told of by its text.
+//! Calls that make a value, which is printed as its text.
 
 use crate::telling::{ANSWERED, start};
 use std::io;
@@ -7,7 +7,7 @@ use twp_grid::Bytes;
 use twp_notes::Notes;
 use twp_read::Description;
 
-/// Reads field notes, and tells them as they are written, or why they are none.
+/// Reads field notes, and prints them as they are written, or why they are not valid.
 pub fn read_notes(rt: &HostRuntime, text: &[u8]) -> io::Result<()> {
     start(rt)?;
     match Notes::read(rt.alloc(), &mut Bytes::new(text)) {
@@ -21,7 +21,7 @@ pub fn read_notes(rt: &HostRuntime, text: &[u8]) -> io::Result<()> {
     }
 }
 
-/// Reads a description, and tells how many items it has, or why it is none.
+/// Reads a description, and prints how many items it has, or why it is not valid.
 pub fn read_description(rt: &HostRuntime, text: &[u8]) -> io::Result<()> {
     start(rt)?;
     match Description::read(rt.alloc(), text) {

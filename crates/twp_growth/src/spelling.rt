@@ -1,4 +1,4 @@
-//! The call that writes the canonical text of a land.
+//! The call that writes the canonical text of land.
 
 use crate::telling::{ANSWERED, OUT_OF_MEMORY, start, tell};
 use std::io;
@@ -8,7 +8,7 @@ use twp_read::Description;
 use twp_resolve::resolve;
 use twp_spell::spell;
 
-/// Spells the land of a description in T. 2 N., R. 3 W., or says why there is no such land.
+/// Spells the land of a description in T. 2 N., R. 3 W., or prints why there is no such land.
 pub fn spell_land(rt: &HostRuntime, text: &[u8]) -> io::Result<()> {
     let Some(township) = Township::new(2, NorthSouth::N, 3, EastWest::W) else {
         return rt.println("no township");

@@ -1,4 +1,4 @@
-//! Calls that write into a vector, which is told of as they leave it.
+//! Calls that write into a vector, which is printed as they leave it.
 
 use crate::telling::{ANSWERED, OUT_OF_MEMORY, start, tell};
 use std::{fs, io};
@@ -6,12 +6,12 @@ use twp_grid::Bytes;
 use twp_measure::{Length, write_acres};
 use twp_notes::Notes;
 
-/// What the vector holds before the call.
+/// The contents of the vector before the call.
 const HELD: &[u8] = b"held: ";
 
-/// Writes acres, of which the input is the hundredths, a length, or field notes, of which it is the
-/// file, into a vector that holds some bytes, and has room for so many more; or tells why the input
-/// is none.
+/// Writes acres, a length, or field notes into a vector that contains some bytes and has room for a
+/// number of others, or prints why the input is not valid. The input is the number of hundredths of
+/// an acre, the length, or the file of the notes.
 pub fn write(rt: &HostRuntime, call: &str, input: &str, room: &str) -> io::Result<()> {
     let Ok(room) = room.parse::<u8>() else {
         return rt.println("no room");

@@ -1,4 +1,4 @@
--- Where the first line feed stands.
+-- The place of the first line feed.
 use Rattle.std.proofs.Common.{◌≡◌, ◌==◌, ℕ, List, Option, Some, None, length, sym, inl, inr, arith}
 use Rattle.std.specs.Prelude.{unwrap_or}
 use Rattle.std.specs.List.{position_or_len}

@@ -3,16 +3,16 @@ ghost use Rattle.std.specs.Prelude.{◌≡◌, ◌++◌, IfOk};
 use std::alloc::{AllocError, Global};
 use twp_grid::{DeviceFault, Source};
 
-/// How many bytes of a copy there is room for from the start: growing copies them once more. It is
-/// so many that the host maps them beside the heap, where they grow without being copied.
+/// How many bytes to reserve for a copy at the start, because growing copies them once more. With
+/// this many, the host maps them beside the heap, where they grow without being copied.
 const ROOM: usize = 131_072;
 
-/// How many bytes of a copy are added at once. Memory moves so few by wide loads, and many more a
-/// byte at a time.
+/// How many bytes are added to a copy at once. So few are moved by wide loads, and many more would
+/// be moved a byte at a time.
 const PIECE: usize = 4_000;
 
-/// A source that keeps a copy of the bytes that it gives, since a file may be read but once. Where
-/// memory for the copy is refused, it is given up, and the source gives its bytes as before.
+/// A source that keeps a copy of the bytes that it gives, because some files can be read only once.
+/// If memory for the copy runs out, the copy is dropped, and the source gives its bytes as before.
 #[derive(Drop)]
 pub struct Kept<S> {
     source: S,
@@ -23,7 +23,7 @@ impl<S> Kept<S> {
     ghost use Rattle.std.specs.Prelude.{[], Some, option_map};
     ghost use Rattle.twp_input.specs.KeptBytes.{copy_of, inner_source, GrowsOrIsLost};
 
-    /// A source that gives what another one gives, and has kept nothing yet.
+    /// A source that gives the bytes of another, and has kept nothing yet.
     pub fn new(alloc: Global, source: S) -> Kept<S>
         ensures source { inner_source result ≡ source }
         ensures copy { GrowsOrIsLost (Some []) (copy_of result) [] }
@@ -34,7 +34,7 @@ impl<S> Kept<S> {
         }
     }
 
-    /// The bytes that were given, unless memory for them was refused.
+    /// The bytes given so far, unless memory for them ran out.
     pub fn kept(&self) -> Option<&[u8]>
         ensures { option_map (λ bytes. bytes.now) result ≡ copy_of self.now }
     {
@@ -44,7 +44,7 @@ impl<S> Kept<S> {
         }
     }
 
-    /// Adds what was given to the copy.
+    /// Adds the given bytes to the copy.
     fn keep(&mut self, bytes: &[u8])
         ensures source { inner_source self.new ≡ inner_source self.old }
         ensures copy { GrowsOrIsLost (copy_of self.old) (copy_of self.new) bytes.now }

@@ -1,4 +1,4 @@
--- A length's text, by what stands before and after its first point.
+-- The text of a length, by its parts before and after its first point.
 use Rattle.std.proofs.Common.{◌≡◌, ◌==◌, ℕ, ◌+◌, ◌*◌, ◌<◌, ◌≤◌, ◌⊎◌, false, List, ◌∷◌, ◌++◌, length}
 use Rattle.std.proofs.Common.{drop, get_or, refl, ap, sym, ◌∙◌, inl, inr, arith, length-append}
 use Rattle.std.specs.Int.{IsInRange}
@@ -11,7 +11,7 @@ use Rattle.std.proofs.Math.Seq.{get_or-append_seam, drop-append-add}
 use Rattle.twp_measure.specs.LengthTexts.{point, place_of_point, before_point, behind_point}
 use Rattle.twp_measure.specs.LengthTexts.{fraction_of, IsLengthText}
 
--- a digit is no point
+-- a digit is not a point
 not_point : (digits : List ℕ) (k : ℕ) → AllDigits 10 digits → k < length digits
     → (get_or digits k 0 == point) ≡ false
 not_point digits k all in_range =
@@ -31,7 +31,7 @@ place_after_digits whole decimals all =
     (λ k below. rw (get_or_append_left whole (point ∷ decimals) 0 k below) (not_point whole k all below))
     (λ _. rw (get_or-append_seam whole point decimals 0) refl)
 
--- what stands after the byte that follows a prefix
+-- the bytes after the byte that follows a prefix
 one_past : (front back : List ℕ) (byte : ℕ) → drop (length front + 1) (front ++ byte ∷ back) ≡ back
 one_past front back byte = rw (drop-append-add front (byte ∷ back) 1) refl
 
@@ -99,7 +99,7 @@ text_of_parts text v parts = elim parts.rest [
       })
 ]
 
--- a text is of one length
+-- a text spells at most one length
 pub one_length : (text : List ℕ) (v v' : ℕ) → IsLengthText text v → IsLengthText text v' → v ≡ v'
 one_length text v v' is is' =
     let parts : HasParts text v = parts_of text v is in

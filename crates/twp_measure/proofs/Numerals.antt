@@ -27,7 +27,8 @@ digits_tested text h = own.to text (sym (list_all-is text) ∙ h)
 pub digits_test : (text : List ℕ) → AllDigits 10 text → list_all is_ascii_digit text ≡ true
 digits_test text h = list_all-is text ∙ own.from text h
 
--- One more digit: its byte is that of a digit, and the value is ten times the value so far and the digit.
+-- One more digit: its byte is that of a digit, and the new value is ten times the value so far,
+-- plus the digit.
 pub record OneMoreDigit (digits : List ℕ) (i v : ℕ) : Type 0 where
   pub byte : 48 ≤ get_or digits i 0
   pub value : 10 * v + (get_or digits i 0 - 48) ≡ digits_value 10 (take (i + 1) digits)

@@ -1,4 +1,5 @@
--- Half up: a quotient lies within half a hundredth, and is the greatest number that an area reaches.
+-- Rounding half up: a quotient lies within half a hundredth, and is the greatest number that an
+-- area reaches.
 use Rattle.std.proofs.Common.{◌≡◌, ◌↔◌, ℕ, zero, suc, ◌+◌, ◌-◌, ◌*◌, ◌/◌, ◌%◌, ◌≤◌, ◌<◌, inl, inr}
 use Rattle.std.proofs.Common.{arith}
 use Rattle.std.proofs.Math.Nat.{div-add-mod, mod-lt, mul-le-mul_right}
@@ -6,7 +7,7 @@ use Rattle.std.proofs.lemmas.Bool.{cases_lt}
 use Rattle.twp_measure.specs.Areas.{Fraction, IsRounded}
 use Rattle.twp_measure.specs.Laws.{Reaches}
 
--- the quotient of a number by d, between its multiples
+-- the quotient of a number by d lies between multiples of d
 quotient : (n d : ℕ) → 0 < d → (d * (n / d) ≤ n) × (n < d * (n / d + 1))
 quotient n d some =
     let whole : d * (n / d) + n % d ≡ n = div-add-mod n d in
@@ -21,7 +22,7 @@ rounded units over some =
     let between = quotient (2 * units + d) (2 * d) (omega arith) in
     record { least = omega (arith, between.0); most = omega (arith, between.1) }
 
--- u is the doubled units, and d a hundredth of an acre in units
+-- u is the doubled units, and d is a hundredth of an acre in units
 reached_by : (h u d : ℕ) → 2 * h * d ≤ u + d → (2 * h - 1) * d ≤ u
 reached_by zero u d least = omega arith
 reached_by (suc k) u d least =

@@ -1,4 +1,4 @@
--- The text that is written of a length is a text of that length.
+-- The text that is written for a length is a text of that length.
 use Rattle.std.proofs.Common.{◌≡◌, ◌==◌, ℕ, ◌+◌, ◌*◌, ◌/◌, ◌%◌, ◌<◌, Bool, true, false, [], ◌∷◌}
 use Rattle.std.proofs.Common.{◌++◌, decimal, refl, sym, inr, arith, if◌then◌else◌}
 use Rattle.std.specs.Char.{digit_value}

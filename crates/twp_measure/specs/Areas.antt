@@ -1,7 +1,7 @@
--- Areas as exact fractions, and the hundredths of an acre that are printed of one.
+-- Areas as exact fractions, and their rounding to hundredths of an acre, which are printed.
 use Rattle.std.specs.Prelude.{ℕ, ◌+◌, ◌*◌, ◌/◌, ◌^◌, ◌≤◌, ◌<◌}
 
--- this many square thousandths of a chain over a denominator
+-- a number of square thousandths of a chain over a denominator
 pub record Fraction : Type 0 where
   pub units : ℕ
   pub over : ℕ
@@ -23,8 +23,8 @@ pub record IsArea (units over : ℕ) : Type 0 where
 abbrev pub hundredth_of : Fraction → ℕ
 hundredth_of area = HUNDREDTH_OF_AN_ACRE * area.over
 
--- The area is h hundredths of an acre, rounded half up: it is at least half a hundredth below them,
--- and less than half a hundredth above. Everything is doubled, so that halves are whole.
+-- The area is h hundredths of an acre, rounded half up: it is at most half a hundredth below that
+-- number, and less than half a hundredth above it. Everything is doubled, so that halves are whole.
 pub record IsRounded (area : Fraction) (h : ℕ) : Type 0 where
   pub least : 2 * h * hundredth_of area ≤ 2 * area.units + hundredth_of area
   pub most : 2 * area.units < 2 * h * hundredth_of area + hundredth_of area

@@ -7,7 +7,7 @@ use Rattle.twp_measure.specs.Areas.{Fraction, IsRounded}
 abbrev pub WrittenIsRead : Type 0
 WrittenIsRead = (v : ℕ) → IsLength v → IsLengthText (length_text v) v
 
--- a text is of one length
+-- a text spells at most one length
 abbrev pub OneLength : Type 0
 OneLength = (text : List ℕ) (v v' : ℕ) → IsLengthText text v → IsLengthText text v' → v ≡ v'
 
@@ -15,7 +15,7 @@ OneLength = (text : List ℕ) (v v' : ℕ) → IsLengthText text v → IsLengthT
 abbrev pub OneRounding : Type 0
 OneRounding = (area : Fraction) (h h' : ℕ) → IsRounded area h → IsRounded area h' → h ≡ h'
 
--- h hundredths minus half a hundredth aren't more than the area; 0 minus a half counts as 0
+-- h hundredths minus half a hundredth is at most the area; 0 minus a half counts as 0
 abbrev pub Reaches : Fraction → ℕ → Type 0
 Reaches area h = (2 * h - 1) * area.over * 100000 ≤ 2 * area.units
 

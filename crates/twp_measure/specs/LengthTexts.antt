@@ -1,4 +1,4 @@
--- Which bytes are a length, and the text that is written of one. Lengths are thousandths of a
+-- Which bytes spell a length, and the text that is written for one. Lengths are in thousandths of a
 -- chain.
 use Rattle.std.specs.Prelude.{◌≡◌, ◌==◌, ℕ, ◌+◌, ◌-◌, ◌*◌, ◌/◌, ◌%◌, ◌^◌, ◌≤◌, ◌<◌, ◌⊎◌, List, []}
 use Rattle.std.specs.Prelude.{◌∷◌, ◌++◌, length, take, drop, decimal, if◌then◌else◌}
@@ -13,15 +13,15 @@ IsLength v = v < 100000
 abbrev pub point : ℕ
 point = 46
 
--- where the first point stands, or the length where there is none
+-- the index of the first point, or the text's length if there is none
 abbrev pub place_of_point : List ℕ → ℕ
 place_of_point text = position_or_len (λ byte. byte == point) text
 
--- what stands before the first point, which is all where there is none
+-- the bytes before the first point: all bytes if there is none
 abbrev pub before_point : List ℕ → List ℕ
 before_point text = take (place_of_point text) text
 
--- what stands after the first point, which is nothing where there is none
+-- the bytes after the first point: no bytes if there is none
 abbrev pub behind_point : List ℕ → List ℕ
 behind_point text = drop (place_of_point text + 1) text
 
@@ -31,7 +31,7 @@ pub record IsShortNumber (text : List ℕ) (n : ℕ) : Type 0 where
   pub places : length text ≤ 2
   pub value : n ≡ digits_value 10 text
 
--- the thousandths of a chain that the digits after a point stand for
+-- the thousandths of a chain that the digits after a point represent
 abbrev pub fraction_of : List ℕ → ℕ
 fraction_of decimals = digits_value 10 decimals * 10 ^ (3 - length decimals)
 
@@ -41,7 +41,7 @@ pub record IsDecimals (text : List ℕ) (thousandths : ℕ) : Type 0 where
   pub places : length text ≤ 3
   pub value : thousandths ≡ fraction_of text
 
--- whole chains, a point and decimals
+-- whole chains, a point, and decimals
 pub record IsPointed (text : List ℕ) (v : ℕ) : Type 0 where
   pub whole : List ℕ
   pub decimals : List ℕ
@@ -52,7 +52,7 @@ pub record IsPointed (text : List ℕ) (v : ℕ) : Type 0 where
   pub text_is : text ≡ whole ++ point ∷ decimals
   pub value : v ≡ 1000 * chains + thousandths
 
--- the text is a length of v thousandths: whole chains alone, or with decimals
+-- the text is a length of v thousandths: whole chains, with or without decimals
 abbrev pub IsLengthText : List ℕ → ℕ → Type 0
 IsLengthText text v = ((chains : ℕ) × IsShortNumber text chains × (v ≡ 1000 * chains))
     ⊎ IsPointed text v
@@ -61,11 +61,11 @@ IsLengthText text v = ((chains : ℕ) × IsShortNumber text chains × (v ≡ 100
 abbrev pub digit_byte : ℕ → ℕ
 digit_byte digit = 48 + digit
 
--- the third decimal, where it isn't 0
+-- the third decimal, unless it is 0
 abbrev pub third_decimal : ℕ → List ℕ
 third_decimal v = if v % 10 == 0 then [] else digit_byte (v % 10) ∷ []
 
--- the text that is written of a length: whole chains, a point, two decimals or three
+-- the text that is written for a length: whole chains, a point, and two or three decimals
 abbrev pub length_text : ℕ → List ℕ
 length_text v = decimal (v / 1000)
     ++ point ∷ digit_byte (v / 100 % 10) ∷ digit_byte (v / 10 % 10) ∷ third_decimal v

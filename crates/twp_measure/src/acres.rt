@@ -7,8 +7,8 @@ use std::alloc::AllocError;
 /// The most digits of whole acres.
 const MOST_DIGITS: usize = 18;
 
-/// Appends acres with two decimals, as `39.05`, from hundredths of an acre. Where memory runs out
-/// the vector is as it was.
+/// Appends acres with two decimals, such as `39.05`, from hundredths of an acre. If memory runs
+/// out, the vector is unchanged.
 pub fn write_acres(hundredths: u64, out: &mut Vec<u8>) -> Result<(), AllocError>
     ensures ok { OnOk result (out.new.items ≡ out.old.items ++ acres_text hundredths) }
     ensures err { OnErr result (out.new.items ≡ out.old.items) }

@@ -3,12 +3,12 @@ ghost use Rattle.twp_measure.specs.Areas.{Fraction, IsArea, MOST_UNITS, IsRounde
 
 use std::marker::Model;
 
-/// The most units of an area: 10 to the 24th. A township has some 2.3 times 10 to the 11th units
-/// over 1, and over the greatest denominator of a plat some 10 to the 22nd.
+/// The most units that an area can have: 10 to the 24th. A township has about 2.3 times 10 to the
+/// 11th units over 1, and about 10 to the 22nd over the greatest denominator of a plat.
 pub const AREA_MAX: u128 = 1_000_000_000_000_000_000_000_000;
 
 /// An area of land as an exact fraction: `units` square thousandths of a chain over `over`, which
-/// is at least 1 (this project's rule). 10,000,000 units over 1 are an acre, which is 10 square
+/// is at least 1 (this project's rule). 10,000,000 units over 1 make an acre, which is 10 square
 /// chains.
 #[derive(Clone, Copy)]
 pub struct Area {
@@ -29,10 +29,10 @@ impl Model for Area {
 }
 
 /// A hundredth of an acre, in square thousandths of a chain.
-const HUNDREDTH_OF_AN_ACRE: u128 = 100_000;
+pub const HUNDREDTH_OF_AN_ACRE: u128 = 100_000;
 
 impl Area {
-    /// `units` over `over`, or None where `over` is 0 or `units` is more than `AREA_MAX`.
+    /// `units` over `over`, or `None` if `over` is 0 or `units` is more than `AREA_MAX`.
     pub fn new(units: u128, over: u64) -> Option<Area>
         ensures { SomeIff result (IsArea units over) (record { units = units; over = over }) }
     {
@@ -42,7 +42,7 @@ impl Area {
         Some(Area { units, over })
     }
 
-    /// No area at all, over a denominator.
+    /// Zero area, over the given denominator.
     pub fn zero(over: u64) -> Area
         requires { 0 < over }
         ensures { result ≡ record { units = 0; over = over } }
@@ -50,7 +50,7 @@ impl Area {
         Area { units: 0, over }
     }
 
-    /// The square thousandths of a chain, times `over`.
+    /// The area in square thousandths of a chain, times `over`.
     pub fn units(&self) -> u128
         ensures value { result ≡ self.now.units }
         ensures range { result ≤ MOST_UNITS }
@@ -58,7 +58,7 @@ impl Area {
         self.units
     }
 
-    /// What the units are divided by.
+    /// The number that the units are divided by.
     pub fn over(&self) -> u64
         ensures value { result ≡ self.now.over }
         ensures range { 0 < result }
@@ -66,7 +66,7 @@ impl Area {
         self.over
     }
 
-    /// The sum of two areas over one denominator.
+    /// The sum of two areas with the same denominator.
     pub fn plus(&self, other: &Area) -> Area
         requires same_over { self.now.over ≡ other.now.over }
         requires room { self.now.units + other.now.units ≤ MOST_UNITS }

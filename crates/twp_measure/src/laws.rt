@@ -1,19 +1,19 @@
-//! What holds of lengths and areas as they are defined: each law is a contract, and its function
-//! has nothing to do.
+//! Laws of lengths and areas that follow from their definitions. Each law is a contract, and its
+//! function does nothing.
 ghost use Rattle.twp_measure.specs.Laws.{WrittenIsRead, OneLength, OneRounding, RoundingIsGreatest};
 
-/// The text that is written of a length is a text of that length, so `Length::read` gives it back.
+/// The text written for a length is a text of that length, so `Length::read` returns that length.
 #[tactic(auto, using(crate::proofs::WrittenLengths::written_is_length))]
 pub fn written_is_read()
     ensures { WrittenIsRead }
 {}
 
-/// A text is of one length.
+/// A text spells at most one length.
 pub fn one_length()
     ensures { OneLength }
 {}
 
-/// An area is rounded to one number of hundredths.
+/// An area has only one rounding in hundredths.
 #[tactic(auto, using(crate::proofs::RoundingFacts::one_rounding))]
 pub fn one_rounding()
     ensures { OneRounding }

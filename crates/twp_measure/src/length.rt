@@ -11,7 +11,7 @@ use std::marker::Model;
 use thiserror::Error;
 
 /// The length of a survey line in thousandths of a chain, 0 to 99,999 (this project's rule). A
-/// chain is 66 feet or 100 links, and 80 chains are a mile. The default is no length at all, 0.
+/// chain is 66 feet or 100 links, and 80 chains are a mile. The default is 0.
 #[derive(Clone, Copy, Default, PartialEq, Eq)]
 pub struct Length {
     thousandths: u32,
@@ -30,24 +30,24 @@ impl Model for Length {
     ghost inverse = { λ n. record { thousandths = n } };
 }
 
-/// Why a text is no length. Of several faults the first in this order is reported.
+/// Why a text is not a length. Of several faults, the first in this order is reported.
 #[derive(Clone, Copy, Debug, PartialEq, Eq, Error)]
 pub enum LengthFault {
-    /// The text has no byte.
+    /// The text is empty.
     #[error("a length is empty")]
     Empty,
-    /// A byte is neither a digit nor the first point, or a side of the point has no digit.
+    /// A byte is neither a digit nor the first point, or one side of the point has no digit.
     #[error("a length is no decimal number")]
     BadDigit,
-    /// More than three digits stand after the point.
+    /// There are more than three digits after the point.
     #[error("a length has more than three decimals")]
     TooManyPlaces,
-    /// More than two digits stand before the point.
+    /// There are more than two digits before the point.
     #[error("a length has more than two digits before its point")]
     TooLong,
 }
 
-/// What separates whole chains from their decimals.
+/// The byte between whole chains and their decimals.
 const POINT: u8 = b'.';
 
 impl Length {
@@ -109,8 +109,8 @@ impl Length {
         self.thousandths
     }
 
-    /// Appends the chains with two decimals, or with three where the third isn't 0, as `80.00` and
-    /// `19.575`. Where memory runs out the vector is as it was.
+    /// Appends the chains with two decimals, or with three if the third is not 0, such as `80.00`
+    /// and `19.575`. If memory runs out, the vector is unchanged.
     pub fn write(self, out: &mut Vec<u8>) -> Result<(), AllocError>
         ensures ok { OnOk result (out.new.items ≡ out.old.items ++ length_text self) }
         ensures err { OnErr result (out.new.items ≡ out.old.items) }
@@ -126,14 +126,14 @@ impl Length {
     }
 }
 
-/// Where the first point stands, or the text's length where there is none.
+/// The index of the first point, or the text's length if there is none.
 fn point_place(text: &[u8]) -> usize
     ensures { result ≡ place_of_point text.now }
 {
     text.iter().take_while(|byte| **byte != POINT).count()
 }
 
-/// Whether the text is one digit or more, and nothing else.
+/// Whether the text consists of one or more digits.
 #[tactic(auto, using(crate::proofs::Numerals::digits_tested, crate::proofs::Numerals::digits_test))]
 fn is_numeral(text: &[u8]) -> bool
     ensures { IsTrue result ↔ IsNumeral 10 text.now }

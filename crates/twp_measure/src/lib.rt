@@ -1,5 +1,5 @@
-//! What a survey measures: the lengths of its lines, areas of land as exact fractions, and the
-//! acres that are printed of them.
+//! What a survey measures: the lengths of its lines and areas of land as exact fractions; and how
+//! acres are printed.
 #![tactic(auto)]
 
 mod acres;
@@ -8,5 +8,5 @@ pub mod laws;
 mod length;
 
 pub use acres::write_acres;
-pub use area::{AREA_MAX, Area};
+pub use area::{AREA_MAX, Area, HUNDREDTH_OF_AN_ACRE};
 pub use length::{Length, LengthFault};

@@ -7,18 +7,18 @@ use Rattle.std.proofs.lemmas.List.{take_at, length-take}
 use Rattle.std.proofs.KnownBytes.{Consumes-trans}
 use Rattle.twp_grid.specs.Devices.{Tells, TakesAtMost}
 
--- what was read and what is left are the bytes of the source
+-- the bytes that were read and those that remain are the bytes of the source
 pub tells_read : (old new : Option (List ℕ)) (read : List ℕ) → Consumes old new read
     → Tells old (read ++ unwrap_or new [])
 tells_read None new read h = tt
 tells_read (Some xs) None read h = absurd h
 tells_read (Some xs) (Some ys) read h = h
 
--- the reading ends with as many bytes as were asked for, or at the end of the input
+-- the reading ends when as many bytes as were asked for are read, or at the end of the input
 pub read_most : (read rest : List ℕ) (most : ℕ) → length read ≡ most → read ≡ take most (read ++ rest)
 read_most read rest most long = sym (take_at read rest most long)
 
--- the pieces that were taken, with the last one, are within what is asked for
+-- the pieces that were taken, with the last one, are no more than was asked for
 pub most_taken : (old mid new : Option (List ℕ)) (read piece : List ℕ) (count room most : ℕ)
     → Consumes old mid read → Consumes mid new (take count piece)
     → count ≤ room → length read + room ≤ most → TakesAtMost old new most

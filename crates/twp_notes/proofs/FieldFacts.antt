@@ -48,7 +48,7 @@ five_fields (a ∷ b ∷ c ∷ d ∷ []) h = absurd (omega arith)
 five_fields (a ∷ b ∷ c ∷ d ∷ e ∷ []) h = refl
 five_fields (a ∷ b ∷ c ∷ d ∷ e ∷ f ∷ rest) h = absurd (omega arith)
 
--- both distances make what is returned
+-- both distances together are the returned value
 pub same_returned : (a b : Returned) → a.quarter ≡ b.quarter → a.corner ≡ b.corner → a ≡ b
 same_returned a b quarter corner = rw (quarter, corner) refl
 

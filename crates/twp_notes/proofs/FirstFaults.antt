@@ -1,4 +1,4 @@
--- The first fault of notes whose records were looked at one after another.
+-- The first fault of notes whose records are checked one after another.
 use Rattle.std.proofs.Common.{◌≡◌, ◌≢◌, ◌⊎◌, ℕ, ◌+◌, ◌≤◌, ◌<◌, List, length, inl, inr, suc, Option, Some}
 use Rattle.std.proofs.Common.{None, IsSome, IfSome, Err, refl, ap, subst, sym, ◌∙◌, arith}
 use Rattle.std.proofs.lemmas.Bool.{cases_lt, cases_eq}
@@ -21,13 +21,14 @@ use Rattle.twp_notes.proofs.NameFacts.{names_one, has_run, has_section}
 use Rattle.twp_notes.proofs.FieldFacts.{has_lengths}
 use Rattle.twp_notes.proofs.RecordPlaces.{AreBehind, IsPlaced, placed, on_line}
 
--- a place after this one, or this one with a number that isn't less
+-- a later place than this one, or this place with at least this number
 abbrev IsBehind : ℕ → ℕ → ℕ → ℕ → Type 0
 IsBehind place number at own =
     let once : ℕ = 1 in
     (once < once) ⊎ ((once ≡ once) × (place < at)) ⊎ ((once ≡ once) × (place ≡ at) × (number ≤ own))
 
--- a fault that none of the records so far has, nor the next one where it comes before `number`
+-- a fault that none of the records so far has, and that the next one does not have either if its
+-- number is less than `number`
 from_here : (Bad : Fields → Type 0) (bytes : List ℕ) (rows : List Fields) (count number own at : ℕ)
     → AreBehind bytes rows
     → ((place : ℕ) → place < count → Bad (record_at rows place) → ⊥)
@@ -47,7 +48,7 @@ from_here Bad bytes rows count number own at behind before here (is, bad) =
       ]
     ]
 
--- the next record has no fault before this number
+-- the next record has no fault with a smaller number than this
 pub record IsGoodBefore (fields : Fields) (number : ℕ) : Type 0 where
   pub columns : 4 < number → length fields ≢ FIELDS → ⊥
   pub run : 6 < number → HasNoRun fields → ⊥
@@ -55,7 +56,7 @@ pub record IsGoodBefore (fields : Fields) (number : ℕ) : Type 0 where
   pub names : 8 < number → NamesNoLine fields → ⊥
   pub lengths : 9 < number → HasNoLength fields → ⊥
 
--- a record that was taken down before is of no other's line
+-- of the records that were entered, none is for the line of an earlier one
 not_repeated : (bytes : List ℕ) (rows : List Fields) (count number at : ℕ) (table : List (Option Returned))
     → AreBehind bytes rows → AreTaken rows count table → number ≤ 10
     → IsLineNumber (records_of bytes) at → IsRepeated (records_of bytes) at
@@ -79,7 +80,8 @@ not_repeated bytes rows count number at table behind taken most is again =
       ]
     ]
 
--- no fault comes before the next record's, and of this one none before `number`
+-- no fault comes before those of the next record, and that record has none with a number less than
+-- `number`
 none_before : (bytes : List ℕ) (rows : List Fields) (count number : ℕ) (table : List (Option Returned))
     → AreBehind bytes rows → AreTaken rows count table
     → IsGoodBefore (record_at rows count) number → number ≤ 10 → (other : NotesFault) → HasFault bytes other
@@ -122,7 +124,7 @@ none_before bytes rows count number table behind taken good most (fault.Missing 
 none_before bytes rows count number table behind taken good most fault.Read has = absurd has
 none_before bytes rows count number table behind taken good most fault.Memory has = absurd has
 
--- the record that names the line of an entry stands before the next one
+-- the record that names the line of an entry is before the next one
 repeated_is : (bytes : List ℕ) (rows : List Fields) (count line : ℕ) → AreBehind bytes rows
     → count < length rows → IsNamedBy rows count line
     → NamesLine (record_at rows count) line → IsRepeated (records_of bytes) (count + 3)
@@ -140,7 +142,7 @@ repeated_is bytes rows count line behind within earlier names =
       names = here.1;
     }
 
--- the record that isn't taken down has the first fault
+-- the record that is not entered has the first fault
 pub first_of_next : (bytes : List ℕ) (rows : List Fields) (is : NotesFault) → AreBehind bytes rows
     → IsRefusedNext rows is → IsFirstFault bytes is
 first_of_next bytes rows (fault.Columns at) behind next =
@@ -230,7 +232,7 @@ first_of_next bytes rows (fault.Repeated at) behind next =
     })
 first_of_next bytes rows _ behind next = absurd next.not_taken
 
--- the answer where the records of lines were refused
+-- the result if the records of lines were refused
 pub answer_refused : (bytes : List ℕ) (rows : List Fields) (is : NotesFault) → AreBehind bytes rows
     → IsRefusedAfter rows is → IfSome (refusal_of is) (λ _. IsFirstFault bytes is)
 answer_refused bytes rows fault.Memory behind refused = tt
@@ -249,7 +251,7 @@ answer_refused bytes rows (fault.Repeated at) behind refused =
     first_of_next bytes rows (fault.Repeated at) behind refused
 answer_refused bytes rows _ behind refused = absurd refused.not_taken
 
--- no fault of a record is left where all were taken down
+-- if all records were entered, no record has a fault
 not_further : (bytes : List ℕ) (rows : List Fields) (number at own : ℕ) → AreBehind bytes rows
     → at ≤ length (records_of bytes) → IsBehind (length rows + 3) number at own → ⊥
 not_further bytes rows number at own behind within (inl never) = absurd (omega arith)
@@ -260,7 +262,7 @@ not_further bytes rows number at own behind within (inr (inr here)) =
     let long : length (records_of bytes) ≡ suc (suc (length rows)) = ap length behind.split in
     absurd (omega arith)
 
--- a line of an entry is named
+-- a line with an entry is named
 named_of : (bytes : List ℕ) (rows : List Fields) (table : List (Option Returned)) (line : ℕ)
     → AreBehind bytes rows → AreTaken rows (length rows) table
     → IsSome (entry_of table line) → IsNamed (records_of bytes) line
@@ -269,7 +271,7 @@ named_of bytes rows table line behind taken some =
     let is = on_line (λ (f : Fields). NamesLine f line) bytes rows by.place behind by.within by.names in
     (by.place + 3, is.0, is.1)
 
--- a line without an entry isn't named
+-- a line without an entry is not named
 unnamed_of : (bytes : List ℕ) (rows : List Fields) (table : List (Option Returned)) (line : ℕ)
     → AreBehind bytes rows → AreTaken rows (length rows) table
     → entry_of table line ≡ None → IsNamed (records_of bytes) line → ⊥
@@ -280,7 +282,7 @@ unnamed_of bytes rows table line behind taken none (number, is, names) =
     names_one _ _ _ entry.is.names (subst (λ (f : Fields). NamesLine f line) at.is names) in
     absurd (cc (sym entry.taken ∙ ap (λ l. entry_of table l) same ∙ none))
 
--- of the lines that are missing the least is answered
+-- of the missing lines, the one with the smallest index is reported
 missing_first : (bytes : List ℕ) (rows : List Fields) (table : List (Option Returned)) (line : ℕ)
     → AreBehind bytes rows → AreTaken rows (length rows) table
     → IsLeastMissing table line → (other : NotesFault) → HasFault bytes other
@@ -341,7 +343,7 @@ entry_is_line table line returned size some = elim (cases_lt line 84) [
   | inr over ↦ absurd (cc (sym some ∙ get_or_past table line None (omega arith)))
 ]
 
--- where all lines were taken down, the records are notes
+-- if all lines have entries, the records are notes
 pub notes_of_table : (bytes : List ℕ) (rows : List Fields) (table : List (Option Returned))
     (lines : List Returned) (behind : AreBehind bytes rows)
     → AreTaken rows (length rows) table
@@ -370,7 +372,7 @@ notes_of_table bytes rows table lines behind taken entries = record {
   };
 }
 
--- a fault of the reading is no refusal
+-- a failure to read is not a refusal
 pub answers_reading : (bytes : List ℕ) (fault : ReadFault) → AnswersNotes bytes (Err (notes_fault_of fault))
 answers_reading bytes reading.Read = tt
 answers_reading bytes reading.Memory = tt

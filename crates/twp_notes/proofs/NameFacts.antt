@@ -1,4 +1,4 @@
--- A record names one line, and what names a line has none of the faults of a name.
+-- A record names at most one line, and a record that names a line has none of the faults of a name.
 use Rattle.std.proofs.Common.{◌≡◌, ℕ, List, [], get_or, Option, Some, None, inl, inr, refl, ap, sym}
 use Rattle.std.proofs.Common.{◌∙◌, arith}
 use Rattle.twp_grid.specs.declared.line.Run.{Run}
@@ -24,7 +24,7 @@ one_run run.West run.West e = refl
 one_section : (text : List ℕ) (a b : ℕ) → IsSectionText text a → IsSectionText text b → a ≡ b
 one_section text a b is is' = is.0.value ∙ sym is'.0.value
 
--- an empty field is no section's number
+-- an empty field is not a section's number
 not_section : (section : ℕ) → IsSectionText [] section → ⊥
 not_section section is = omega (arith, is.0.numeral.0)
 
@@ -34,7 +34,7 @@ one_neighbor text (Some a) (Some b) is is' = ap (λ n. Some n) (one_section text
 one_neighbor text None (Some b) is is' = absurd (not_section b (rw is at is'))
 one_neighbor text (Some a) None is is' = absurd (not_section a (rw is' at is))
 
--- a record names one line
+-- a record names at most one line
 pub names_one : (fields : Fields) (line line' : ℕ) → NamesLine fields line → NamesLine fields line'
     → line ≡ line'
 names_one fields line line' is is' =
@@ -54,7 +54,7 @@ pub has_section : (fields : Fields) (line : ℕ) → NamesLine fields line → H
 has_section fields line names (inl none) = none names.section names.section_is
 has_section fields line names (inr none) = none names.other names.other_is
 
--- a record with a fault of a name names no line
+-- a record with a fault in its name names no line
 pub names_none : (fields : Fields) (number : ℕ) (why : NotesFault) → IsUnnamed fields number why
     → (line : ℕ) → NamesLine fields line → ⊥
 names_none fields number (fault.Run at) is line names = has_run fields line names is.1

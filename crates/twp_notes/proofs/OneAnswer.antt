@@ -1,5 +1,5 @@
--- Bytes have one answer: notes are of one township and return one thing of each line, notes have no fault,
--- and one fault is the first.
+-- The same bytes always give one answer: notes are for one township and return one pair of
+-- distances for each line, notes have no fault, and only one fault is the first.
 use Rattle.std.proofs.Common.{◌≡◌, ◌≢◌, ◌==◌, ◌⊎◌, ℕ, ◌<◌, ◌≤◌, List, length, get_or, Option, Some}
 use Rattle.std.proofs.Common.{None, IsSome, IfSome, Ok, Err, inl, inr, refl, ap, subst, sym, ◌∙◌}
 use Rattle.std.proofs.Common.{arith, if◌then◌else◌}
@@ -25,7 +25,7 @@ use Rattle.twp_notes.specs.declared.returned.Returned.{Returned}
 use Rattle.twp_notes.proofs.FieldFacts.{same_returned, has_lengths}
 use Rattle.twp_notes.proofs.NameFacts.{names_one, has_run, has_section}
 
--- a letter is not another
+-- a letter differs from the others
 other_letter : (a b x y : ℕ) → a ≡ x → b ≡ y → x < y → a ≡ b → ⊥
 other_letter a b x y is-a is-b below e = omega arith
 
@@ -54,14 +54,14 @@ one_township fields a b is-a is-b =
     let hand : a.east_west ≡ b.east_west = one_hand _ _ (sym is-a.east_west ∙ is-b.east_west) in
     rw (number, side, range, hand) refl
 
--- a record returns one pair of lengths
+-- a record returns only one pair of lengths
 one_return : (fields : Fields) (line : ℕ) (a b : Returned) → IsLineRecord fields line a
     → IsLineRecord fields line b → a ≡ b
 one_return fields line a b is-a is-b =
     same_returned a b (one_length _ _ _ is-a.returns.quarter is-b.returns.quarter)
     (one_length _ _ _ is-a.returns.corner is-b.returns.corner)
 
--- what notes of the bytes have of a line is what its record returns
+-- the entry for a line in notes of these bytes is what its record returns
 has_of : (bytes : List ℕ) (notes : FieldNotes) (line number : ℕ) → AreNotes bytes notes
     → IsLineNumber (records_of bytes) number
     → (line' : ℕ) → IsLineRecord (record_numbered (records_of bytes) number) line' (returned_of notes line')
@@ -70,7 +70,7 @@ has_of bytes notes line number are is line' record_is same =
     subst (λ l. IsLineRecord (record_numbered (records_of bytes) number) l (returned_of notes l)) same
     record_is
 
--- bytes are one list of notes
+-- the same bytes are always the same notes
 pub one_notes : (bytes : List ℕ) (a b : FieldNotes) → AreNotes bytes a → AreNotes bytes b → a ≡ b
 one_notes bytes a b are-a are-b =
     let township : a.township ≡ b.township =
@@ -119,7 +119,7 @@ no_fault bytes notes (fault.Missing line) are (is, none) = none (are.records_are
 no_fault bytes notes fault.Read are has = has
 no_fault bytes notes fault.Memory are has = has
 
--- the fault of a number and a place
+-- the fault with a number and a place
 fault_at : ℕ → ℕ → NotesFault
 fault_at number place =
     if number == 1 then fault.TooLarge else if number == 2 then fault.Empty else if number
@@ -147,7 +147,7 @@ fault_back bytes (fault.Missing line) has = refl
 fault_back bytes fault.Read has = absurd has
 fault_back bytes fault.Memory has = absurd has
 
--- the order of faults goes one way
+-- faults that precede each other have the same number and place
 same_rank : (s p n s' p' n' : ℕ) → (s < s') ⊎ ((s ≡ s') × (p < p')) ⊎ ((s ≡ s') × (p ≡ p') × (n ≤ n'))
     → (s' < s) ⊎ ((s' ≡ s) × (p' < p)) ⊎ ((s' ≡ s) × (p' ≡ p) × (n' ≤ n)) → (n ≡ n') × (p ≡ p')
 same_rank s p n s' p' n' (inl a) (inl b) = absurd (omega arith)
@@ -160,7 +160,7 @@ same_rank s p n s' p' n' (inr (inr a)) (inl b) = absurd (omega arith)
 same_rank s p n s' p' n' (inr (inr a)) (inr (inl b)) = absurd (omega arith)
 same_rank s p n s' p' n' (inr (inr a)) (inr (inr b)) = (omega arith, omega arith)
 
--- one fault is the first
+-- only one fault is the first
 pub one_first : (bytes : List ℕ) (a b : NotesFault) → IsFirstFault bytes a → IsFirstFault bytes b → a ≡ b
 one_first bytes a b is-a is-b =
     let same = same_rank _ _ _ _ _ _ (is-a.first b is-b.is) (is-b.first a is-a.is) in

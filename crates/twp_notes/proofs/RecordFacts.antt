@@ -1,4 +1,4 @@
--- Reading one record leaves a reader between records, before the records that follow.
+-- Reading one record leaves the reader between records, before the records that follow.
 use Rattle.std.proofs.Common.{◌≡◌, ℕ, zero, suc, ◌+◌, ◌≤◌, ◌<◌, ◌⊎◌, Bool, true, false, List, []}
 use Rattle.std.proofs.Common.{◌∷◌, ◌++◌, length, get_or, Option, Some, None, refl, ap, sym, ◌∙◌}
 use Rattle.std.proofs.Common.{inl, inr, arith, if◌then◌else◌, add-one, Bor}
@@ -40,7 +40,7 @@ step_ends st.AfterQuote c h = grind arith
 step_ends st.InComment c h = grind arith
 step_ends st.AfterCr c h = grind arith
 
--- a record that was read leaves no more bytes than there were, and the reader between records
+-- after a record is read, no more bytes are left than before, and the reader is between records
 read_on : (s : State) (fields : Fields) (partial : List ℕ) (bytes : List ℕ) (q : Read)
     → next_record default_config s fields partial bytes ≡ Some q
     → (length q.2 ≤ length bytes) × (ends_at_end q.1 ≡ false)
@@ -66,7 +66,7 @@ read_on s fields partial (c ∷ rest) q h =
           (omega arith, more.1)
     ]
 
--- from between two records a record takes at least one byte
+-- a record that is read from between two records takes at least one byte
 read_one : (s : State) (bytes : List ℕ) (q : Read) → ends_at_end s ≡ false
     → next_record default_config s [] [] bytes ≡ Some q
     → (length q.2 < length bytes) × (ends_at_end q.1 ≡ false)
@@ -88,7 +88,7 @@ read_one s (c ∷ rest) q between h = elim (either_way (is_end (step default_con
       (omega arith, more.1)
 ]
 
--- a count above the bytes that are left is enough for all the records
+-- a count greater than the number of remaining bytes is enough for all the records
 same_records : (n m : ℕ) (s : State) (bytes : List ℕ) → ends_at_end s ≡ false → length bytes < n
     → length bytes < m
     → records_from default_config n s bytes ≡ records_from default_config m s bytes
@@ -121,7 +121,7 @@ pub no_records : (s : State) (bytes : List ℕ) → next_record default_config s
 unfolding records_from
 no_records s bytes e = rw (add-one, e) refl
 
--- what a read says of the next record, where the bytes are known
+-- what a read says about the next record, if the bytes are known
 next_given : (s s2 : State) (bytes : List ℕ) (after : Option (List ℕ)) (found : Bool) (row : Fields)
     → ReadsNext default_config s (Some bytes) after found row s2
     → (rest : List ℕ) × (after ≡ Some rest)
@@ -143,7 +143,7 @@ next_given s s2 bytes (Some rest) found row h =
 abbrev known : Bor (List ℕ) → Option (List ℕ)
 known s = Some s.now
 
--- a read takes the first of the records that are left, or finds none
+-- a read takes the first of the remaining records, or finds none
 pub reads_first : (a b : Records) (found : Bool) (row : Fields) → IsReading a
     → ReadRecord known a.reader b.reader found row
     → took_first b.reader ≡ true → is_flexible b.reader ≡ is_flexible a.reader
@@ -173,7 +173,7 @@ reads_first a b false row reading reads first flexible =
     (rw (reading.config, reading.known) at reads.0) in
     no_records (reader_state a.reader) (bytes_ahead a) next.2
 
--- the field at a place
+-- the field at an index
 pub field_at_is : (fields : Fields) (i : ℕ) → i < length fields
     → field_at fields i ≡ Some (get_or fields i [])
 unfolding field_at
@@ -181,7 +181,7 @@ field_at_is [] i below = absurd (omega arith)
 field_at_is (f ∷ fs) zero below = refl
 field_at_is (f ∷ fs) (suc i) below = field_at_is fs i (omega arith)
 
--- each record has a byte of its own, but for one
+-- each record except one has a byte of its own
 few_from : (n : ℕ) (s : State) (bytes : List ℕ) → length (records_from default_config n s bytes) ≤ n
 unfolding records_from
 few_from zero s bytes = omega arith

@@ -6,7 +6,7 @@ use Rattle.twp_notes.specs.Records.{Fields, records_of, record_at, record_number
 use Rattle.twp_notes.specs.FieldNotes.{NOTES_MOST, heading, IsTownshipRecord, IsLineNumber}
 use Rattle.twp_notes.specs.NotesFaults.{HasOnLine}
 
--- the bytes are few enough, and after the heading and the township's record stand these
+-- the bytes are not too many, and these records come after the heading and the township's record
 pub record AreBehind (bytes : List ℕ) (rows : List Fields) : Type 0 where
   pub size : length bytes ≤ NOTES_MOST
   pub first : Fields
@@ -16,7 +16,7 @@ pub record AreBehind (bytes : List ℕ) (rows : List Fields) : Type 0 where
   pub heading_is : first ≡ heading
   pub township_is : IsTownshipRecord second township
 
--- the first two records were read, and are right
+-- the first two records were read, and are valid
 abbrev pub behind_of : (bytes : List ℕ) (first second : Fields) (start after rest : List Fields)
     (township : Designation)
     → length bytes ≤ NOTES_MOST → start ≡ records_of bytes
@@ -32,7 +32,7 @@ behind_of bytes first second start after rest township size all one two heading_
   township_is = township_is;
 }
 
--- a line's record by its place after the first two
+-- a line's record by its index after the first two records
 pub record IsPlaced (bytes : List ℕ) (rows : List Fields) (number : ℕ) : Type 0 where
   pub place : ℕ
   pub number_is : number ≡ place + 3
@@ -63,7 +63,7 @@ placed bytes rows number behind is =
           (sym e) (numbered behind.first behind.second rows (number - 3)));
     }
 
--- the place of a line's record is that of its number
+-- the index of a line's record, by its number
 pub on_line : (Bad : Fields → Type 0) (bytes : List ℕ) (rows : List Fields) (place : ℕ) → AreBehind bytes rows
     → place < length rows → Bad (record_at rows place) → HasOnLine bytes (place + 3) Bad
 on_line Bad bytes rows place behind within bad =

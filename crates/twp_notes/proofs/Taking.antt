@@ -1,4 +1,4 @@
--- Records that are taken down one after another.
+-- Records that are entered one after another.
 use Rattle.std.proofs.Common.{◌≡◌, ◌≢◌, ℕ, suc, ◌+◌, ◌-◌, ◌≤◌, ◌<◌, List, [], ◌∷◌, length, drop}
 use Rattle.std.proofs.Common.{inl, inr, get_or, Option, Some, None, ap, sym, ◌∙◌, arith, add-one}
 use Rattle.std.proofs.Common.{drop-cons, length-drop}
@@ -13,7 +13,7 @@ use Rattle.twp_notes.specs.declared.fault.NotesFault.{NotesFault}
 use Rattle.twp_notes.specs.declared.fault.NotesFault.TheVariants as fault
 use Rattle.twp_notes.proofs.NameFacts.{names_one}
 
--- the next of the records that are left
+-- the next of the remaining records
 pub record IsNextRecord (rows : List Fields) (k : ℕ) (fields : Fields) (rest : List Fields) : Type 0 where
   pub within : k < length rows
   pub is : record_at rows k ≡ fields
@@ -32,7 +32,7 @@ no_record_left rows k e =
     let none : length rows - k ≡ 0 = sym (length-drop k rows) ∙ ap length e in
     omega arith
 
--- what was taken down stays when another line is
+-- an entry stays when another line is entered
 still_taken : (fields next : Fields) (old new : List (Option Returned)) → IsTaken fields old
     → TakesDown next old new → IsTaken fields new
 still_taken fields next old new is takes =
@@ -47,7 +47,7 @@ still_taken fields next old new is takes =
           (get_or-set_other old takes.line is.line (Some takes.returned) None other ∙ is.taken);
     }
 
--- the next record's line is none of those that were taken down
+-- the next record's line has no entry yet
 not_before : (rows : List Fields) (count : ℕ) (old new : List (Option Returned)) → AreTaken rows count old
     → TakesDown (record_at rows count) old new
     → (place line : ℕ) → place < count → NamesLine (record_at rows place) line
@@ -58,7 +58,7 @@ not_before rows count old new taken takes place line below names names' =
     names_one _ _ _ is.is.names names ∙ names_one _ _ _ names' takes.is.names in
     absurd (cc (sym is.taken ∙ ap (λ line. entry_of old line) here ∙ takes.first))
 
--- one more record was taken down
+-- one more record was entered
 pub taken_more : (rows : List Fields) (count : ℕ) (old new : List (Option Returned)) → AreTaken rows count old
     → TakesDown (record_at rows count) old new
     → AreTaken rows (count + 1) new
@@ -104,7 +104,7 @@ taken_more rows count old new taken takes = record {
   size = rw takes.new_is (length-set old takes.line (Some takes.returned) ∙ taken.size);
 }
 
--- the next record isn't taken down
+-- the next record is refused
 pub refused_next : (rows : List Fields) (count : ℕ) (table : List (Option Returned)) (is : NotesFault)
     → count < length rows → AreTaken rows count table
     → IsNotTaken (record_at rows count) table (count + 3) is → IsRefusedAfter rows is

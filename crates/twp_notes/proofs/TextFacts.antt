@@ -1,4 +1,4 @@
--- Texts that are appended to.
+-- Texts that are built by appending.
 use Rattle.std.proofs.Common.{◌≡◌, ℕ, ◌+◌, ◌≤◌, List, [], ◌∷◌, ◌++◌, length, take, get_or, map, inl}
 use Rattle.std.proofs.Common.{inr, refl, ap, subst, sym, ◌∙◌, arith, append_assoc, length-append}
 use Rattle.std.specs.Prelude.{Result, Ok, Err, OnOk, OnErr}
@@ -11,7 +11,7 @@ use Rattle.twp_notes.specs.NotesTexts.{record_text, township_fields, AreLineFiel
 use Rattle.twp_notes.specs.steps.WrittenFields.{BeginsWith}
 use Rattle.twp_notes.specs.NotesTexts.{AreLineRecords, text_before}
 
--- and where more was appended, what begins with that begins with them
+-- if more was appended, a text that begins with the longer part begins with the shorter one
 pub begins_more : (old more between new : List ℕ) → between ≡ old ++ more → BeginsWith between new
     → BeginsWith old new
 begins_more old more between new is begins =
@@ -21,7 +21,7 @@ begins_more old more between new is begins =
     ∙ ap (take (length old)) is
     ∙ take_at old more (length old) refl
 
--- five fields that are appended, each with the byte after it, are a record's text
+-- five fields, appended with the byte after each, make a record's text
 pub five_appended : (old first second third fourth fifth a b c d e : List ℕ) → first ≡ old ++ (a ++ 44 ∷ [])
     → second ≡ first ++ (b ++ 44 ∷ []) → third ≡ second ++ (c ++ 44 ∷ [])
     → fourth ≡ third ++ (d ++ 44 ∷ []) → fifth ≡ fourth ++ (e ++ 10 ∷ [])
@@ -29,7 +29,7 @@ pub five_appended : (old first second third fourth fifth a b c d e : List ℕ) �
 five_appended old first second third fourth fifth a b c d e is-first is-second is-third is-fourth is-fifth =
     rw (is-fifth, is-fourth, is-third, is-second, is-first) (simp append_assoc)
 
--- five things by their places
+-- five things by index
 pub five_mapped : {X : Type 0} (f : X → List ℕ) (xs : List X) (x y z u v : X) → length xs ≡ 5
     → map f xs
     ≡ f (get_or xs 0 x) ∷ f (get_or xs 1 y) ∷ f (get_or xs 2 z) ∷ f (get_or xs 3 u) ∷ f (get_or xs 4 v) ∷ []
@@ -41,7 +41,7 @@ five_mapped f (a ∷ b ∷ c ∷ d ∷ []) x y z u v h = absurd (omega arith)
 five_mapped f (a ∷ b ∷ c ∷ d ∷ e ∷ []) x y z u v h = refl
 five_mapped f (a ∷ b ∷ c ∷ d ∷ e ∷ g ∷ rest) x y z u v h = absurd (omega arith)
 
--- what holds at each success, or at each failure, lets another thing hold
+-- two facts about each success or each failure imply a third
 pub on_ok : {A E : Type 0} (r : Result A E) {P Q : Type 0} → OnOk r P → (P → Q) → OnOk r Q
 on_ok (Ok a) holds f = f holds
 on_ok (Err e) holds f = tt
@@ -54,13 +54,13 @@ pub err_anyway : {A E : Type 0} (r : Result A E) {P : Type 0} → P → OnErr r 
 err_anyway (Ok a) holds = tt
 err_anyway (Err e) holds = holds
 
--- the heading, the township and the lines below a number were appended
+-- the heading, the township, and the lines below an index were appended
 pub record IsWrittenTo (notes : FieldNotes) (count : ℕ) (old new : List ℕ) : Type 0 where
   pub rows : List Fields
   pub rows_are : AreLineRecords notes count rows
   pub text_is : new ≡ old ++ text_before notes rows
 
--- before the first line
+-- before the first line is written
 pub no_line : (notes : FieldNotes) (old first new : List ℕ) → first ≡ old ++ record_text heading
     → new ≡ first ++ record_text (township_fields notes.township) → IsWrittenTo notes 0 old new
 no_line notes old first new is-first is-new = record {
@@ -72,7 +72,7 @@ no_line notes old first new is-first is-new = record {
       (sym (append-nil (record_text (township_fields notes.township))));
 }
 
--- one line more
+-- one more line
 pub line_more : (notes : FieldNotes) (count : ℕ) (old so_far new : List ℕ) (fields : Fields)
     → IsWrittenTo notes count old so_far
     → AreLineFields count (returned_of notes count) fields → new ≡ so_far ++ record_text fields

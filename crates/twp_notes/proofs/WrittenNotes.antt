@@ -1,4 +1,4 @@
--- The text that is written of notes is read as those notes.
+-- The text that is written for notes is read back as those notes.
 use Rattle.std.proofs.Common.{◌≡◌, ℕ, suc, ◌+◌, ◌-◌, ◌*◌, ◌≤◌, ◌<◌, List, [], ◌∷◌, ◌++◌, length}
 use Rattle.std.proofs.Common.{inl, inr, Option, Some, None, codes, decimal, refl, ap, subst, sym}
 use Rattle.std.proofs.Common.{◌∙◌, arith, length-append}
@@ -43,7 +43,7 @@ short_number n small =
 short_text : (n : ℕ) → n < 100 → length (decimal n) ≤ 2
 short_text n small = length-decimal-le 2 n (omega arith) small (omega arith)
 
--- a section that has sides is one
+-- a section that has sides is a valid section
 section_range : (section line : ℕ) → IsSide section line → IsSection section
 section_range section line side = elim side.stands.winds [
   | inl even ↦ (
@@ -61,7 +61,7 @@ section_text section line side =
     let range : IsSection section = section_range section line side in
     (short_number section (omega arith), range)
 
--- the first section beside a line has it as a side
+-- the first section beside a line has the line as a side
 first_side : (section : ℕ) (other : Option ℕ) (line : ℕ) → LiesBeside section other line → IsSide section line
 first_side section (Some other) line beside = beside.1
 first_side section None line beside = beside.0
@@ -71,7 +71,7 @@ neighbor_is : (section : ℕ) (other : Option ℕ) (line : ℕ) → LiesBeside s
 neighbor_is section (Some other) line beside = section_text other line beside.2
 neighbor_is section None line beside = refl
 
--- what is known of a neighbor's text
+-- facts about a neighbor's text
 record IsShortPlain (text : List ℕ) (most : ℕ) : Type 0 where
   plain : IsPlain text
   short : length text ≤ most
@@ -106,12 +106,12 @@ five_plain : (a b c d e : List ℕ) → IsPlain a → IsPlain b → IsPlain c �
     → IsPlainRecord (a ∷ b ∷ c ∷ d ∷ e ∷ [])
 five_plain a b c d e pa pb pc pd pe = fields_of a b (c ∷ d ∷ e ∷ []) refl (pa, (pb, (pc, (pd, (pe, tt)))))
 
--- and its length
+-- the length of its text
 five_long : (a b c d e : List ℕ)
     → length (record_text (a ∷ b ∷ c ∷ d ∷ e ∷ [])) ≡ length a + length b + length c + length d + length e + 5
 five_long a b c d e = simp length-append (omega arith)
 
--- what the record of a line is
+-- the facts about the record of a line
 record IsWrittenLine (line : ℕ) (returned : Returned) (fields : Fields) : Type 0 where
   is : IsLineRecord fields line returned
   plain : IsPlainRecord fields
@@ -186,13 +186,13 @@ written_township township number range =
           (omega (arith, plain-number.short, plain-range.short, north_south.short, east_west.short));
     }
 
--- what holds of the record at each place holds of all
+-- if a fact holds for the record at each index, it holds for all records
 all_at : (P : Fields → Type 0) (rows : List Fields) → ((i : ℕ) → i < length rows → P (record_at rows i))
     → AllByRecursion P rows
 all_at P [] at = tt
 all_at P (row ∷ rows) at = (at 0 (omega arith), all_at P rows (λ i below. at (suc i) (omega arith)))
 
--- the records that are written of notes
+-- the records that are written for notes
 record AreRowsOf (notes : FieldNotes) (rows : List Fields) : Type 0 where
   count : length rows ≡ LINE_COUNT
   each : (line : ℕ) → line < LINE_COUNT → IsWrittenLine line (returned_of notes line) (record_at rows line)
@@ -255,7 +255,7 @@ are_records notes rows within are =
       lines = within.count;
     }
 
--- the heading is read as it is written
+-- the heading is read back as it is written
 heading_plain : IsPlainRecord heading
 heading_plain =
     five_plain (codes "line") (codes "between") (codes "and") (codes "quarter") (codes "corner")
@@ -269,13 +269,13 @@ heading_plain =
     )
     (omega arith, (omega arith, (omega arith, (omega arith, (omega arith, (omega arith, tt))))))
 
--- the text begins with no byte order mark
+-- the text does not begin with a byte order mark
 no_mark : (notes : FieldNotes) (rows : List Fields)
     → strip_bom (text_before notes rows) ≡ text_before notes rows
 unfolding strip_bom
 no_mark notes rows = refl
 
--- the text has the records of the heading, of the township and of the lines
+-- the text has the records of the heading, of the township, and of the lines
 records_are : (notes : FieldNotes) (rows : List Fields) → AreWithinLimits notes → AreRowsOf notes rows
     → records_of (text_before notes rows) ≡ heading ∷ township_fields notes.township ∷ rows
 records_are notes rows within are =

@@ -1,4 +1,4 @@
--- What is written of records is read as those records.
+-- Records that are written are read back as those records.
 use Rattle.std.proofs.Common.{◌≡◌, ◌==◌, ℕ, ◌+◌, ◌*◌, ◌/◌, ◌%◌, ◌^◌, ◌≤◌, ◌<◌, Bool, true, false}
 use Rattle.std.proofs.Common.{List, [], ◌∷◌, ◌++◌, length, Some, None, decimal, refl, ap, sym, ◌∙◌}
 use Rattle.std.proofs.Common.{arith, append_assoc, length-append, if◌then◌else◌}
@@ -19,7 +19,7 @@ use Rattle.twp_notes.specs.Records.{Fields}
 use Rattle.twp_notes.specs.NotesTexts.{rest_text, record_text}
 use Rattle.twp_notes.proofs.RecordFacts.{records_after, no_records}
 
--- bytes that are no mark of a text of records: points, digits and letters
+-- bytes that are not special in records: points, digits, and letters
 abbrev pub IsPlain : List ℕ → Type 0
 IsPlain text = AllByRecursion (λ byte. 46 ≤ byte) text
 
@@ -40,7 +40,7 @@ no_mark : (text : List ℕ) → IsPlain text → list_any (needs_byte default_wr
 no_mark [] plain = refl
 no_mark (byte ∷ rest) plain = rw (plain_byte byte plain.0, no_mark rest plain.1) refl
 
--- a plain field is written as it is
+-- a plain field is written unchanged
 unquoted : (text : List ℕ) → IsPlain text → field_text default_writer text ≡ text
 unquoted text plain = rw (no_mark text plain) refl
 
@@ -59,7 +59,7 @@ unquoted_record first second rest plain =
     rw (unquoted first plain.0, unquoted_rest (second ∷ rest) plain.1)
     (sym (append_assoc first (fields_text default_writer (second ∷ rest)) (10 ∷ [])))
 
--- a record is read back, and leaves what comes after it
+-- a record is read back, and the text after it remains
 reads_back : (fields : Fields) (tail : List ℕ) → IsPlainRecord fields
     → next_record default_config st.StartRecord [] [] (record_text fields ++ tail)
     ≡ Some (fields, st.StartRecord, tail)
@@ -101,7 +101,7 @@ plain_third : (digit : ℕ) (none : Bool) → IsPlain (if none then [] else digi
 plain_third digit true = tt
 plain_third digit false = (omega arith, tt)
 
--- a length's text is plain, and short
+-- a length's text is plain and short
 pub plain_length : (v : ℕ) → IsLength v → IsPlain (length_text v)
 plain_length v bound =
     plain_append (decimal (v / 1000)) _ (plain_decimal (v / 1000) (omega arith))
@@ -118,7 +118,7 @@ length_short v bound =
     let third : length (third_decimal v) ≤ 1 = third_short (v % 10) (v % 10 == 0) in
     simp length-append (omega arith)
 
--- short records make a short text
+-- if records are short, so is their text
 pub texts_short : (rows : List Fields) (most : ℕ)
     → AllByRecursion (λ (fields : Fields). length (record_text fields) ≤ most) rows
     → length (flat_map record_text rows) ≤ most * length rows

@@ -16,20 +16,20 @@ use Rattle.twp_notes.specs.declared.returned.Returned.{Returned}
 abbrev pub NOTES_MOST : ℕ
 NOTES_MOST = 65536
 
--- how many fields each record has
+-- the number of fields in each record
 abbrev pub FIELDS : ℕ
 FIELDS = 5
 
--- a township, and what was returned of its lines, by their indexes
+-- a township, and the distances returned for its lines, by index
 pub record FieldNotes : Type 0 where
   pub township : Designation
   pub lines : List Returned
 
--- what stands for a line beyond the last
+-- the value for an index after that of the last line
 abbrev pub nothing_returned : Returned
 nothing_returned = record { quarter = 0; corner = 0 }
 
--- what was returned of a line
+-- the distances returned for a line
 abbrev pub returned_of : FieldNotes → ℕ → Returned
 returned_of notes line = slice_index_or notes.lines line nothing_returned
 
@@ -37,7 +37,7 @@ returned_of notes line = slice_index_or notes.lines line nothing_returned
 abbrev pub heading : Fields
 heading = codes "line" ∷ codes "between" ∷ codes "and" ∷ codes "quarter" ∷ codes "corner" ∷ []
 
--- T, the township's number and side, the range's number and side
+-- T, the township's number and direction, the range's number and direction
 pub record IsTownshipRecord (fields : Fields) (township : Designation) : Type 0 where
   pub columns : length fields ≡ FIELDS
   pub mark : field fields 0 ≡ codes "T"
@@ -55,7 +55,7 @@ run_text run.West = codes "W"
 abbrev pub IsSectionText : List ℕ → ℕ → Type 0
 IsSectionText text section = IsShortNumber text section × IsSection section
 
--- a second section's number, or nothing where the line is on the township's boundary
+-- a second section's number, or nothing if the line is on the township's boundary
 abbrev pub IsNeighborText : List ℕ → Option ℕ → Type 0
 IsNeighborText text None = text ≡ []
 IsNeighborText text (Some section) = IsSectionText text section
@@ -76,12 +76,12 @@ pub record Returns (fields : Fields) (returned : Returned) : Type 0 where
   pub quarter : IsLengthText (field fields 3) returned.quarter
   pub corner : IsLengthText (field fields 4) returned.corner
 
--- the record names a line, and returns it
+-- the record names a line, and returns its distances
 pub record IsLineRecord (fields : Fields) (line : ℕ) (returned : Returned) : Type 0 where
   pub names : NamesLine fields line
   pub returns : Returns fields returned
 
--- the records of lines: all after the heading and the township's
+-- the records of lines: all after the heading and the township's record
 abbrev pub IsLineNumber : List Fields → ℕ → Type 0
 IsLineNumber records number = (3 ≤ number) × (number ≤ length records)
 
@@ -90,7 +90,7 @@ abbrev pub IsNamed : List Fields → ℕ → Type 0
 IsNamed records line = (number : ℕ) × IsLineNumber records number
     × NamesLine (record_numbered records number) line
 
--- The records are these notes: the heading, the township, and for each line one record and no more.
+-- The records are these notes: the heading, the township, and exactly one record for each line.
 pub record AreNoteRecords (records : List Fields) (notes : FieldNotes) : Type 0 where
   pub heading_is : record_numbered records 1 ≡ heading
   pub township_is : IsTownshipRecord (record_numbered records 2) notes.township

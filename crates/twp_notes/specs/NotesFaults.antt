@@ -1,5 +1,5 @@
--- What may be wrong with field notes, each fault as a statement about all their records, and which
--- fault is reported.
+-- What can be wrong with field notes, with each fault as a statement about all their records, and
+-- which fault is reported.
 use Rattle.std.specs.Prelude.{◌≡◌, ◌≢◌, ◌⊎◌, ℕ, ◌≤◌, ◌<◌, List, [], length, Option, Some, None}
 use Rattle.std.specs.Prelude.{IfSome, Result, Ok, Err}
 use Rattle.std.specs.Option.{option_map_or}
@@ -14,7 +14,7 @@ use Rattle.twp_notes.specs.FieldNotes.{IsLineNumber, IsNamed, AreNotes}
 use Rattle.twp_notes.specs.declared.fault.NotesFault.{NotesFault}
 use Rattle.twp_notes.specs.declared.fault.NotesFault.TheVariants as fault
 
--- the number and the place of each fault: a length in bytes, a record's number or a line's index
+-- the number and the place of each fault: a length in bytes, a record's number, or a line's index
 abbrev pub refusal_of : NotesFault → Option Refusal
 refusal_of fault.TooLarge = Some (record { number = 1; at = NOTES_MOST })
 refusal_of fault.Empty = Some (record { number = 2; at = 1 })
@@ -34,11 +34,11 @@ refusal_of fault.Memory = None
 abbrev pub HasNone : {A : Type 0} → (A → Type 0) → Type 0
 HasNone {A} Is = (value : A) → Is value → ⊥
 
--- a record whose first field is no run's letter
+-- a record whose first field is not the letter of a run
 abbrev pub HasNoRun : Fields → Type 0
 HasNoRun fields = HasNone (λ (run : Run). field fields 0 ≡ run_text run)
 
--- a record without a section, or whose neighbor is neither a section nor left empty
+-- a record without a section, or whose neighbor is neither a section nor empty
 abbrev pub HasNoSection : Fields → Type 0
 HasNoSection fields = HasNone (IsSectionText (field fields 1))
     ⊎ HasNone (IsNeighborText (field fields 2))
@@ -47,17 +47,17 @@ HasNoSection fields = HasNone (IsSectionText (field fields 1))
 abbrev pub NamesNoLine : Fields → Type 0
 NamesNoLine fields = HasNone (NamesLine fields)
 
--- a record with a distance that is no length
+-- a record with a distance that is not a length
 abbrev pub HasNoLength : Fields → Type 0
 HasNoLength fields = HasNone (IsLengthText (field fields 3))
     ⊎ HasNone (IsLengthText (field fields 4))
 
--- the numbered record is a line's, and has this fault
+-- the numbered record is that of a line, and has this fault
 abbrev pub HasOnLine : List ℕ → ℕ → (Fields → Type 0) → Type 0
 HasOnLine bytes number IsBad = IsLineNumber (records_of bytes) number
     × IsBad (record_numbered (records_of bytes) number)
 
--- the record's line is that of an earlier record
+-- an earlier record is for the same line
 pub record IsRepeated (records : List Fields) (number : ℕ) : Type 0 where
   pub earlier : ℕ
   pub line : ℕ
@@ -66,7 +66,7 @@ pub record IsRepeated (records : List Fields) (number : ℕ) : Type 0 where
   pub earlier_names : NamesLine (record_numbered records earlier) line
   pub names : NamesLine (record_numbered records number) line
 
--- the fault is there
+-- the fault is present
 abbrev pub HasFault : List ℕ → NotesFault → Type 0
 HasFault bytes fault.TooLarge = NOTES_MOST < length bytes
 HasFault bytes fault.Empty = records_of bytes ≡ []
@@ -85,8 +85,8 @@ HasFault bytes (fault.Missing line) = IsLine line × ¬ IsNamed (records_of byte
 HasFault bytes fault.Read = ⊥
 HasFault bytes fault.Memory = ⊥
 
--- The size of the notes is looked at first, then their records one after another, and at last
--- whether a line is missing.
+-- The size of the notes comes first, then their records one after another, and last any missing
+-- line.
 abbrev pub stage_of : NotesFault → ℕ
 stage_of fault.TooLarge = 0
 stage_of (fault.Missing line) = 2
@@ -100,7 +100,7 @@ number_of fault = option_map_or (λ (refusal : Refusal). refusal.number) (refusa
 abbrev pub place_of : NotesFault → ℕ
 place_of fault = option_map_or (λ (refusal : Refusal). refusal.at) (refusal_of fault) 0
 
--- the fault is at this stage, place and number, or after it
+-- the fault is at this stage, place, and number, or after them
 abbrev pub IsFrom : ℕ → ℕ → ℕ → NotesFault → Type 0
 IsFrom stage place number fault =
     (stage < stage_of fault)
@@ -112,12 +112,12 @@ abbrev pub ComesFirst : (NotesFault → Type 0) → NotesFault → Type 0
 ComesFirst Has fault = (other : NotesFault) → Has other
     → IsFrom (stage_of fault) (place_of fault) (number_of fault) other
 
--- the fault is there, and none that comes before it
+-- the fault is present, and no fault that precedes it is
 pub record IsFirstFault (bytes : List ℕ) (fault : NotesFault) : Type 0 where
   pub is : HasFault bytes fault
   pub first : ComesFirst (HasFault bytes) fault
 
--- the notes that the bytes are, or their first fault
+-- the notes in the bytes, or their first fault
 abbrev pub AnswersNotes : List ℕ → Result FieldNotes NotesFault → Type 0
 AnswersNotes bytes (Ok notes) = AreNotes bytes notes
 AnswersNotes bytes (Err fault) = IfSome (refusal_of fault) (λ _. IsFirstFault bytes fault)

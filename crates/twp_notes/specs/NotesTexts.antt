@@ -1,4 +1,4 @@
--- The text that is written of field notes: the heading, the township, and the lines by rising
+-- The text that is written for field notes: the heading, the township, and the lines by ascending
 -- index.
 use Rattle.std.specs.Prelude.{◌≡◌, ℕ, ◌+◌, ◌<◌, List, [], ◌∷◌, ◌++◌, length, Option, Some}
 use Rattle.std.specs.Prelude.{None, codes, decimal, ⊤}
@@ -23,7 +23,7 @@ abbrev pub rest_text : Fields → List ℕ
 rest_text [] = line_feed ∷ []
 rest_text (field ∷ rest) = comma ∷ (field ++ rest_text rest)
 
--- a record's text: its fields with commas between, and a line feed
+-- a record's text: its fields, separated by commas, and a line feed
 abbrev pub record_text : Fields → List ℕ
 record_text [] = line_feed ∷ []
 record_text (field ∷ rest) = field ++ rest_text rest
@@ -34,30 +34,30 @@ township_fields township =
     codes "T" ∷ decimal township.number ∷ north_south_letter township.north_south
     ∷ decimal township.range ∷ east_west_letter township.east_west ∷ []
 
--- the side of the section at this row and column that is its west side, of lines that are run
--- north, or its south side, of lines that are run west
+-- the side of the section at this row and column that faces the line's other section: its west side
+-- for lines that are run north, its south side for lines that are run west
 abbrev pub far_side : Run → ℕ → ℕ → ℕ
 far_side run.North row column = north_run row (column + 1)
 far_side run.West row column = west_run (row + 1) column
 
--- the section stands east of a line that is run north, or north of a line that is run west
+-- the section is east of a line that is run north, or north of a line that is run west
 pub record StandsBefore (run : Run) (section line : ℕ) : Type 0 where
   pub row : ℕ
   pub column : ℕ
   pub stands : StandsAt section row column
   pub side : line ≡ far_side run row column
 
--- of two sections beside a line the one that stands before it is named first
+-- of two sections beside a line, the one on its east or its north is named first
 abbrev pub IsNamedFirst : Run → ℕ → Option ℕ → ℕ → Type 0
 IsNamedFirst run section (Some other) line = StandsBefore run section line
 IsNamedFirst run section None line = ⊤
 
--- the run and the sections by which a line is named in writing
+-- the run and the sections that name a line in writing
 pub record AreNames (line : ℕ) (run : Run) (section : ℕ) (other : Option ℕ) : Type 0 where
   pub is_line : IsLineOf run section other line
   pub first : IsNamedFirst run section other line
 
--- a neighbor's number, or nothing on the township's boundary
+-- a neighbor's number, or nothing at the township's boundary
 abbrev pub neighbor_text : Option ℕ → List ℕ
 neighbor_text (Some section) = decimal section
 neighbor_text None = []
@@ -71,17 +71,17 @@ pub record AreLineFields (line : ℕ) (returned : Returned) (fields : Fields) : 
   pub fields_are : fields ≡ run_text run ∷ decimal section ∷ neighbor_text other
       ∷ length_text returned.quarter ∷ length_text returned.corner ∷ []
 
--- the lines below a number have these records
+-- the lines below an index have these records
 pub record AreLineRecords (notes : FieldNotes) (count : ℕ) (rows : List Fields) : Type 0 where
   pub count_is : length rows ≡ count
   pub each : (line : ℕ) → line < count
       → AreLineFields line (returned_of notes line) (record_at rows line)
 
--- the text of the records of the heading, of the township and of these lines
+-- the text of the records of the heading, of the township, and of these lines
 abbrev pub text_before : FieldNotes → List Fields → List ℕ
 text_before notes rows = flat_map record_text (heading ∷ township_fields notes.township ∷ rows)
 
--- the text is that of the notes
+-- the text is that of these notes
 pub record IsNotesText (notes : FieldNotes) (text : List ℕ) : Type 0 where
   pub rows : List Fields
   pub rows_are : AreLineRecords notes LINE_COUNT rows
@@ -91,7 +91,8 @@ pub record IsNotesText (notes : FieldNotes) (text : List ℕ) : Type 0 where
 abbrev pub AppendsNotes : FieldNotes → List ℕ → List ℕ → Type 0
 AppendsNotes notes old new = (text : List ℕ) × IsNotesText notes text × (new ≡ old ++ text)
 
--- the numbers of notes that can be written: a township's, and 84 lines with lengths
+-- the numbers that notes can have if they are to be written: a township's designation, and 84 lines
+-- with lengths
 pub record AreWithinLimits (notes : FieldNotes) : Type 0 where
   pub township : IsTownshipNumber notes.township.number × IsTownshipNumber notes.township.range
   pub count : length notes.lines ≡ LINE_COUNT

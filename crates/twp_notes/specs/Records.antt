@@ -1,5 +1,5 @@
--- The records of a text of comma-separated fields, as `csv` reads them: no header row is set apart,
--- a record may have any number of fields, and nothing is trimmed.
+-- The records of a text of comma-separated fields, as `csv` reads them: no header row is separated,
+-- a record can have any number of fields, and nothing is trimmed.
 use Rattle.std.specs.Prelude.{◌≡◌, ℕ, ◌+◌, ◌-◌, true, false, List, [], length, Some, slice_index_or}
 use Rattle.std.specs.Prelude.{unwrap_or}
 use Rattle.std.specs.Borrow.{Bor}
@@ -17,11 +17,11 @@ Fields = List (List ℕ)
 abbrev pub records_of : List ℕ → List Fields
 records_of bytes = records default_config (strip_bom bytes)
 
--- the field at a place, empty where the record is shorter
+-- the field at an index, empty if the record is shorter
 abbrev pub field : Fields → ℕ → List ℕ
 field fields i = slice_index_or fields i []
 
--- the record at a place, without fields where there are fewer
+-- the record at an index, without fields if there are fewer records
 abbrev pub record_at : List Fields → ℕ → Fields
 record_at records i = slice_index_or records i []
 
@@ -29,16 +29,16 @@ record_at records i = slice_index_or records i []
 abbrev pub record_numbered : List Fields → ℕ → Fields
 record_numbered records number = record_at records (number - 1)
 
--- the bytes that a reader has left
+-- the bytes that a reader still has to read
 abbrev pub bytes_ahead : Records → List ℕ
 bytes_ahead r = unwrap_or (source_of (λ (s : Bor (List ℕ)). Some s.now) r.reader) []
 
--- the records that a reader has left
+-- the records that a reader still has to read
 abbrev pub records_left : Records → List Fields
 records_left r =
     records_from default_config (length (bytes_ahead r) + 1) (reader_state r.reader) (bytes_ahead r)
 
--- the reader stands between two records
+-- the reader is between two records
 pub record IsReading (r : Records) : Type 0 where
   pub plain : reader_trim r.reader ≡ trim.None
   pub ready : Ready r.reader

@@ -21,7 +21,7 @@ use csv::ByteRecord;
 use twp_grid::{EastWest, Line, NorthSouth, Run, Section, Township};
 use twp_measure::Length;
 
-/// How many fields each record has.
+/// The number of fields in each record.
 pub const FIELDS: usize = 5;
 
 /// Whether the record is the heading of field notes.
@@ -77,7 +77,8 @@ pub fn line_of(row: &ByteRecord, number: u32) -> Result<Line, NotesFault>
     }
 }
 
-/// The line that a record of field notes names. None where it names none, or hasn't five fields.
+/// The line that a record of field notes names. `None` if it names no line, or does not have five
+/// fields.
 pub fn named_line(row: &ByteRecord) -> Option<Line>
     ensures { Finds result (NamesLine (fields_of row.now)) }
 {
@@ -104,7 +105,7 @@ pub fn returned_in(row: &ByteRecord) -> Option<Returned>
     Some(Returned { quarter, corner })
 }
 
-/// The run that a letter stands for.
+/// The run that a letter means.
 fn run_of(text: &[u8]) -> Option<Run>
     ensures { Finds result (λ (run : Run). text.now ≡ run_text run) }
 {
@@ -115,7 +116,7 @@ fn run_of(text: &[u8]) -> Option<Run>
     }
 }
 
-/// The side of the base line that a letter stands for.
+/// The side of the base line that a letter means.
 fn north_south_of(text: &[u8]) -> Option<NorthSouth>
     ensures { Finds result (λ (side : NorthSouth). text.now ≡ north_south_letter side) }
 {
@@ -126,7 +127,7 @@ fn north_south_of(text: &[u8]) -> Option<NorthSouth>
     }
 }
 
-/// The side of the principal meridian that a letter stands for.
+/// The side of the principal meridian that a letter means.
 fn east_west_of(text: &[u8]) -> Option<EastWest>
     ensures { Finds result (λ (side : EastWest). text.now ≡ east_west_letter side) }
 {
@@ -137,14 +138,14 @@ fn east_west_of(text: &[u8]) -> Option<EastWest>
     }
 }
 
-/// The section of a number.
+/// The section with a number.
 fn section_of(text: &[u8]) -> Option<Section>
     ensures { Finds result (IsSectionText text.now) }
 {
     Section::new(short_number(text)?)
 }
 
-/// The section of a number, or the township's outside where there is nothing.
+/// The section with a number, or the township's outside if the field is empty.
 fn neighbor_of(text: &[u8]) -> Option<Option<Section>>
     ensures { Finds result (IsNeighborText text.now) }
 {
@@ -154,7 +155,7 @@ fn neighbor_of(text: &[u8]) -> Option<Option<Section>>
     Some(Some(section_of(text)?))
 }
 
-/// The length that a text is of.
+/// The length that a text spells.
 fn length_of(text: &[u8]) -> Option<Length>
     ensures { Finds result (IsLengthText text.now) }
 {
@@ -191,7 +192,7 @@ fn digit(byte: u8) -> Option<u8>
     }
 }
 
-/// Whether the bytes are just this text.
+/// Whether the bytes are exactly this text.
 fn is_text(bytes: &[u8], text: &str) -> bool
     ensures { IsTrue result ↔ (bytes.now ≡ text.now) }
 {

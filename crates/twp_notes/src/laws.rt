@@ -1,13 +1,13 @@
-//! What holds of field notes as they are defined: each law is a contract, and its function has
-//! nothing to do.
+//! Laws of field notes that follow from their definitions. Each law is a contract, and its function
+//! does nothing.
 ghost use Rattle.twp_notes.specs.Laws.{OneAnswer, WrittenIsRead};
 
-/// Bytes are one list of notes, or have one first fault.
+/// The same bytes are always the same notes, or have the same first fault.
 pub fn one_answer()
     ensures { OneAnswer }
 {}
 
-/// The text that is written of notes is those notes, so `Notes::read` gives them back.
+/// The text written for notes is those notes, so `Notes::read` returns them.
 pub fn written_is_read()
     ensures { WrittenIsRead }
 {}

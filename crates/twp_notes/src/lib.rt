@@ -1,6 +1,6 @@
-//! The field notes of a township: their records, read from bytes into what was returned of each
-//! line, or refused for their first fault; and the reading of bytes to a limit, for the crates
-//! above too.
+//! The field notes of a township: their records, read from bytes into the distances returned for
+//! each line, or refused for their first fault; and reading bytes up to a limit, which the crates
+//! above also use.
 #![tactic(auto)]
 
 mod fault;

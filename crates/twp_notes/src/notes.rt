@@ -15,7 +15,7 @@ use std::alloc::{AllocError, Global};
 use std::marker::Model;
 use twp_grid::{LINES, Line, Source, Township};
 
-/// The field notes of a township: what was returned of each of its 84 lines.
+/// The field notes of a township: the distances returned for each of its 84 lines.
 #[derive(Clone, Drop, PartialEq, Eq)]
 pub struct Notes {
     township: Township,
@@ -37,11 +37,11 @@ impl Model for Notes {
 }
 
 impl Notes {
-    /// Reads the notes that a source gives, to its end or to one byte past what notes may have,
-    /// before any refusal is answered. The answer is the first fault: too many bytes come first;
-    /// then the fault of the first record that has one, the least number of that record; and last
-    /// the least line that is missing. `Read` is the answer exactly where the source failed in this
-    /// call.
+    /// Reads the notes from a source, to its end or to one byte more than notes can have, before it
+    /// refuses them for any reason. The result is the first fault: too many bytes come first; next
+    /// the fault of the first record that has one, with the smallest number if that record has
+    /// several; and last the missing line with the smallest index. `Read` is the result exactly if
+    /// the source failed in this call.
     pub fn read<R: Source>(alloc: Global, source: &mut R) -> Result<Notes, NotesFault>
         requires { R.has_failed source.old ≡ false }
         ensures failed { IsErrOf result NotesFault.Read ↔ (R.has_failed source.new ≡ true) }
@@ -60,16 +60,16 @@ impl Notes {
         }
     }
 
-    /// Notes of a township, with what was returned of each line, by their indexes.
+    /// The notes of a township, with the distances returned for each line, by index.
     pub fn new(township: Township, lines: [Returned; LINES]) -> Notes
         ensures { result ≡ record { township = township; lines = lines } }
     {
         Notes { township, lines }
     }
 
-    /// Appends the text of the notes: the heading, the township, and the lines by rising index,
-    /// each with the section on its east or on its north first (this project's order). Where memory
-    /// runs out the vector is as it was.
+    /// Appends the text of the notes: the heading, the township, and the lines by ascending index,
+    /// each with the section on its east or its north first (this project's order). If memory runs
+    /// out, the vector is unchanged.
     pub fn write(&self, out: &mut Vec<u8>) -> Result<(), AllocError>
         ensures ok { OnOk result (AppendsNotes self.now out.old.items out.new.items) }
         ensures err { OnErr result (out.new.items ≡ out.old.items) }
@@ -82,7 +82,7 @@ impl Notes {
         outcome
     }
 
-    /// What was returned of a line.
+    /// The distances returned for a line.
     pub fn line(&self, line: Line) -> Returned
         ensures { result ≡ returned_of self.now line }
     {

@@ -14,16 +14,17 @@ use crate::table::LineTable;
 use csv::ByteRecord;
 use std::alloc::Global;
 
-/// The number of the record after the heading and the township's, the first one of a line.
+/// The number of the record after the heading and the township's record, which is the first record
+/// of a line.
 const FIRST_LINE: u32 = 3;
 
-/// The notes that the bytes are, where there are no more bytes than there may be.
+/// The notes in the bytes, which are no more than notes can have.
 pub fn parse(alloc: Global, bytes: &[u8]) -> Result<Notes, NotesFault>
     requires { length bytes.now ≤ NOTES_MOST }
     ensures answer { AnswersNotes bytes.now result }
     ensures no_read { IfErr result (λ fault. fault ≢ NotesFault.Read) }
 {
-    // Borrowed where it is made: to move it would copy its buffers.
+    // Borrowed where it is made, because moving it would copy its buffers.
     let records = &mut Records::new(alloc, bytes);
     let mut row = ByteRecord::new(alloc);
     if !records.read(&mut row)? {
@@ -48,7 +49,7 @@ pub fn parse(alloc: Global, bytes: &[u8]) -> Result<Notes, NotesFault>
     }
 }
 
-/// Takes down the records that are left, each of a line.
+/// Enters the remaining records, each of a line, into the table.
 fn take_lines(records: &mut Records<'_>, row: &mut ByteRecord) -> Result<LineTable, NotesFault>
     requires reading { IsReading records.old }
     requires few { length (records_left records.old) < 2 ^ 17 }
@@ -65,7 +66,7 @@ fn take_lines(records: &mut Records<'_>, row: &mut ByteRecord) -> Result<LineTab
     Ok(table)
 }
 
-/// Takes down the record of this number.
+/// Enters the record with this number into the table.
 fn take_line(table: &mut LineTable, row: &ByteRecord, number: u32) -> Result<(), NotesFault>
     ensures taken { OnOk result (TakesDown (fields_of row.now) table.old table.new) }
     ensures fault { IfErr result (IsNotTaken (fields_of row.now) table.old number) }

@@ -14,7 +14,7 @@ pub enum ReadFault {
     /// The device failed.
     #[error("cannot read")]
     Read,
-    /// There was no memory for the bytes.
+    /// Memory for the bytes ran out.
     #[error("out of memory")]
     Memory,
 }
@@ -39,15 +39,15 @@ impl From<AllocError> for ReadFault {
     }
 }
 
-/// How many bytes are asked for at a time: a reader that fills every buffer is called 65 times for 65,536
-/// bytes, 64 times for their pieces and once for the end.
+/// How many bytes to ask for at a time: a reader that fills every buffer is called 65 times for
+/// 65,536 bytes, 64 times for the pieces and once for the end.
 const PIECE: usize = 1_024;
 
-/// How many bytes there is room for from the start: growing copies what was read so far.
+/// How many bytes to reserve at the start, because growing copies the bytes read so far.
 const ROOM: usize = 131_072;
 
-/// Reads all the bytes that a source gives, to the end of the input. None where there are more than
-/// `limit`: then one more byte was read, and no further one was asked for.
+/// Reads all bytes of a source, to the end of the input. `None` if there are more than `limit`;
+/// then one byte more was read, and no others were asked for.
 pub fn read_whole<S: Source>(
     alloc: Global,
     source: &mut S,
@@ -74,8 +74,8 @@ pub fn read_whole<S: Source>(
     })
 }
 
-/// Reads the bytes that a source gives, to the end of the input or until there are `most` of them.
-/// No byte past these is asked for.
+/// Reads the bytes of a source, to the end of the input or until there are `most` of them. No byte
+/// after these is asked for.
 pub fn read_up_to<S: Source>(
     alloc: Global,
     source: &mut S,

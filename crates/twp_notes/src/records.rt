@@ -12,7 +12,7 @@ pub struct Records<'a> {
 }
 
 impl<'a> Records<'a> {
-    /// Stands before the first record.
+    /// The records of these bytes, before the first one is read.
     pub fn new(alloc: Global, bytes: &'a [u8]) -> Records<'a>
         ensures reading { IsReading result }
         ensures all { records_left result ≡ records_of bytes.now }
@@ -25,7 +25,7 @@ impl<'a> Records<'a> {
         }
     }
 
-    /// Reads the next record into `row`, and says whether there was one.
+    /// Reads the next record into `row`, and returns whether there was one.
     pub fn read(&mut self, row: &mut ByteRecord) -> Result<bool, AllocError>
         requires { IsReading self.old }
         ensures { IfOk result (λ found. MatchBool found
@@ -36,7 +36,7 @@ impl<'a> Records<'a> {
         match self.reader.read_byte_record(row) {
             Ok(found) => Ok(found),
             Err(error) => match error.into_kind() {
-                // Bytes in memory give no fault of a device, but `csv` doesn't promise that for any
+                // Bytes in memory cause no device fault, but `csv` does not promise that for every
                 // reader.
                 ErrorKind::OutOfMemory | ErrorKind::Io(_) => Err(AllocError),
                 _ => unreachable!(),
@@ -45,7 +45,7 @@ impl<'a> Records<'a> {
     }
 }
 
-/// The field of a record at a place.
+/// The field of a record at an index.
 #[tactic(auto, using(crate::proofs::RecordFacts::field_at_is))]
 pub fn field(row: &ByteRecord, place: usize) -> &[u8]
     requires { place < length (fields_of row.now) }

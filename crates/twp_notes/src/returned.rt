@@ -1,7 +1,7 @@
 use twp_measure::Length;
 
-/// What field notes return of a line: the distances from its start to its quarter corner and to the
-/// section corner or closing at its end.
+/// The distances that field notes return for a line: from its start to its quarter corner, and to
+/// the section corner or closing at its end.
 #[derive(Clone, Copy, Default, PartialEq, Eq)]
 pub struct Returned {
     /// To the quarter corner.

@@ -7,7 +7,7 @@ use crate::returned::Returned;
 use std::marker::Model;
 use twp_grid::{LINES, Line};
 
-/// What the records so far return, by the indexes of their lines.
+/// The distances returned by the records so far, by the indexes of their lines.
 #[derive(Clone, Copy)]
 pub struct LineTable {
     entries: [Option<Returned>; LINES],
@@ -28,7 +28,7 @@ impl Model for LineTable {
 }
 
 impl LineTable {
-    /// Nothing is returned yet.
+    /// A table without entries.
     pub fn new() -> LineTable
         ensures { (line : ℕ) → entry_of result line ≡ None }
     {
@@ -37,8 +37,8 @@ impl LineTable {
         }
     }
 
-    /// Takes down what was returned of a line, and says whether this is the first time. What was
-    /// returned before stays.
+    /// Enters the distances returned for a line, and returns whether the line had no entry before.
+    /// An earlier entry stays.
     pub fn take_down(&mut self, line: Line, returned: Returned) -> bool
         ensures first { OnTrue result (entry_of self.old line ≡ None) }
         ensures taken { OnTrue result (self.new ≡ slice_set self.old line (Some returned)) }
@@ -53,7 +53,7 @@ impl LineTable {
         true
     }
 
-    /// What was returned of all lines, or the least index of which nothing was.
+    /// The distances returned for all lines, or the smallest index of a line without any.
     pub fn complete(&self) -> Result<[Returned; LINES], u8>
         ensures lines { IfOk result (AreEntries self.now) }
         ensures missing { IfErr result (IsLeastMissing self.now) }

@@ -42,19 +42,19 @@ impl Field {
     }
 }
 
-/// How a line is named in writing: by its run and the sections beside it, first the one on its east
-/// or on its north (this project's order).
+/// How a line is named in writing: by its run and the sections beside it, the one on its east or
+/// its north first (this project's order).
 #[derive(Clone, Copy, PartialEq, Eq)]
 pub struct LineNames {
-    /// Which way it is run.
+    /// The direction in which it is run.
     pub run: Run,
-    /// The section on its east or on its north; on the township's boundary the only one.
+    /// The section on its east or its north; on the township's boundary, the only section.
     pub section: Section,
-    /// The section on its west or on its south. None on the township's boundary.
+    /// The section on its west or its south. `None` on the township's boundary.
     pub other: Option<Section>,
 }
 
-/// Appends the text of notes. Where memory runs out, the beginning of the text is left.
+/// Appends the text of notes. If memory runs out, a prefix of the text is appended.
 pub fn write_notes(notes: &Notes, out: &mut Vec<u8>) -> Result<(), AllocError>
     ensures ok { OnOk result (AppendsNotes notes.now out.old.items out.new.items) }
     ensures err { OnErr result (BeginsWith out.old.items out.new.items) }
@@ -103,7 +103,7 @@ fn write_line(line: Line, returned: Returned, out: &mut Vec<u8>) -> Result<(), A
     write_record(fields, out)
 }
 
-/// Appends a record: its fields with commas between, and a line feed.
+/// Appends a record: its fields, separated by commas, and a line feed.
 fn write_record(fields: [Field; FIELDS], out: &mut Vec<u8>) -> Result<(), AllocError>
     ensures ok { OnOk result
         (out.new.items ≡ out.old.items ++ record_text (map field_text fields)) }
@@ -125,7 +125,7 @@ fn write_field(field: Field, end: u8, out: &mut Vec<u8>) -> Result<(), AllocErro
     out.extend_from_slice(&[end])
 }
 
-/// The number of a neighbor, or nothing.
+/// The number of a neighbor, or an empty field.
 fn neighbor_field(other: Option<Section>) -> Field
     ensures { field_text result ≡ neighbor_text other }
 {

@@ -28,7 +28,7 @@ no_line_fault line returned (fault.ClosingLong at) is has =
     let long : pos CLOSING_MOST <ℤ last_quarter returned = has.1 in
     omega (arith, ints)
 
--- the first fault of a line is the first of all, where the lines before are within their limits
+-- the first fault of a line is the first of all if the lines before it are within their limits
 pub first_here : (notes : FieldNotes) (index : ℕ) (fault : PlatFault) → IsLine index
     → ((line : ℕ) → line < index → IsInLimits line (returned_of notes line))
     → IsFirstLineFault index (returned_of notes index) fault → IsFirstFault notes fault
@@ -49,7 +49,7 @@ first_here notes index fault is_line before here = record {
   ]);
 }
 
--- one more line's closing quarter is taken down
+-- the closing quarter of one more line is recorded
 pub taken_down : (notes : FieldNotes) (quarters : List ℕ) (index place quarter : ℕ) → place ≡ index
     → index < length quarters
     → ((line : ℕ) → line < index → AnswersLine line (returned_of notes line) (Ok (get_or quarters line 0)))

@@ -1,4 +1,4 @@
--- A lot has one figure.
+-- A lot has only one figure.
 use Rattle.std.proofs.Common.{◌≡◌, ℕ, Some, subst, sym, ◌∙◌}
 use Rattle.twp_measure.proofs.RoundingFacts.{one_rounding}
 use Rattle.twp_grid.specs.Lots.{IsPosition, position_of_lot}
@@ -6,7 +6,7 @@ use Rattle.twp_plat.specs.Plats.{TownshipPlat}
 use Rattle.twp_plat.specs.LotFigures.{IsLotFigure, IsFigureOfLot}
 use Rattle.twp_plat.proofs.OneAnswer.{one_area}
 
--- the figure of a position is one
+-- a position has only one figure
 pub same_figure : (plat : TownshipPlat) (section column row h h' : ℕ) → IsPosition column row
     → IsLotFigure plat section column row h → IsLotFigure plat section column row h' → h ≡ h'
 same_figure plat section column row h h' inside is is' =
@@ -15,7 +15,7 @@ same_figure plat section column row h h' inside is is' =
     (is.over_is ∙ sym is'.over_is) in
     one_rounding is'.area h h' (rw same at is.rounded) is'.rounded
 
--- and so is that of a lot, which fills one position
+-- so does a lot, because it fills one position
 pub same_figure_of_lot : (plat : TownshipPlat) (section lot h h' : ℕ) (p : ℕ × ℕ) → IsPosition p.0 p.1
     → position_of_lot section lot ≡ Some p → IsLotFigure plat section p.0 p.1 h
     → IsFigureOfLot plat section lot h' → h ≡ h'

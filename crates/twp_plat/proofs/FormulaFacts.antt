@@ -1,4 +1,4 @@
--- Interpolation between a section's lines is the formula.
+-- Interpolation between a section's lines gives the formula's result.
 use Rattle.std.proofs.Common.{◌≡◌, ◌==◌, ℕ, zero, suc, ◌+◌, ◌-◌, ◌*◌, ◌≤◌, ◌<◌, pos, ◌+ℤ◌, ◌-ℤ◌}
 use Rattle.std.proofs.Common.{◌*ℤ◌, refl, ap, sym, arith, if◌then◌else◌}
 use Rattle.twp_plat.specs.Plats.{ClosingQuarters}
@@ -8,7 +8,7 @@ use Rattle.twp_plat.specs.Formula.{west_length, north_length, both_ends, both_wi
 use Rattle.twp_plat.specs.Formula.{formula}
 use Rattle.twp_plat.proofs.StraightFacts.{weighted, IsMeanOf, mean_straight}
 
--- a number under 4 is 0, 1, 2 or 3
+-- a number less than 4 is 0, 1, 2, or 3
 pub under_four : (P : ℕ → Type 0) (n : ℕ) → n < 4 → P 0 → P 1 → P 2 → P 3 → P n
 under_four P zero _ first second third fourth = first
 under_four P (suc zero) _ first second third fourth = second
@@ -25,15 +25,16 @@ reach_within closing number below =
     (omega arith, omega arith) (omega arith, omega arith) (omega arith, omega arith)
     (omega arith, omega arith)
 
--- how far they are from its start
+-- the distances of a quarter mile's ends from the line's start
 ends_are : (closing number : ℕ) → number < 4
     → reach closing number + reach closing (number + 1) ≡ both_ends (60000 + closing) number
 ends_are closing number below =
     under_four (λ n. reach closing n + reach closing (n + 1) ≡ both_ends (60000 + closing) n) number below
     refl refl refl refl
 
--- What runs from one closing quarter to another in the last column or row, and is a quarter mile in the
--- others: its lengths at two distances from the start, after which k and k' are left.
+-- The sum of a length's values at two distances from a line's start, after which k and k' remain.
+-- In the last column or row the length varies from one closing quarter to another; in the others it
+-- is a quarter mile.
 pub both_are : (a b k x k' x' along ends number : ℕ) → number < 4 → k + x ≡ along → k' + x' ≡ along
     → x + x' ≡ ends
     → (if number == 3 then pos (2 * a * along) +ℤ (pos b -ℤ pos a) *ℤ pos ends else pos (40000 * along))
@@ -74,7 +75,7 @@ widths_are q column row in_column in_row =
           (line_length q.west) parts parts';
     }
 
--- its heights likewise
+-- a position's heights: their sum is the formula's
 record Heights (q : ClosingQuarters) (column row : ℕ) : Type 0 where
   parts : ℕ
   sum_is : both_heights q column row ≡ pos parts
@@ -99,7 +100,7 @@ heights_are q column row in_column in_row =
           parts parts';
     }
 
--- two means multiplied
+-- the product of two means
 product_is : (w h : Ratio) (p q m n : ℕ) → IsMeanOf w p m → IsMeanOf h q n
     → IsSame (times w h) (ratio (pos m *ℤ pos n) (4 * p * q))
 product_is w h p q m n mean-w mean-h =
@@ -115,7 +116,8 @@ piece_is_formula q column row in_column in_row =
     (product_is (mean_width q column row) (mean_height q column row) (line_length q.west)
     (line_length q.north) widths.parts heights.parts widths.is_mean heights.is_mean)
 
--- a piece's terms: this many of the parts that its section has to a unit; none of its numbers is negative
+-- a piece's numerator and its number of parts, of which the section's divisor makes one unit;
+-- neither is negative
 pub record PieceTerms (q : ClosingQuarters) (column row : ℕ) : Type 0 where
   pub top : ℕ
   pub numerator : (piece q column row).numerator ≡ pos top

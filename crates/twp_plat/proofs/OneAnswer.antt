@@ -1,4 +1,4 @@
--- Notes have one answer, and a position one area.
+-- Notes have only one answer, and a position only one area.
 use Rattle.std.proofs.Common.{◌≡◌, ℕ, ◌*◌, ◌<◌, List, Result, Ok, Err, ℤ, pos, ◌*ℤ◌, ◌<ℤ◌, ◌≤ℤ◌, ap}
 use Rattle.std.proofs.Common.{sym, ◌∙◌, inl, inr, arith}
 use Rattle.std.proofs.lemmas.Grind.{same_number_lists}
@@ -22,7 +22,7 @@ use Rattle.twp_plat.proofs.FormulaFacts.{piece_terms}
 use Rattle.twp_plat.proofs.RatioFacts.{cancelled, numbers_same}
 use Rattle.twp_plat.proofs.SideFacts.{one_quarters}
 
--- a line has one closing quarter
+-- a line has only one closing quarter
 one_closing : (line : ℕ) (returned : Returned) (quarter quarter' : ℕ) → IsClosingQuarter line returned quarter
     → IsClosingQuarter line returned quarter' → quarter ≡ quarter'
 one_closing line returned quarter quarter' (inl (closing, is)) (inl (closing', is')) =
@@ -31,7 +31,7 @@ one_closing line returned quarter quarter' (inl (closing, is)) (inr (regular, is
 one_closing line returned quarter quarter' (inr (regular, is)) (inl (closing, is')) = absurd (regular closing)
 one_closing line returned quarter quarter' (inr (regular, is)) (inr (regular', is')) = is ∙ sym is'
 
--- notes make one plat
+-- the same notes make only one plat
 one_plat : (notes : FieldNotes) (plat plat' : TownshipPlat) → IsPlatOf notes plat → IsPlatOf notes plat'
     → plat ≡ plat'
 one_plat notes plat plat' is is' =
@@ -45,7 +45,7 @@ one_plat notes plat plat' is is' =
     ap (λ t. make t plat.closing_quarters) (is.township_is ∙ sym is'.township_is)
     ∙ ap (make plat'.township) quarters
 
--- a line's closing quarter is within the limits
+-- a line's closing quarter is within its limits
 quarter_within : (line : ℕ) (returned : Returned) (quarter : ℕ) → IsInLimits line returned
     → IsClosingQuarter line returned quarter → IsQuarterOnPlat line quarter
 quarter_within line returned quarter is (inl (closing, quarter_is)) =
@@ -74,7 +74,7 @@ plat_of_notes notes plat is = record {
 short_or_long : (z : ℤ) → z <ℤ pos CLOSING_LEAST → pos CLOSING_MOST <ℤ z → ⊥
 short_or_long z short long = omega (arith, ints)
 
--- a half of a line has one fault
+-- a half of a line has only one fault
 one_fault : (line : ℕ) (returned : Returned) (f f' : PlatFault) → HasLineFault line returned f
     → HasLineFault line returned f'
     → place_of f ≡ place_of f' → half_of f ≡ half_of f' → f ≡ f'
@@ -111,7 +111,7 @@ one_fault line returned (fault.ClosingLong at) (fault.Irregular at' half.Second)
 one_fault line returned (fault.ClosingLong at) (fault.ClosingShort at') has has' place same =
     absurd (short_or_long (last_quarter returned) has'.1 has.1)
 
--- neither of two first faults comes before the other
+-- if two faults are both the first, they are at the same place
 same_spot : (f f' : PlatFault) → IsFrom (place_of f) (half_of f) f' → IsFrom (place_of f') (half_of f') f
     → (place_of f ≡ place_of f') × (half_of f ≡ half_of f')
 same_spot f f' (inl ahead) (inl behind) = absurd (omega arith)
@@ -140,7 +140,7 @@ one_answer notes (Ok plat) (Err f') is is' = absurd (no_fault notes plat f' is i
 one_answer notes (Err f) (Ok plat') is is' = absurd (no_fault notes plat' f is' is)
 one_answer notes (Err f) (Err f') is is' = ap (λ e. Err e) (one_first_fault notes f f' is is')
 
--- a position has one area over a denominator
+-- a position has only one area over a denominator
 pub one_area : (plat : TownshipPlat) (section column row : ℕ) (area area' : Fraction) → column < 4 → row < 4
     → IsPieceArea plat section column row area → IsPieceArea plat section column row area'
     → area.over ≡ area'.over → area ≡ area'

@@ -12,7 +12,7 @@ use Rattle.twp_plat.proofs.FormulaFacts.{piece_is_formula, piece_terms}
 use Rattle.twp_plat.proofs.RatioFacts.{parts_of_whole}
 use Rattle.twp_plat.proofs.WholeFacts.{whole_piece}
 
--- twice the mean of what runs straight, between two points
+-- twice the mean of a length that varies linearly, between two points
 pub doubled_mean_is : (start end length ends s e : ℕ) → ends ≤ 2 * length → s ≡ start → e ≡ end
     → pos (s * (2 * length - ends) + e * ends)
     ≡ pos (2 * start * length) +ℤ (pos end -ℤ pos start) *ℤ pos ends
@@ -21,7 +21,7 @@ doubled_mean_is start end length ends s e within s_is e_is =
     let twice : start * (2 * length - ends + ends) ≡ 2 * start * length = rw total (omega arith) in
     rw (s_is, e_is, sym twice) (weighted start end (2 * length - ends) ends)
 
--- a piece in parts, by the sums of its widths and of its heights
+-- a piece in parts, from the sum of its widths and the sum of its heights
 pub piece_in_parts : (q : ClosingQuarters) (column row widths heights : ℕ) → column < 4 → row < 4
     → pos widths ≡ both_widths q column row → pos heights ≡ both_heights q column row
     → IsSame (piece q column row)
@@ -32,7 +32,7 @@ piece_in_parts q column row widths heights in_column in_row widths_are heights_a
     omega arith in
     rw (sym order) (rw (sym widths_are, sym heights_are) at same)
 
--- a position has at most 25 by 25 chains
+-- a position is at most 25 by 25 chains
 pub parts_most : (west north widths heights : ℕ) → widths ≤ 50000 * west → heights ≤ 50000 * north
     → widths * heights ≤ 625000000 * (4 * north * west)
 parts_most west north widths heights below below' =
@@ -40,7 +40,7 @@ parts_most west north widths heights below below' =
     let regrouped : (50000 * west) * (50000 * north) ≡ 625000000 * (4 * north * west) = omega arith in
     omega arith
 
--- what the parts of a piece with regular lines come to
+-- the whole units of a piece with regular lines, from its parts
 pub whole_quotient : (q : ClosingQuarters) (column row parts divisor : ℕ) → column < 4 → row < 4
     → HaveRegularLines q
     → 0 < divisor → IsSame (piece q column row) (ratio (pos parts) divisor)

@@ -1,4 +1,5 @@
--- The pieces of a plat's sections: whole units outside section 6, and parts of its denominator in all.
+-- The pieces of a plat's sections: whole units outside section 6, and everywhere parts of the
+-- plat's denominator.
 use Rattle.std.proofs.Common.{◌≡◌, ◌≢◌, ◌⊎◌, ℕ, ◌*◌, ◌<◌, pos, inl, inr, arith}
 use Rattle.twp_plat.specs.Plats.{TownshipPlat, IsPlat, ClosingQuarters, AreClosingQuarters}
 use Rattle.twp_plat.specs.Ratios.{ratio, whole, IsSame}

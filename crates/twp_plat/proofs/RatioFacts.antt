@@ -1,10 +1,10 @@
--- Quotients that are one number.
+-- Quotients that are the same number.
 use Rattle.std.proofs.Common.{◌≡◌, ℕ, ◌*◌, ◌/◌, ◌<◌, ℤ, pos, ◌*ℤ◌, ap, sym, ◌∙◌, arith}
 use Rattle.std.proofs.Math.Nat.{mul-div_cancel}
 use Rattle.std.proofs.lemmas.Int.{ints}
 use Rattle.twp_plat.specs.Ratios.{Ratio, ratio, whole, IsSame}
 
--- what multiplied by one number is one number
+-- numbers are the same if they are the same after multiplication by a number above 0
 pub cancelled : (m n d : ℕ) → 0 < d → m * d ≡ n * d → m ≡ n
 cancelled m n d some same = sym (mul-div_cancel m some) ∙ ap (λ k. k / d) same ∙ mul-div_cancel n some
 
@@ -18,7 +18,7 @@ once z = omega (arith, ints)
 whole_numerator : (r : Ratio) (units : ℕ) → IsSame r (whole units) → r.numerator ≡ pos (units * r.denominator)
 whole_numerator r units is = sym (once r.numerator) ∙ is
 
--- this many parts make that whole number
+-- this many parts make that whole number of units
 pub parts_of_whole : (r : Ratio) (units parts d : ℕ) → 0 < r.denominator → IsSame r (whole units)
     → IsSame r (ratio (pos parts) d) → parts ≡ units * d
 parts_of_whole r units parts d some is in_parts =
@@ -28,7 +28,7 @@ parts_of_whole r units parts d some is in_parts =
     let crossed : units * r.denominator * d ≡ parts * r.denominator = numbers_same _ _ same in
     sym (cancelled (units * d) parts r.denominator some (omega arith))
 
--- a whole number in parts
+-- a whole number of units in parts
 pub whole_in_parts : (r : Ratio) (units d : ℕ) → IsSame r (whole units) → IsSame r (ratio (pos (units * d)) d)
 whole_in_parts r units d is =
     let numerator = whole_numerator r units is in

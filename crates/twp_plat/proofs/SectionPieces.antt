@@ -1,4 +1,4 @@
--- Each plat has pieces, one set of them.
+-- The pieces of each plat, which are unique.
 use Rattle.std.proofs.Common.{◌≡◌, ℕ, ◌+◌, ◌-◌, ◌/◌, ◌%◌, ◌<◌, ◌≤◌, ◌⊎◌, ap, refl, sym, inl, inr}
 use Rattle.std.proofs.Common.{arith}
 use Rattle.std.proofs.lemmas.Bool.{cases_lt}
@@ -14,7 +14,7 @@ use Rattle.twp_plat.specs.PlatAreas.{ArePieces}
 use Rattle.twp_plat.proofs.PlatPieces.{piece_is_over}
 use Rattle.twp_plat.proofs.OneAnswer.{one_area}
 
--- where a section stands
+-- the row and the column of a section
 record Stands (section : ℕ) : Type 0 where
   row : ℕ
   column : ℕ
@@ -60,7 +60,7 @@ quarters_of plat section range =
       };
     }
 
--- a position of a township
+-- a position in a township
 abbrev InTownship : ℕ → ℕ → ℕ → Type 0
 InTownship section column row = IsSection section × IsPosition column row
 
@@ -117,7 +117,7 @@ pieces_of plat is = record {
   };
 }
 
--- they are one
+-- a plat has only one set of pieces
 pub same_pieces : (plat : TownshipPlat) (pieces pieces' : ℕ → ℕ → ℕ → ℕ) → ArePieces plat pieces
     → ArePieces plat pieces'
     → (section column row : ℕ) → IsSection section → IsPosition column row

@@ -12,7 +12,7 @@ use Rattle.twp_plat.specs.Plats.{AreClosingQuarters}
 use Rattle.twp_plat.specs.steps.SideLimits.{HaveRegularLines}
 use Rattle.twp_plat.specs.Pieces.{line_length, over_of}
 
--- where a section stands, and its lines by their indexes
+-- the row and the column of a section, and its lines by index
 pub record Lines (section east west north south : ℕ) : Type 0 where
   pub row : ℕ
   pub column : ℕ
@@ -34,8 +34,8 @@ lines_of section east west north south are = record {
   south_is = ap (λ sides. get_or sides 3 0) are.sides_are;
 }
 
--- a line outside the western column is no closing one if it is run west, and outside the northern row if
--- it is run north
+-- a west-run line outside the western column is not a closing line, nor is a north-run line outside
+-- the northern row
 pub west_run_regular : (tier column : ℕ) → tier < 7 → column < 5 → ¬ IsClosing (west_run tier column)
 west_run_regular tier column in_tier east (inl (place, below, is)) = omega arith
 west_run_regular tier column in_tier east (inr (tier', below, is)) = omega arith
@@ -44,17 +44,17 @@ pub north_run_regular : (row place : ℕ) → 0 < row → row < 6 → place < 7 
 north_run_regular row place south below in_place (inl (place', below', is)) = omega arith
 north_run_regular row place south below in_place (inr (tier, below', is)) = omega arith
 
--- the north-western section is section 6
+-- the section in the northwest corner is section 6
 pub corner_is_six : (section row column : ℕ) → StandsAt section row column → row ≡ 0 → column ≡ 5
     → section ≡ 6
 corner_is_six section row column stands top west = omega arith
 
--- a line that doesn't close is regular
+-- the closing quarter of a line other than a closing line is regular
 pub regular_quarter : (plat : TownshipPlat) (line : ℕ) → IsPlat plat → line < 84 → ¬ IsClosing line
     → closing_quarter_of plat line ≡ QUARTER_MILE
 regular_quarter plat line is is_line regular = (is.within line is_line).regular regular
 
--- Outside section 6 a section's north and south lines are regular, or its east and west lines are.
+-- Outside section 6, a section's north and south lines are regular, or its east and west lines are.
 pub regular_outside_six : (plat : TownshipPlat) (section : ℕ) (q : ClosingQuarters) → IsPlat plat
     → AreClosingQuarters plat section q → section ≢ 6 → HaveRegularLines q
 regular_outside_six plat section q is are other =
@@ -86,7 +86,7 @@ regular_outside_six plat section q is are other =
       ]
     ]
 
--- the lines of a section on a plat are four
+-- a section of a plat has only one closing quarter on each side
 pub one_quarters : (plat : TownshipPlat) (section : ℕ) (q q' : ClosingQuarters)
     → AreClosingQuarters plat section q → AreClosingQuarters plat section q' → q ≡ q'
 one_quarters plat section q q' are are' =
@@ -124,7 +124,7 @@ over_is plat q are =
     let by_west : q.west ≡ closing_quarter_of plat 6 = are.west ∙ ap (closing_quarter_of plat) west in
     rw (by_north, by_west) refl
 
--- the line of an index has this index
+-- the line at an index has this index
 pub line_at : (index line : ℕ) (found : Option ℕ) → SomeIff found (IsLine index) index → found ≡ Some line
     → line ≡ index
 line_at index line found is there = (rw there at is).1

@@ -1,4 +1,4 @@
--- Where a section has regular lines its pieces are whole units.
+-- If a section has regular lines, its pieces are whole units.
 use Rattle.std.proofs.Common.{◌≡◌, ◌==◌, ℕ, ◌+◌, ◌-◌, ◌*◌, ◌≤◌, ◌<◌, pos, ◌+ℤ◌, ◌-ℤ◌, ◌*ℤ◌, refl}
 use Rattle.std.proofs.Common.{ap, sym, ◌∙◌, inl, inr, arith, if◌then◌else◌}
 use Rattle.twp_plat.specs.Plats.{ClosingQuarters}
@@ -9,7 +9,7 @@ use Rattle.twp_plat.specs.Formula.{both_ends}
 use Rattle.twp_plat.proofs.FormulaFacts.{under_four, both_are, piece_is_formula, piece_terms}
 use Rattle.twp_plat.proofs.RatioFacts.{whole_of_parts}
 
--- Along a regular line the two distances of a quarter mile's ends add up to eight times as much.
+-- Along a regular line, the distances of a quarter mile's two ends add up to a multiple of eight.
 record Eighths (number : ℕ) : Type 0 where
   count : ℕ
   ends : both_ends 80000 number ≡ 8 * count
@@ -26,7 +26,8 @@ eighths number below =
 eight_times : (f l rest count : ℕ) → f * (8 * rest) + l * (4 * count + 4 * count) ≡ 8 * (f * rest + l * count)
 eight_times f l rest count = omega arith
 
--- what runs along a regular line, at both ends of a quarter mile, adds up to eight times as much
+-- along a regular line, the values of a length at both ends of a quarter mile add up to a multiple
+-- of eight
 along_regular : (a b other number : ℕ) → number < 4 → other < 4
     → (sum : ℕ)
     × ((if number
@@ -45,11 +46,11 @@ along_regular a b other number below below' =
           ∙ ap pos (rw left (eight_times first last (20000 - e.count) e.count)),
     )
 
--- a column or a row that lies between regular lines, where it is the last one
+-- a column or a row that is between regular lines if it is the last one
 abbrev pub IsRegularLast : ℕ → ℕ → ℕ → Type 0
 IsRegularLast number first last = number ≡ 3 → (first ≡ 20000) × (last ≡ 20000)
 
--- what runs between regular lines is a quarter mile everywhere
+-- a length that varies between regular lines is a quarter mile everywhere
 pub between : (first last along ends number : ℕ) → number < 4 → IsRegularLast number first last
     → (if number
     == 3 then pos (2 * first * along) +ℤ (pos last -ℤ pos first) *ℤ pos ends else pos (40000 * along))

@@ -1,6 +1,6 @@
 -- Which returned distances make a plat, and the quarter miles that excess and deficiency are thrown
 -- into (Manual of Surveying Instructions 2009, chapter 3). The limits are this project's. Lengths
--- are thousandths of a chain, and a difference of two may be negative.
+-- are in thousandths of a chain, and a difference of two may be negative.
 use Rattle.std.specs.Prelude.{◌≡◌, ℕ, ◌+◌, ◌-◌, ◌*◌, ◌⊎◌, ℤ, pos, ◌-ℤ◌, ◌≤ℤ◌, ◌<ℤ◌}
 use Rattle.twp_grid.specs.Lines.{IsLine, IsClosing}
 use Rattle.twp_notes.specs.FieldNotes.{FieldNotes, returned_of}
@@ -18,55 +18,57 @@ HALF_MILE = 2 * QUARTER_MILE
 abbrev pub TOLERANCE : ℕ
 TOLERANCE = 250
 
--- the least of a closing quarter
+-- the least length of a closing quarter
 abbrev pub CLOSING_LEAST : ℕ
 CLOSING_LEAST = 5000
 
--- the most of a closing quarter
+-- the greatest length of a closing quarter
 abbrev pub CLOSING_MOST : ℕ
 CLOSING_MOST = 25000
 
--- a line's first half mile, from its start to its quarter corner
+-- the first half mile of a line, from its start to its quarter corner
 abbrev pub first_half : Returned → ℤ
 first_half returned = pos returned.quarter
 
--- its second half mile, from its quarter corner to its end
+-- the second half mile of a line, from its quarter corner to its end
 abbrev pub second_half : Returned → ℤ
 second_half returned = pos returned.corner -ℤ pos returned.quarter
 
--- what the second half mile has beyond a quarter mile
+-- the part of the second half mile after its first quarter mile
 abbrev pub last_quarter : Returned → ℤ
 last_quarter returned = pos returned.corner -ℤ pos returned.quarter -ℤ pos QUARTER_MILE
 
--- a half mile of 40 chains, but for the tolerance
+-- a half mile of 40 chains, within the tolerance
 pub record IsRegular (half : ℤ) : Type 0 where
   pub least : pos (HALF_MILE - TOLERANCE) ≤ℤ half
   pub most : half ≤ℤ pos (HALF_MILE + TOLERANCE)
 
--- a quarter mile that is too short for a line to close with
+-- a last quarter mile that is too short for a closing line
 abbrev pub IsTooShort : ℤ → Type 0
 IsTooShort quarter = quarter <ℤ pos CLOSING_LEAST
 
--- a quarter mile that is too long for it
+-- a last quarter mile that is too long for a closing line
 abbrev pub IsTooLong : ℤ → Type 0
 IsTooLong quarter = pos CLOSING_MOST <ℤ quarter
 
--- a quarter mile that a line may close with
+-- a last quarter mile that a closing line can have
 pub record Closes (quarter : ℤ) : Type 0 where
   pub least : pos CLOSING_LEAST ≤ℤ quarter
   pub most : quarter ≤ℤ pos CLOSING_MOST
 
--- Both halves of a line are regular, but a closing line's second half need only close.
+-- Both half miles of a line are regular, except that the second one of a closing line only has to
+-- close.
 pub record IsInLimits (line : ℕ) (returned : Returned) : Type 0 where
   pub first : IsRegular (first_half returned)
   pub second : ¬ IsClosing line → IsRegular (second_half returned)
   pub closing : IsClosing line → Closes (last_quarter returned)
 
--- the notes make a plat: all their lines are within the limits
+-- the notes make a plat: all their lines are within their limits
 abbrev pub MakesPlat : FieldNotes → Type 0
 MakesPlat notes = (line : ℕ) → IsLine line → IsInLimits line (returned_of notes line)
 
--- A line's closing quarter: of a closing line its last quarter mile, of any other 20 chains.
+-- The closing quarter of a line: the last quarter mile of a closing line, and 20 chains for any
+-- other line.
 abbrev pub IsClosingQuarter : ℕ → Returned → ℕ → Type 0
 IsClosingQuarter line returned quarter =
     (IsClosing line × (pos quarter ≡ last_quarter returned))

@@ -11,33 +11,33 @@ use Rattle.twp_plat.specs.Pieces.{piece, divisor_of, IsPieceArea, over_of}
 use Rattle.twp_plat.specs.Formula.{formula}
 use Rattle.twp_plat.specs.declared.fault.PlatFault.{PlatFault}
 
--- notes have one answer
+-- the same notes always have one answer
 abbrev pub OneAnswer : Type 0
 OneAnswer = (notes : FieldNotes) (answer answer' : Result TownshipPlat PlatFault)
     → AnswersPlat notes answer → AnswersPlat notes answer' → answer ≡ answer'
 
--- a section has one east, west, north and south closing quarter
+-- a section has only one closing quarter in the east, west, north, and south
 abbrev pub OneQuarters : Type 0
 OneQuarters = (plat : TownshipPlat) (section : ℕ) (q q' : ClosingQuarters)
     → AreClosingQuarters plat section q → AreClosingQuarters plat section q' → q ≡ q'
 
--- the plat of notes is one
+-- the plat of notes is a valid plat
 abbrev pub NotesGivePlats : Type 0
 NotesGivePlats = (notes : FieldNotes) (plat : TownshipPlat) → IsPlatOf notes plat → IsPlat plat
 
--- a position has one area over a denominator
+-- a position has only one area over a denominator
 abbrev pub OneArea : Type 0
 OneArea = (plat : TownshipPlat) (section column row : ℕ) (area area' : Fraction)
     → column < POSITIONS_ACROSS → row < POSITIONS_ACROSS
     → IsPieceArea plat section column row area → IsPieceArea plat section column row area'
     → area.over ≡ area'.over → area ≡ area'
 
--- interpolation between the lines is the formula
+-- interpolating between the lines gives the formula's result
 abbrev pub PieceIsFormula : Type 0
 PieceIsFormula = (q : ClosingQuarters) (column row : ℕ) → column < POSITIONS_ACROSS → row < POSITIONS_ACROSS
     → IsSame (piece q column row) (formula q column row)
 
--- outside section 6 a piece is a whole number of units
+-- outside section 6, a piece is a whole number of units
 abbrev pub PieceIsWhole : Type 0
 PieceIsWhole = (plat : TownshipPlat) (section column row : ℕ) (q : ClosingQuarters)
     → IsPlat plat → AreClosingQuarters plat section q → section ≢ 6 → column < POSITIONS_ACROSS

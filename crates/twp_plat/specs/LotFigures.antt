@@ -1,4 +1,4 @@
--- What is printed of lots on a plat, in hundredths of an acre.
+-- The acreage that a plat shows for its lots, in hundredths of an acre.
 use Rattle.std.specs.Prelude.{◌≡◌, ℕ, Some}
 use Rattle.twp_measure.specs.Areas.{Fraction, IsRounded}
 use Rattle.twp_grid.specs.Lots.{position_of_lot}
@@ -12,7 +12,7 @@ pub record IsLotFigure (plat : TownshipPlat) (section column row hundredths : �
   pub over_is : area.over ≡ over_of plat
   pub rounded : IsRounded area hundredths
 
--- the section has the lot of this number, and this is its figure
+-- the section has a lot with this number, and this is its figure
 pub record IsFigureOfLot (plat : TownshipPlat) (section lot hundredths : ℕ) : Type 0 where
   pub column : ℕ
   pub row : ℕ

@@ -1,6 +1,6 @@
--- The area of a position of a section, its piece: interpolated between the section's lines. This
--- rule is the project's own, that of section 6 included. A position's column is counted from the
--- east and its row from the south, 0 to 3. Lengths are thousandths of a chain.
+-- The area of a position of a section, its piece, is interpolated between the section's lines. This
+-- rule, including its use in section 6, is the project's own. A position's column is counted from
+-- the east and its row from the south, 0 to 3. Lengths are in thousandths of a chain.
 use Rattle.std.specs.Prelude.{ℕ, ◌+◌, ◌*◌, List, [], ◌∷◌, take, slice_index_or, pos, ◌-ℤ◌, ◌*ℤ◌}
 use Rattle.std.specs.List.{sum}
 use Rattle.twp_measure.specs.Areas.{Fraction}
@@ -11,15 +11,15 @@ use Rattle.twp_plat.specs.Plats.{TownshipPlat, closing_quarter_of, ClosingQuarte
 use Rattle.twp_plat.specs.Plats.{AreClosingQuarters}
 use Rattle.twp_plat.specs.Ratios.{Ratio, ratio, whole, plus, times, mean, IsSame}
 
--- a line's four quarter miles from its start: three of 20 chains, and its closing quarter
+-- the four quarter miles of a line from its start: three of 20 chains, and its closing quarter
 abbrev pub quarter_miles : ℕ → List ℕ
 quarter_miles closing = QUARTER_MILE ∷ QUARTER_MILE ∷ QUARTER_MILE ∷ closing ∷ []
 
--- one of them, by its number from 0
+-- one of the four, by its number from 0
 abbrev pub quarter_mile : ℕ → ℕ → ℕ
 quarter_mile closing number = slice_index_or (quarter_miles closing) number 0
 
--- how far from the line's start this many of them reach
+-- the distance from the line's start to the end of this many quarter miles
 abbrev pub reach : ℕ → ℕ → ℕ
 reach closing count = sum (take count (quarter_miles closing))
 
@@ -27,32 +27,34 @@ reach closing count = sum (take count (quarter_miles closing))
 abbrev pub line_length : ℕ → ℕ
 line_length closing = sum (quarter_miles closing)
 
--- A length that runs straight along a line, from one value at its start to another at its end: what
--- it is at a distance from the start.
+-- A length that varies linearly along a line, from one value at its start to another at its end:
+-- its value at a distance from the start.
 abbrev pub straight : (start end along distance : ℕ) → Ratio
 straight start end along distance =
     plus (whole start) (ratio ((pos end -ℤ pos start) *ℤ pos distance) along)
 
--- A column's width at a distance north of the section's south line: it runs straight along the west
--- line, from the column's quarter mile of the south line to that of the north line.
+-- A column's width at a distance north of the section's south line: it varies linearly along the
+-- west line, from the column's quarter mile of the south line to that of the north line.
 abbrev pub width_at : ClosingQuarters → ℕ → ℕ → Ratio
 width_at q column distance =
     straight (quarter_mile q.south column) (quarter_mile q.north column)
     (line_length q.west) distance
 
--- A row's height at a distance west of the section's east line: it runs straight along the north
+-- A row's height at a distance west of the section's east line: it varies linearly along the north
 -- line, from the row's quarter mile of the east line to that of the west line.
 abbrev pub height_at : ClosingQuarters → ℕ → ℕ → Ratio
 height_at q row distance =
     straight (quarter_mile q.east row) (quarter_mile q.west row)
     (line_length q.north) distance
 
--- a position's mean width: of its south edge and its north edge, which lie on the west line
+-- a position's mean width: the mean of its widths at its south and north edges, each of which is at a
+-- distance along the west line
 abbrev pub mean_width : ClosingQuarters → ℕ → ℕ → Ratio
 mean_width q column row =
     mean (width_at q column (reach q.west row)) (width_at q column (reach q.west (row + 1)))
 
--- a position's mean height: of its east edge and its west edge, which lie on the north line
+-- a position's mean height: the mean of its heights at its east and west edges, each of which is at
+-- a distance along the north line
 abbrev pub mean_height : ClosingQuarters → ℕ → ℕ → Ratio
 mean_height q column row =
     mean (height_at q row (reach q.north column)) (height_at q row (reach q.north (column + 1)))
@@ -61,14 +63,15 @@ mean_height q column row =
 unfoldable pub piece : ClosingQuarters → ℕ → ℕ → Ratio
 piece q column row = times (mean_width q column row) (mean_height q column row)
 
--- the area of a section's position on a plat, whatever the area's denominator
+-- the area of a section's position on a plat, over any denominator
 pub record IsPieceArea (plat : TownshipPlat) (section column row : ℕ) (area : Fraction)
     : Type 0 where
   pub quarters : ClosingQuarters
   pub are : AreClosingQuarters plat section quarters
   pub area_is : IsSame (ratio (pos area.units) area.over) (piece quarters column row)
 
--- what the pieces of a section are divided by: four times the lengths of its north and west lines
+-- the number that a section's pieces are divided by: four times the product of the lengths of its
+-- north and west lines
 abbrev pub divisor_of : ClosingQuarters → ℕ
 divisor_of q = 4 * line_length q.north * line_length q.west
 
@@ -79,6 +82,6 @@ over_of plat =
     4 * line_length (closing_quarter_of plat (west_run 0 WESTERN_COLUMN))
     * line_length (closing_quarter_of plat (north_run 0 SECTIONS_ACROSS))
 
--- the most that it can be
+-- the greatest possible denominator
 abbrev pub OVER_MOST : ℕ
 OVER_MOST = 4 * line_length CLOSING_MOST * line_length CLOSING_MOST

@@ -1,4 +1,4 @@
--- The areas of whole sections, and of the township: sums of pieces, with nothing rounded.
+-- The areas of whole sections, and of the township: sums of pieces, without rounding.
 use Rattle.std.specs.Prelude.{◌≡◌, ℕ, ◌+◌}
 use Rattle.twp_measure.specs.Areas.{Fraction}
 use Rattle.twp_grid.specs.Winding.{SECTION_COUNT, IsSection}

@@ -1,4 +1,4 @@
--- Why notes make no plat, each fault as a statement about a line, and which fault is reported.
+-- Why notes make no plat, with each fault as a statement about a line, and which fault is reported.
 use Rattle.std.specs.Prelude.{◌≡◌, ◌⊎◌, ℕ, ◌≤◌, ◌<◌, Option, Some, Result, Ok, Err}
 use Rattle.twp_grid.specs.Lines.{IsLine, IsClosing}
 use Rattle.twp_grid.specs.declared.refusal.Refusal.{Refusal}
@@ -11,7 +11,7 @@ use Rattle.twp_plat.specs.declared.fault.HalfMile.TheVariants as half
 use Rattle.twp_plat.specs.declared.fault.PlatFault.{PlatFault}
 use Rattle.twp_plat.specs.declared.fault.PlatFault.TheVariants as fault
 
--- the index of the line that the fault is on
+-- the index of the line with the fault
 abbrev pub place_of : PlatFault → ℕ
 place_of (fault.Irregular line which) = line
 place_of (fault.ClosingShort line) = line
@@ -33,13 +33,13 @@ HasLineFault line returned (fault.ClosingShort at) =
 HasLineFault line returned (fault.ClosingLong at) =
     IsClosing line × IsTooLong (last_quarter returned)
 
--- the fault is there, at its line
+-- the fault is present at its line
 abbrev pub HasFault : FieldNotes → PlatFault → Type 0
 HasFault notes fault =
     IsLine (place_of fault)
     × HasLineFault (place_of fault) (returned_of notes (place_of fault)) fault
 
--- Lines are looked at by rising index, and of each the first half before the second.
+-- Lines are checked by ascending index, and the first half of each before the second.
 abbrev pub half_of : PlatFault → ℕ
 half_of (fault.Irregular line half.First) = 1
 half_of other = 2
@@ -54,7 +54,7 @@ abbrev pub ComesFirst : (PlatFault → Type 0) → PlatFault → Type 0
 ComesFirst Has fault = (other : PlatFault) → Has other
     → IsFrom (place_of fault) (half_of fault) other
 
--- the fault is there, and none that comes before it
+-- the fault is present, and no fault that precedes it is
 pub record IsFirstFault (notes : FieldNotes) (fault : PlatFault) : Type 0 where
   pub is : HasFault notes fault
   pub first : ComesFirst (HasFault notes) fault

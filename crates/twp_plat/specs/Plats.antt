@@ -6,7 +6,7 @@ use Rattle.twp_notes.specs.FieldNotes.{FieldNotes, returned_of}
 use Rattle.twp_plat.specs.Closing.{QUARTER_MILE, CLOSING_LEAST, CLOSING_MOST, MakesPlat}
 use Rattle.twp_plat.specs.Closing.{IsClosingQuarter}
 
--- a township, and its lines' closing quarters by the lines' indexes
+-- a township, and its lines' closing quarters by index
 pub record TownshipPlat : Type 0 where
   pub township : Designation
   pub closing_quarters : List ℕ
@@ -28,23 +28,23 @@ pub record IsPlatOf (notes : FieldNotes) (plat : TownshipPlat) : Type 0 where
       → IsClosingQuarter line (returned_of notes line) (closing_quarter_of plat line)
   pub lines : length plat.closing_quarters ≡ LINE_COUNT
 
--- a closing quarter of a line on some plat
+-- a valid closing quarter of a line on a plat
 pub record IsQuarterOnPlat (line quarter : ℕ) : Type 0 where
   pub least : CLOSING_LEAST ≤ quarter
   pub most : quarter ≤ CLOSING_MOST
   pub regular : ¬ IsClosing line → quarter ≡ QUARTER_MILE
 
--- closing quarters of some plat, by the lines' indexes
+-- the closing quarters of a valid plat, by the lines' indexes
 abbrev pub AreQuartersOnPlat : List ℕ → Type 0
 AreQuartersOnPlat closing_quarters = (line : ℕ) → IsLine line
     → IsQuarterOnPlat line (slice_index_or closing_quarters line 0)
 
--- what holds of every plat, whatever its notes
+-- the facts that hold for every plat, whatever its notes
 pub record IsPlat (plat : TownshipPlat) : Type 0 where
   pub lines : length plat.closing_quarters ≡ LINE_COUNT
   pub within : (line : ℕ) → IsLine line → IsQuarterOnPlat line (closing_quarter_of plat line)
 
--- the closing quarters of a section's east, west, north and south lines
+-- the closing quarters of a section's east, west, north, and south lines
 pub record ClosingQuarters : Type 0 where
   pub east : ℕ
   pub west : ℕ

@@ -10,7 +10,7 @@ use twp_grid::{POSITIONS_ACROSS, SECTIONS, Section};
 use twp_measure::Area;
 
 impl Plat {
-    /// The area of a section: the sum of its positions' areas, exact.
+    /// The area of a section: the exact sum of its positions' areas.
     pub fn section_area(&self, section: Section) -> Area
         ensures sum { IsSectionArea self.now section result }
         ensures units { (pieces : ℕ → ℕ → ℕ → ℕ) → ArePieces self.now pieces
@@ -24,7 +24,7 @@ impl Plat {
         area
     }
 
-    /// The area of the township: the sum of its 36 sections' areas, exact.
+    /// The area of the township: the exact sum of its 36 sections' areas.
     pub fn township_area(&self) -> Area
         ensures sum { IsTownshipArea self.now result }
     {
@@ -36,7 +36,7 @@ impl Plat {
         area
     }
 
-    /// The area of a section's positions of one row.
+    /// The area of the positions in one row of a section.
     fn row_area(&self, section: Section, row: u8) -> Area
         requires { row < POSITIONS_ACROSS }
         ensures over { result.over ≡ over_of self.now }

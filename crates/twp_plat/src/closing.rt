@@ -9,21 +9,21 @@ use twp_notes::Returned;
 /// A quarter mile, in thousandths of a chain.
 pub const QUARTER_MILE: u32 = 20_000;
 
-/// The least of a half mile of 40 chains, in thousandths of a chain (this project's rule, as the
-/// limits below).
+/// The least length of a half mile, other than a closing line's second, in thousandths of a chain
+/// (this project's rule, like the limits below).
 pub const HALF_LEAST: u32 = 39_750;
 
-/// The most of a half mile of 40 chains, in thousandths of a chain.
+/// The greatest length of such a half mile, in thousandths of a chain.
 pub const HALF_MOST: u32 = 40_250;
 
-/// The least of a closing quarter, in thousandths of a chain.
+/// The least length of a closing quarter, in thousandths of a chain.
 pub const CLOSING_LEAST: u32 = 5_000;
 
-/// The most of a closing quarter, in thousandths of a chain.
+/// The greatest length of a closing quarter, in thousandths of a chain.
 pub const CLOSING_MOST: u32 = 25_000;
 
-/// The closing quarter of a line in thousandths of a chain, or what is out of its limits: the first
-/// half mile is looked at before the second.
+/// The closing quarter of a line, in thousandths of a chain, or the line's fault. The first half
+/// mile is checked before the second.
 pub fn closing_quarter(line: Line, returned: Returned) -> Result<u32, PlatFault>
     ensures { AnswersLine line returned result }
 {
@@ -55,7 +55,7 @@ pub fn closing_quarter(line: Line, returned: Returned) -> Result<u32, PlatFault>
     Ok(QUARTER_MILE)
 }
 
-/// Whether a half mile is 40 chains, but for the tolerance.
+/// Whether a half mile is 40 chains, within the tolerance.
 fn is_regular(half: u32) -> bool
     ensures { IsTrue result ↔ IsRegular (pos half) }
 {

@@ -2,12 +2,12 @@ use std::fmt;
 use thiserror::Error;
 use twp_grid::Refusal;
 
-/// The half miles of a line, as they are run.
+/// The half miles of a line, in the order in which they are run.
 #[derive(Clone, Copy, Debug, PartialEq, Eq)]
 pub enum HalfMile {
     /// From the line's start to its quarter corner.
     First,
-    /// From the quarter corner to the section corner or the closing.
+    /// From the quarter corner to the section corner or closing.
     Second,
 }
 
@@ -20,11 +20,12 @@ impl fmt::Display for HalfMile {
     }
 }
 
-/// Why field notes make no plat: a half mile of a line is out of its limits, which are this
-/// project's. Lines go by their indexes, and of a line the first half mile comes before the second.
+/// Why field notes make no plat: a half mile of a line is outside its limits, which are this
+/// project's. Faults are in the order of the lines' indexes, and the first half mile of a line
+/// comes before the second.
 #[derive(Clone, Copy, Debug, PartialEq, Eq, Error)]
 pub enum PlatFault {
-    /// 21, at the line: a half mile that isn't a closing one is too short or too long.
+    /// 21, at the line: a half mile, other than a closing line's second, is too short or too long.
     #[error("the {half} half mile of the line of index {line} isn't from 39.750 to 40.250 chains")]
     Irregular { line: u8, half: HalfMile },
     /// 22, at the line: the last quarter mile of a closing line is too short.
@@ -41,7 +42,7 @@ impl PlatFault {
     ghost use Rattle.std.specs.Prelude.{◌≡◌};
     ghost use Rattle.twp_plat.specs.PlatFaults.{refusal_of};
 
-    /// The number and the place of the refusal, which is the line's index.
+    /// The number of the refusal and its place, which is the line's index.
     pub fn refusal(&self) -> Option<Refusal>
         ensures { result ≡ refusal_of self.now }
     {

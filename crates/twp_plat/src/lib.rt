@@ -1,5 +1,5 @@
 //! The plat of a township: which returned lengths make one, the closing quarters of its lines, and
-//! the areas of its sections' positions, of its sections and of the township, as exact fractions.
+//! the exact areas of its sections' positions, of its sections, and of the township, as fractions.
 #![tactic(auto)]
 
 mod area;

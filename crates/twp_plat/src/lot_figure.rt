@@ -10,8 +10,8 @@ use crate::plat::Plat;
 use twp_grid::{Section, lot_place};
 
 impl Plat {
-    /// The hundredths of an acre that the plat prints of a lot: the area of the position that it
-    /// fills, rounded once, half up (this project's rule). None where the section has no such lot.
+    /// The hundredths of an acre that the plat shows for a lot: the area of the position that it
+    /// fills, rounded once, half up (this project's rule). `None` if the section has no such lot.
     pub fn lot_hundredths(&self, section: Section, lot: u8) -> Option<u64>
         ensures figure { Finds result (IsFigureOfLot self.now section lot) }
         ensures has { IsSome result ↔ ((1 ≤ lot) × (lot ≤ number_of_lots section)) }

@@ -34,13 +34,14 @@ impl Model for SideQuarters {
         record { east = q.east; west = q.west; north = q.north; south = q.south } };
 }
 
-/// A quarter mile, and three of them, where a line's closing quarter begins.
+/// A quarter mile, and three of them, after which a line's closing quarter begins.
 const QUARTER: u64 = QUARTER_MILE as u64;
 
 const THREE_QUARTERS: u64 = 3 * QUARTER;
 
 impl SideQuarters {
-    /// The area of a position in whole units, as all pieces of a section with regular lines are.
+    /// The area of a position in whole units, for a section with regular lines, whose pieces are
+    /// all whole.
     pub fn whole_units(self, column: u8, row: u8) -> u64
         requires regular { HaveRegularLines self }
         requires column { column < POSITIONS_ACROSS }
@@ -52,7 +53,7 @@ impl SideQuarters {
     }
 
     /// The area of a position in parts of a unit: four times its mean width times its mean height,
-    /// times the lengths of the lines along which these run.
+    /// times the lengths of the lines along which these vary.
     pub fn parts(self, column: u8, row: u8) -> u64
         requires column { column < POSITIONS_ACROSS }
         requires row { row < POSITIONS_ACROSS }
@@ -62,7 +63,7 @@ impl SideQuarters {
         self.doubled_width(column, row) * self.doubled_height(column, row)
     }
 
-    /// How many parts make a unit.
+    /// How many parts make one unit.
     pub fn divisor(self) -> u64
         ensures value { result ≡ divisor_of self }
         ensures range { 0 < result }
@@ -113,7 +114,7 @@ impl SideQuarters {
     }
 }
 
-/// Twice the distance of a quarter mile's middle from the start of a line of this length.
+/// Twice the distance of a quarter mile's middle from the start of a line with this length.
 fn doubled_middle(length: u64, number: u8) -> u64
     requires length { (line_length 0 ≤ length) × (length ≤ line_length CLOSING_MOST) }
     requires number { number < POSITIONS_ACROSS }
@@ -127,9 +128,9 @@ fn doubled_middle(length: u64, number: u8) -> u64
     }
 }
 
-/// Twice the mean of a width or a height between two points of a line along which it runs straight,
-/// from `start` to `end`, times the line's length. The middle is the points' distance from the
-/// line's start.
+/// Twice the mean of a width or a height between two points of a line along which it varies
+/// linearly from `start` to `end`, times the line's length. `doubled_middle` is twice the distance
+/// of the points' middle from the line's start.
 fn doubled_mean(start: u32, end: u32, length: u64, doubled_middle: u64) -> u64
     requires start { start ≤ CLOSING_MOST }
     requires end { end ≤ CLOSING_MOST }

@@ -16,12 +16,12 @@ use twp_grid::{LINES, Line, Section, Township, sides};
 use twp_measure::Area;
 use twp_notes::Notes;
 
-/// The section in the township's north-western corner, the one whose north and west lines both
-/// close.
+/// The section in the township's northwest corner, whose north and west lines are both closing
+/// lines.
 const CORNER_SECTION: u8 = 6;
 
-/// The plat of a township, as its field notes make it: what its sections' positions are computed
-/// from.
+/// The plat of a township, made from its field notes: the measurements from which the areas of its
+/// sections' positions are computed.
 #[derive(Clone, Drop, PartialEq, Eq)]
 pub struct Plat {
     township: Township,
@@ -44,10 +44,10 @@ impl Model for Plat {
 }
 
 impl Plat {
-    /// The plat of the notes, or the first of their lines' faults. Each half mile is 40 chains
-    /// within a quarter of a chain, but a closing line's second half leaves 5 to 25 chains to its
-    /// last quarter mile (this project's rule; for the closing lines Manual of Surveying
-    /// Instructions 2009, chapter 3).
+    /// The plat of the notes, or the first of their lines' faults. Each half mile must be 40
+    /// chains, within a quarter of a chain, but the second half of a closing line must leave 5 to
+    /// 25 chains for its last quarter mile (this project's rule; for the closing lines, Manual of
+    /// Surveying Instructions 2009, chapter 3).
     pub fn protract(notes: &Notes) -> Result<Plat, PlatFault>
         ensures { AnswersPlat notes.now result }
     {
@@ -62,9 +62,10 @@ impl Plat {
         })
     }
 
-    /// The plat of a township with these closing quarters, which stand at their lines' indexes, in
-    /// thousandths of a chain. None where no notes make such a plat: where a closing line's isn't
-    /// from 5 to 25 chains, or another line's isn't 20 chains (this project's rule).
+    /// The plat of a township with these closing quarters, by the indexes of their lines, in
+    /// thousandths of a chain. `None` if no notes make such a plat: if the closing quarter of a
+    /// closing line is not 5 to 25 chains, or that of another line is not 20 chains (this project's
+    /// rule).
     pub fn of_parts(township: Township, closing_quarters: &[u32; LINES]) -> Option<Plat>
         ensures { SomeIff result (IsPlat (plat_of_parts township closing_quarters.now))
             (plat_of_parts township closing_quarters.now) }
@@ -78,7 +79,7 @@ impl Plat {
         })
     }
 
-    /// The closing quarters of the lines, which stand at their indexes, in thousandths of a chain.
+    /// The closing quarters of the lines, by index, in thousandths of a chain.
     pub fn closing_quarters(&self) -> &[u32; LINES]
         ensures value { result.now ≡ self.now.closing_quarters }
         ensures plat { IsPlat self.now }
@@ -99,8 +100,8 @@ impl Plat {
         Area::new(self.units(section, column, row), self.over()).unwrap()
     }
 
-    /// The denominator of each area on the plat: four times the lengths of section 6's north line
-    /// and west line, multiplied by each other.
+    /// The denominator of each area on the plat: four times the product of the lengths of section
+    /// 6's north and west lines.
     pub fn over(&self) -> u64
         ensures value { result ≡ over_of self.now }
         ensures range { (0 < result) × (result ≤ OVER_MOST) }
@@ -109,14 +110,15 @@ impl Plat {
         self.quarters(Section::at(0, 5)).divisor()
     }
 
-    /// The township that the plat is of.
+    /// The township that the plat shows.
     pub fn township(&self) -> Township
         ensures { result ≡ self.now.township }
     {
         self.township
     }
 
-    /// A position's area in parts of the plat's denominator: outside section 6 it is whole units.
+    /// A position's area in parts of the plat's denominator; outside section 6 it is a whole number
+    /// of units.
     fn units(&self, section: Section, column: u8, row: u8) -> u128
         requires column { column < POSITIONS_ACROSS }
         requires row { row < POSITIONS_ACROSS }

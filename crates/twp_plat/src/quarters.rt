@@ -1,11 +1,11 @@
-//! Which numbers are the closing quarters of some plat.
+//! Which numbers can be the closing quarters of a plat.
 ghost use Rattle.std.specs.Prelude.{◌↔◌, IsTrue};
 ghost use Rattle.twp_plat.specs.Plats.{IsQuarterOnPlat, AreQuartersOnPlat};
 
 use crate::closing::{CLOSING_LEAST, CLOSING_MOST, QUARTER_MILE};
 use twp_grid::{LINES, Line};
 
-/// Whether each line may have its closing quarter of these, which stand at the lines' indexes.
+/// Whether each line can have the closing quarter at its index.
 pub fn are_on_plat(closing_quarters: &[u32; LINES]) -> bool
     ensures { IsTrue result ↔ AreQuartersOnPlat closing_quarters.now }
 {
@@ -18,8 +18,8 @@ pub fn are_on_plat(closing_quarters: &[u32; LINES]) -> bool
     true
 }
 
-/// Whether a line may have this closing quarter, in thousandths of a chain. A quarter mile may be
-/// any line's, and is nearly each one's.
+/// Whether a line can have this closing quarter, in thousandths of a chain. Any line can have a
+/// quarter mile, and nearly all do.
 fn is_on_plat(line: Line, quarter: u32) -> bool
     ensures { IsTrue result ↔ IsQuarterOnPlat line quarter }
 {

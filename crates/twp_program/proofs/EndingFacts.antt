@@ -20,7 +20,7 @@ use Rattle.twp_command.specs.declared.task.Task.TheVariants.{Plat}
 use Rattle.twp_command.specs.declared.task.TaskFault.{TaskFault}
 use Rattle.twp_command.specs.declared.task.TaskFault.TheVariants as fault
 
--- what the run of a task gave is how the program ends by the words that ask for it
+-- the program ends with the outcome of the run of a task, for the words that ask for it
 pub ends_as : (words : List Text) (task : Task) (r : Result Verdict Failure) → IsTaskOf words task
     → IfOk r (IsVerdictOf task) → IfErr r (FailsOn task) → EndsAs words (ending_of r)
 ends_as words task (Ok verdict) asked answers fails = (task, asked, answers)
@@ -29,14 +29,14 @@ ends_as words task (Err (Run Read)) asked answers fails = (task, asked)
 ends_as words task (Err (Run Write)) asked answers fails = (task, asked)
 ends_as words task (Err (Run Memory)) asked answers fails = tt
 
--- words that give no task end the program as their fault
+-- if the words are not a task, the program ends with their fault
 pub ends_as_fault : (words : List Text) (f : TaskFault) → IsFaultOf words f
     → EndsAs words (ending_of_fault f)
 ends_as_fault words (fault.Usage text) is = is
 ends_as_fault words (fault.Help text) is = is
 ends_as_fault words fault.Memory is = tt
 
--- a run on two files answers its task
+-- a run on two files gives the answer of its task
 pub task_answers : (task : Task) (most : ℕ) (notes second out : Use) (unread : Type 0)
     (r : Result Verdict Failure)
     → EndsRun (RunsOnPlat (AnswerTo task) most notes second out unread) r
@@ -51,13 +51,13 @@ task_answers task most notes second out unread r (Ok verdict, promise, is) =
     })
 task_answers task most notes second out unread r (Err fault, promise, is) = rw is tt
 
--- and where it fails, that is the task's failure
+-- if it fails, that is the task's failure
 pub task_fails : (task : Task) (Promise : Result Verdict RunFault → Type 0)
     (r : Result Verdict Failure) → EndsRun Promise r → IfErr r (FailsOn task)
 task_fails task Promise r (Ok verdict, promise, is) = rw is tt
 task_fails task Promise r (Err fault, promise, is) = rw is tt
 
--- a run on notes alone answers the plat's task
+-- a run on notes alone gives the answer of the plat's task
 pub plat_answers : (name : Text) (notes out : Use) (r : Result Verdict Failure)
     → EndsRun (RunsOnNotes IsPlatAnswer notes out) r → IfOk r (IsVerdictOf (Plat name))
 plat_answers name notes out r (Ok verdict, promise, is) =
@@ -70,7 +70,7 @@ plat_answers name notes out r (Ok verdict, promise, is) =
     })
 plat_answers name notes out r (Err fault, promise, is) = rw is tt
 
--- what the run of joined input gave is a verdict on it, or a fault of the run
+-- the outcome of the run on joined input is a verdict on it, or a fault of the run
 pub joined_answers : (told old new : Option (List ℕ)) (ran : Result Verdict RunFault)
     → Reads told (λ bytes.
     IsRun (IsAcresAnswer (joined_notes bytes) (joined_description bytes)) old new ran)

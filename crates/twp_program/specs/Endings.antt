@@ -26,33 +26,33 @@ use Rattle.twp_command.specs.declared.task.Task.{Task}
 use Rattle.twp_command.specs.declared.task.Task.TheVariants.{Plat, Acres, Normal, Report}
 use Rattle.twp_command.specs.declared.task.TaskFault.TheVariants.{Usage}
 
--- the task is given this file
+-- the task has this file
 abbrev pub IsFileOf : Task → Text → Type 0
 IsFileOf (Plat notes) name = name ≡ notes
 IsFileOf (Acres notes description account) name = (name ≡ notes) ⊎ (name ≡ description)
 IsFileOf (Normal notes description) name = (name ≡ notes) ⊎ (name ≡ description)
 IsFileOf (Report notes tracts) name = (name ≡ notes) ⊎ (name ≡ tracts)
 
--- the answer of the task to the bytes of its files, of which a plat has only the first
+-- the answer of the task for the bytes of its files; for a plat, only those of the first
 abbrev pub AnswerTo : Task → List ℕ → List ℕ → AnswerRelation
 AnswerTo (Plat notes) first second = IsPlatAnswer first
 AnswerTo (Acres notes description account) first second = IsAcresAnswerBy account first second
 AnswerTo (Normal notes description) first second = IsNormalAnswer first second
 AnswerTo (Report notes tracts) first second = IsReportAnswer first second
 
--- the verdict is that of the task's answer to some bytes, since files don't tell which they gave
+-- the verdict is that of the task's answer for some bytes, because the bytes of files are not known
 pub record IsVerdictOf (task : Task) (verdict : Verdict) : Type 0 where
   pub first : List ℕ
   pub second : List ℕ
   pub answer : List ℕ
   pub answers : AnswerTo task first second answer verdict
 
--- a task fails on a file that can't be opened, which is its own, or in its run
+-- a task fails because a file of its own cannot be opened, or in its run
 abbrev pub FailsOn : Task → Failure → Type 0
 FailsOn task (Open name) = IsFileOf task name
 FailsOn task (Run fault) = ⊤
 
--- What a run promises of field notes alone, which writes an answer to them.
+-- What a run promises that writes an answer for field notes alone.
 pub record RunsOnNotes (Answers : List ℕ → AnswerRelation) (notes out : Use)
     (result : Result Verdict RunFault) : Type 0 where
   pub told : (n : List ℕ) → notes.old ≡ Some n → IsRun (Answers n) out.old out.new result
@@ -72,15 +72,14 @@ EndsRun Promise result = (ran : Result Verdict RunFault) × Promise ran × (resu
 abbrev pub AskForTask : List Text → Type 0
 AskForTask words = (task : Task) × IsTaskOf words task
 
--- Where there are words, a device fails only in a task that they ask for. Memory may be refused
--- anywhere.
+-- If there are words, a device fails only in a task that they ask for. Memory can run out anywhere.
 abbrev pub MayFail : List Text → RunFault → Type 0
 MayFail words Read = AskForTask words
 MayFail words Write = AskForTask words
 MayFail words Memory = ⊤
 
--- An answer comes only where the words ask for a task, and its verdict is the task's; help only
--- where they ask for help, and usage only where they misuse the command.
+-- There is an answer only if the words ask for a task, and its verdict is the task's; there is help
+-- only if they ask for help, and usage only if they misuse the command.
 abbrev pub EndsAs : List Text → Ending → Type 0
 EndsAs words (Answered verdict) = (task : Task) × IsTaskOf words task × IsVerdictOf task verdict
 EndsAs words (Helps text) = HasKindAt words DisplayHelp
@@ -88,29 +87,30 @@ EndsAs words (Misused text) = IsFaultOf words (Usage text)
 EndsAs words (Failed (Open name)) = (task : Task) × IsTaskOf words task × IsFileOf task name
 EndsAs words (Failed (Run fault)) = MayFail words fault
 
--- the verdict is that on some joined input, since standard input doesn't tell what it gave
+-- the verdict is that for some joined input, because the bytes of standard input are not known
 pub record IsJoinedVerdict (verdict : Verdict) : Type 0 where
   pub bytes : List ℕ
   pub answer : List ℕ
   pub answers : IsAcresAnswer (joined_notes bytes) (joined_description bytes) answer verdict
 
--- the words can't be obtained because memory ran out, or because they can't be read
+-- the words cannot be obtained because memory ran out, or because they cannot be read
 abbrev pub IsWordsFault : RunFault → Type 0
 IsWordsFault Write = ⊥
 IsWordsFault fault = ⊤
 
--- no file is opened without a word
+-- no file is opened if there are no words
 abbrev pub IsRunFailure : Failure → Type 0
 IsRunFailure (Open name) = ⊥
 IsRunFailure (Run fault) = ⊤
 
--- without a word standard input is answered, or a device or memory fails
+-- if there are no words, standard input is answered, or a device or memory fails
 abbrev pub EndsWithoutWords : Ending → Type 0
 EndsWithoutWords (Answered verdict) = IsJoinedVerdict verdict
 EndsWithoutWords (Failed failure) = IsRunFailure failure
 EndsWithoutWords other = ⊥
 
--- the program ends by some words after its name, since the host doesn't tell which, or without any
+-- the program ends as it does for some words after its name, because the host's words are not
+-- known, or for none
 abbrev pub EndsProgram : Ending → Type 0
 EndsProgram ending =
     ((words : List Text) × (1 < length words) × EndsAs words ending) ⊎ EndsWithoutWords ending

@@ -13,8 +13,8 @@ use Rattle.twp_program.specs.declared.ending.Failure.TheVariants.{Run}
 use Rattle.twp_command.specs.declared.task.TaskFault.{TaskFault}
 use Rattle.twp_command.specs.declared.task.TaskFault.TheVariants.{Usage, Help, Memory}
 
--- 0 where the input was accepted or help was asked for, 1 where the input was refused, 2 where the
--- command line was misused, 3 where there is no answer
+-- 0 if the input was accepted or help was asked for, 1 if the input was refused, 2 if the command
+-- line was misused, 3 if there is no answer
 abbrev pub status_of : Ending → ℕ
 status_of (Answered Accepted) = 0
 status_of (Answered (Refused refusal)) = 1
@@ -23,7 +23,7 @@ status_of (Helps text) = 0
 status_of (Misused text) = 2
 status_of (Failed failure) = 3
 
--- the status of the ending; where help was asked for and can't be written, that of no answer
+-- the status of the ending; if help was asked for but cannot be written, the status for no answer
 abbrev pub IsStatusOf : Ending → ℕ → Type 0
 IsStatusOf (Helps text) status = (status ≡ 0) ⊎ (status ≡ 3)
 IsStatusOf ending status = status ≡ status_of ending
@@ -33,7 +33,7 @@ abbrev pub ending_of : Result Verdict Failure → Ending
 ending_of (Ok verdict) = Answered verdict
 ending_of (Err failure) = Failed failure
 
--- how the program ends where the words give no task
+-- how the program ends if the words are not a task
 abbrev pub ending_of_fault : TaskFault → Ending
 ending_of_fault (Usage text) = Misused text
 ending_of_fault (Help text) = Helps text
@@ -44,7 +44,7 @@ abbrev pub failing : Result Verdict RunFault → Result Verdict Failure
 failing (Ok verdict) = Ok verdict
 failing (Err fault) = Err (Run fault)
 
--- why the words of the command line can't be obtained: memory ran out, or they can't be read
+-- why the words of the command line cannot be obtained: memory ran out, or they cannot be read
 abbrev pub words_fault : ErrorKind → RunFault
 words_fault OutOfMemory = fault.Memory
 words_fault _ = fault.Read

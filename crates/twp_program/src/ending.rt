@@ -8,9 +8,9 @@ use twp_command::{Name, TaskFault};
 /// How the program ends.
 #[derive(Drop)]
 pub enum Ending {
-    /// A run answered, and wrote its answer.
+    /// A run gave an answer, and wrote it.
     Answered(Verdict),
-    /// Help was asked for, which the text gives.
+    /// Help was asked for, which is in the text.
     Helps { text: String },
     /// The command line was misused, as the text says.
     Misused { text: String },
@@ -18,7 +18,7 @@ pub enum Ending {
     Failed(Failure),
 }
 
-/// How the program ended, and the status that it exits with.
+/// How the program ended, and its exit status.
 #[derive(Drop)]
 pub struct Ended {
     /// How it ended.
@@ -33,12 +33,13 @@ pub enum Failure {
     /// A file can't be opened.
     #[error("cannot open {name}")]
     Open { name: Name },
-    /// A run gave no verdict, or the words of the command line or its help met the same fault.
+    /// A run gave no verdict, or the same fault occurred in reading the words of the command line
+    /// or writing its help.
     #[error("{0}")]
     Run(RunFault),
 }
 
-/// What a run gave, as the program's.
+/// The outcome of a run, as the program's.
 pub(crate) fn outcome_of(ran: Result<Verdict, RunFault>) -> Result<Verdict, Failure>
     ensures { result ≡ failing ran }
 {
@@ -48,7 +49,7 @@ pub(crate) fn outcome_of(ran: Result<Verdict, RunFault>) -> Result<Verdict, Fail
     }
 }
 
-/// The status where there is no answer.
+/// The status if there is no answer.
 pub(crate) const NO_ANSWER: u8 = 3;
 
 impl Ending {
@@ -62,7 +63,7 @@ impl Ending {
         }
     }
 
-    /// How the program ends where the words of its command line give no task.
+    /// How the program ends if the words of its command line are not a task.
     pub(crate) fn after_fault(fault: TaskFault) -> Ending
         ensures { result ≡ ending_of_fault fault }
     {
@@ -73,9 +74,8 @@ impl Ending {
         }
     }
 
-    /// The status that the program ends with: 0 where the input was accepted or help was asked for,
-    /// 1 where the input was refused, 2 where the command line was misused, and 3 where there is no
-    /// answer.
+    /// The exit status of the program: 0 if the input was accepted or help was asked for, 1 if the
+    /// input was refused, 2 if the command line was misused, and 3 if there is no answer.
     pub(crate) fn status(&self) -> u8
         ensures { result ≡ status_of self.now }
     {

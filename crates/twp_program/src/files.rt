@@ -11,8 +11,8 @@ use twp_explain::Given;
 use twp_grid::Device;
 use twp_input::Kept;
 
-/// Field notes, opened. The two files of a task have types of their own, so that no call takes one
-/// for the other.
+/// Field notes, opened. The two files of a task have different types, so that no call can mistake
+/// one for the other.
 #[derive(Drop)]
 pub(crate) struct OpenedNotes<S> {
     pub(crate) name: Name,
@@ -54,7 +54,7 @@ pub(crate) fn open_text<R: Files + AllocGlobal>(
     }
 }
 
-/// Opens a file to read it, and to keep what is read. None where it can't be opened.
+/// Opens a file to read it, and to keep the bytes that are read. `None` if it cannot be opened.
 fn open<R: Files + AllocGlobal>(rt: &R, name: &Name) -> Option<Kept<Device<R::File>>>
     ensures { IfSome result (λ file. device_failed (inner_source file) ≡ false) }
 {
@@ -65,7 +65,7 @@ fn open<R: Files + AllocGlobal>(rt: &R, name: &Name) -> Option<Kept<Device<R::Fi
 }
 
 impl<S> OpenedNotes<Kept<S>> {
-    /// What was read of the notes, unless no memory was there to keep it.
+    /// The bytes that were read from the notes, unless memory to keep them ran out.
     pub(crate) fn given(&self) -> Option<Given<'_>>
         ensures { IfSome result (λ given. copy_of self.now.source ≡ Some given.bytes.now) }
     {
@@ -74,7 +74,7 @@ impl<S> OpenedNotes<Kept<S>> {
 }
 
 impl<S> OpenedText<Kept<S>> {
-    /// What was read of the text, unless no memory was there to keep it.
+    /// The bytes that were read from the text, unless memory to keep them ran out.
     pub(crate) fn given(&self) -> Option<Given<'_>>
         ensures { IfSome result (λ given. copy_of self.now.source ≡ Some given.bytes.now) }
     {
@@ -82,7 +82,7 @@ impl<S> OpenedText<Kept<S>> {
     }
 }
 
-/// What was read of a file, which begins with its first line.
+/// The bytes that were read from a file, which begin with its first line.
 fn given<'a, S>(name: &'a Name, source: &'a Kept<S>) -> Option<Given<'a>>
     ensures { IfSome result (λ given. copy_of source.now ≡ Some given.bytes.now) }
 {

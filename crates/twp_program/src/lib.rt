@@ -1,5 +1,6 @@
-//! The program `township` over the host's capabilities: the files that a command line names, the runs
-//! on them or on standard input, what is told of a refusal on standard error, and the status.
+//! The program `township` over the host's capabilities: the files that a command line names, the
+//! runs on them or on standard input, the explanation of a refusal on standard error, and the
+//! status.
 #![tactic(auto)]
 
 mod ending;

@@ -1,4 +1,4 @@
-//! The program over the host's capabilities, which `main` gives it.
+//! The program over the host's capabilities, which `main` passes to it.
 ghost use Rattle.std.specs.Prelude.{◌≡◌, map, string_bytes, IfErr, IfOk};
 ghost use Rattle.twp_program.specs.Endings.{EndsAs, EndsProgram, IsJoinedVerdict};
 ghost use Rattle.twp_program.specs.Endings.{IsRunFailure, IsWordsFault};
@@ -14,10 +14,11 @@ use std::{env, io};
 use twp_acres::{RunFault, Verdict};
 use twp_command::read_task;
 use twp_grid::Device;
-use twp_input::{Kept, run_joined};
+use twp_input::{Kept, run_joined_noting};
+use twp_read::Clarity;
 
-/// Runs the program, and reports on standard error why there is no answer. The ending and its status
-/// are returned together.
+/// Runs the program, and reports on standard error why there is no answer. It returns the ending
+/// and its status together.
 pub fn run<R: Env + Files + Input + Print + Eprint + AllocGlobal>(rt: &R) -> Ended
     ensures ends { EndsProgram result.ending }
     ensures status { IsStatusOf result.ending result.status }
@@ -27,7 +28,8 @@ pub fn run<R: Env + Files + Input + Print + Eprint + AllocGlobal>(rt: &R) -> End
     Ended { ending, status }
 }
 
-/// Does what the words of the command line ask for, or answers standard input where there are none.
+/// Does the task that the words of the command line ask for, or answers standard input if there are
+/// no words.
 fn carry_out<R: Env + Files + Input + Print + Eprint + AllocGlobal>(rt: &R) -> Ending
     ensures { EndsProgram result }
 {
@@ -38,14 +40,15 @@ fn carry_out<R: Env + Files + Input + Print + Eprint + AllocGlobal>(rt: &R) -> E
     }
 }
 
-/// The words of the command line, the first of which is the program's name. What isn't text can't
-/// be read.
+/// The words of the command line, the first of which is the program's name. A word that is not text
+/// cannot be read.
 fn words_of<R: Env + AllocGlobal>(rt: &R) -> Result<Vec<String>, RunFault>
     ensures { IfErr result IsWordsFault }
 {
     match env::args(rt) {
         Ok(words) => {
-            // One by one: `collect` would go on where the room for all of them is refused.
+            // One by one, because `collect` would continue when the room for all of them is
+            // refused.
             let mut all = Vec::new(rt.alloc());
             for word in words {
                 all.push(word)?;
@@ -56,7 +59,7 @@ fn words_of<R: Env + AllocGlobal>(rt: &R) -> Result<Vec<String>, RunFault>
     }
 }
 
-/// Why the words can't be obtained, by what the host says of it.
+/// Why the words cannot be obtained, as the host reports it.
 fn fault_of_words(kind: ErrorKind) -> RunFault
     ensures { result ≡ words_fault kind }
 {
@@ -66,7 +69,7 @@ fn fault_of_words(kind: ErrorKind) -> RunFault
     }
 }
 
-/// Answers the joined input on standard input.
+/// Runs on the joined input from standard input.
 #[inline(never)]
 fn run_standard_input<R: Input + Print + Eprint + AllocGlobal>(rt: &R) -> Result<Verdict, Failure>
     ensures answers { IfOk result IsJoinedVerdict }
@@ -74,12 +77,14 @@ fn run_standard_input<R: Input + Print + Eprint + AllocGlobal>(rt: &R) -> Result
 {
     let mut input = Kept::new(rt.alloc(), Device::new(rt.reader()));
     let mut out = Device::new(io::writer(rt));
-    let outcome = outcome_of(run_joined(rt.alloc(), &mut input, &mut out));
-    tell_joined(rt, &outcome, &input);
+    let mut clarity = Clarity::Unclear;
+    let outcome = outcome_of(run_joined_noting(rt.alloc(), &mut input, &mut out, &mut clarity));
+    tell_joined(rt, &outcome, clarity, &input);
     outcome
 }
 
-/// Does what the words of a command line ask for, the first of which is the program's name.
+/// Does the task that the words of a command line ask for, the first of which is the program's
+/// name.
 #[inline(never)]
 pub fn run_words<R: Files + Print + Eprint + AllocGlobal>(rt: &R, words: Vec<String>) -> Ending
     ensures { EndsAs (map string_bytes words.items) result }
@@ -90,8 +95,8 @@ pub fn run_words<R: Files + Print + Eprint + AllocGlobal>(rt: &R, words: Vec<Str
     }
 }
 
-/// Prints what there is to report, and gives the status: help on standard output, and on standard
-/// error how the command line was misused, or why there is no answer.
+/// Prints any report, and returns the status: help on standard output, and on standard error the
+/// misuse of the command line, or why there is no answer.
 fn conclude<R: Print + Eprint>(rt: &R, ending: &Ending) -> u8
     ensures { IsStatusOf ending.now result }
 {
@@ -110,7 +115,7 @@ fn conclude<R: Print + Eprint>(rt: &R, ending: &Ending) -> u8
     ending.status()
 }
 
-/// Reports why there is no answer, and gives the status of it.
+/// Reports why there is no answer, and returns the status for that.
 fn conclude_failure<R: Eprint>(rt: &R, failure: &Failure) -> u8
     ensures { result ≡ 3 }
 {

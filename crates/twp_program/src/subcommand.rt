@@ -1,7 +1,7 @@
 //! The subcommands. Each runs on its opened files, whatever devices they are, and so does the
-//! program without words; what opens the files only hands them on.
+//! program without arguments; the functions that open the files only pass them on.
 ghost use Rattle.std.specs.Prelude.{◌≡◌, IfErr, IfOk, false};
-ghost use Rattle.twp_text.specs.TextFaults.{TEXT_LIMIT};
+ghost use Rattle.twp_read.specs.TextFaults.{TEXT_LIMIT};
 ghost use Rattle.twp_acres.specs.AccountAnswers.{IsAcresAnswerBy};
 ghost use Rattle.twp_acres.specs.NormalAnswers.{IsNormalAnswer};
 ghost use Rattle.twp_acres.specs.PlatAnswers.{IsPlatAnswer};
@@ -16,11 +16,14 @@ use crate::telling::{tell_land, tell_list, tell_plat};
 use std::alloc::Global;
 use std::io;
 use std::rt::Files;
-use twp_acres::{Account, Verdict, run_acres_as, run_normal, run_plat, run_report};
+use twp_acres::{
+    Account, Verdict, run_acres_noting, run_normal_noting, run_plat, run_report_noting,
+};
 use twp_command::{Name, Task};
 use twp_grid::{Device, Sink, Source};
+use twp_read::Clarity;
 
-/// Opens the files of a task, in their order, and runs it.
+/// Opens the files of a task, in order, and runs it.
 pub(crate) fn run_task<R: Files + Print + Eprint + AllocGlobal>(
     rt: &R,
     task: Task,
@@ -70,8 +73,16 @@ fn open_acres<R: Files + Print + Eprint + AllocGlobal>(
     let mut notes = open_notes(rt, notes)?;
     let mut description = open_text(rt, description)?;
     let mut out = Device::new(io::writer(rt));
-    let outcome = acres(rt.alloc(), &mut notes, &mut description, &mut out, account);
-    tell_land(rt, &outcome, &notes, &description);
+    let mut clarity = Clarity::Unclear;
+    let outcome = acres(
+        rt.alloc(),
+        &mut notes,
+        &mut description,
+        &mut out,
+        account,
+        &mut clarity,
+    );
+    tell_land(rt, &outcome, clarity, &notes, &description, account);
     outcome
 }
 
@@ -88,8 +99,15 @@ fn open_normal<R: Files + Print + Eprint + AllocGlobal>(
     let mut notes = open_notes(rt, notes)?;
     let mut description = open_text(rt, description)?;
     let mut out = Device::new(io::writer(rt));
-    let outcome = normal(rt.alloc(), &mut notes, &mut description, &mut out);
-    tell_land(rt, &outcome, &notes, &description);
+    let mut clarity = Clarity::Unclear;
+    let outcome = normal(
+        rt.alloc(),
+        &mut notes,
+        &mut description,
+        &mut out,
+        &mut clarity,
+    );
+    tell_land(rt, &outcome, clarity, &notes, &description, Account::Exact);
     outcome
 }
 
@@ -106,8 +124,9 @@ fn open_report<R: Files + Print + Eprint + AllocGlobal>(
     let mut notes = open_notes(rt, notes)?;
     let mut tracts = open_text(rt, tracts)?;
     let mut out = Device::new(io::writer(rt));
-    let outcome = report(rt.alloc(), &mut notes, &mut tracts, &mut out);
-    tell_list(rt, &outcome, &notes, &tracts);
+    let mut clarity = Clarity::Unclear;
+    let outcome = report(rt.alloc(), &mut notes, &mut tracts, &mut out, &mut clarity);
+    tell_list(rt, &outcome, clarity, &notes, &tracts);
     outcome
 }
 
@@ -136,6 +155,7 @@ fn acres<N: Source, D: Source, W: Sink>(
     description: &mut OpenedText<D>,
     out: &mut W,
     account: Account,
+    clarity: &mut Clarity,
 ) -> Result<Verdict, Failure>
     requires notes { N.has_failed notes.old.source ≡ false }
     requires description { D.has_failed description.old.source ≡ false }
@@ -148,22 +168,24 @@ fn acres<N: Source, D: Source, W: Sink>(
         (used (W.contents out.old) (W.contents out.new) (W.has_failed out.new))
         (description.new.source ≡ description.old.source)) result }
 {
-    outcome_of(run_acres_as(
+    outcome_of(run_acres_noting(
         alloc,
         &mut notes.source,
         &mut description.source,
         out,
         account,
+        clarity,
     ))
 }
 
-/// Writes the canonical spelling of an opened description on the plat of opened notes.
+/// Writes the canonical text of an opened description on the plat of opened notes.
 #[inline(never)]
 fn normal<N: Source, D: Source, W: Sink>(
     alloc: Global,
     notes: &mut OpenedNotes<N>,
     description: &mut OpenedText<D>,
     out: &mut W,
+    clarity: &mut Clarity,
 ) -> Result<Verdict, Failure>
     requires notes { N.has_failed notes.old.source ≡ false }
     requires description { D.has_failed description.old.source ≡ false }
@@ -176,7 +198,8 @@ fn normal<N: Source, D: Source, W: Sink>(
         (used (W.contents out.old) (W.contents out.new) (W.has_failed out.new))
         (description.new.source ≡ description.old.source)) result }
 {
-    outcome_of(run_normal(alloc, &mut notes.source, &mut description.source, out))
+    let (source, text) = (&mut notes.source, &mut description.source);
+    outcome_of(run_normal_noting(alloc, source, text, out, clarity))
 }
 
 /// Writes the account of an opened list of tracts on the plat of opened notes.
@@ -186,6 +209,7 @@ fn report<N: Source, T: Source, W: Sink>(
     notes: &mut OpenedNotes<N>,
     tracts: &mut OpenedText<T>,
     out: &mut W,
+    clarity: &mut Clarity,
 ) -> Result<Verdict, Failure>
     requires notes { N.has_failed notes.old.source ≡ false }
     requires tracts { T.has_failed tracts.old.source ≡ false }
@@ -198,5 +222,5 @@ fn report<N: Source, T: Source, W: Sink>(
         (used (W.contents out.old) (W.contents out.new) (W.has_failed out.new))
         (tracts.new.source ≡ tracts.old.source)) result }
 {
-    outcome_of(run_report(alloc, &mut notes.source, &mut tracts.source, out))
+    outcome_of(run_report_noting(alloc, &mut notes.source, &mut tracts.source, out, clarity))
 }

@@ -1,6 +1,6 @@
-//! What is told on standard error once a run has ended, from the bytes that it read: of a refusal
-//! an explanation, and of accepted land a note, where a line ends between two steps of a part. It is
-//! left out where memory for it is refused.
+//! The text on standard error after a run has ended, made from the bytes that it read: the
+//! explanation of a refusal or, for accepted land, a note if a place in its description can be read
+//! in two ways. It is left out if memory for it runs out.
 ghost use Rattle.std.specs.Prelude.{◌≡◌, ◌≢◌, ◌↔◌, Ok, Some, IfSome, IsTrue};
 ghost use Rattle.twp_acres.specs.declared.verdict.Verdict.TheVariants.{Accepted};
 ghost use Rattle.twp_explain.specs.Refusals.{first_refusal};
@@ -9,16 +9,17 @@ ghost use Rattle.twp_program.specs.Tellings.{IsToldOf};
 use crate::ending::Failure;
 use crate::files::{OpenedNotes, OpenedText};
 use std::alloc::Global;
-use twp_acres::Verdict;
+use twp_acres::{Account, Verdict};
 use twp_explain::{
     Explanation, Given, Note, explain_land, explain_list, explain_plat, note_land, note_list,
 };
 use twp_input::{Kept, split_at_line_feed};
+use twp_read::Clarity;
 
-/// What standard input is called.
+/// The name of standard input in messages.
 const STANDARD_INPUT: &str = "standard input";
 
-/// Tells why a run of field notes alone refused them.
+/// Explains why a run on field notes alone refused them.
 #[inline(never)]
 pub(crate) fn tell_plat<R: Eprint + AllocGlobal, N>(
     rt: &R,
@@ -30,48 +31,53 @@ pub(crate) fn tell_plat<R: Eprint + AllocGlobal, N>(
     }
 }
 
-/// Tells why a run refused a description on the plat of field notes, or what is noted of one that it
-/// accepted.
+/// Explains why a run refused a description on the plat of field notes, or writes the note on one
+/// that it accepted.
 #[inline(never)]
 pub(crate) fn tell_land<R: Eprint + AllocGlobal, N, D>(
     rt: &R,
     outcome: &Result<Verdict, Failure>,
+    clarity: Clarity,
     notes: &OpenedNotes<Kept<N>>,
     description: &OpenedText<Kept<D>>,
+    account: Account,
 ) {
     if let Some(verdict) = refused(outcome) {
         tell(rt, of_land(rt.alloc(), notes, description, verdict));
-    } else if is_accepted(outcome) {
-        tell_note(rt, note_of_land(rt.alloc(), description));
+    } else if may_be_noted(outcome, clarity) {
+        tell_note(rt, note_of_land(rt.alloc(), notes, description, account));
     }
 }
 
-/// Tells why a run refused a list of tracts on the plat of field notes, or what is noted of one that
-/// it accepted.
+/// Explains why a run refused a list of tracts on the plat of field notes, or writes the note on
+/// one that it accepted.
 #[inline(never)]
 pub(crate) fn tell_list<R: Eprint + AllocGlobal, N, T>(
     rt: &R,
     outcome: &Result<Verdict, Failure>,
+    clarity: Clarity,
     notes: &OpenedNotes<Kept<N>>,
     tracts: &OpenedText<Kept<T>>,
 ) {
     if let Some(verdict) = refused(outcome) {
         tell(rt, of_list(rt.alloc(), notes, tracts, verdict));
-    } else if is_accepted(outcome) {
-        tell_note(rt, note_of_list(rt.alloc(), tracts));
+    } else if may_be_noted(outcome, clarity) {
+        tell_note(rt, note_of_list(rt.alloc(), notes, tracts));
     }
 }
 
-/// Tells why the run of joined input refused it. There is nothing to note of it: its description is
-/// one line.
+/// Tells why the run of joined input refused it, or what is noted of input that it accepted.
 #[inline(never)]
 pub(crate) fn tell_joined<R: Eprint + AllocGlobal, S>(
     rt: &R,
     outcome: &Result<Verdict, Failure>,
+    clarity: Clarity,
     input: &Kept<S>,
 ) {
     if let Some(verdict) = refused(outcome) {
         tell(rt, of_joined(rt.alloc(), input, verdict));
+    } else if may_be_noted(outcome, clarity) {
+        tell_note(rt, note_of_joined(rt.alloc(), input));
     }
 }
 
@@ -85,31 +91,46 @@ fn refused(outcome: &Result<Verdict, Failure>) -> Option<Verdict>
     }
 }
 
-/// Whether a run accepted its input.
-fn is_accepted(outcome: &Result<Verdict, Failure>) -> bool
-    ensures { IsTrue result ↔ (outcome.now ≡ Ok Accepted) }
+/// Whether a run accepted its input, and a place in it may be doubtful.
+fn may_be_noted(outcome: &Result<Verdict, Failure>, clarity: Clarity) -> bool
+    ensures { IsTrue result ↔ ((outcome.now ≡ Ok Accepted) × (clarity ≡ Clarity.Unclear)) }
 {
-    matches!(outcome, Ok(Verdict::Accepted))
+    matches!(outcome, Ok(Verdict::Accepted)) && clarity == Clarity::Unclear
 }
 
-/// What is noted of a description.
-fn note_of_land<D>(alloc: Global, description: &OpenedText<Kept<D>>) -> Option<Note> {
-    note_land(alloc, &description.given()?).ok()?
+/// The note on a description.
+fn note_of_land<N, D>(
+    alloc: Global,
+    notes: &OpenedNotes<Kept<N>>,
+    description: &OpenedText<Kept<D>>,
+    account: Account,
+) -> Option<Note> {
+    note_land(alloc, &notes.given()?, &description.given()?, account).ok()?
 }
 
-/// What is noted of a list of tracts.
-fn note_of_list<T>(alloc: Global, tracts: &OpenedText<Kept<T>>) -> Option<Note> {
-    note_list(alloc, &tracts.given()?).ok()?
+/// The note on a list of tracts.
+fn note_of_list<N, T>(
+    alloc: Global,
+    notes: &OpenedNotes<Kept<N>>,
+    tracts: &OpenedText<Kept<T>>,
+) -> Option<Note> {
+    note_list(alloc, &notes.given()?, &tracts.given()?).ok()?
 }
 
-/// What is told of field notes.
+/// The note on joined input.
+fn note_of_joined<S>(alloc: Global, input: &Kept<S>) -> Option<Note> {
+    let JoinedTexts { description, notes } = joined_texts(input)?;
+    note_land(alloc, &notes, &description, Account::Exact).ok()?
+}
+
+/// The explanation for field notes.
 fn of_plat<N>(alloc: Global, notes: &OpenedNotes<Kept<N>>, verdict: Verdict) -> Option<Explanation>
     ensures { IfSome result (IsToldOf verdict) }
 {
     explain_plat(alloc, &notes.given()?, verdict).ok()?
 }
 
-/// What is told of field notes and a description.
+/// The explanation for field notes and a description.
 fn of_land<N, D>(
     alloc: Global,
     notes: &OpenedNotes<Kept<N>>,
@@ -121,7 +142,7 @@ fn of_land<N, D>(
     explain_land(alloc, &notes.given()?, &description.given()?, verdict).ok()?
 }
 
-/// What is told of field notes and a list of tracts.
+/// The explanation for field notes and a list of tracts.
 fn of_list<N, T>(
     alloc: Global,
     notes: &OpenedNotes<Kept<N>>,
@@ -134,32 +155,48 @@ fn of_list<N, T>(
     explain_list(alloc, &notes.given()?, &tracts.given()?, verdict).ok()?
 }
 
-/// What is told of joined input: the description is its first line, and the notes are what follows.
+/// The explanation for joined input.
 fn of_joined<S>(alloc: Global, input: &Kept<S>, verdict: Verdict) -> Option<Explanation>
     ensures { IfSome result (IsToldOf verdict) }
 {
-    let (description, notes) = split_at_line_feed(input.kept()?);
-    let description = Given {
-        name: STANDARD_INPUT,
-        bytes: description,
-        first_line: 1,
-    };
-    let notes = Given {
-        name: STANDARD_INPUT,
-        bytes: notes,
-        first_line: 2,
-    };
+    let JoinedTexts { description, notes } = joined_texts(input)?;
     explain_land(alloc, &notes, &description, verdict).ok()?
 }
 
-/// Writes what is told, where there is something. A fault of standard error changes nothing.
+/// The texts of joined input.
+#[derive(Clone, Copy)]
+struct JoinedTexts<'a> {
+    /// The description: its first line.
+    description: Given<'a>,
+    /// The field notes: what comes after that line.
+    notes: Given<'a>,
+}
+
+/// The texts of joined input, unless there was no memory to keep it.
+fn joined_texts<S>(input: &Kept<S>) -> Option<JoinedTexts<'_>> {
+    let (description, notes) = split_at_line_feed(input.kept()?);
+    Some(JoinedTexts {
+        description: Given {
+            name: STANDARD_INPUT,
+            bytes: description,
+            first_line: 1,
+        },
+        notes: Given {
+            name: STANDARD_INPUT,
+            bytes: notes,
+            first_line: 2,
+        },
+    })
+}
+
+/// Writes an explanation, if there is one. A fault of standard error changes nothing.
 fn tell<R: Eprint>(rt: &R, explanation: Option<Explanation>) {
     if let Some(explanation) = explanation {
         let _ = eprint!(rt; "{}", explanation.text);
     }
 }
 
-/// Writes what is noted, where there is something. A fault of standard error changes nothing.
+/// Writes a note, if there is one. A fault of standard error changes nothing.
 fn tell_note<R: Eprint>(rt: &R, note: Option<Note>) {
     if let Some(note) = note {
         let _ = eprint!(rt; "{}", note.text);

@@ -1,5 +1,5 @@
-//! The tests of the runs of `twp_acres` and `twp_input`, in a crate of their own: they are proved
-//! alone, and the crates that they test aren't proved a second time with them.
+//! The tests of the runs of `twp_acres` and `twp_input`. They are in a separate crate so that the
+//! crates that they test are not proved a second time with them.
 #![tactic(auto)]
 
 #[cfg(test)]

@@ -1,5 +1,5 @@
-//! What no row that the program is run on can show: readers and writers that fail in mid-stream,
-//! and those that give and take a few bytes a call.
+//! Behavior that no run of the program can show: readers and writers that fail in mid-stream, and
+//! those that give or take a few bytes a call.
 
 mod device;
 mod failing;

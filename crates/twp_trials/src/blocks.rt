@@ -4,9 +4,9 @@
 use std::io;
 use twp_grid::{Block, Corner, Section, Side};
 
-/// Each quarter is half as wide as the one before: 16, 8, 4, 2 and 1 places. A northern one begins
-/// at row 16, 24, 28, 30 and 31, a western one at such a column, the others at 0. The sixth would
-/// halve one place.
+/// Each quarter is half as wide as the one before: 16, 8, 4, 2, and 1 places. A northern one begins
+/// at row 16, 24, 28, 30, or 31, a western one at the column with that number, and the others at 0.
+/// The sixth would halve one place.
 pub fn try_blocks(rt: &HostRuntime) -> io::Result<()> {
     for (name, corner) in [
         ("NE", Corner::NE),
@@ -35,7 +35,8 @@ pub fn try_blocks(rt: &HostRuntime) -> io::Result<()> {
     try_lots(rt)
 }
 
-/// A corner's quarter of the whole section, the same quarter of this one, and so on, so many times.
+/// A corner's quarter of the whole section, the same quarter of that quarter, and so on, this many
+/// times.
 fn quartered(corner: Corner, times: u8) -> Option<Block> {
     let mut block = Block::whole();
     for _ in 0..times {
@@ -44,7 +45,7 @@ fn quartered(corner: Corner, times: u8) -> Option<Block> {
     Some(block)
 }
 
-/// A half of the north-eastern place of a section.
+/// A half of the place in the northeast corner of a section.
 fn half_of_place(side: Side) -> Option<Block> {
     quartered(Corner::NE, 5)?.half(side)
 }

@@ -1,15 +1,15 @@
-//! Fronts of descriptions: their first bytes, also where these end within a character.
+//! Prefixes of descriptions: their first bytes, including those that end within a character.
 
 use crate::descriptions::DESCRIPTIONS;
 use std::io;
 use twp_acres::{Account, Stop, acres_on};
 use twp_plat::Plat;
 
-/// A description of which each front's answer is printed.
+/// A description with the answer for each of its prefixes printed.
 const SHORT: &str = "sec. 14, NE1/4.";
 
-/// Counts the fronts of each description that are accepted or refused: as many as it has bytes, and
-/// the empty one. `½` and `¼` are two bytes each.
+/// Counts the prefixes of each description that are accepted or refused: one for each of its bytes,
+/// and the empty one. `½` and `¼` are two bytes each.
 pub fn try_fronts(rt: &HostRuntime, plat: &Plat) -> io::Result<()> {
     for text in DESCRIPTIONS.iter() {
         rt.print("fronts with an answer, of `")?;
@@ -20,7 +20,7 @@ pub fn try_fronts(rt: &HostRuntime, plat: &Plat) -> io::Result<()> {
     print_fronts(rt, plat)
 }
 
-/// How many fronts of a text are accepted or refused.
+/// How many prefixes of a text are accepted or refused.
 fn answered_fronts(rt: &HostRuntime, plat: &Plat, text: &[u8]) -> u32 {
     let mut answered = 0u32;
     for length in 0..text.len() + 1 {
@@ -32,10 +32,10 @@ fn answered_fronts(rt: &HostRuntime, plat: &Plat, text: &[u8]) -> u32 {
     answered
 }
 
-/// Prints the answers to the fronts of one description. `s` is a word of no meaning and `se` a
-/// corner, which begin no description; after `sec` there may be more. `sec. 1` and `sec. 14` are
-/// 640 acres, and an N after `sec. 14, ` may be a side. `NE` wants 1/4: a 1 alone at 11 goes wrong,
-/// and in `1/` the `/` at 12 is no token. The north-east quarter is 160 acres.
+/// Prints the answers for the prefixes of one description. `s` is an unknown word and `se` a
+/// corner, and neither begins a description; after `sec`, more may follow. `sec. 1` and `sec. 14`
+/// are 640 acres, and an N after `sec. 14, ` can be a side. `NE` needs 1/4: a 1 alone at 11 is
+/// wrong, and in `1/` the `/` at 12 is not a token. The northeast quarter is 160 acres.
 fn print_fronts(rt: &HostRuntime, plat: &Plat) -> io::Result<()> {
     let text = SHORT.as_bytes();
     for length in 0..text.len() + 1 {

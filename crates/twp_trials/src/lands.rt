@@ -8,7 +8,7 @@ use twp_land::{Grid, Land, Lanes};
 /// The places of a section, 32 by 32.
 const PLACES: u32 = PLACES_ACROSS as u32 * PLACES_ACROSS as u32;
 
-/// How many spans of a section's columns, or rows, halves leave: 1 + 2 + 4 + 8 + 16 + 32.
+/// How many spans of a section's columns, or rows, result from halving: 1 + 2 + 4 + 8 + 16 + 32.
 const SPANS: u8 = 63;
 
 /// Counts the places of each section one by one.
@@ -17,9 +17,9 @@ pub fn try_counts(rt: &HostRuntime) -> io::Result<()> {
     print_counts::<Lanes>(rt, "Lanes")
 }
 
-/// Adds 200 blocks, and compares `count` with `holds`: of each of the 36 sections as a whole, and of
-/// each of their 36 * 1,024 = 36,864 places. Sections that were held wholly or not at all would show
-/// little.
+/// Adds 200 blocks, and compares `count` with `holds`: for each of the 36 sections as a whole, and
+/// for each of their 36 * 1,024 = 36,864 places. Sections that were contained wholly or not at all
+/// would show little.
 fn print_counts<L: Land>(rt: &HostRuntime, kind: &str) -> io::Result<()> {
     let mut mixed = Mixed::new();
     let mut land = L::empty();
@@ -50,8 +50,8 @@ fn print_counts<L: Land>(rt: &HostRuntime, kind: &str) -> io::Result<()> {
     rt.println(equal_places)
 }
 
-/// Of how many places of a section `count` tells whether they are held. Places have the last 32
-/// numbers of spans, 32 to 63.
+/// For how many places of a section `count` shows whether the land contains them. Places have the
+/// last 32 numbers of spans, 32 to 63.
 fn counted_places<L: Land>(land: &L, section: Section) -> u32 {
     let mut counted = 0u32;
     for columns in SPANS / 2 + 1..SPANS + 1 {
@@ -68,7 +68,7 @@ fn counted_places<L: Land>(land: &L, section: Section) -> u32 {
     counted
 }
 
-/// How many places of a section are held, by each place.
+/// How many places of a section the land contains, place by place.
 fn held<L: Land>(land: &L, section: Section) -> u32 {
     let mut held = 0u32;
     for column in 0..PLACES_ACROSS as u8 {
@@ -79,8 +79,8 @@ fn held<L: Land>(land: &L, section: Section) -> u32 {
     held
 }
 
-/// Changes a land of each kind alike, and compares what they answer on all blocks of all sections:
-/// 63 * 63 = 3,969 in each of 36 sections, 142,884 in all.
+/// Changes land of each kind in the same way, and compares the answers for all blocks of all
+/// sections: 63 * 63 = 3,969 in each of 36 sections, 142,884 in all.
 pub fn try_both_kinds(rt: &HostRuntime) -> io::Result<()> {
     let grid: Grid = changed();
     let lanes: Lanes = changed();
@@ -103,7 +103,7 @@ pub fn try_both_kinds(rt: &HostRuntime) -> io::Result<()> {
     rt.println(differing)
 }
 
-/// A land after 1,000 adds and removes, the same ones each time.
+/// Land after 1,000 blocks were added and removed, the same ones each time.
 fn changed<L: Land>() -> L {
     let mut mixed = Mixed::new();
     let mut land = L::empty();
@@ -119,7 +119,7 @@ fn changed<L: Land>() -> L {
     land
 }
 
-/// On how many blocks of a section two lands were compared, and on how many they differ.
+/// For how many blocks of a section two lands were compared, and for how many they differ.
 fn compare<A: Land, B: Land>(one: &A, other: &B, section: Section) -> (u32, u32) {
     let mut compared = 0u32;
     let mut differing = 0u32;
@@ -137,14 +137,14 @@ fn compare<A: Land, B: Land>(one: &A, other: &B, section: Section) -> (u32, u32)
     (compared, differing)
 }
 
-/// Whether two lands answer the same on a block.
+/// Whether two lands give the same answers for a block.
 fn is_alike<A: Land, B: Land>(one: &A, other: &B, section: Section, block: Block) -> bool {
     one.meets(section, block) == other.meets(section, block)
         && one.full(section, block) == other.full(section, block)
         && one.count(section, block) == other.count(section, block)
 }
 
-/// The block of the columns and the rows of these numbers.
+/// The block whose columns and rows have these numbers.
 fn block_of(columns: u8, rows: u8) -> Option<Block> {
     let block = halved(Block::whole(), columns, Side::E, Side::W)?;
     halved(block, rows, Side::S, Side::N)
@@ -152,7 +152,7 @@ fn block_of(columns: u8, rows: u8) -> Option<Block> {
 
 /// A block halved toward the sides that a number's binary digits ask for, from the last digit to
 /// the second: 0 for one side, 1 for the other. So 1 halves nothing, 2 and 3 halve once, and 32 to
-/// 63 five times, each in a way of its own.
+/// 63 halve five times, each in a different way.
 fn halved(block: Block, number: u8, zero: Side, one: Side) -> Option<Block> {
     let mut block = block;
     let mut digits = number;

@@ -1,7 +1,7 @@
-//! Tries calls that `township` doesn't make, or whose answers it doesn't show separately, and prints
-//! what each answered. The file `stdout` beside `src/` contains the expected lines, which were
-//! worked out by hand; each calculation is in a comment where the call is made. Standard input is
-//! the field notes of the uneven township, `samples/b1.csv`.
+//! Tries calls that `township` does not make, or whose answers it does not show separately, and
+//! prints the answer of each. The file `stdout` beside `src/` contains the expected lines, which
+//! were worked out by hand; each calculation is in a comment beside the call. Standard input is the
+//! field notes of the uneven township, `samples/b1.csv`.
 #![tactic(auto)]
 
 mod blocks;

@@ -1,11 +1,11 @@
-//! Command lines, of which the first word is the program's name.
+//! Command lines. The first word is the program's name.
 
 use std::alloc::AllocError;
 use std::io;
 use twp_acres::Account;
 use twp_command::{Name, Task, TaskFault, read_task};
 
-/// Words with single spaces between.
+/// Words separated by single spaces.
 static COMMAND_LINES: [&str; 10] = [
     "township",
     "township --help",
@@ -19,7 +19,7 @@ static COMMAND_LINES: [&str; 10] = [
     "township report n.csv t.csv",
 ];
 
-/// Prints what each command line asks for.
+/// Prints the task that each command line asks for.
 pub fn try_words(rt: &HostRuntime) -> io::Result<()> {
     for line in COMMAND_LINES.iter() {
         rt.print("read_task(")?;

@@ -1,4 +1,4 @@
--- What each of the two accounts adds up. No public promise speaks of it.
+-- The sums that the two accounts form. No public contract cites this module.
 use Rattle.std.specs.Prelude.{◌≡◌, ℕ, ◌*◌}
 use Rattle.std.specs.Option.{option_map_or}
 use Rattle.twp_measure.specs.Areas.{HUNDREDTH_OF_AN_ACRE}
@@ -21,7 +21,7 @@ abbrev pub position_units : (ℕ → ℕ → ℕ) → ℕ → ℕ → ℕ → �
 position_units lot_units regular section column row =
     option_map_or (lot_units section) (lot_at_position section column row) regular
 
--- the units of each position, with the acres that the plat prints of lots
+-- the units of each position, with the acreage that the plat shows for lots
 pub record ArePrintedUnits (plat : TownshipPlat) (units : ℕ → ℕ → ℕ → ℕ) : Type 0 where
   pub figures : PlatFigures
   pub are : AreFigures plat figures

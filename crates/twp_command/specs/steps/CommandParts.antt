@@ -1,4 +1,4 @@
--- The parts of the command that an account is named in.
+-- The parts of the command where an account is named.
 use Rattle.std.specs.Prelude.{◌≡◌}
 use Rattle.clap.specs.Words.{Rule, Shape}
 use Rattle.clap.specs.declared.builder.value_parser.ValueParser.{ValueParser}

@@ -1,4 +1,4 @@
--- What a parse of the command line gives, before it is a task or a fault.
+-- The result of parsing the command line, before it is a task or a fault.
 use Rattle.std.specs.Prelude.{◌≡◌, ◌≢◌, ◌⊎◌, List, Option, Some, None, codes, ⊤}
 use Rattle.clap.specs.Words.{Row, Text, first_of}
 use Rattle.clap.specs.declared.error.kind.ErrorKind.{ErrorKind}
@@ -12,7 +12,7 @@ use Rattle.twp_command.specs.declared.task.TaskFault.TheVariants.{Usage, Help, M
 abbrev pub HasValue : Text → List Row → Type 0
 HasValue word rows = (value : Text) × (first_of word rows ≡ Some value)
 
--- the option has an account's name for its value
+-- the value of the option is an account's name
 abbrev pub HasAccount : List Row → Type 0
 HasAccount rows =
     (account : Account) × (first_of (codes "ACCOUNT") rows ≡ Some (account_name account))
@@ -28,7 +28,7 @@ IsWhole (Some entered) = HasValue (codes "NOTES") entered.1
     ⊎ ((entered.0 ≡ codes "acres") × HasValue (codes "DESCRIPTION") entered.1
     × HasAccount entered.1))
 
--- an error of this kind may show as this fault: as help if it asks for help, as misuse if it is
+-- an error of this kind can appear as this fault: as help if it asks for help, as misuse if it is
 -- neither that nor a lack of memory, and in any case as a lack of memory
 abbrev pub ShowsAs : ErrorKind → TaskFault → Type 0
 ShowsAs kind (Usage text) = (kind ≢ DisplayHelp) × (kind ≢ OutOfMemory)

@@ -1,5 +1,5 @@
--- What the record of a line is refused for, in the order in which its fields are read. No public
--- promise speaks of it; proofs/FirstFaults shows that it is the notes' first fault.
+-- Why the record of a line is refused, in the order in which its fields are read. No public
+-- contract cites this module; proofs/FirstFaults shows that the reason is the notes' first fault.
 use Rattle.std.specs.Prelude.{◌≡◌, ◌≢◌, ℕ, ◌+◌, ◌<◌, List, length, Option, IsSome, ⊤}
 use Rattle.twp_notes.specs.Records.{Fields, record_at}
 use Rattle.twp_notes.specs.FieldNotes.{FIELDS, NamesLine}
@@ -9,7 +9,7 @@ use Rattle.twp_notes.specs.declared.fault.NotesFault.{NotesFault}
 use Rattle.twp_notes.specs.declared.fault.NotesFault.TheVariants as fault
 use Rattle.twp_notes.specs.declared.returned.Returned.{Returned}
 
--- the numbered record names no line, for this fault and none before it
+-- the numbered record names no line: this is why, and no earlier reason applies
 abbrev pub IsUnnamed : Fields → ℕ → NotesFault → Type 0
 IsUnnamed fields number (fault.Run at) = (at ≡ number) × HasNoRun fields
 IsUnnamed fields number (fault.Section at) = (at ≡ number) × HasNoSection fields × ¬ HasNoRun fields
@@ -17,13 +17,13 @@ IsUnnamed fields number (fault.NoLine at) = (at ≡ number) × NamesNoLine field
     × ¬ HasNoRun fields × ¬ HasNoSection fields
 IsUnnamed fields number other = ⊥
 
--- the record names a line of which something was returned already
+-- the record names a line that already has an entry
 pub record IsOfReturnedLine (fields : Fields) (table : List (Option Returned)) : Type 0 where
   pub line : ℕ
   pub names : NamesLine fields line
   pub before : IsSome (entry_of table line)
 
--- the numbered record isn't taken down, for this fault and none before it
+-- the numbered record is not entered: this is why, and no earlier reason applies
 abbrev pub IsNotTaken : Fields → List (Option Returned) → ℕ → NotesFault → Type 0
 IsNotTaken fields table number (fault.Columns at) = (at ≡ number) × (length fields ≢ FIELDS)
 IsNotTaken fields table number (fault.Run at) = (length fields ≡ FIELDS)
@@ -38,7 +38,7 @@ IsNotTaken fields table number (fault.Repeated at) = (at ≡ number)
     × IsOfReturnedLine fields table × ¬ HasNoLength fields
 IsNotTaken fields table number other = ⊥
 
--- this many of the records were taken down, and the next one isn't
+-- this many of the records were entered, and the next one is refused
 pub record IsRefusedNext (records : List Fields) (fault : NotesFault) : Type 0 where
   pub count : ℕ
   pub table : List (Option Returned)
@@ -46,7 +46,7 @@ pub record IsRefusedNext (records : List Fields) (fault : NotesFault) : Type 0 w
   pub taken : AreTaken records count table
   pub not_taken : IsNotTaken (record_at records count) table (count + 3) fault
 
--- the same, but where memory ran out
+-- the same, unless memory ran out
 abbrev pub IsRefusedAfter : List Fields → NotesFault → Type 0
 IsRefusedAfter records fault.Memory = ⊤
 IsRefusedAfter records other = IsRefusedNext records other

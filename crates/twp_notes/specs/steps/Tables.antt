@@ -1,4 +1,4 @@
--- What was returned of lines so far, by their indexes. No public promise speaks of it;
+-- The distances returned for lines so far, by index. No public contract cites this module;
 -- proofs/Taking and proofs/FirstFaults show that it leads to the notes and to their first fault.
 use Rattle.std.specs.Prelude.{slice_set, ◌≡◌, ℕ, ◌<◌, List, length, Option, Some, None, IsSome}
 use Rattle.std.specs.Prelude.{slice_index_or}
@@ -7,23 +7,23 @@ use Rattle.twp_notes.specs.Records.{Fields, record_at}
 use Rattle.twp_notes.specs.FieldNotes.{nothing_returned, NamesLine, IsLineRecord}
 use Rattle.twp_notes.specs.declared.returned.Returned.{Returned}
 
--- what was returned of a line, if it was
+-- the entry of a line, if it has one
 abbrev pub entry_of : List (Option Returned) → ℕ → Option Returned
 entry_of table line = slice_index_or table line None
 
--- all lines were returned, with these
+-- these are the entries of all lines
 pub record AreEntries (table : List (Option Returned)) (lines : List Returned) : Type 0 where
   pub count : length lines ≡ LINE_COUNT
   pub each : (line : ℕ) → IsLine line
       → entry_of table line ≡ Some (slice_index_or lines line nothing_returned)
 
--- nothing was returned of this line, and of each before it something was
+-- this line has no entry, and each line before it has one
 pub record IsLeastMissing (table : List (Option Returned)) (line : ℕ) : Type 0 where
   pub is_line : IsLine line
   pub missing : entry_of table line ≡ None
   pub before : (other : ℕ) → other < line → IsSome (entry_of table other)
 
--- a record of a line was taken down
+-- a record of a line was entered
 pub record TakesDown (fields : Fields) (old new : List (Option Returned)) : Type 0 where
   pub line : ℕ
   pub returned : Returned
@@ -32,20 +32,20 @@ pub record TakesDown (fields : Fields) (old new : List (Option Returned)) : Type
   pub new_is : new ≡ slice_set old line (Some returned)
   pub is_line : IsLine line
 
--- the record is a line's, and the table has what it returns
+-- the record is that of a line, and the table has its distances as the line's entry
 pub record IsTaken (fields : Fields) (table : List (Option Returned)) : Type 0 where
   pub line : ℕ
   pub returned : Returned
   pub is : IsLineRecord fields line returned
   pub taken : entry_of table line ≡ Some returned
 
--- one of this many records names the line
+-- one of the first records, up to this number, names the line
 pub record IsNamedBy (records : List Fields) (count line : ℕ) : Type 0 where
   pub place : ℕ
   pub within : place < count
   pub names : NamesLine (record_at records place) line
 
--- the table has exactly what the first records up to this number return, each of another line
+-- the table has exactly the entries of the first records up to this number, each for another line
 pub record AreTaken (records : List Fields) (count : ℕ) (table : List (Option Returned))
     : Type 0 where
   pub each : (place : ℕ) → place < count → IsTaken (record_at records place) table

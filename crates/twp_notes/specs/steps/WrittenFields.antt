@@ -1,4 +1,4 @@
--- A field as it is written, and what is left where writing gives up.
+-- How a field is written, and the text that is left if writing fails.
 use Rattle.std.specs.Prelude.{◌≡◌, ℕ, List, [], ◌∷◌, length, take}
 use Rattle.std.specs.Prelude.{decimal}
 use Rattle.twp_measure.specs.LengthTexts.{length_text}
@@ -12,6 +12,6 @@ field_text (field.Number number) = decimal number
 field_text (field.Distance length) = length_text length
 field_text field.Nothing = []
 
--- the first bytes are these
+-- the text begins with these bytes
 abbrev pub BeginsWith : List ℕ → List ℕ → Type 0
 BeginsWith front bytes = take (length front) bytes ≡ front

@@ -1,12 +1,12 @@
--- The answer for one line: its closing quarter, or its first fault. No public promise speaks of it;
--- proofs/FaultFacts shows that the first such fault is the notes' first.
+-- The answer for one line: its closing quarter, or its first fault. No public contract cites this
+-- module; proofs/FaultFacts shows that the first such fault is the first fault of the notes.
 use Rattle.std.specs.Prelude.{◌≡◌, ℕ, ◌≤◌, Result, Ok, Err}
 use Rattle.twp_notes.specs.declared.returned.Returned.{Returned}
 use Rattle.twp_plat.specs.Closing.{IsInLimits, IsClosingQuarter}
 use Rattle.twp_plat.specs.PlatFaults.{place_of, half_of, HasLineFault}
 use Rattle.twp_plat.specs.declared.fault.PlatFault.{PlatFault}
 
--- the fault is on the line, and none on its half before
+-- the fault is on the line, and the line's earlier half has none
 pub record IsFirstLineFault (line : ℕ) (returned : Returned) (fault : PlatFault) : Type 0 where
   pub place : place_of fault ≡ line
   pub is : HasLineFault line returned fault

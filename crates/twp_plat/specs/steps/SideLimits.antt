@@ -1,4 +1,4 @@
--- What holds of the closing quarters of one section's lines.
+-- Facts about the closing quarters of one section's lines.
 use Rattle.std.specs.Prelude.{◌≡◌, ◌≤◌, ◌⊎◌}
 use Rattle.twp_plat.specs.Closing.{QUARTER_MILE, CLOSING_LEAST, CLOSING_MOST}
 use Rattle.twp_plat.specs.Plats.{ClosingQuarters}

@@ -1,5 +1,5 @@
-//! Readers and writers that fail at a call, and give or take a few bytes a call. As a `Device` each
-//! is a source or a sink that tells none of its bytes.
+//! Readers and writers that fail at a call, and give or take a few bytes a call. As a `Device`,
+//! each is a source or a sink whose bytes are not known.
 use std::alloc::Global;
 use std::io;
 use std::io::{Error, ErrorKind, Read, Write};
@@ -7,14 +7,14 @@ use std::io::{Error, ErrorKind, Read, Write};
 /// Gives one byte again and again, and then other bytes, and counts its calls.
 #[derive(Drop)]
 pub struct Reader<'a> {
-    /// The byte, and how many more times it is given.
+    /// The byte, and how many more times to give it.
     pub repeated: (u8, usize),
-    /// The bytes after it that are left.
+    /// The bytes that are still to be given after it.
     pub bytes: &'a [u8],
-    /// How many it gives a call at most.
+    /// The most bytes that it gives a call.
     pub most: usize,
-    /// At which call it fails, the first being 1, and of what kind the error is: who calls again
-    /// reads on as if nothing had been.
+    /// The call at which it fails, counted from 1, and the kind of the error. A reader that is
+    /// called again continues as if nothing had happened.
     pub fails: (u32, ErrorKind),
     pub calls: u32,
 }
@@ -25,7 +25,8 @@ impl<'a> Reader<'a> {
         Reader::after((0, 0), bytes)
     }
 
-    /// The same, with a byte before them that is given so many times: `usize::MAX` is without end.
+    /// The same, with a byte before them that is given a number of times; `usize::MAX` means
+    /// without end.
     pub fn after(repeated: (u8, usize), bytes: &'a [u8]) -> Reader<'a> {
         Reader {
             repeated,
@@ -61,13 +62,14 @@ impl Read for Reader<'_> {
 #[derive(Drop)]
 pub struct Writer {
     pub taken: Vec<u8>,
-    /// How many more it takes.
+    /// How many more bytes it takes.
     pub room: usize,
-    /// How many it takes a call at most.
+    /// The most bytes that it takes a call.
     pub most: usize,
-    /// How it fails where it has no room. None is that it takes no byte, which is no error.
+    /// How it fails when there is no room. `None` means that it takes no byte, which is not an
+    /// error.
     pub full: Option<ErrorKind>,
-    /// How it fails where it is flushed, if it does.
+    /// How it fails when it is flushed, if it does.
     pub flushed: Option<ErrorKind>,
 }
 

@@ -5,15 +5,15 @@ use std::io::ErrorKind;
 use std::test::Fail;
 use twp_acres::{RunFault, Verdict};
 
-/// The kinds of errors: the one that others may try again after, and another.
+/// The kinds of errors: the one after which others may try again, and another.
 const KINDS: [ErrorKind; 2] = [ErrorKind::Interrupted, ErrorKind::BrokenPipe];
 
-/// The calls that read the notes, of 100 bytes each: 17 give the 1,638 bytes of notes, also with the
-/// 9 bytes before them, and one finds their end.
+/// The calls that read the notes, of 100 bytes each: 17 give the 1,638 bytes of notes, with or
+/// without the 9 bytes before them, and one finds their end.
 const NOTES_CALLS: u32 = 18;
 
-/// A run whose reader fails, at whichever call, can't read, has written nothing, and calls neither
-/// reader again. Where neither fails before the run ends, it answers.
+/// If a reader fails at any call, the run fails to read, has written nothing, and calls neither
+/// reader again. If neither fails before the run ends, it answers.
 #[test]
 fn ends_where_a_reader_fails(rt: HostRuntime) -> Result<(), Fail> {
     let alloc = rt.alloc();
@@ -45,15 +45,15 @@ fn ends_where_a_reader_fails(rt: HostRuntime) -> Result<(), Fail> {
     Ok(())
 }
 
-/// A run whose writer fails, behind whichever byte, or where it is flushed, or that takes no byte,
-/// can't write, and has written as much of its answer as was taken. With room for the answer it
-/// makes no call that could fail.
+/// If a writer fails after any byte, or when it is flushed, or if it takes no byte, the run fails
+/// to write, and has written as much of its answer as was taken. With room for the answer, it makes
+/// no call that could fail.
 #[test]
 fn leaves_a_front_where_the_writer_fails(rt: HostRuntime) -> Result<(), Fail> {
     let alloc = rt.alloc();
     for example in EXAMPLES {
         let text = notes_after(alloc, example.front, &[])?;
-        // A byte a call.
+        // One byte a call.
         let whole = ran(
             alloc,
             example.call,
@@ -68,8 +68,8 @@ fn leaves_a_front_where_the_writer_fails(rt: HostRuntime) -> Result<(), Fail> {
             Some(ErrorKind::BrokenPipe),
             None,
         ] {
-            // Behind each byte of a short answer, behind each hundredth of the plat; with just
-            // enough room; and with more, but a flush that fails.
+            // After each byte of a short answer, and after each hundredth byte of the plat; with
+            // just enough room; and with more room, but a flush that fails.
             for room in 0..example.length.saturating_add(2) {
                 if example.length > 100 && room < example.length && room % 100 > 0 {
                     continue;

@@ -4,7 +4,8 @@ use twp_acres::{RunFault, Stop, TractFault};
 use twp_grid::{EastWest, NorthSouth, Refusal, Township};
 use twp_land::{Land, Lanes};
 use twp_notes::{NotesFault, ReadFault};
-use twp_text::{PlaceFault, spell};
+use twp_resolve::PlaceFault;
+use twp_spell::spell;
 
 #[test]
 fn tells_that_a_reader_failed(rt: HostRuntime) -> Result<(), Fail> {

@@ -5,16 +5,16 @@ use std::test::Fail;
 use twp_acres::Verdict;
 use twp_grid::Refusal;
 
-/// A byte, how many times it is given, and the text that is given after it.
+/// A byte, how many times it is given, and the text after it.
 type Input<'a> = (u8, usize, &'a str);
 
-/// A run that refuses its input, and how often it calls each reader.
+/// A run that refuses its input, and how many times it calls each reader.
 #[derive(Drop)]
 struct Row<'a> {
     call: Call,
     notes: Input<'a>,
     second: Input<'a>,
-    /// Its number and its place.
+    /// The refusal's number and its place.
     refusal: (u8, u32),
     answer: &'static str,
     calls: (u32, u32),
@@ -30,8 +30,8 @@ const NOTHING: Input<'static> = (0, 0, "");
 /// More times than any run reads.
 const ENDLESS: usize = usize::MAX;
 
-/// A run reads by calls of 1,024 bytes, and one byte past a limit. Where the input ends before that, one
-/// call finds its end. Refused notes leave the second reader uncalled.
+/// A run reads in calls of 1,024 bytes, up to one byte past a limit. If the input ends before that,
+/// one call finds its end. If the notes are refused, the second reader is not called.
 #[test]
 fn reads_one_byte_past_each_limit(rt: HostRuntime) -> Result<(), Fail> {
     let alloc = rt.alloc();
@@ -64,7 +64,7 @@ fn reads_one_byte_past_each_limit(rt: HostRuntime) -> Result<(), Fail> {
             answer: "refused 1 at 65536\n",
             calls: (65, 0),
         },
-        // The same of a description.
+        // The same for a description.
         Row {
             call: Call::Acres,
             notes: EVEN,
@@ -115,7 +115,7 @@ fn reads_one_byte_past_each_limit(rt: HostRuntime) -> Result<(), Fail> {
             answer: "refused 80 at 1048576\n",
             calls: (3, 1_025),
         },
-        // There are no notes without a line feed. 131,073 = 128 * 1,024 + 1 bytes, and the end.
+        // Without a line feed there are no notes. 131,073 = 128 * 1,024 + 1 bytes, and the end.
         Row {
             call: Call::Joined,
             notes: (b' ', 131_073, ""),
@@ -124,7 +124,7 @@ fn reads_one_byte_past_each_limit(rt: HostRuntime) -> Result<(), Fail> {
             answer: "refused 2 at 1\n",
             calls: (130, 0),
         },
-        // 131,074 = 128 * 1,024 + 2 bytes, which are as many as are read.
+        // 131,074 = 128 * 1,024 + 2 bytes, which is the most that is read.
         Row {
             call: Call::Joined,
             notes: (b' ', 131_074, ""),

@@ -5,8 +5,8 @@ use std::alloc::{AllocError, Global};
 /// A record of the even township's notes, and the record that replaces it.
 pub type Change = (&'static str, &'static str);
 
-/// What is different in the uneven township, as in `samples/b1.csv`: section 6 and the lines near it
-/// have longer or shorter closing half miles.
+/// The records that differ in the uneven township, `samples/b1.csv`: the closing half miles of
+/// section 6 and of the lines near it are longer or shorter.
 pub const UNEVEN: [Change; 6] = [
     ("N,4,5,40.00,80.00", "N,4,5,40.00,80.20"),
     ("N,5,6,40.00,80.00", "N,5,6,40.00,80.40"),
@@ -16,7 +16,7 @@ pub const UNEVEN: [Change; 6] = [
     ("W,7,18,40.00,80.00", "W,7,18,40.00,79.50"),
 ];
 
-/// What comes before the notes, and the even township's notes with these changes.
+/// The text before the notes, and the even township's notes with these changes.
 pub fn notes_after(alloc: Global, front: &str, changes: &[Change]) -> Result<String, AllocError> {
     let mut text = String::from_str(alloc, front)?;
     text.push_str(NOTES)?;
@@ -26,8 +26,8 @@ pub fn notes_after(alloc: Global, front: &str, changes: &[Change]) -> Result<Str
     Ok(text)
 }
 
-/// T. 2 N., R. 3 W., whose lines are all of 40 and 80 chains: 1,638 bytes, which are 32 of the
-/// heading, 10 of the township, 16 of each of the 84 lines, and of each of the 36 sections its
+/// T. 2 N., R. 3 W., whose lines are all 40 and 80 chains: 1,638 bytes. These are 32 for the
+/// heading, 10 for the township, 16 for each of the 84 lines, and for each of the 36 sections its
 /// digits at each of its 4 sides, 4 * (9 + 27 * 2).
 pub const NOTES: &str = "\
 line,between,and,quarter,corner\n\

@@ -5,14 +5,14 @@ use std::test::Fail;
 use twp_acres::Verdict;
 use twp_grid::Refusal;
 
-/// How many bytes a reader gives a call at most.
+/// The most bytes that a reader gives a call.
 const SIZES: [usize; 5] = [1, 2, 3, 7, 1_000];
 
 /// A run, its input, and its answer.
 #[derive(Clone, Copy)]
 struct Row {
     call: Call,
-    /// What comes before the notes: a description and its line feed, of joined input.
+    /// The text before the notes: a description and its line feed, for joined input.
     front: &'static str,
     /// How the notes differ from the even township's.
     changes: &'static [Change],
@@ -43,7 +43,8 @@ const ROWS: [Row; 15] = [
         verdict: Verdict::Accepted,
         answer: "40.45 acres\n",
     },
-    // Exactly 116.70891.. acres; the lots rounded separately, 38.70, 38.90 and 39.10, sum to 116.70.
+    // Exactly 116.70891.. acres; the lots rounded separately, 38.70, 38.90, and 39.10, sum to
+    // 116.70.
     Row {
         call: Call::Acres,
         front: "",
@@ -52,7 +53,7 @@ const ROWS: [Row; 15] = [
         verdict: Verdict::Accepted,
         answer: "116.71 acres\n",
     },
-    // Four fields, and not five.
+    // Four fields instead of five.
     Row {
         call: Call::Acres,
         front: "",
@@ -79,7 +80,7 @@ const ROWS: [Row; 15] = [
         verdict: Verdict::Refused(Refusal { number: 7, at: 3 }),
         answer: "refused 7 at 3\n",
     },
-    // Sections that don't share a line.
+    // Sections that do not share a line.
     Row {
         call: Call::Acres,
         front: "",
@@ -97,7 +98,7 @@ const ROWS: [Row; 15] = [
         verdict: Verdict::Refused(Refusal { number: 8, at: 3 }),
         answer: "refused 8 at 3\n",
     },
-    // Four decimals are one too many.
+    // Four decimals, which is one too many.
     Row {
         call: Call::Acres,
         front: "",
@@ -134,7 +135,7 @@ const ROWS: [Row; 15] = [
         verdict: Verdict::Refused(Refusal { number: 84, at: 3 }),
         answer: "refused 84 at 3\n",
     },
-    // Two tracts of one name.
+    // Two tracts with the same name.
     Row {
         call: Call::Report,
         front: "",
@@ -166,11 +167,11 @@ const ROWS: [Row; 15] = [
     },
 ];
 
-/// The plat of the uneven township. Section 4's heights at 0, 20, 40, 60 and 80 chains are 20.00,
-/// 20.05, 20.10, 20.15 and 20.20, so its lots are 20 chains by 20.025, 20.075, 20.125 and 20.175.
-/// Section 18's widths from the north are 19.50, 19.625, 19.75, 19.875 and 20.00, so its lots are
-/// 39.125, 39.375, 39.625 and 39.875 acres, each a tie. The others are worked out in
-/// `scripts/answered/acres`.
+/// The plat of the uneven township. Section 4's heights at 0, 20, 40, 60, and 80 chains are 20.00,
+/// 20.05, 20.10, 20.15, and 20.20, so its lots are 20 chains by 20.025, 20.075, 20.125, and 20.175.
+/// Section 18's widths from the north are 19.50, 19.625, 19.75, 19.875, and 20.00, so its lots are
+/// 39.125, 39.375, 39.625, and 39.875 acres, each a tie. The others are worked out in
+/// `tests/program/rows/acres.toml`.
 const UNEVEN_PLAT: &str = "\
 sec. 1: lot 1 40.00, lot 2 40.00, lot 3 40.00, lot 4 40.00, total 640.00\n\
 sec. 2: lot 1 40.00, lot 2 40.00, lot 3 40.00, lot 4 40.00, total 640.00\n\
@@ -211,7 +212,7 @@ sec. 35: total 640.00\n\
 sec. 36: total 640.00\n\
 township total 23037.57\n";
 
-/// However few bytes its readers give a call, a run answers the same.
+/// A run gives the same answer however few bytes its readers give a call.
 #[test]
 fn answers_input_in_pieces(rt: HostRuntime) -> Result<(), Fail> {
     let alloc = rt.alloc();

@@ -1,4 +1,4 @@
-//! Each run, over devices for tests.
+//! Each run, on test devices.
 use crate::tests::device::{Reader, Writer};
 use std::alloc::Global;
 use std::test::Fail;
@@ -8,7 +8,7 @@ use twp_acres::{
 use twp_grid::Device;
 use twp_input::run_joined;
 
-/// Which run it is.
+/// Which run to call.
 #[derive(Clone, Copy)]
 pub enum Call {
     Acres,
@@ -19,21 +19,21 @@ pub enum Call {
     Joined,
 }
 
-/// A run that accepts its texts, and how many bytes its answer has.
+/// A run that accepts its texts, and the length of its answer in bytes.
 #[derive(Clone, Copy)]
 pub struct Example {
     pub call: Call,
-    /// What comes before the notes: a description and its line feed, of joined input.
+    /// The text before the notes: a description and its line feed, for joined input.
     pub front: &'static str,
     /// The second text.
     pub second: &'static str,
-    /// In how many calls it is read: one for each three bytes, and one more for its end.
+    /// How many calls read it: one for each three bytes, and one more for its end.
     pub second_calls: u32,
     pub length: usize,
 }
 
 /// An example of each run, on the even township. The answers themselves are in the rows of
-/// `scripts/answered`.
+/// `tests/program/rows`.
 pub const EXAMPLES: [Example; 6] = [
     // 640.00 acres, and a line feed.
     Example {
@@ -53,10 +53,10 @@ pub const EXAMPLES: [Example; 6] = [
         second_calls: 6,
         length: 12,
     },
-    // `sec. 1: ` is 8 bytes, `lot 1 40.00, ` 13, and `total 640.00` 13 with its line feed. So the
-    // sections 1 to 5 and 7 have 8 + 4 * 13 + 13 = 73, and 18, 19, 30 and 31 have 74; 6 has 8 + 7 *
-    // 13 + 13 = 112; 8 and 9 have 21, and the 23 others 22. `township total 23040.00` is 24: 6 * 73
-    // + 4 * 74 + 112 + 2 * 21 + 23 * 22 + 24.
+    // `sec. 1: ` is 8 bytes, `lot 1 40.00, ` 13, and `total 640.00` 13 with its line feed. So
+    // sections 1 to 5 and 7 have 8 + 4 * 13 + 13 = 73, and 18, 19, 30, and 31 have 74; 6 has 8 + 7
+    // * 13 + 13 = 112; 8 and 9 have 21, and the 23 others 22. `township total 23040.00` is 24: 6 *
+    // 73 + 4 * 74 + 112 + 2 * 21 + 23 * 22 + 24.
     Example {
         call: Call::Plat,
         front: "",
@@ -73,7 +73,8 @@ pub const EXAMPLES: [Example; 6] = [
         second_calls: 11,
         length: 40,
     },
-    // `tract A: 640.00 acres`, `total: 640.00 acres` and `remaining: 22400.00 acres`: 22 + 20 + 26.
+    // `tract A: 640.00 acres`, `total: 640.00 acres`, and `remaining: 22400.00 acres`: 22 + 20 +
+    // 26.
     Example {
         call: Call::Report,
         front: "",
@@ -91,7 +92,7 @@ pub const EXAMPLES: [Example; 6] = [
     },
 ];
 
-/// How a run ended, how often it called each reader, and what its writer took.
+/// How a run ended, how many times it called each reader, and the bytes that its writer took.
 #[derive(Drop)]
 pub struct Ended {
     pub outcome: Result<Verdict, RunFault>,
@@ -99,7 +100,7 @@ pub struct Ended {
     pub taken: Vec<u8>,
 }
 
-/// Runs it. The run of the plat, and that of joined input, have no use for the second text.
+/// Calls it. The run of the plat and that of joined input do not use the second text.
 pub fn ran(
     alloc: Global,
     call: Call,

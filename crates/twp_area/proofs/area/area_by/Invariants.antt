@@ -4,7 +4,7 @@ use Rattle.twp_area.specs.steps.Bounds.{SECTION_UNITS_MOST}
 use Rattle.twp_area.proofs.AreaFacts.{IsSumOf}
 use Rattle.twp_area.proofs.area.area_by.Given as goal
 
--- the sections so far
+-- the sum over the sections so far
 abbrev pub invariant-loop-number : goal.invariant-loop-number
 invariant-loop-number g l = record {
   sum : IsSumOf l.account l.plat (g.L.Land.places l.land) (l.number - 1) l.units;

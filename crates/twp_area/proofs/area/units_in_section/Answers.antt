@@ -1,4 +1,5 @@
--- Lot by lot, what is held is taken off the count and its piece is added; what is left lies off the lots.
+-- For each lot in the set, its places are subtracted from the count and its piece is added; the
+-- remaining places lie off the lots.
 use Rattle.std.proofs.Common.{◌≡◌, ℕ, ◌+◌, ◌-◌, ◌≤◌, sym, arith}
 use Rattle.twp_land.proofs.LotFacts.{few_lots}
 use Rattle.twp_area.specs.steps.Accounts.{over_by}

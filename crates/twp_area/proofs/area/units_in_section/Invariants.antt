@@ -8,7 +8,7 @@ use Rattle.twp_area.specs.steps.Accounts.{over_by, AreUnitsBy}
 use Rattle.twp_area.proofs.SectionSums.{of_lots, places_where, piece_where}
 use Rattle.twp_area.proofs.area.units_in_section.Given as goal
 
--- the lots so far: their places are taken off, and their pieces are added
+-- for the lots so far, their places are subtracted and their pieces are added
 abbrev pub invariant-loop-lot : goal.invariant-loop-lot
 invariant-loop-lot g l =
     let held = g.L.Land.places l.land l.section in

@@ -3,6 +3,7 @@
 use Rattle.std.proofs.Common.{subst}
 use Rattle.twp_calls.specs.Calls.{accepted, refused_for, no_memory, on_plat}
 use Rattle.twp_acres.specs.Answers.{IsNoDescription}
+use Rattle.twp_explain.specs.ShownMessages.{ShowsIn}
 use Rattle.twp_calls.proofs.CallFacts.{held_by}
 use Rattle.twp_calls.proofs.PlaceFacts.{refused_where}
 use Rattle.twp_explain.specs.ToldPlaces.{IsToldWhereRefused}
@@ -40,3 +41,19 @@ returns-in-Ok-None-clause-answer c =
 pub returns-in-Err-clause-answer : goal.returns-in-Err-clause-answer
 returns-in-Err-clause-answer c =
     on_plat c.in-Some.plat c.in-Some.ensures (no_memory c.bare-in-Err.ensures)
+
+pub returns-in-Ok-Some-clause-shows : goal.returns-in-Ok-Some-clause-shows
+returns-in-Ok-Some-clause-shows c = λ is. record {
+  file = c.given.result;
+  file_is = record {
+    name_is = c.given.ensures.name;
+    bytes_are = c.given.ensures.bytes;
+    first_line_is = c.given.ensures.first_line;
+  };
+  explanation = c.in-Ok-Some.told;
+  shows =
+      held_by (ShowsIn c.given.result) c.in-Ok-Some.field-0 c.in-Ok-Some.told c.in-Ok-Some.field-0-is
+      c.in-Ok-Some.ensures.shows;
+  refused = c.of_refusal-refused.result;
+  told_is = c.put_explanation.ensures.told;
+}

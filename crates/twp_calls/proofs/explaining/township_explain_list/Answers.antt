@@ -3,6 +3,7 @@
 use Rattle.std.proofs.Common.{◌≡◌, Some, sym, subst, ◌∙◌}
 use Rattle.twp_acres.specs.TractFaults.{IsFirstTractFault, refusal_of}
 use Rattle.twp_calls.specs.Calls.{accepted, no_memory, on_plat}
+use Rattle.twp_explain.specs.ShownMessages.{ShowsIn}
 use Rattle.twp_calls.proofs.CallFacts.{explained_list, held_by, kept_list}
 use Rattle.twp_calls.proofs.explaining.township_explain_list.Goals as goal
 
@@ -54,3 +55,20 @@ returns-in-Ok-None-clause-answer c =
 pub returns-in-Err-explain_tracts-clause-answer : goal.returns-in-Err-explain_tracts-clause-answer
 returns-in-Err-explain_tracts-clause-answer c =
     on_plat c.in-Some.plat c.in-Some.ensures (no_memory c.bare-in-Err-explain_tracts.ensures)
+
+pub returns-in-Ok-Some-clause-shows : goal.returns-in-Ok-Some-clause-shows
+returns-in-Ok-Some-clause-shows c = λ is. record {
+  file = c.given.result;
+  file_is = record {
+    name_is = c.given.ensures.name;
+    bytes_are = c.given.ensures.bytes;
+    first_line_is = c.given.ensures.first_line;
+  };
+  explanation = c.in-Ok-Some.told.explanation;
+  shows =
+      held_by (λ told. ShowsIn c.given.result told.explanation) c.in-Ok-Some.field-0 c.in-Ok-Some.told
+      c.in-Ok-Some.field-0-is
+      c.in-Ok-Some.ensures.shows;
+  refused = c.of_fault-refused.result;
+  told_is = c.put_explanation.ensures.told;
+}

@@ -3,6 +3,7 @@ use Rattle.std.proofs.Common.{subst}
 use Rattle.twp_acres.specs.Answers.{IsNoPlat}
 use Rattle.twp_calls.specs.Calls.{refused_for}
 use Rattle.twp_calls.specs.Explanations.{IsTold}
+use Rattle.twp_explain.specs.ShownMessages.{ShowsIn}
 use Rattle.twp_calls.proofs.CallFacts.{refused_in, held_by}
 use Rattle.twp_calls.proofs.explaining.township_explain_notes.Goals as goal
 
@@ -26,3 +27,19 @@ returns-in-Ok-Some-clause-answer c =
             c.of_refusal-refused.ensures c.put_explanation.ensures.told;
       };
     })
+
+pub returns-in-Ok-Some-clause-shows : goal.returns-in-Ok-Some-clause-shows
+returns-in-Ok-Some-clause-shows c = λ is. record {
+  file = c.given.result;
+  file_is = record {
+    name_is = c.given.ensures.name;
+    bytes_are = c.given.ensures.bytes;
+    first_line_is = c.given.ensures.first_line;
+  };
+  explanation = c.in-Ok-Some.told;
+  shows =
+      held_by (ShowsIn c.given.result) c.in-Ok-Some.field-0 c.in-Ok-Some.told c.in-Ok-Some.field-0-is
+      c.in-Ok-Some.ensures.shows;
+  refused = c.of_refusal-refused.result;
+  told_is = c.put_explanation.ensures.told;
+}

@@ -1,4 +1,4 @@
--- The parser takes the names that stand in the code's list.
+-- The parser accepts the names in the code's list.
 use Rattle.std.proofs.Common.{◌≡◌, rules}
 use Rattle.clap.specs.declared.builder.value_parser.ValueParser.TheVariants.{Names}
 use Rattle.twp_command.specs.Commands.{TakesAccounts}

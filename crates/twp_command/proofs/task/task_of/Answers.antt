@@ -1,4 +1,4 @@
--- The subcommands that are neither `plat` nor `report` have a value for the description.
+-- The subcommands other than `plat` and `report` have a value for the description.
 use Rattle.std.proofs.Common.{◌≡◌, rules, Some, false, true}
 use Rattle.std.specs.Prelude.{option_map, codes}
 use Rattle.clap.specs.Words.{rows_of, found_of, subcommand_rows_of}

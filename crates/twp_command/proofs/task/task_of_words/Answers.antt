@@ -1,4 +1,4 @@
--- clap's rule for the command, as its clauses give it, is what the contract speaks of.
+-- clap's rules for the command, as its contract's clauses give them, are those in this contract.
 use Rattle.std.specs.Prelude.{map, string_bytes}
 use Rattle.clap.specs.Words.{app_of, found_of, kind_of, rows_of, subcommand_rows_of}
 use Rattle.twp_command.proofs.TaskFacts.{parse_fault, parse_task, parse_whole}

@@ -1,4 +1,4 @@
--- What the getter reads is the row's first value.
+-- The value that the getter reads is the row's first value.
 use Rattle.std.proofs.Common.{◌∙◌}
 use Rattle.clap.proofs.WalkLemmas.{first_value-rows}
 use Rattle.clap.specs.Words.{found_of}

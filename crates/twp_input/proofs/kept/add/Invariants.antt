@@ -1,7 +1,7 @@
 use Rattle.std.proofs.Common.{◌≡◌, ◌-◌, ◌≤◌, ◌++◌, take, length}
 use Rattle.twp_input.proofs.kept.add.Given as goal
 
--- the bytes before the place are in the copy
+-- the bytes before the current index are in the copy
 abbrev pub invariant-pieces : goal.invariant-pieces
 invariant-pieces l = record {
   within : l.at ≤ length l.bytes;

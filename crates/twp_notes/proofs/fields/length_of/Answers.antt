@@ -1,4 +1,4 @@
--- Each text of a length is read as that length, so a text that is refused is of none.
+-- A text of a length is read as that length, so a text that is refused is not a length.
 use Rattle.twp_notes.proofs.fields.length_of.Goals as goal
 
 pub returns-in-Ok : goal.returns-in-Ok

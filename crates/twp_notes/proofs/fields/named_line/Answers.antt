@@ -1,4 +1,4 @@
--- The record's one line, or none where the name has a fault.
+-- The only line that the record names, or none if its name has a fault.
 use Rattle.csv.specs.Records.{fields_of}
 use Rattle.twp_notes.proofs.NameFacts.{names_one, names_none}
 use Rattle.twp_notes.proofs.fields.named_line.Goals as goal

@@ -1,4 +1,4 @@
--- Where a distance is no length, that is the record's fault.
+-- If a distance is not a length, that is the record's fault.
 use Rattle.std.proofs.Common.{inl, inr}
 use Rattle.twp_notes.proofs.fields.returned_in.Goals as goal
 

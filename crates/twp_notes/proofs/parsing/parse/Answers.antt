@@ -1,4 +1,4 @@
--- The first two records were read and are right; the others were taken down or refused.
+-- The first two records were read and are valid; the others were entered or refused.
 use Rattle.std.proofs.Common.{◌≡◌, ◌≤◌, ◌+◌, ◌∷◌, length, ap, subst, arith}
 use Rattle.std.proofs.lemmas.Result.{err_from_is_err_and}
 use Rattle.csv.specs.Records.{fields_of}

@@ -1,4 +1,4 @@
--- A record that is read so far names a line, and returns distances.
+-- The record read so far names a line and returns distances.
 use Rattle.std.proofs.Common.{refl}
 use Rattle.twp_notes.proofs.FieldFacts.{has_lengths}
 use Rattle.twp_notes.proofs.parsing.take_line.Goals as goal

@@ -1,4 +1,4 @@
--- The next record is taken down, or has the first fault; where none is left all were taken down.
+-- The next record is entered, or has the first fault; if none is left, all were entered.
 use Rattle.std.proofs.Common.{◌≡◌, ◌+◌, sym, ◌∙◌, length, subst, arith}
 use Rattle.std.proofs.lemmas.Result.{err_from_is_err_and}
 use Rattle.twp_notes.specs.Records.{records_left}

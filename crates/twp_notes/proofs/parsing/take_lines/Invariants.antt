@@ -3,7 +3,7 @@ use Rattle.twp_notes.specs.Records.{records_left, IsReading}
 use Rattle.twp_notes.specs.steps.Tables.{AreTaken}
 use Rattle.twp_notes.proofs.parsing.take_lines.Given as goal
 
--- the records so far were taken down, and the others are left
+-- the records so far were entered, and the others remain
 abbrev pub invariant-records : goal.invariant-records
 invariant-records l = record {
   reading : IsReading l.records;

@@ -2,7 +2,7 @@ use Rattle.std.proofs.Common.{◌≡◌, ◌-◌, ◌≤◌, false, length, vec_
 use Rattle.std.specs.Io.KnownBytes.{Consumes}
 use Rattle.twp_notes.proofs.reading.read_up_to.Given as goal
 
--- the source is still open, and has given what was read
+-- the source has not failed, and has given the bytes read so far
 abbrev pub invariant-pieces : goal.invariant-pieces
 invariant-pieces g l = record {
   is_open : g.S.Source.has_failed l.source ≡ false;

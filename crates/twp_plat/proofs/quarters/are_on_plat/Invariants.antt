@@ -3,7 +3,7 @@ use Rattle.std.specs.Prelude.{slice_index_or}
 use Rattle.twp_plat.specs.Plats.{IsQuarterOnPlat}
 use Rattle.twp_plat.proofs.quarters.are_on_plat.Given as goal
 
--- the lines so far may have theirs
+-- the lines so far can have their closing quarters
 abbrev pub invariant-loop-index : goal.invariant-loop-index
 invariant-loop-index l = record {
   each : (line : ℕ) → line < l.index

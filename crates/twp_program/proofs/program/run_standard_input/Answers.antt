@@ -1,10 +1,10 @@
--- What the run of joined input gave.
+-- The outcome of the run on joined input.
 use Rattle.twp_program.proofs.EndingFacts.{joined_answers, joined_fails}
 use Rattle.twp_program.proofs.program.run_standard_input.Goals as goal
 
 pub returns-clause-answers : goal.returns-clause-answers
 returns-clause-answers g c =
-    rw c.outcome_of-outcome.ensures (joined_answers _ _ _ c.run_joined.result c.run_joined.ensures.ran)
+    rw c.outcome_of-outcome.ensures (joined_answers _ _ _ c.run_joined_noting.result c.run_joined_noting.ensures.ran)
 
 pub returns-clause-fails : goal.returns-clause-fails
-returns-clause-fails g c = rw c.outcome_of-outcome.ensures (joined_fails c.run_joined.result)
+returns-clause-fails g c = rw c.outcome_of-outcome.ensures (joined_fails c.run_joined_noting.result)

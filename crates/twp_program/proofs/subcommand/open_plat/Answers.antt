@@ -1,4 +1,4 @@
--- The run's verdict is that of its answer to the bytes that it read.
+-- The run's verdict is that of its answer for the bytes that it read.
 use Rattle.twp_program.proofs.EndingFacts.{plat_answers, task_fails}
 use Rattle.twp_command.specs.declared.task.Task.TheVariants.{Plat}
 use Rattle.twp_program.proofs.subcommand.open_plat.Goals as goal

@@ -1,4 +1,4 @@
--- The run's verdict is that of its answer to the bytes that it read.
+-- The run's verdict is that of its answer for the bytes that it read.
 use Rattle.twp_program.proofs.EndingFacts.{task_answers, task_fails}
 use Rattle.twp_command.specs.declared.task.Task.TheVariants.{Report}
 use Rattle.twp_program.proofs.subcommand.open_report.Goals as goal

@@ -1,4 +1,4 @@
--- A text that is a length has the parts of one; each fault is one that its parts can't have.
+-- A text that is a length has the parts of one; each fault contradicts those parts.
 use Rattle.std.proofs.Common.{arith, inr}
 use Rattle.std.proofs.lemmas.Grind.{common_steps}
 use Rattle.twp_measure.proofs.LengthFacts.{HasParts, parts_of, text_of_parts}

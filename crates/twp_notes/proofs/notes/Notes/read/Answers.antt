@@ -1,4 +1,4 @@
--- A fault of the reading is answered whatever the bytes are.
+-- A failure to read is returned whatever the bytes are.
 use Rattle.std.proofs.Common.{[]}
 use Rattle.std.specs.Prelude.{unwrap_or}
 use Rattle.std.proofs.lemmas.Result.{err_from_is_err_and}

@@ -5,7 +5,7 @@ use Rattle.twp_notes.specs.FieldNotes.{nothing_returned}
 use Rattle.twp_notes.specs.steps.Tables.{entry_of}
 use Rattle.twp_notes.proofs.table.LineTable.complete.Given as goal
 
--- the lines so far were returned, with these
+-- the lines so far have these entries
 abbrev pub invariant-loop-index : goal.invariant-loop-index
 invariant-loop-index l = record {
   count : length l.lines ≡ LINE_COUNT;

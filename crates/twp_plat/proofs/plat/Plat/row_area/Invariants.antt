@@ -5,7 +5,7 @@ use Rattle.twp_plat.specs.Pieces.{over_of, OVER_MOST}
 use Rattle.twp_plat.specs.PlatAreas.{ArePieces}
 use Rattle.twp_plat.proofs.plat.Plat.row_area.Given as goal
 
--- the pieces of the row so far
+-- the sum of the row's pieces so far
 abbrev pub invariant-loop-column : goal.invariant-loop-column
 invariant-loop-column l = record {
   over : l.area.over ≡ over_of l.self;

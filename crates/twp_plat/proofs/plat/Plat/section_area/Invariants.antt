@@ -5,7 +5,7 @@ use Rattle.twp_plat.specs.Pieces.{over_of, OVER_MOST}
 use Rattle.twp_plat.specs.PlatAreas.{ArePieces}
 use Rattle.twp_plat.proofs.plat.Plat.section_area.Given as goal
 
--- the rows so far
+-- the sum of the rows so far
 abbrev pub invariant-loop-row : goal.invariant-loop-row
 invariant-loop-row l = record {
   over : l.area.over ≡ over_of l.self;

@@ -5,7 +5,7 @@ use Rattle.twp_plat.specs.Pieces.{over_of, OVER_MOST}
 use Rattle.twp_plat.specs.PlatAreas.{ArePieces}
 use Rattle.twp_plat.proofs.plat.Plat.township_area.Given as goal
 
--- the sections so far
+-- the sum of the sections so far
 abbrev pub invariant-loop-number : goal.invariant-loop-number
 invariant-loop-number l = record {
   over : l.area.over ≡ over_of l.self;

@@ -5,7 +5,7 @@ use Rattle.std.specs.List.{before_first, after_first}
 use Rattle.std.proofs.lemmas.Result.{err_from_is_err_and}
 use Rattle.twp_input.specs.Joined.{joined_bytes, joined_notes, joined_description}
 use Rattle.twp_acres.proofs.RunFacts.{some_bytes, told_one, keeps_nothing, none_failed_of}
-use Rattle.twp_input.proofs.joined.run_joined.Goals as goal
+use Rattle.twp_input.proofs.joined.run_joined_noting.Goals as goal
 
 pub returns-in_err-bytes-clause-ran : goal.returns-in_err-bytes-clause-ran
 returns-in_err-bytes-clause-ran g c =
@@ -29,19 +29,19 @@ returns-clause-ran g c =
     record {
       bytes = read.0;
       tells = read.1;
-      holds = c.run_acres.ensures.run.told (joined_notes read.0) (joined_description read.0)
+      holds = c.run_acres_noting.ensures.run.told (joined_notes read.0) (joined_description read.0)
           (ap (λ (b : List ℕ). Some b) notes) (ap (λ (b : List ℕ). Some b) description);
     }
 
 pub returns-clause-told : goal.returns-clause-told
 returns-clause-told g c bytes is = told_one _ bytes _ (returns-clause-ran g c) is
 
--- the bytes that were read are devices that never fail
+-- the bytes that were read are sources that never fail
 pub returns-clause-read : goal.returns-clause-read
 returns-clause-read g c = (
-  (λ is. absurd (none_failed_of _ _ refl refl (c.run_acres.ensures.run.read.0 is))),
+  (λ is. absurd (none_failed_of _ _ refl refl (c.run_acres_noting.ensures.run.read.0 is))),
   (λ failed. cc (c.in_ok-bytes.ensures.failed.1 failed)),
 )
 
 pub returns-clause-answers : goal.returns-clause-answers
-returns-clause-answers g c _ out_open = c.run_acres.ensures.run.answers refl refl out_open
+returns-clause-answers g c _ out_open = c.run_acres_noting.ensures.run.answers refl refl out_open

@@ -1,0 +1,24 @@
+-- The text of an explanation for C: in which text it shows the fault, and by which name.
+use Rattle.std.specs.Prelude.{◌≡◌, ℕ, List}
+use Rattle.twp_diagnose.specs.declared.given.Given.{Given}
+use Rattle.twp_explain.specs.ShownMessages.{ShowsIn}
+use Rattle.twp_explain.specs.declared.explanation.Explanation.{Explanation}
+use Rattle.twp_calls.specs.Explanations.{IsTold}
+use Rattle.twp_calls.specs.Names.{IsNameOf}
+use Rattle.twp_calls.specs.declared.answer.TownshipAnswer.{TownshipAnswer}
+
+-- the file consists of these bytes, in lines from 1, and has the name that was given for it
+pub record IsTextGiven (bytes name : List ℕ) (file : Given) : Type 0 where
+  pub name_is : IsNameOf name file.name.now
+  pub bytes_are : file.bytes.now ≡ bytes
+  pub first_line_is : file.first_line ≡ 1
+
+-- Beside the answer was put the text of an explanation that shows the fault in the text that was given: it
+-- begins with that text's name, and with the line and the column of the answer.
+pub record IsShownText (bytes name old new : List ℕ) (answer : TownshipAnswer) : Type 0 where
+  pub file : Given
+  pub file_is : IsTextGiven bytes name file
+  pub explanation : Explanation
+  pub shows : ShowsIn file explanation
+  pub refused : TownshipAnswer
+  pub told_is : IsTold refused explanation old new answer
