@@ -29,7 +29,7 @@ NOT_EXPRESSIBLE = "not expressible by lots and aliquot parts: "
 TOWNSHIP = "T. 2 N., R. 3 W."
 OTHER_TOWNSHIP = re.compile(r"T\. [1-9]\d? [NS]\., R\. [1-9]\d? [EW]\.")
 ROWS_OF_A_FORM = 4
-# Names that README.md lists besides the forms. They need no minimum number of rows.
+# Names that README.md lists in addition to the forms. They need no minimum number of rows.
 NOT_FORMS = {"joint", "formal", "other"}
 
 
@@ -74,7 +74,7 @@ class Program:
         raise SystemExit(f"{self.path}: status {run.returncode} for {description!r}")
 
     def land(self, reading):
-        """What tells the land of a reading apart from others, and an error or None.
+        """The text that distinguishes the land of a reading from others, and an error or None.
 
         A reading that is accepted is told apart by its canonical text. One in another township has to be
         refused for its township alone: the rest of it is accepted under the township of the notes.

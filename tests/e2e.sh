@@ -1,0 +1,26 @@
+#!/bin/sh
+# Tests ./township, or the program that is named, as people use it, and the documents and the installation that go with
+# it; twp_growth is taken from its crate, or is named second. The last line counts all tests: 'N passed, 0 failed'.
+set -u
+root=$(readlink -f "$(dirname "$0")/..")
+. "$root/tests/lib.sh"
+program=$(readlink -f "${1:-./township}")
+calls=$(readlink -f "${2:-$root/crates/twp_growth/out/twp_growth}")
+tests=$root/tests/program
+begin rows sh "$tests/rows.sh" "$program" "$calls"
+begin streams sh "$tests/streams.sh" "$program"
+begin damaged sh "$tests/damaged.sh" "$program"
+begin largest sh "$tests/largest.sh" "$program"
+begin limits env -i PATH="$PATH" sh "$tests/limits.sh" "$program"
+begin growths sh "$tests/growths.sh" "$program" "$calls"
+# Descriptions as people write them: the land that is accepted, and where the advice leads.
+if python=$(sh "$root/tools/python_with.sh" argparse); then
+    begin descriptions "$python" "$root/tests/descriptions/check.py" "$program"
+    begin advice "$python" "$root/tests/descriptions/follow.py" "$program"
+else
+    skip 'the descriptions, since there is no Python here'
+fi
+begin documents sh "$root/tests/documents/documents.sh" "$program"
+begin installed sh "$root/tests/documents/installed.sh" "$program"
+gather
+ended

@@ -1,0 +1,109 @@
+# What the shell scripts of the tests share: a folder that is removed at the end, counting, comparing, and running other
+# tests. A script begins with
+#
+#     set -u
+#     root=$(readlink -f "$(dirname "$0")/../..")
+#     . "$root/tests/lib.sh"
+#
+# and ends with `ended`, whose last line is 'N passed, M failed'. A test whose tool is missing is skipped, by `skip`.
+passed=0
+failed=0
+work=$(mktemp -d)
+trap 'rm -rf "$work"' EXIT
+
+# Counts a test, or one that failed: what it tests, and files to show.
+pass() { passed=$((passed + 1)); }
+fail() {
+    failed=$((failed + 1))
+    echo "FAILED: $1"
+    shift
+    for shown; do
+        echo "${shown##*/}:"
+        head -c 4000 "$shown"
+        echo
+    done
+}
+
+# Names a test that is left out here, and why. In CI, that fails.
+skip() { echo "skipped: $1"; }
+
+# Ends the script with its count.
+ended() {
+    echo "$passed passed, $failed failed"
+    [ "$failed" = 0 ]
+    exit
+}
+
+# Compares the files `wanted` and `found` in the script's folder.
+same() {
+    if cmp -s "$work/wanted" "$work/found"; then pass; else fail "$1" "$work/wanted" "$work/found"; fi
+}
+
+# Two numbers must be the same and not 0: how many there were to read, and how many were read.
+all_read() {
+    echo "$2" > "$work/wanted"
+    echo "$3" > "$work/found"
+    [ "$2" -gt 0 ] || echo 'some' > "$work/wanted"
+    same "$1"
+}
+
+# A command that must succeed.
+try() {
+    what=$1
+    shift
+    if "$@" > "$work/out" 2>&1; then pass; else fail "$what" "$work/out"; fi
+}
+
+# A command that counts its tests, of which some must pass: its last line is 'N passed', possibly with ', M failed' and
+# ', M skipped (NAMES)'.
+count() {
+    what=$1
+    shift
+    "$@" > "$work/out" 2>&1
+    status=$?
+    last=$(tail -n 1 "$work/out")
+    case $last in
+        [1-9]*' passed'*) passed=$((passed + ${last%% *})) ;;
+        *) status=1 ;;
+    esac
+    [ $status = 0 ] || fail "$what" "$work/out"
+    case $last in *' skipped ('*) skip "$what: $(echo "$last" | sed 's/.* skipped (\(.*\))/\1/')" ;; esac
+}
+
+# Starts a script that counts its tests, alongside others; its name comes first. `gather` waits for all of them, shows
+# what they print, and adds their counts.
+begun=
+begin() {
+    begun="$begun $1"
+    counted=$work/$1.counted
+    shift
+    "$@" > "$counted" 2>&1 &
+}
+gather() {
+    wait
+    for name in $begun; do
+        sed '$d' "$work/$name.counted"
+        add "$name" "$(tail -n 1 "$work/$name.counted")"
+    done
+    begun=
+}
+
+# Adds the count of a script: its name, and its last line.
+add() {
+    echo "$1: $2"
+    if ! echo "$2" | grep -qx '[0-9][0-9]* passed, [0-9][0-9]* failed'; then
+        fail "$1: no count"
+        return
+    fi
+    passed=$((passed + ${2%% *}))
+    set -- "${2#*, }"
+    failed=$((failed + ${1%% *}))
+}
+
+# Whether a command is here, and the first Python that has these modules.
+has() { command -v "$1" > "$work/lost" 2>&1; }
+python_with() { sh "$root/tools/python_with.sh" "$1"; }
+
+# Text: so many times a character, and whether a file is this one line.
+many() { head -c "$1" /dev/zero | tr '\0' "$2"; }
+is_line() { { read -r line && [ "$line" = "$2" ] && ! read -r line && [ -z "$line" ]; } < "$1"; }

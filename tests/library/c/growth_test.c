@@ -1,0 +1,253 @@
+/*
+ * Refuses the library one growth of its memory after another, in each call that takes memory: `growth_test
+ * SAMPLES`. The call answers that memory ran out and writes nothing, or it does without and answers as usual; and
+ * it frees everything that it allocated. This program defines malloc and the functions that go with it, and
+ * passes each growth on to the C library's own; if that is impossible, it is not compiled.
+ */
+#define _GNU_SOURCE
+#include <dlfcn.h>
+#include <errno.h>
+#include <stdlib.h>
+#include <string.h>
+
+#include "check.h"
+#include "given.h"
+
+/* Growths until one is refused, or 0 for none; whether one was refused; and blocks that were not freed. */
+static long growths_left;
+static bool was_refused;
+static long blocks;
+
+static bool is_refused(void) {
+    if (growths_left == 0 || --growths_left > 0) {
+        return false;
+    }
+    was_refused = true;
+    errno = ENOMEM;
+    return true;
+}
+
+/* The C library's function with a name. POSIX lets a function be stored as a pointer to data; C does not. */
+static void *own(const char *name) {
+    void *found = dlsym(RTLD_NEXT, name);
+
+    if (found == NULL) {
+        abort();
+    }
+    return found;
+}
+
+#define OWN(function, name)                                                                                        \
+    do {                                                                                                           \
+        if (function == NULL) {                                                                                    \
+            void *found = own(name);                                                                               \
+            memcpy(&function, &found, sizeof found);                                                               \
+        }                                                                                                          \
+    } while (0)
+
+static void *counted(void *block) {
+    blocks += block != NULL;
+    return block;
+}
+
+void *malloc(size_t size) {
+    static void *(*function)(size_t);
+
+    OWN(function, "malloc");
+    return is_refused() ? NULL : counted(function(size));
+}
+
+void *calloc(size_t count, size_t size) {
+    static void *(*function)(size_t, size_t);
+
+    OWN(function, "calloc");
+    return is_refused() ? NULL : counted(function(count, size));
+}
+
+void *realloc(void *old, size_t size) {
+    static void *(*function)(void *, size_t);
+    void *grown;
+
+    OWN(function, "realloc");
+    if (is_refused()) {
+        return NULL;
+    }
+    grown = function(old, size);
+    blocks += old == NULL && grown != NULL;
+    return grown;
+}
+
+void *aligned_alloc(size_t alignment, size_t size) {
+    static void *(*function)(size_t, size_t);
+
+    OWN(function, "aligned_alloc");
+    return is_refused() ? NULL : counted(function(alignment, size));
+}
+
+int posix_memalign(void **to, size_t alignment, size_t size) {
+    static int (*function)(void **, size_t, size_t);
+    int status;
+
+    OWN(function, "posix_memalign");
+    if (is_refused()) {
+        return ENOMEM;
+    }
+    status = function(to, alignment, size);
+    blocks += status == 0;
+    return status;
+}
+
+void free(void *block) {
+    static void (*function)(void *);
+
+    OWN(function, "free");
+    blocks -= block != NULL;
+    function(block);
+}
+
+/* The input of the calls, and where they write. */
+static bytes notes;
+static township_plat plat;
+static township_plat read_to;
+static township_fraction area;
+static room *texts;
+
+#define BYTES(text) ((const uint8_t *)(text)), (sizeof(text) - 1)
+
+static township_answer call_read(void) {
+    return township_read(notes.at, notes.length, &read_to);
+}
+
+static township_answer call_acres(void) {
+    return township_acres(&plat, BYTES("sec. 5, lots 1 and 2, S1/2NE1/4."), TOWNSHIP_EXACT);
+}
+
+static township_answer call_acres_by_plat(void) {
+    return township_acres(&plat, BYTES("sec. 7, lots 1 to 4."), TOWNSHIP_BY_PLAT);
+}
+
+static township_answer call_area(void) {
+    return township_area(&plat, BYTES("sec. 7, lot 1."), TOWNSHIP_EXACT, &area);
+}
+
+static township_answer call_normal(void) {
+    return township_normal(&plat, BYTES("sec. 14, SE1/4, NE1/4, NW1/4."), room_text(texts), MOST_TEXT);
+}
+
+static township_answer call_print(void) {
+    return township_print(&plat, room_text(texts), MOST_TEXT);
+}
+
+static township_answer call_report(void) {
+    return township_report(&plat, BYTES("name,description\nA,\"sec. 7, lot 1.\"\nB,sec. 6.\n"), room_text(texts),
+                           MOST_TEXT);
+}
+
+static township_answer call_refused(void) {
+    return township_report(&plat, BYTES("name,description\nA,sec. 14.\nB,sec. 14.\n"), room_text(texts), MOST_TEXT);
+}
+
+static township_answer call_explain_notes(void) {
+    return township_explain_notes(BYTES("line,between\n"), BYTES("notes.csv"), room_text(texts), MOST_TEXT);
+}
+
+static township_answer call_explain_description(void) {
+    return township_explain_description(&plat, BYTES("sec. 14, NE1/4 and N1/2."), BYTES("land.txt"),
+                                        room_text(texts), MOST_TEXT);
+}
+
+static township_answer call_explain_list(void) {
+    return township_explain_list(&plat, BYTES("name,description\nA,\"sec. 14, NE1/4 and N1/2.\"\n"),
+                                 BYTES("tracts.csv"), room_text(texts), MOST_TEXT);
+}
+
+static const struct {
+    const char *name;
+    township_answer (*call)(void);
+} calls[] = {
+    {"township_read", call_read},
+    {"township_acres", call_acres},
+    {"township_acres, by the plat", call_acres_by_plat},
+    {"township_area", call_area},
+    {"township_normal", call_normal},
+    {"township_print", call_print},
+    {"township_report", call_report},
+    {"township_report, refused", call_refused},
+    {"township_explain_notes", call_explain_notes},
+    {"township_explain_description", call_explain_description},
+    {"township_explain_list", call_explain_list},
+};
+
+/* Everything that a call can write. */
+typedef struct written {
+    township_plat read_to;
+    township_fraction area;
+    room texts;
+} written;
+
+static written before, after, found;
+
+static void clear(void) {
+    memset(&read_to, 0, sizeof read_to);
+    memset(&area, 0, sizeof area);
+    room_clear(texts);
+}
+
+static void keep(written *in) {
+    in->read_to = read_to;
+    in->area = area;
+    in->texts = *texts;
+}
+
+/* Makes a call, with this growth refused, or none for 0, and checks that it frees what it allocated. */
+static township_answer make(township_answer (*call)(void), long growth, written *to) {
+    township_answer answer;
+    long held = blocks;
+
+    clear();
+    was_refused = false;
+    growths_left = growth;
+    answer = call();
+    growths_left = 0;
+    CHECK(blocks == held);
+    keep(to);
+    return answer;
+}
+
+/* Whether a call that was refused memory has written nothing, or everything that it writes otherwise. */
+static bool is_all_or_nothing(township_answer answer, township_answer wanted) {
+    if (same_answer(answer, bare(TOWNSHIP_NO_MEMORY))) {
+        return memcmp(&found, &before, sizeof found) == 0;
+    }
+    return same_answer(answer, wanted) && memcmp(&found, &after, sizeof found) == 0;
+}
+
+static void refuse_in_turn(const char *name, township_answer (*call)(void)) {
+    township_answer wanted, answer;
+    long growth = 0;
+    long without = 0;
+
+    clear();
+    keep(&before);
+    wanted = make(call, 0, &after);
+    do {
+        answer = make(call, ++growth, &found);
+        CHECK(is_all_or_nothing(answer, wanted));
+        CHECK(was_refused || same_answer(answer, wanted));
+        without += was_refused && answer.verdict != TOWNSHIP_NO_MEMORY;
+    } while (was_refused && growth < 100000);
+    CHECK(!was_refused);
+    printf("%s: %ld growths refused, %ld of them done without\n", name, growth - 1, without);
+}
+
+int main(int count, char **words) {
+    notes = bytes_of_file(count > 1 ? words[1] : "samples", "b1.csv");
+    texts = room_new();
+    CHECK_ANSWER(township_read(notes.at, notes.length, &plat), bare(TOWNSHIP_ACCEPTED));
+    for (size_t i = 0; i < sizeof calls / sizeof *calls; i++) {
+        refuse_in_turn(calls[i].name, calls[i].call);
+    }
+    drop(notes);
+    free(texts);
+    return checked();
+}

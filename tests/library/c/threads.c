@@ -1,0 +1,137 @@
+#include "threads.h"
+
+#include <pthread.h>
+#include <stdlib.h>
+#include <string.h>
+
+#include "check.h"
+
+#define THREADS 4
+#define CALLS 11
+
+/* The stack that the library requires, and room for the thread's own calls. */
+#define STACK ((256 + 64) * 1024)
+
+/* The answers of one round, and the texts written in it. */
+typedef struct round_answers {
+    township_answer answers[CALLS];
+    township_plat read;
+    township_fraction area;
+    uint8_t texts[CALLS][8192];
+} round_answers;
+
+typedef struct job {
+    pthread_t thread;
+    bytes notes;
+    township_plat plat;
+    long rounds;
+    const round_answers *wanted;
+    round_answers *found;
+    long different;
+} job;
+
+#define BYTES(text) ((const uint8_t *)(text)), (sizeof(text) - 1)
+
+/* Calls each function once. */
+static void call_all(bytes notes, const township_plat *plat, round_answers *to) {
+    township_answer *answer = to->answers;
+
+    memset(to, 0, sizeof *to);
+    answer[0] = township_read(notes.at, notes.length, &to->read);
+    answer[1] = township_acres(plat, BYTES("sec. 5, lots 1 and 2, S1/2NE1/4."), TOWNSHIP_EXACT);
+    answer[2] = township_acres(plat, BYTES("sec. 7, lots 1 to 4."), TOWNSHIP_BY_PLAT);
+    answer[3] = township_area(plat, BYTES("sec. 6, lot 1."), TOWNSHIP_EXACT, &to->area);
+    answer[4] = township_normal(plat, BYTES("sec. 14, SE1/4, NE1/4, NW1/4."), to->texts[4], sizeof to->texts[4]);
+    answer[5] = township_print(plat, to->texts[5], sizeof to->texts[5]);
+    answer[6] = township_report(plat, BYTES("name,description\nA,\"sec. 7, lot 1.\"\nB,sec. 6.\n"), to->texts[6],
+                                sizeof to->texts[6]);
+    answer[7] = township_explain_notes(BYTES("line,between\n"), BYTES("notes.csv"), to->texts[7],
+                                       sizeof to->texts[7]);
+    answer[8] = township_explain_description(plat, BYTES("sec. 14, NE1/4 and N1/2."), BYTES("land.txt"),
+                                             to->texts[8], sizeof to->texts[8]);
+    answer[9] = township_explain_list(plat, BYTES("name,description\nA,sec. 37.\n"), BYTES("tracts.csv"),
+                                      to->texts[9], sizeof to->texts[9]);
+    answer[10] = township_version(to->texts[10], sizeof to->texts[10]);
+}
+
+static bool same_round(const round_answers *a, const round_answers *b) {
+    for (int call = 0; call < CALLS; call++) {
+        if (!same_answer(a->answers[call], b->answers[call])) {
+            return false;
+        }
+    }
+    return memcmp(&a->read, &b->read, sizeof a->read) == 0 && memcmp(&a->area, &b->area, sizeof a->area) == 0 &&
+           memcmp(a->texts, b->texts, sizeof a->texts) == 0;
+}
+
+static void *run(void *given) {
+    job *mine = given;
+
+    for (long round = 0; round < mine->rounds; round++) {
+        call_all(mine->notes, &mine->plat, mine->found);
+        mine->different += !same_round(mine->found, mine->wanted);
+    }
+    return NULL;
+}
+
+/* A plat of its own for each thread: no two have the same township, or the same lot 1 of section 6. */
+static township_plat plat_of_thread(int thread) {
+    township_plat plat = even_plat();
+
+    plat.number = (uint8_t)(thread + 1);
+    plat.closing_quarters[6] = 20000 + 100 * (uint32_t)thread;
+    plat.closing_quarters[47] = 19000 + 50 * (uint32_t)thread;
+    return plat;
+}
+
+/* The answers of the calls when nothing else runs: all accepted, except for the three that explain. */
+static round_answers *answers_alone(bytes notes, const township_plat *plat) {
+    round_answers *wanted = calloc(1, sizeof *wanted);
+
+    if (wanted == NULL) {
+        perror("calloc");
+        exit(2);
+    }
+    call_all(notes, plat, wanted);
+    for (int call = 0; call < CALLS; call++) {
+        uint32_t verdict = wanted->answers[call].verdict;
+
+        CHECK(call < 7 || call > 9 ? verdict == TOWNSHIP_ACCEPTED : wanted->texts[call][0] != 0);
+    }
+    CHECK(wanted->answers[7].verdict == TOWNSHIP_REFUSED && wanted->answers[8].verdict == TOWNSHIP_REFUSED &&
+          wanted->answers[9].verdict == TOWNSHIP_TRACT_REFUSED);
+    return wanted;
+}
+
+static void start(job *mine, pthread_attr_t *attributes) {
+    if (pthread_create(&mine->thread, attributes, run, mine) != 0) {
+        perror("pthread_create");
+        exit(2);
+    }
+}
+
+void call_from_threads(bytes notes, long rounds) {
+    job jobs[THREADS];
+    round_answers *wanted[THREADS];
+    pthread_attr_t attributes;
+
+    pthread_attr_init(&attributes);
+    CHECK(pthread_attr_setstacksize(&attributes, STACK) == 0);
+    for (int i = 0; i < THREADS; i++) {
+        jobs[i] = (job){.notes = notes, .plat = plat_of_thread(i), .rounds = rounds};
+        wanted[i] = answers_alone(notes, &jobs[i].plat);
+        jobs[i].wanted = wanted[i];
+        jobs[i].found = answers_alone(notes, &jobs[i].plat);
+    }
+    CHECK(!same_round(wanted[0], wanted[1]));
+    for (int i = 0; i < THREADS; i++) {
+        start(&jobs[i], &attributes);
+    }
+    for (int i = 0; i < THREADS; i++) {
+        CHECK(pthread_join(jobs[i].thread, NULL) == 0);
+        CHECK(jobs[i].different == 0);
+        free(wanted[i]);
+        free(jobs[i].found);
+    }
+    pthread_attr_destroy(&attributes);
+}

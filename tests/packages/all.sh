@@ -1,0 +1,70 @@
+#!/bin/sh
+# Makes the packages, as `make dist` does, in a folder of its own, and tests them: their contents, that lintian finds
+# nothing, that making them again gives the same bytes, and that they work on a machine without the proof kit. The
+# program and the library must be built. A test whose tool is missing is skipped, and named in a line 'skipped: NAME';
+# tools/needs.sh lists the packages to install. The last line is 'N passed, M failed'.
+set -u
+root=$(readlink -f "$(dirname "$0")/../..")
+. "$root/tests/lib.sh"
+cd "$root" || exit 1
+dist=$work/dist
+
+missing=
+for tool in dpkg-buildpackage dh dh_python3 dh_bash-completion cargo; do
+    has "$tool" || missing="$missing $tool"
+done
+python_with 'build, setuptools, wheel' > "$work/out" || missing="$missing python3-build"
+python_with tomllib > "$work/out" || missing="$missing python3"
+ls -d /usr/share/cargo/registry/serde-[0-9]* > "$work/out" 2>&1 || missing="$missing librust-serde-dev"
+if [ -n "$missing" ]; then
+    skip "the packages, since these are missing:$missing"
+    ended
+fi
+
+try 'the version is the same everywhere' sh packaging/version.sh --check
+try 'the packages are made' sh packaging/dist.sh "$dist"
+[ "$failed" = 0 ] || ended
+version=$(sh packaging/version.sh)
+cat > "$work/wanted" << LIST
+BUILDINFO
+SHA256SUMS
+libtownship-dev_${version}_amd64.deb
+libtownship1_${version}_amd64.deb
+python3-township_${version}_amd64.deb
+township-$version-linux-x86_64.tar.gz
+township-$version-py3-none-manylinux2014_x86_64.whl
+township-$version-source.tar.gz
+township-$version.crate
+township_${version}_amd64.deb
+LIST
+(cd "$dist" && LC_ALL=C ls) > "$work/found"
+try 'the files' diff "$work/wanted" "$work/found"
+try 'their checksums' sh -c 'cd "$1" && sha256sum --strict -c SHA256SUMS' sh "$dist"
+try 'no path of the build is in them' sh packaging/unpacked.sh "$dist" "$work/unpacked" "$PWD/" "${work%.*}."
+if has lintian; then
+    try 'lintian' lintian --fail-on error,warning --allow-root "$dist"/*.deb
+else
+    skip lintian
+fi
+if has abidiff; then
+    try 'the library still works for programs of the last release' sh packaging/abi.sh
+else
+    skip 'the comparison with the library of the last release: no abidiff'
+fi
+# On a processor without SSE4, as it was before x86-64-v2: a message, and no illegal instruction.
+older='qemu-x86_64-static -cpu qemu64'
+if has qemu-x86_64-static; then
+    program=$work/unpacked/township_${version}_amd64.deb/usr/bin/township
+    library=$work/unpacked/libtownship1_${version}_amd64.deb/usr/lib/x86_64-linux-gnu/libtownship.so.1
+    try 'the program on an older processor' sh -c '$1 "$2" --help > "$3" 2>&1; [ $? = 127 ] && grep x86-64-v2 "$3"' \
+        sh "$older" "$program" "$work/message"
+    try 'the library on an older processor' sh -c '$1 -E LD_PRELOAD="$2" /bin/true 2>&1 | grep "CPU ISA level is lower"' \
+        sh "$older" "$library"
+else
+    skip 'an older processor: no qemu-x86_64-static'
+fi
+try 'making them again gives the same bytes' sh packaging/reproducible.sh "$dist"
+
+begin images sh tests/packages/run.sh "$dist"
+gather
+ended

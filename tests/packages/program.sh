@@ -1,0 +1,66 @@
+# The package of the program: installed, upgraded, and removed, with its man page and its completion of bash.
+try 'there is no compiler here' sh -c '! command -v cc && ! command -v gcc && ! command -v clang'
+files > "$work/before"
+
+# From the version before, whose package is this one under a lower version number.
+mkdir "$work/earlier"
+dpkg-deb -R /given/dist/township_*_amd64.deb "$work/earlier"
+sed -i 's/^Version: .*/Version: 0.0.1/' "$work/earlier/DEBIAN/control"
+touch "$work/earlier/usr/share/doc/township/in-the-version-before"
+dpkg-deb -b "$work/earlier" "$work/earlier.deb" > "$work/found"
+installs 'an earlier version' "$work/earlier.deb"
+installs 'the program over it' /given/dist/township_*_amd64.deb
+version=$(dpkg-query -W -f '${Version}' township)
+prints 'the version before is gone' "0
+status 0" sh -c 'find /usr -name in-the-version-before | wc -l'
+prints 'the version' "$version
+status 0" sh -c 'cd /given/dist && ls township_*_amd64.deb | cut -d _ -f 2'
+
+# The sample, each subcommand, and each status.
+cat $samples/description.txt $samples/b1.csv > "$work/sample"
+echo 'sec. 5, lots 1 and 2, S1/2NE1/4.' > "$work/land.txt"
+echo 'sec. 14, NE1/4 and N1/2.' > "$work/twice.txt"
+prints 'the sample' '40.45 acres
+status 0' sh -c 'township < "$1"' sh "$work/sample"
+prints acres '161.00 acres
+status 0' township acres $samples/b1.csv "$work/land.txt"
+prints 'acres by the plat' '161.00 acres
+status 0' township acres --account plat $samples/b1.csv "$work/land.txt"
+prints plat 'township total 23037.57
+status 0' sh -c 'township plat "$1" > "$2" && tail -n 1 "$2"' sh $samples/b1.csv "$work/plat"
+prints normal 'T. 2 N., R. 3 W.,
+sec. 5, lots 1, 2, S1/2NE1/4.
+status 0' township normal $samples/b1.csv "$work/land.txt"
+prints report 'tract A: 39.18 acres
+tract B: 39.03 acres
+total: 78.20 acres
+remaining: 22959.37 acres
+status 0' township report $samples/b1.csv $samples/tracts.csv
+prints 'a refusal' 'refused 67 at 19
+status 1' township acres $samples/b1.csv "$work/twice.txt"
+try 'its explanation' grep -q 'this land was named before' "$work/errors"
+prints 'a command line that is not valid' 'status 2' township nothing
+prints 'a file that is missing' 'status 3' township plat /no/such/file
+cp "$work/errors" "$work/message"
+prints 'its message' 'township: cannot open /no/such/file
+status 0' cat "$work/message"
+prints 'help' 'status 0' sh -c 'township --help > "$1"' sh "$work/help"
+try 'help lists the subcommands' grep -q '^  report ' "$work/help"
+count 'the rows' python3 -B /given/source/tests/program/without_pytest.py /usr/bin/township /given/rows.json
+
+# The man page and the completion.
+man -P cat township > "$work/page" 2>&1
+try 'the man page' grep -q 'compute acreage in the United States rectangular survey' "$work/page"
+prints 'the completion of bash' "complete -F _township township
+status 0" bash -c '. /usr/share/bash-completion/bash_completion; _completion_loader township; complete -p township'
+try 'the completion of zsh' test -s /usr/share/zsh/vendor-completions/_township
+
+# Nothing is left of it.
+try 'apt removes the program' apt-get purge -y township
+files > "$work/after"
+try 'nothing is left of the program' diff "$work/before" "$work/after"
+
+# The archive for any Linux.
+tar -C /usr/local --strip-components=1 -xf /given/dist/township-*-linux-x86_64.tar.gz
+prints 'the program of the archive' '161.00 acres
+status 0' /usr/local/bin/township acres /usr/local/share/doc/township/samples/b1.csv "$work/land.txt"

@@ -1,0 +1,176 @@
+#!/usr/bin/env python3
+"""Tries the wrong bodies that are kept for releases: `bugs.py [--lanes N] [NAME..]`, for these crates or for all.
+
+They are in crates/NAME/must-fail-release, in the form of those in must-fail, which every run of the tests tries.
+This copies the repository to a temporary folder, puts them in place of the others there, and has `rt must-fail` try
+them. An edit that was tried on this machine before isn't tried again while nothing that it depends on changes. A
+name may also be that of one edit, such as twp_grid/lot_count_of_section_six.
+
+Some wrong bodies can't be refused by any contract, such as one that answers that memory ran out. Those are listed,
+as lines `EDIT: REASON`, in the file let-through beside them. They must still be let through, and don't count.
+
+The last line is `N refused, 0 let through`. The status is 1 if an edit was let through that isn't listed, if a
+listed one is refused, or if one could not be tried.
+
+At most N checks run at a time; without --lanes, as many as there are processors and memory for.
+
+With --check nothing is tried: it names the edits that don't fit the code any more, whose old text isn't found
+exactly once in its file.
+"""
+import argparse
+import concurrent.futures
+import os
+import pathlib
+import re
+import shutil
+import subprocess
+import sys
+import tempfile
+import threading
+
+ROOT = pathlib.Path(__file__).resolve().parent.parent
+FOLDER = "must-fail-release"
+LIST = "let-through"
+# What rt reads beside the crates.
+TOP = ("crates.txt", "HANDLES")
+# The most memory that a check takes, in bytes; for some crates it is half as much.
+MEMORY = 3_000_000_000
+ENDED = re.compile(r"must-fail (\w+)/(\S+)\.edit: (refused|NOT REFUSED|BAD EDIT|NOT TRIED)")
+
+
+def edits_of(crate, folder=FOLDER):
+    return sorted(it.stem for it in (ROOT / "crates" / crate / folder).glob("*.edit"))
+
+
+def crates():
+    return sorted(it.parent.name for it in (ROOT / "crates").glob(f"*/{FOLDER}"))
+
+
+def chosen(names):
+    """The edits to try, by their crate."""
+    found = {}
+    for name in names or crates():
+        crate, _, edit = name.partition("/")
+        edits = [edit.removesuffix(".edit")] if edit else edits_of(crate)
+        if not edits or any(it not in edits_of(crate) for it in edits):
+            sys.exit(f"bugs.py: there is no such edit: crates/{crate}/{FOLDER}/{edit or '*'}")
+        found.setdefault(crate, []).extend(it for it in edits if it not in found.get(crate, []))
+    return found
+
+
+def listed():
+    """The edits that are known to be let through, as CRATE/EDIT."""
+    found = set()
+    for crate in crates():
+        file = ROOT / "crates" / crate / FOLDER / LIST
+        for line in file.read_text().splitlines() if file.is_file() else []:
+            edit, _, reason = line.partition(": ")
+            if edit not in edits_of(crate) or not reason.strip():
+                sys.exit(f"bugs.py: {file.relative_to(ROOT)} has lines `EDIT: REASON`, of edits beside it: {line}")
+            found.add(f"{crate}/{edit}")
+    return found
+
+
+def misfit(crate, edit):
+    """Why the edit can't be applied, or None."""
+    texts, path, old = {}, None, None
+    for line in (ROOT / "crates" / crate / FOLDER / f"{edit}.edit").read_text().splitlines():
+        word, _, text = line.partition(": ")
+        if word == "file":
+            path = ROOT / "crates" / crate / text
+            if path not in texts:
+                texts[path] = path.read_text() if path.is_file() else ""
+        elif word == "old":
+            old = text
+        elif word in ("new", "new:"):
+            if texts[path].count(old) != 1:
+                return f"{path.relative_to(ROOT)} has {texts[path].count(old)} times: {old}"
+            texts[path] = texts[path].replace(old, text)
+    return None
+
+
+def check(edits):
+    found = {f"{crate}/{edit}": misfit(crate, edit) for crate, names in edits.items() for edit in names}
+    for edit, why in found.items():
+        if why:
+            print(f"{edit}: {why}")
+    return 1 if any(found.values()) else 0
+
+
+def copy_to(folder, edits, of=FOLDER):
+    """Copies the repository's files, with these edits in place of those that the tests try."""
+    command = ["git", "ls-files", "-z", "--cached", "--others", "--exclude-standard", "crates", *TOP]
+    names = subprocess.run(command, cwd=ROOT, stdout=subprocess.PIPE, check=True).stdout.decode()
+    for name in names.split("\0")[:-1]:
+        if not name.startswith("crates/") or name.split("/")[2] not in ("must-fail", FOLDER):
+            if (ROOT / name).is_file():
+                (folder / name).parent.mkdir(parents=True, exist_ok=True)
+                shutil.copy2(ROOT / name, folder / name)
+    for crate, names in edits.items():
+        place = folder / "crates" / crate / "must-fail"
+        place.mkdir()
+        for name in names:
+            shutil.copy2(ROOT / "crates" / crate / of / f"{name}.edit", place)
+
+
+def lanes():
+    """How many checks can run at a time."""
+    with open("/proc/meminfo", encoding="ascii") as it:
+        free = int(re.search(r"MemAvailable:\s+(\d+) kB", it.read())[1]) * 1024
+    return max(1, min(os.cpu_count() or 1, free // MEMORY))
+
+
+def tried(folder, edits, many):
+    """Lets rt try the edits in the copy, several at a time, and returns the result of each, by CRATE/EDIT."""
+    at_once = min(len(edits), max(1, many // 2))
+    alone, results = threading.Lock(), {}
+
+    def one(crate):
+        environment = {**os.environ, "RT_JOBS": str(max(1, many // at_once))}
+        how = {"stdin": subprocess.DEVNULL, "stdout": subprocess.PIPE, "stderr": subprocess.STDOUT, "errors": "replace"}
+        ran = subprocess.run(["rt", "must-fail", crate], cwd=folder, env=environment, **how)
+        with alone:
+            print(ran.stdout, end="", flush=True)
+            results.update({f"{it[1]}/{it[2]}": it[3] for it in ENDED.finditer(ran.stdout)})
+
+    # Crates with the most edits come first, so that none of them runs alone at the end.
+    with concurrent.futures.ThreadPoolExecutor(at_once) as pool:
+        list(pool.map(one, sorted(edits, key=lambda it: -len(edits[it]))))
+    return results
+
+
+def given(words):
+    """The command line's options and names."""
+    parser = argparse.ArgumentParser(prog="bugs.py", usage="%(prog)s [--check] [--lanes N] [NAME ...]")
+    parser.add_argument("--check", action="store_true")
+    parser.add_argument("--lanes", type=int, metavar="N")
+    parser.add_argument("names", nargs="*", metavar="NAME")
+    options = parser.parse_args(words)
+    if options.lanes is not None and options.lanes < 1:
+        parser.error("--lanes needs a number of at least 1")
+    return options
+
+
+def main(words):
+    options = given(words)
+    edits, known = chosen(options.names), listed()
+    if options.check:
+        return check(edits)
+    with tempfile.TemporaryDirectory(prefix="township-bugs-") as folder:
+        copy_to(pathlib.Path(folder), edits)
+        results = tried(folder, edits, options.lanes or lanes())
+    every = [f"{crate}/{edit}" for crate, names in edits.items() for edit in names]
+    refused = [it for it in every if results.get(it) == "refused" and it not in known]
+    through = [it for it in every if results.get(it) == "NOT REFUSED" and it not in known]
+    untried = [it for it in every if results.get(it) not in ("refused", "NOT REFUSED")]
+    stale = [it for it in every if results.get(it) == "refused" and it in known]
+    told = {"let through": through, "not tried, or bad": untried, f"listed in {LIST}, but refused": stale}
+    for what, found in told.items():
+        for it in found:
+            print(f"{what}: {it}")
+    print(f"{len(refused)} refused, {len(through)} let through")
+    return 1 if through or untried or stale else 0
+
+
+if __name__ == "__main__":
+    sys.exit(main(sys.argv[1:]))

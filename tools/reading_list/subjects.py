@@ -1,0 +1,100 @@
+"""The promises that the page lists the definitions of: their functions, and the laws that belong to them."""
+
+from dataclasses import dataclass
+from typing import List
+
+from errors import ReadingListError
+from library import Entry, Library
+
+
+@dataclass(frozen=True)
+class Subject:
+    """A promise, and the functions whose contracts make it, as CRATE::MODULE::FUNCTION."""
+
+    title: str
+    contracts: tuple
+
+
+HEADLINE = Subject(
+    "the headline",
+    (
+        "twp_acres::running::run_acres",
+        "twp_acres::laws::one_answer_of_land",
+        "twp_acres::laws::one_answer",
+    ),
+)
+# The clause of the first contract that says which acres are written; the other one says what is refused.
+ACCEPTED = ("acres",)
+
+OTHERS = (
+    Subject(
+        "The plat",
+        ("twp_acres::running::run_plat", "twp_acres::laws::one_plat_answer"),
+    ),
+    Subject(
+        "The canonical description",
+        (
+            "twp_acres::running::run_normal",
+            "twp_acres::laws::one_normal_answer",
+            "twp_acres::laws::normal_text_is_its_own",
+            "twp_acres::laws::long_normal_text_is_refused",
+            "twp_spell::laws::canonical_text_names_its_land",
+            "twp_spell::laws::canonical_text_is_read_back",
+            "twp_spell::laws::one_text_for_each_land",
+        ),
+    ),
+    Subject(
+        "Acres by the printed plat",
+        (
+            "twp_acres::running::run_acres_as",
+            "twp_acres::laws::one_answer_by",
+            "twp_area::laws::plat_area_is_near",
+        ),
+    ),
+    Subject(
+        "The account of a list of tracts",
+        (
+            "twp_acres::running::run_report",
+            "twp_acres::laws::one_report_answer",
+            "twp_acres::laws::tracts_add_up",
+            "twp_acres::laws::rest_adds_up",
+        ),
+    ),
+    Subject(
+        "The calls of the library",
+        (
+            "twp_calls::answering::township_read",
+            "twp_calls::answering::township_acres",
+            "twp_calls::answering::township_area",
+            "twp_calls::answering::township_normal",
+            "twp_calls::answering::township_print",
+            "twp_calls::answering::township_report",
+            "twp_calls::explaining::township_explain_notes",
+            "twp_calls::explaining::township_explain_description",
+            "twp_calls::explaining::township_explain_list",
+            "twp_calls::explaining::township_version",
+        ),
+    ),
+)
+
+# What the proofs use of the kit's crates, and where it is stated there.
+KIT_CRATES = {
+    "csv": ("how bytes are read as records and fields", "csv/specs/Reading.antt"),
+    "itoa": ("the decimal digits of a number (`decimal`, in the table below)", "itoa/src"),
+    "arrayvec": ("short lists of a known maximum length, as lists", "arrayvec/specs/ArrayVec.antt"),
+    "thiserror": ("the texts of faults, which no clause of the headline mentions", "thiserror/README.md"),
+}
+
+
+def contract_of(library: Library, name: str) -> Entry:
+    """The function of this name."""
+    crate, *modules, function = name.split("::")
+    path = library.code_path(library.root / "crates" / crate / "src", modules)
+    item = library.rattle(path).items.get(function) if path else None
+    if item is None:
+        raise ReadingListError(library.root / "crates" / crate, 0, f"there is no function {name}")
+    return library.entry(path, item)
+
+
+def contracts_of(library: Library, subject: Subject) -> List[Entry]:
+    return [contract_of(library, name) for name in subject.contracts]
