@@ -17,7 +17,7 @@ _township() {
         _township_words "$word" 'plat acres normal report help --help'
         return
     fi
-    # How many files stand before the word, whether an option awaits its value, and whether `--` has ended the
+    # How many files precede the word, whether an option awaits its value, and whether `--` has ended the
     # options. Bash cuts `--account=plat` into three words.
     for ((i = 2; i < COMP_CWORD; i++)); do
         case $ended${COMP_WORDS[i]} in

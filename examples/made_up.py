@@ -21,7 +21,7 @@ LOTS = {1: 4, 2: 4, 3: 4, 4: 4, 5: 4, 6: 7, 7: 4, 18: 4, 19: 4, 30: 4, 31: 4}
 def plats(seed: int, count: int) -> list[township.Plat]:
     """Return plats of `count` townships. Their closing quarters differ from 20 chains by at most 1 chain."""
     chance = random.Random(seed)
-    even = township.Plat.read((SAMPLES / "b0.csv").read_bytes())
+    even = township.Plat.open(SAMPLES / "b0.csv")
     made = []
     for number in range(count):
         quarters = list(even.closing_quarters)

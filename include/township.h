@@ -15,6 +15,8 @@
  *         printf("%.2f acres\n", (double)answer.hundredths / 100);
  *     }
  *
+ * examples/acres.c in the repository is a whole program, and says how to link it.
+ *
  * No pointer may be NULL, even for zero bytes, and memory that a call writes must not overlap any
  * other argument's. There is nothing to free, and nothing is kept from one call to the next: call any
  * function from any thread at any time, but not from a signal handler. A call allocates memory with
@@ -29,6 +31,52 @@
 #ifdef __cplusplus
 extern "C" {
 #endif
+
+/* Made by tools/header_names.py: */
+/* The version of this header. township_version returns that of the library. */
+#define TOWNSHIP_VERSION "1.0.0"
+#define TOWNSHIP_VERSION_MAJOR 1
+#define TOWNSHIP_VERSION_MINOR 0
+#define TOWNSHIP_VERSION_PATCH 0
+
+/* The numbers of refusals, which docs/REFUSALS.md explains. */
+/* Field notes: */
+#define TOWNSHIP_REFUSAL_NOTES_TOO_LARGE 1u
+#define TOWNSHIP_REFUSAL_NOTES_EMPTY 2u
+#define TOWNSHIP_REFUSAL_NOTES_HEADING 3u
+#define TOWNSHIP_REFUSAL_NOTES_COLUMNS 4u
+#define TOWNSHIP_REFUSAL_NOTES_TOWNSHIP 5u
+#define TOWNSHIP_REFUSAL_NOTES_RUN 6u
+#define TOWNSHIP_REFUSAL_NOTES_SECTION 7u
+#define TOWNSHIP_REFUSAL_NOTES_NO_LINE 8u
+#define TOWNSHIP_REFUSAL_NOTES_LENGTH 9u
+#define TOWNSHIP_REFUSAL_NOTES_REPEATED 10u
+#define TOWNSHIP_REFUSAL_NOTES_MISSING 11u
+/* The plat that field notes make: */
+#define TOWNSHIP_REFUSAL_PLAT_IRREGULAR 21u
+#define TOWNSHIP_REFUSAL_PLAT_CLOSING_SHORT 22u
+#define TOWNSHIP_REFUSAL_PLAT_CLOSING_LONG 23u
+/* The text of a description: */
+#define TOWNSHIP_REFUSAL_TEXT_TOO_LARGE 41u
+#define TOWNSHIP_REFUSAL_TEXT_BAD_BYTE 42u
+#define TOWNSHIP_REFUSAL_TEXT_BAD_NUMBER 43u
+#define TOWNSHIP_REFUSAL_TEXT_SYNTAX 44u
+/* The land that a description names: */
+#define TOWNSHIP_REFUSAL_LAND_OTHER_TOWNSHIP 61u
+#define TOWNSHIP_REFUSAL_LAND_NO_SECTION 62u
+#define TOWNSHIP_REFUSAL_LAND_BACKWARD 63u
+#define TOWNSHIP_REFUSAL_LAND_NO_LOT 64u
+#define TOWNSHIP_REFUSAL_LAND_TOO_FINE 65u
+#define TOWNSHIP_REFUSAL_LAND_ON_LOT 66u
+#define TOWNSHIP_REFUSAL_LAND_OVERLAP 67u
+/* A list of tracts: */
+#define TOWNSHIP_REFUSAL_TRACTS_TOO_LARGE 80u
+#define TOWNSHIP_REFUSAL_TRACT_ROW 81u
+#define TOWNSHIP_REFUSAL_NAME_REPEATED 82u
+#define TOWNSHIP_REFUSAL_TRACT_REFUSED 83u
+#define TOWNSHIP_REFUSAL_TRACTS_OVERLAP 84u
+#define TOWNSHIP_REFUSAL_TOO_MANY_TRACTS 85u
+/* End of what tools/header_names.py makes. */
 
 /* The number of section lines in a township. */
 #define TOWNSHIP_LINES 84
@@ -77,9 +125,9 @@ typedef struct township_plat {
    are the same as if there had been room. */
 typedef struct township_answer {
     uint32_t verdict;
-    uint32_t number;       /* the refusal's number; docs/REFUSALS.md explains each */
+    uint32_t number;       /* the refusal's number, such as TOWNSHIP_REFUSAL_LAND_OVERLAP */
     uint32_t at;           /* the refusal's place: a record, a section line, or a byte */
-    uint32_t inner_number; /* the refusal of a tract's description */
+    uint32_t inner_number; /* the number and the place of the refusal of a tract's description */
     uint32_t inner_at;
     uint32_t line;         /* of an explanation: the line and column of the fault, from 1, or both 0; for a
                               refused description they are those of the byte `at` or, if only white space

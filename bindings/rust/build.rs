@@ -1,37 +1,71 @@
-//! Tells the compiler where the static library is: in the folder that the environment names, or
-//! else in the repository's folder `lib`.
+//! Tells the compiler where the library is: in the folder that the environment names; otherwise in
+//! the folder `lib` of this package, as it is released; otherwise in that of the repository, if
+//! this package is in it; otherwise where pkg-config finds it.
 
 use std::env;
-use std::path::PathBuf;
+use std::ffi::OsString;
+use std::path::{Path, PathBuf};
+use std::process::Command;
 
 /// The environment variable that names the folder.
 const VARIABLE: &str = "TOWNSHIP_LIB_DIR";
 
-/// Where the folder is if no variable names it, seen from this package.
+/// The folder of the library, relative to this package: in a release of it, and in the repository.
+const IN_RELEASE: &str = "lib";
 const IN_REPOSITORY: &str = "../../lib";
 
+const STATIC: &str = "libtownship.a";
+const SHARED: &str = "libtownship.so";
+
 fn main() {
-    let folder = folder_of_library();
-    let library = folder.join("libtownship.a");
-    // A check of the types links nothing, and so goes well without the library. Only a build needs
-    // it, which then says that it can't find it; this line says what to do.
-    if !library.is_file() {
+    println!("cargo:rerun-if-env-changed={VARIABLE}");
+    println!("cargo:rerun-if-env-changed=PKG_CONFIG_PATH");
+    println!("cargo:rerun-if-changed=build.rs");
+    let package = PathBuf::from(variable("CARGO_MANIFEST_DIR").expect("cargo names the folder"));
+    let usual = [IN_RELEASE, IN_REPOSITORY].map(|folder| package.join(folder));
+    // A relative name is relative to this package.
+    let folder = variable(VARIABLE)
+        .map(|named| package.join(named))
+        .or_else(|| usual.iter().find(|folder| has_library(folder)).cloned())
+        .or_else(installed)
+        .unwrap_or_else(|| package.join(IN_REPOSITORY));
+    // A check of the types links nothing, and succeeds without the library. Only a build needs it,
+    // and then fails to find it; this line says what to do.
+    if !has_library(&folder) {
         println!(
-            "cargo:warning=there is no {}; `make lib` at the top of the repository builds it, and \
-             {VARIABLE} can name another folder",
-            library.display()
+            "cargo:warning=there is no {STATIC} or {SHARED} in {}; `make lib` in the repository \
+             builds them, `make install` installs them, and {VARIABLE} can name their folder",
+            folder.display()
         );
     }
+    let (kind, file) = if folder.join(STATIC).is_file() || !folder.join(SHARED).is_file() {
+        ("static", STATIC)
+    } else {
+        ("dylib", SHARED)
+    };
+    println!("cargo:rerun-if-changed={}", folder.join(file).display());
     println!("cargo:rustc-link-search=native={}", folder.display());
-    println!("cargo:rustc-link-lib=static=township");
-    println!("cargo:rerun-if-env-changed={VARIABLE}");
-    println!("cargo:rerun-if-changed={}", library.display());
-    println!("cargo:rerun-if-changed=build.rs");
+    println!("cargo:rustc-link-lib={kind}=township");
 }
 
-/// The folder of the library. A relative name is seen from this package.
-fn folder_of_library() -> PathBuf {
-    let package = env::var_os("CARGO_MANIFEST_DIR").expect("cargo names the package's folder");
-    let named = env::var_os(VARIABLE).filter(|folder| !folder.is_empty());
-    PathBuf::from(package).join(named.unwrap_or_else(|| IN_REPOSITORY.into()))
+/// Returns a variable of the environment, unless it is empty.
+fn variable(name: &str) -> Option<OsString> {
+    env::var_os(name).filter(|value| !value.is_empty())
+}
+
+/// Returns whether a folder contains the library.
+fn has_library(folder: &Path) -> bool {
+    folder.join(STATIC).is_file() || folder.join(SHARED).is_file()
+}
+
+/// Returns the folder of the installed library, if pkg-config knows it.
+fn installed() -> Option<PathBuf> {
+    let program = variable("PKG_CONFIG").unwrap_or_else(|| "pkg-config".into());
+    let asked = Command::new(program)
+        .args(["--variable=libdir", "township"])
+        .output()
+        .ok()?;
+    let folder = String::from_utf8(asked.stdout).ok()?;
+    let folder = folder.trim_end();
+    (asked.status.success() && !folder.is_empty()).then(|| folder.into())
 }

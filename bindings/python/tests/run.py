@@ -5,7 +5,7 @@ from pathlib import Path
 
 
 class Counting(unittest.TextTestResult):
-    """Counts the tests that pass, and those of which a part fails as one."""
+    """Counts the tests that pass; a test with several failing parts counts as one failure."""
 
     def __init__(self, *given, **named):
         super().__init__(*given, **named)
@@ -19,7 +19,7 @@ class Counting(unittest.TextTestResult):
 def main() -> int:
     suite = unittest.defaultTestLoader.discover(str(Path(__file__).parent))
     result = unittest.TextTestRunner(stream=sys.stdout, resultclass=Counting).run(suite)
-    # A class that is skipped whole, or that can't be set up, isn't a test, but is told of like one.
+    # A class that is skipped as a whole, or that cannot be set up, is not a test, but is reported like one.
     failed = len(result.failures) + len(result.errors) + len(result.unexpectedSuccesses)
     skipped = [test.id() for test, _ in result.skipped]
     names = f" ({', '.join(skipped)})" if skipped else ""

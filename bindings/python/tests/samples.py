@@ -1,4 +1,4 @@
-"""What the tests share: the plats of the samples, and how a refusal is caught."""
+"""Shared by the tests: the plats of the samples, and how to catch a refusal."""
 import functools
 import unittest
 from pathlib import Path

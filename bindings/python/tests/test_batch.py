@@ -1,59 +1,34 @@
 """`python -m township batch`, as it is run from a command line."""
-import csv
-import io
 import os
-import subprocess
-import sys
-import tempfile
 import unittest
-from pathlib import Path
 
-from samples import TOP
-
-NOTES = TOP / "samples" / "b1.csv"
-ADDED = ["acres", "refusal", "at", "sentence"]
+from batches import ADDED, HEADING, NOTES, BatchCase
 
 
-class Batch(unittest.TestCase):
-    def setUp(self):
-        folder = tempfile.TemporaryDirectory()
-        self.addCleanup(folder.cleanup)
-        self.folder = Path(folder.name)
-
-    def put(self, data, name="list.csv"):
-        """A file in the folder, with these bytes."""
-        path = self.folder / name
-        path.write_bytes(data if isinstance(data, bytes) else data.encode())
-        return path
-
-    def run_words(self, *words, **named):
-        """The program run with these words: its status, output and errors."""
-        command = [sys.executable, "-m", "township", *map(str, words)]
-        return subprocess.run(command, stderr=subprocess.PIPE, **{"stdout": subprocess.PIPE, **named})
-
-    def batch(self, data, *words, status):
-        """The records that come of a list, where the status is this one."""
-        run = self.run_words("batch", NOTES, self.put(data), *words)
-        self.assertEqual((run.returncode, run.stderr), (status, b""))
-        return list(csv.reader(io.StringIO(run.stdout.decode("utf-8", "surrogateescape"), newline="")))
-
-    def stopped(self, data, status=3):
-        """What standard error says of a list that isn't one."""
-        run = self.run_words("batch", NOTES, self.put(data))
-        self.assertEqual(run.returncode, status)
-        return run.stderr.decode()
-
+class Batch(BatchCase):
     def test_all_accepted(self):
         rows = self.batch('id,description,county\n7,"sec. 5, lot 1.",Lane\n8,sec. 36.,"Li""nn"\n', status=0)
         self.assertEqual(rows[0], ["id", "description", "county", *ADDED])
-        self.assertEqual(rows[1], ["7", "sec. 5, lot 1.", "Lane", "40.45", "", "", ""])
-        self.assertEqual(rows[2], ["8", "sec. 36.", 'Li"nn', "640.00", "", "", ""])
+        self.assertEqual(rows[1], ["7", "sec. 5, lot 1.", "Lane", "40.45", "", "", "", HEADING + "sec. 5, lot 1."])
+        self.assertEqual(rows[2], ["8", "sec. 36.", 'Li"nn', "640.00", "", "", "", HEADING + "sec. 36, all."])
         self.assertEqual(len(rows), 3)
 
     def test_some_refused(self):
         rows = self.batch('description\n"sec. 14, NE1/4 and N1/2."\nsec. 14.\n', status=1)
-        self.assertEqual(rows[1][1:], ["", "67", "19", "this land was named before"])
-        self.assertEqual(rows[2][1:], ["640.00", "", "", ""])
+        self.assertEqual(rows[1][1:], ["", "67", "19", "this land was named before", ""])
+        self.assertEqual(rows[2][1:], ["640.00", "", "", "", HEADING + "sec. 14, all."])
+
+    def test_sentences_are_whole(self):
+        # The program shows this one on two lines.
+        [_, row] = self.batch('description\n"sec. 14,"\n', status=1)
+        self.assertTrue(row[4].endswith("expected a part of the section, or another section's number"), row[4])
+
+    def test_canonical_texts_of_the_same_land(self):
+        rows = self.batch('description\n"sec. 14, S½, N½; sec. 15."\n"sec. 15; sec. 14."\n', status=0)
+        self.assertEqual(rows[1][5], HEADING + "sec. 14, all; sec. 15, all.")
+        self.assertEqual(rows[2][5], rows[1][5])
+        [_, again] = self.batch(f'description\n"{rows[1][5]}"\n', status=0)
+        self.assertEqual(again[1], "1280.00")
 
     def test_by_the_plat(self):
         listed = 'description\n"sec. 7, lots 1 to 4."\n'
@@ -64,18 +39,26 @@ class Batch(unittest.TestCase):
         self.assertEqual(self.batch("description\n", status=0), [["description", *ADDED]])
 
     def test_standard_input(self):
-        run = self.run_words("batch", NOTES, "-", input=b"description\nsec. 14.\n")
+        run = self.run_command("batch", NOTES, "-", input=b"description\nsec. 14.\n")
         self.assertEqual((run.returncode, run.stderr), (0, b""))
-        self.assertTrue(run.stdout.endswith(b"\nsec. 14.,640.00,,,\n"))
+        self.assertTrue(run.stdout.endswith(b'\nsec. 14.,640.00,,,,"T. 2 N., R. 3 W., sec. 14, all."\n'))
 
-    def test_mark_at_the_start_line_ends_and_empty_lines(self):
-        rows = self.batch(b"\xef\xbb\xbfdescription\r\n\r\nsec. 14.\r\n", status=0)
-        self.assertEqual(rows, [["description", *ADDED], ["sec. 14.", "640.00", "", "", ""]])
+    def test_options_between_the_names(self):
+        listed = self.put('land\n"sec. 7, lots 1 to 4."\n')
+        for words in (
+            (NOTES, "--account", "plat", listed, "--column", "land"),
+            ("--account=plat", "--column=land", NOTES, listed),
+            (NOTES, listed, "--column", "land", "--account", "plat"),
+        ):
+            run = self.run_words("batch", *words)
+            self.assertEqual((run.returncode, run.stdout.splitlines()[1].split(b",")[2]), (0, b"156.42"))
 
     def test_bytes_that_are_not_utf_8_are_kept(self):
         run = self.run_words("batch", NOTES, self.put(b"description,who\nsec. 14\xbd,Pe\xf1a\n"))
         self.assertEqual(run.returncode, 1)
         self.assertIn(b"\nsec. 14\xbd,Pe\xf1a,,42,7,", run.stdout)
+        self.assertEqual(run.stderr, b"township: 1 of the descriptions is not UTF-8; if the list is in "
+                                     b"Windows-1252, add --encoding windows-1252\n")
 
     def test_description_of_several_lines(self):
         for end in ("\n", "\r\n", "\r"):
@@ -84,33 +67,102 @@ class Batch(unittest.TestCase):
                 self.assertEqual([row[:2] for row in rows[1:]], [[f"sec. 14;{end}sec. 15.", "1280.00"]])
 
     def test_long_description(self):
-        # It is longer than Python's own limit of a field.
+        # It is longer than Python's own limit for a field.
         run = self.run_words("batch", NOTES, self.put("description\n" + " " * 200_000 + "\n"))
         self.assertEqual(run.returncode, 1)
         self.assertIn(b" ,,41,65536,", run.stdout)
 
-    def test_comma_without_quotes_is_never_read_in_part(self):
-        said = self.stopped("description\nsec. 14.\nsec. 14, NE1/4.\n")
-        self.assertIn("list.csv:3: this record has 2 fields, and the heading 1", said)
-        self.assertIn("1 field, and the heading 2", self.stopped("id,description\n7\n"))
 
-    def test_what_was_answered_before_is_written(self):
-        run = self.run_words("batch", NOTES, self.put("description\nsec. 14.\na,b\n"))
-        self.assertEqual(run.stdout.splitlines()[1:], [b"sec. 14.,640.00,,,"])
+class Faults(BatchCase):
+    """Faults of a record, which never stop the others."""
+
+    def faults(self, data):
+        """The records of a list, by the fields that they have, their acres, and what is wrong."""
+        width = data.split("\n")[0].count(",") + 1
+        rows = self.batch(data, status=1)
+        self.assertEqual({len(row) for row in rows}, {width + len(ADDED)})
+        for row in rows[1:]:
+            self.assertEqual(row[width + 1 : width + 3], ["", ""])
+        return [(row[:width], row[width], row[width + 3]) for row in rows[1:]]
+
+    def test_comma_without_quotes_is_never_read_in_part(self):
+        rows = self.faults("description\nsec. 14.\nsec. 14, NE1/4.\nsec. 15.\n")
+        quotes = "put a description that contains a separator in quotation marks"
+        self.assertEqual(rows, [
+            (["sec. 14."], "640.00", ""),
+            (["sec. 14"], "", f"line 3 has 2 fields, but the heading has 1; {quotes}"),
+            (["sec. 15."], "640.00", ""),
+        ])
+
+    def test_too_few_fields(self):
+        rows = self.faults("id,description\n7\n8,sec. 14.\n")
+        self.assertEqual(rows[0], (["7", ""], "", "line 2 has 1 field, but the heading has 2"))
+        self.assertEqual(rows[1], (["8", "sec. 14."], "640.00", ""))
+
+    def test_text_after_a_closing_quotation_mark(self):
+        rows = self.faults('id,description\n7,"sec. 14."x\n8,sec. 14.\n')
+        self.assertEqual(rows[0], (["", '7,"sec. 14."x'], "", "the quotation marks of line 2 are not well formed"))
+        self.assertEqual(rows[1], (["8", "sec. 14."], "640.00", ""))
+
+    def test_quotation_mark_that_is_not_closed(self):
+        rows = self.faults('description\nsec. 13.\n"sec. 14.\nsec. 15.\n\nsec. 16.\nsec. 17.\n')
+        self.assertEqual([row[1] for row in rows], ["640.00", "", "640.00", "640.00", "640.00"])
+        self.assertEqual(rows[1], (['"sec. 14.'], "", "the quotation marks of line 3 are not well formed"))
+
+    def test_lines_are_counted_after_a_fault(self):
+        rows = self.faults('id,description\n1,"sec. 13;\nsec. 14."\n2,"sec. 15."x\n\n3\n')
+        self.assertEqual([row[2][:35] for row in rows[1:]],
+                         ["the quotation marks of line 4 are n", "line 6 has 1 field, but the heading"])
+
+    def test_quotation_mark_lost_in_a_long_list(self):
+        # A field ends after a megabyte at the latest, so that memory is bounded; all that follows is answered.
+        count = 100_000
+        rows = self.faults('description\n"sec. 14.\n' + "sec. 15.\n" * count)
+        self.assertEqual(len(rows), count + 1)
+        self.assertEqual(rows[0][1], "")
+        self.assertEqual({row[1] for row in rows[1:]}, {"640.00"})
+
+
+class Columns(BatchCase):
+    def test_named_column(self):
+        rows = self.batch("description,Legal\nsee Legal,sec. 14.\n", "--column", "Legal", status=0)
+        self.assertEqual(rows[1][2], "640.00")
+
+    def test_capitals_and_spaces_make_no_difference(self):
+        rows = self.batch("ID, Description \n7,sec. 14.\n", status=0)
+        self.assertEqual(rows[1][2], "640.00")
+
+    def test_exact_name_is_first(self):
+        rows = self.batch("Description,description\nsec. 37.,sec. 14.\n", status=0)
+        self.assertEqual(rows[1][2], "640.00")
 
     def test_heading_without_the_column(self):
-        for data in ("", "\n\n", "land\nsec. 14.\n", "description,description\na,b\n"):
+        said = self.stopped("land,county\nsec. 14.,Lane\n")
+        self.assertIn("list.csv:1: the heading has no column `description`; name the column with --column", said)
+        self.assertIn("The heading is: `land`, `county`", said)
+
+    def test_column_that_is_not_the_only_one(self):
+        said = self.stopped("description,description\na,b\n")
+        self.assertIn("the heading has 2 columns `description`", said)
+
+    def test_empty_list(self):
+        for data in ("", "\n\n"):
             with self.subTest(data=data):
-                self.assertIn("column `description`", self.stopped(data))
+                said = self.stopped(data)
+                self.assertIn("no column `description`", said)
+                self.assertIn("The heading is: empty", said)
 
-    def test_heading_with_a_column_that_is_written(self):
-        self.assertIn("column `acres`", self.stopped("description,acres\nsec. 14.,640\n"))
+    def test_heading_with_a_column_that_is_added(self):
+        said = self.stopped("description,acres\nsec. 14.,640\n")
+        self.assertIn("list.csv:1: the heading already has a column `acres`", said)
 
-    def test_quotes_gone_wrong(self):
-        for data in ('description\n"sec. 14.\n', 'description\n"sec. 14."x\n'):
-            with self.subTest(data=data):
-                self.assertIn("list.csv:2", self.stopped(data))
+    def test_prefix(self):
+        rows = self.batch("description,acres\nsec. 14.,639\n", "--prefix", "exact_", status=0)
+        self.assertEqual(rows[0], ["description", "acres", *("exact_" + name for name in ADDED)])
+        self.assertEqual(rows[1][:3], ["sec. 14.", "639", "640.00"])
 
+
+class Failures(BatchCase):
     def test_notes_refused(self):
         notes = self.put(b"line\n", "notes.csv")
         run = self.run_words("batch", notes, self.put("description\nsec. 14.\n"))
@@ -127,23 +179,29 @@ class Batch(unittest.TestCase):
 
     @unittest.skipUnless(os.path.exists("/dev/full"), "there is no /dev/full")
     def test_output_that_cannot_be_written(self):
-        # Once it fails as the output is closed, and once as it is written, for a buffer holds less than a row.
+        # It fails once when the output is closed, and once when it is written, because a buffer is smaller than a row.
         for length in (1, 100_000):
             listed = self.put(f"id,description\n{'x' * length},sec. 14.\n")
             with open("/dev/full", "wb") as full:
-                run = self.run_words("batch", NOTES, listed, stdout=full)
+                run = self.run_command("batch", NOTES, listed, stdout=full)
             self.assertEqual(run.returncode, 3)
             self.assertRegex(run.stderr, rb"\Atownship: cannot write: [^\n]*\n\Z")
+            run = self.run_words("batch", NOTES, listed, "--output", "/dev/full")
+            self.assertEqual(run.returncode, 3)
+            self.assertRegex(run.stderr, rb"\Atownship: cannot write /dev/full: [^\n]*\n\Z")
 
     def test_output_that_is_closed(self):
         listed = self.put("description\nsec. 14.\n")
         with open(listed, "rb") as given:
-            run = self.run_words("batch", NOTES, "-", stdin=given, stdout=None, preexec_fn=lambda: os.close(1))
+            run = self.run_command("batch", NOTES, "-", stdin=given, stdout=None, preexec_fn=lambda: os.close(1))
         self.assertEqual((run.returncode, run.stderr[:24]), (3, b"township: cannot write: "))
 
     def test_wrong_usage(self):
         for words in ((), ("batch",), ("batch", NOTES), ("batch", NOTES, "x", "y"), ("other",),
-                      ("batch", NOTES, "x", "--account", "printed")):
+                      ("batch", NOTES, "x", "--account", "printed"), ("batch", "--plats", "x"),
+                      ("batch", NOTES, "x", "--plats", "y"), ("batch", NOTES, "x", "--resume"),
+                      ("batch", NOTES, "x", "--resume", "--output", "y.xlsx"),
+                      ("batch", NOTES, "x", "--encoding", "latin")):
             with self.subTest(words=words):
                 run = self.run_words(*words)
                 self.assertEqual((run.returncode, run.stdout), (2, b""))
@@ -155,3 +213,14 @@ class Batch(unittest.TestCase):
                 run = self.run_words(*words)
                 self.assertEqual((run.returncode, run.stderr), (0, b""))
         self.assertRegex(run.stdout, rb"\Atownship [0-9]+\.[0-9]+\.[0-9]+\n\Z")
+
+    def test_help_has_each_column_and_status(self):
+        help_text = self.run_words("batch", "--help").stdout.decode()
+        for name in ADDED:
+            self.assertRegex(help_text, rf"(?m)^  {name} +\S")
+        for status in (0, 1, 2, 3, 130, 141):
+            self.assertRegex(help_text, rf"(?m)^  {status} +\S")
+
+
+if __name__ == "__main__":
+    unittest.main()

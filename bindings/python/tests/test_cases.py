@@ -13,7 +13,7 @@ import township
 CASES = os.environ.get("TOWNSHIP_CASES")
 WHY_NOT = "TOWNSHIP_CASES names no zip of cases"
 
-#: How much is read of standard input at most: the longest description, the longest notes, and two bytes more.
+#: The most that is read from standard input: the longest description, the longest notes, and two more bytes.
 JOINED_MOST = 131_074
 
 
@@ -41,7 +41,7 @@ def joined_text(stream):
 
 
 def answer(write, *given):
-    """What the program writes, and its status: by a call, and by the refusal that it raises."""
+    """The text that the program writes, and its status, from a call or the refusal that it raises."""
     try:
         return write(*given).encode(), 0
     except township.Refused as refused:
@@ -60,7 +60,7 @@ class Cases(unittest.TestCase):
         cls.names = sorted({name.partition("/")[0] for name in cls.files})
 
     def content(self, case, file):
-        """A file of a case, or nothing where it has none."""
+        """A file of a case, or nothing if the case has no such file."""
         name = f"{case}/{file}"
         return self.archive.read(name) if name in self.files else b""
 
@@ -68,7 +68,7 @@ class Cases(unittest.TestCase):
         return self.content(case, file).decode().strip()
 
     def try_cases(self, kind, given_of, write, account=None):
-        """Compares all cases of a kind, and of an account where that is given."""
+        """Compares all cases of a kind, and of an account if one is given."""
         tried = 0
         for case in self.names:
             if self.word(case, "kind") != kind or account not in (None, self.word(case, "account") or "exact"):

@@ -1,19 +1,23 @@
 """The examples in the docstrings and in the README, run at the top of the repository."""
 import doctest
+import importlib
 import os
+import pkgutil
 from decimal import Decimal
 from pathlib import Path
 
 import township
 from samples import TOP, uneven
-from township import _figures, _plat, _refused
 
 README = Path(__file__).resolve().parents[1] / "README.md"
 
+#: The module that needs pandas.
+PANDAS = "township.pandas"
+
 
 def load_tests(loader, tests, pattern):
-    """All examples, each docstring's as a test of its own."""
-    for module in (township, _plat, _figures, _refused):
+    """All examples of all modules, each docstring's as a test of its own."""
+    for module in _modules():
         tests.addTest(doctest.DocTestSuite(module, setUp=_enter, tearDown=_leave))
     tests.addTest(
         doctest.DocFileSuite(str(README), module_relative=False, encoding="utf-8", setUp=_enter, tearDown=_leave)
@@ -21,11 +25,27 @@ def load_tests(loader, tests, pattern):
     return tests
 
 
+def _modules():
+    """The package's modules, except for its command line."""
+    yield township
+    for found in pkgutil.walk_packages(township.__path__, "township."):
+        if found.name == PANDAS and importlib.util.find_spec("pandas") is None:
+            continue
+        # An installed package contains the library, which is named like a module.
+        if not found.name.endswith(("__main__", ".libtownship")):
+            yield importlib.import_module(found.name)
+
+
 def _enter(test):
     """Examples name the samples from the top of the repository, and have the plat of the uneven one."""
     test.came_from = os.getcwd()
     os.chdir(TOP)
     test.globs.update(township=township, plat=uneven(), Decimal=Decimal)
+    if PANDAS in test.name:
+        import pandas
+
+        descriptions = ["sec. 5, lots 1 and 2, S1/2NE1/4.", "sec. 14, NE1/4 and N1/2.", "sec. 5, lot 1.", None]
+        test.globs.update(frame=pandas.DataFrame({"description": descriptions}))
 
 
 def _leave(test):

@@ -17,7 +17,7 @@ def closing(line):
 
 
 def straight(start, end, along, distance):
-    """A length that runs straight along a line from one value to another, at a distance from its start."""
+    """A length that varies linearly along a line from one value to another, at a distance from its start."""
     return start + Fraction((end - start) * distance, along)
 
 
@@ -41,12 +41,12 @@ def acres(tier, range_, column, row):
 
 
 def number(tier, range_):
-    """The number of a section: they wind, from the north-east corner on."""
+    """The number of a section. The numbers wind back and forth from the northeast corner."""
     return 6 * tier + (range_ if tier % 2 == 0 else 5 - range_) + 1
 
 
 def part(tier, range_, column, row):
-    """A lot of the north row or the west column, or else a quarter of a quarter."""
+    """A lot in the northern row or the western column, or otherwise a quarter-quarter."""
     if tier == 0 and row == 3:
         return f"lot {column + 1}"
     if range_ == 5 and column == 3:
@@ -67,7 +67,7 @@ class Positions(unittest.TestCase):
                             self.assertEqual(uneven().area(text), acres(tier, range_, column, row))
 
     def test_a_position_by_hand(self):
-        # The north-western position of section 6: widths of 19.303.. and 19.20, heights of 20.703.. and 20.80,
+        # The northwest position of section 6: widths of 19.303.. and 19.20, heights of 20.703.. and 20.80,
         # whose sums, times the lines of 80.80 and 79.20 chains, are 3,111,040,000 and 3,287,040,000.
         units = Fraction(3_111_040_000 * 3_287_040_000, 4 * 80_800 * 79_200)
         self.assertEqual(units, Fraction(10_226_112_921_600_000_000, 25_597_440_000))

@@ -1,4 +1,4 @@
-"""The shared library: how it is found, and what is made of each of its verdicts."""
+"""The shared library: how it is found, and how each of its verdicts is treated."""
 import ctypes
 import os
 import re
@@ -15,7 +15,7 @@ from township import _library
 
 class Found(unittest.TestCase):
     def importing(self, named):
-        """What comes of an import with this name of the library, or none."""
+        """The result of an import with this name of the library, or with none."""
         environment = {key: value for key, value in os.environ.items() if key != "TOWNSHIP_LIBRARY"}
         if named is not None:
             environment["TOWNSHIP_LIBRARY"] = named
@@ -42,6 +42,7 @@ class Found(unittest.TestCase):
 
     def test_version(self):
         self.assertRegex(township.version(), r"\A[0-9]+\.[0-9]+\.[0-9]+\Z")
+        self.assertEqual(township.__version__, township.version())
 
 
 class Declared(unittest.TestCase):
@@ -56,6 +57,11 @@ class Declared(unittest.TestCase):
             declared = re.findall(r"^ +uint\d+_t (\w+)", body, re.MULTILINE)
             self.assertEqual(declared, [field for field, _ in struct._fields_])
 
+    def test_limits_are_those_of_the_header(self):
+        header = (TOP / "include" / "township.h").read_text()
+        self.assertIn(f"#define TOWNSHIP_LINES {_library.LINES}\n", header)
+        self.assertIn(f"#define TOWNSHIP_NOTES_MOST {_library.NOTES_MOST}\n", header)
+
     def test_verdicts_are_those_of_the_header(self):
         header = (TOP / "include" / "township.h").read_text()
         for name in ("ACCEPTED", "REFUSED", "TRACT_REFUSED", "NO_PLAT", "NO_ACCOUNT", "NO_ROOM", "NO_MEMORY"):
@@ -63,7 +69,7 @@ class Declared(unittest.TestCase):
 
 
 class Verdicts(unittest.TestCase):
-    # The library answers some of these too seldom to be waited for.
+    # Some of these answers of the library are too rare to wait for.
 
     EXCEPTIONS = (
         (_library.NO_MEMORY, MemoryError),
@@ -100,7 +106,7 @@ class Verdicts(unittest.TestCase):
             list(uneven().acres_of(["sec. 14."]))
 
     def test_plat_that_is_none(self):
-        # A plat can't be made so; the library finds it out all the same.
+        # A plat cannot be made like this, but the library detects it anyway.
         none = township.Plat._of_struct(_library.Plat())
         for call in (none.acres, none.area, none.normal, none.report_csv):
             with self.subTest(call=call.__name__), self.assertRaises(ValueError):

@@ -14,7 +14,7 @@ REFUSED = "sec. 14, NE1/4 and N1/2."
 
 
 def numbers(answers):
-    """Answers by what can be compared: acres, or the number and place of a refusal."""
+    """Answers in a form that can be compared: acres, or the number and place of a refusal."""
     return [answer if isinstance(answer, Decimal) else (answer.number, answer.at) for answer in answers]
 
 

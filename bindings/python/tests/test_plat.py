@@ -1,13 +1,14 @@
-"""Plats: how they are made, what they answer, and that they are values."""
+"""Plats: how they are made, the answers they give, and that they are values."""
 import copy
 import decimal
+import os
 import pickle
 import unittest
 from decimal import Decimal
 from fractions import Fraction
 
 import township
-from samples import NOTES, even, uneven
+from samples import NOTES, TOP, even, uneven
 
 
 class Answers(unittest.TestCase):
@@ -52,7 +53,7 @@ class Answers(unittest.TestCase):
         self.assertEqual(normal, "T. 2 N., R. 3 W.,\nsec. 14, N1/2, SE1/4.\n")
 
     def test_normal_longer_than_its_first_room(self):
-        # These are 16 squares of 2.5 acres in each of twenty sections, of which no two make up a larger part.
+        # These are 16 squares of 2.5 acres in each of twenty sections, no two of which make up a larger part.
         quarters = ("NE1/4", "SW1/4")
         squares = [f"{a}{b}{c}{d}" for a in quarters for b in quarters for c in quarters for d in quarters]
         land = "; ".join(f"sec. {section}, {', '.join(squares)}" for section in (*range(8, 18), *range(20, 30)))
@@ -127,7 +128,7 @@ class Parts(unittest.TestCase):
                 township.Plat.of_parts(where, self.QUARTERS)
 
     def test_quarters_that_are_no_plats(self):
-        # Line 0 closes, and so has 5 to 25 chains; line 7 doesn't.
+        # Line 0 closes, and therefore has 5 to 25 chains; line 7 does not.
         for line, quarter in ((0, 4_999), (0, 25_001), (7, 19_999), (7, 20_001), (0, -1), (0, 2**32 + 20_000)):
             quarters = list(self.QUARTERS)
             quarters[line] = quarter
@@ -143,6 +144,18 @@ class Parts(unittest.TestCase):
         for count in (0, 83, 85):
             with self.subTest(count=count), self.assertRaises(ValueError):
                 township.Plat.of_parts((2, "N", 3, "W"), [20_000] * count)
+
+
+class Opened(unittest.TestCase):
+    def test_any_kind_of_name(self):
+        path = TOP / "samples" / "b1.csv"
+        for name in (path, str(path), os.fsencode(path)):
+            self.assertEqual(township.Plat.open(name), uneven())
+
+    def test_file_that_cannot_be_read(self):
+        for name, error in (("none.csv", FileNotFoundError), (TOP, IsADirectoryError)):
+            with self.subTest(name=name), self.assertRaises(error):
+                township.Plat.open(name)
 
 
 class Values(unittest.TestCase):

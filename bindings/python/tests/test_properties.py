@@ -1,4 +1,4 @@
-"""What is so of any land: lands are made by a seeded generator, the same in each run."""
+"""Properties of any land. The land is made by a seeded generator, the same in each run."""
 import random
 import unittest
 from decimal import ROUND_HALF_UP, Decimal
@@ -12,7 +12,7 @@ LANDS = 24
 
 
 def parts_of(rng: random.Random, finer: int):
-    """Parts that make up a section, or a quarter of it, without overlap."""
+    """Parts that make up a section, or a quarter of it, without overlapping."""
     if finer == 0 or rng.random() < 0.3:
         return [""]
     if rng.random() < 0.3:
@@ -21,7 +21,7 @@ def parts_of(rng: random.Random, finer: int):
 
 
 def land(rng: random.Random):
-    """Items of a description that don't overlap, at least one: some parts of a few sections, some lots."""
+    """Items of a description that do not overlap, at least one: parts of a few sections, and lots."""
     items = []
     for section in rng.sample([*range(8, 18), *range(20, 30), *range(32, 37)], 3):
         parts = parts_of(rng, 3)
@@ -77,7 +77,7 @@ class Lands(unittest.TestCase):
             self.assertEqual(uneven().area(description), uneven().area(description.encode()))
 
     def test_rounding_here_is_half_up(self):
-        # The property above rests on it: 0.005 acres are 0.01.
+        # The property above depends on this: 0.005 acres are 0.01.
         for hundredths in ("0.005", "0.0049", "39.175", "39.025"):
             exact = Decimal(hundredths)
             self.assertEqual(rounded(Fraction(exact)), exact.quantize(Decimal("0.01"), ROUND_HALF_UP))

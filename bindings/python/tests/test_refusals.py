@@ -1,14 +1,16 @@
-"""Refusals: their numbers, places and explanations."""
+"""Refusals: their numbers, places, and explanations."""
 import pickle
+import tempfile
 import traceback
 import unittest
+from pathlib import Path
 
 import township
 from samples import NOTES, TRACTS, RefusalCase, even, uneven
 
 
 class OfDescriptions(RefusalCase):
-    # As docs/REFUSALS.md has them.
+    # As in docs/REFUSALS.md.
     REFUSED = (
         (41, 65536, " " * 65537),
         (42, 8, "secs. 14-15."),
@@ -128,7 +130,96 @@ class OfLists(RefusalCase):
         self.assertEqual((refused.number, refused.at), (81, 1))
 
 
+class OfFiles(RefusalCase):
+    """Field notes by the name of their file."""
+
+    def setUp(self):
+        folder = tempfile.TemporaryDirectory()
+        self.addCleanup(folder.cleanup)
+        self.folder = Path(folder.name)
+
+    def put(self, notes, name="notes.csv"):
+        path = self.folder / name
+        path.write_bytes(notes)
+        return path
+
+    def test_name_is_shown(self):
+        path = self.put(NOTES.replace(b"N,1,,", b"N,40,,"))
+        refused = self.refused(township.Plat.open, path)
+        self.assertEqual((refused.number, refused.at, refused.line), (7, 3, 3))
+        self.assertEqual(refused.source, str(path))
+        self.assertTrue(str(refused).startswith(f"{path}:3: "), refused)
+        self.assertTrue(refused.explanation.startswith(f"township: {path}:3: "))
+        other = self.refused(township.Plat.read, path.read_bytes())
+        self.assertEqual((other.source, refused.sentence), ("notes", other.sentence))
+
+    def test_odd_names(self):
+        wanted = self.refused(township.Plat.read, b"line\n").sentence
+        for name in ("a: b:1:2: c.csv", "li\nne.csv", "Peña.csv", "x" * 200 + ".csv", "\udcff.csv"):
+            with self.subTest(name=name):
+                refused = self.refused(township.Plat.open, self.put(b"line\n", name))
+                self.assertEqual(refused.sentence, wanted)
+                self.assertNotIn("\n", refused.source)
+
+    def test_too_large(self):
+        self.assertEqual(self.refused(township.Plat.open, self.put(b"\n" * 65537)).number, 1)
+        self.assertEqual(self.refused(township.Plat.open, self.put(b"\n" * 10_000_000)).number, 1)
+
+    def test_name_given_for_notes(self):
+        name = "samples/b1.csv"
+        refused = self.refused(township.Plat.read, name)
+        self.assertTrue(refused.explanation.endswith("  this looks like the name of a file: Plat.open reads one\n"))
+        self.assertEqual(refused.sentence, self.refused(township.Plat.read, "samples\n").sentence)
+        if hasattr(refused, "__notes__"):
+            self.assertEqual(refused.__notes__, ["this looks like the name of a file: Plat.open reads one"])
+        there = self.put(b"", "notes")
+        for given in (b"b1.csv", str(there)):
+            self.assertIn("Plat.open", self.refused(township.Plat.read, given).explanation)
+        with self.assertRaisesRegex(TypeError, "Plat.open"):
+            township.Plat.read(there)
+
+    def test_no_name(self):
+        for notes in ("", "line", "line,between,and,quarter,corner\nb1.csv", b"\0.csv"):
+            self.assertNotIn("Plat.open", self.refused(township.Plat.read, notes).explanation)
+
+
+class Sentences(RefusalCase):
+    def test_sentence_that_the_program_shows_on_two_lines(self):
+        refused = self.refused(even().acres, "sec. 14,")
+        self.assertIn("or another\n  section's number\n", refused.explanation)
+        sentence = "incomplete description: expected a part of the section, or another section's number"
+        self.assertEqual(refused.sentence, sentence)
+        self.assertEqual(str(refused), "description:1:9: " + sentence)
+
+    def test_all_parts_of_an_explanation(self):
+        for explanation, message in (
+            ("", "refused 1 at 2"),
+            ("township: notes: wrong\n", "notes: wrong"),
+            ("township: notes: wrong\n  help\n", "notes: wrong"),
+            ("township: notes:3: wrong\n  and so on\n 3 | line\n   | ^\n  help\n", "notes:3: wrong and so on"),
+            (f"township: {'x' * 85}\n  help\n", "x" * 85),
+            (f"township: {'x' * 85}\n  helps\n", f"{'x' * 85} helps"),
+        ):
+            with self.subTest(explanation=explanation):
+                self.assertEqual(str(township.Refused(1, 2, explanation=explanation)), message)
+
+
 class AsExceptions(RefusalCase):
+    def test_value_error(self):
+        with self.assertRaises(ValueError):
+            uneven().acres("sec. 37.")
+
+    def test_equal(self):
+        refused = self.refused(uneven().acres, "sec. 14, NE1/4 and N1/2.")
+        again = self.refused(uneven().acres, "sec. 14, NE1/4 and N1/2.")
+        self.assertEqual(refused, again)
+        self.assertEqual(hash(refused), hash(again))
+        self.assertEqual(len({refused, again, self.refused(uneven().acres, "sec. 37.")}), 2)
+        self.assertNotEqual(refused, self.refused(uneven().acres, "sec. 14,  NE1/4 and N1/2."))
+        self.assertNotEqual(refused, township.Refused(67, 19))
+        self.assertNotEqual(refused, (67, 19))
+        self.assertEqual(township.Refused(67, 19), township.Refused(67, 19))
+
     def test_pickled(self):
         refused = self.refused(uneven().report, [("A", "sec. 7, lot 9.")])
         again = pickle.loads(pickle.dumps(refused))

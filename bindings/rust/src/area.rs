@@ -1,21 +1,30 @@
 //! Exact areas.
 
 use crate::ffi::Fraction;
+use crate::parse::{number, ParseError};
 use std::cmp::Ordering;
 use std::fmt;
+use std::iter::Sum;
+use std::ops::{Add, AddAssign};
+use std::str::FromStr;
 
 /// The number of square thousandths of a chain in an acre, which is ten square chains.
 const UNITS_IN_ACRE: u128 = 10_000_000;
 
 /// An exact area in acres, as a fraction in lowest terms.
 ///
+/// It is displayed as `809/20`, or `640` for whole acres, and parsed from such a text. Areas can be
+/// added. The areas of land on a plat have small denominators; a sum with numbers of more than 128
+/// bits panics.
+///
 /// ```
-/// # let notes = include_bytes!(concat!(env!("CARGO_MANIFEST_DIR"), "/../../samples/b1.csv"));
+/// # let notes = include_bytes!(concat!(env!("CARGO_MANIFEST_DIR"), "/samples/b1.csv"));
 /// # let plat = township::Plat::read(notes)?;
 /// let area = plat.area("sec. 5, lot 1.")?;
 /// assert_eq!((area.numerator(), area.denominator()), (809, 20));
 /// assert_eq!(area.to_string(), "809/20");
 /// assert!(plat.area("sec. 5, lot 2.")? > area);
+/// assert_eq!(area + area, plat.area("sec. 5, lot 1.")? + "809/20".parse().unwrap());
 /// # Ok::<(), township::Refused>(())
 /// ```
 #[derive(Clone, Copy, Debug, PartialEq, Eq, Hash)]
@@ -25,6 +34,12 @@ pub struct Area {
 }
 
 impl Area {
+    /// No area.
+    pub const ZERO: Area = Area {
+        numerator: 0,
+        denominator: 1,
+    };
+
     /// Returns the numerator.
     pub const fn numerator(self) -> u128 {
         self.numerator
@@ -37,7 +52,7 @@ impl Area {
 
     /// Converts an area written by the library. Its units are less than 10 to the 24th, and their
     /// divisor has 64 bits, so no number here has more than 88 bits.
-    pub(crate) fn of_fraction(fraction: Fraction) -> Area {
+    pub(crate) fn from_fraction(fraction: Fraction) -> Area {
         let units = (u128::from(fraction.units_high) << 64) | u128::from(fraction.units_low);
         Area::reduced(units, u128::from(fraction.over) * UNITS_IN_ACRE)
     }
@@ -49,6 +64,67 @@ impl Area {
             numerator: numerator / common,
             denominator: denominator / common,
         }
+    }
+}
+
+impl Area {
+    /// Adds two areas, if the numbers of the sum have at most 128 bits.
+    fn plus(self, other: Area) -> Option<Area> {
+        let common = common_divisor(self.denominator, other.denominator);
+        let denominator = self.denominator.checked_mul(other.denominator / common)?;
+        let parts = self.numerator.checked_mul(other.denominator / common)?;
+        let others = other.numerator.checked_mul(self.denominator / common)?;
+        Some(Area::reduced(parts.checked_add(others)?, denominator))
+    }
+
+    /// Parses a text such as `809/20` or `640`. The fraction need not be in lowest terms.
+    fn from_text(text: &str) -> Option<Area> {
+        let (numerator, denominator) = text.split_once('/').unwrap_or((text, "1"));
+        let denominator = number(denominator).filter(|&denominator| denominator != 0)?;
+        Some(Area::reduced(number(numerator)?, denominator))
+    }
+}
+
+impl Default for Area {
+    fn default() -> Area {
+        Area::ZERO
+    }
+}
+
+impl FromStr for Area {
+    type Err = ParseError;
+
+    /// Parses a fraction, such as `809/20`, or a whole number of acres.
+    fn from_str(text: &str) -> Result<Area, ParseError> {
+        Area::from_text(text).ok_or(ParseError::not("an area, such as 809/20"))
+    }
+}
+
+impl Add for Area {
+    type Output = Area;
+
+    /// Adds areas exactly. Panics if a number of the sum has more than 128 bits.
+    fn add(self, other: Area) -> Area {
+        self.plus(other)
+            .expect("a sum of areas has more than 128 bits")
+    }
+}
+
+impl AddAssign for Area {
+    fn add_assign(&mut self, other: Area) {
+        *self = *self + other;
+    }
+}
+
+impl Sum for Area {
+    fn sum<I: Iterator<Item = Area>>(areas: I) -> Area {
+        areas.fold(Area::ZERO, Area::add)
+    }
+}
+
+impl<'a> Sum<&'a Area> for Area {
+    fn sum<I: Iterator<Item = &'a Area>>(areas: I) -> Area {
+        areas.copied().sum()
     }
 }
 
@@ -107,7 +183,7 @@ mod tests {
     use super::*;
 
     fn area(units_low: u64, units_high: u64, over: u64) -> Area {
-        Area::of_fraction(Fraction {
+        Area::from_fraction(Fraction {
             units_low,
             units_high,
             over,
@@ -147,6 +223,40 @@ mod tests {
         assert_eq!(Area::reduced(640, 1).to_string(), "640");
         assert_eq!(Area::reduced(809, 20).to_string(), "809/20");
         assert_eq!(Area::reduced(0, 3).to_string(), "0");
+    }
+
+    #[test]
+    fn read_as_they_are_written() {
+        for (numerator, denominator) in [(0, 1), (640, 1), (809, 20), (u128::MAX, 2)] {
+            let area = Area::reduced(numerator, denominator);
+            assert_eq!(area.to_string().parse(), Ok(area));
+        }
+        assert_eq!("1618/40".parse(), Ok(Area::reduced(809, 20)));
+        for text in ["", "/", "1/", "1/0", "-1", "1/2/3", "1.5", " 1", "0x1"] {
+            let error = text.parse::<Area>().unwrap_err();
+            assert_eq!(error.to_string(), "not an area, such as 809/20", "{text}");
+        }
+    }
+
+    #[test]
+    fn sums() {
+        // 1/6 and 1/10 are 4/15; with 11/15 that is 1.
+        let areas = [(1, 6), (1, 10), (11, 15)].map(|(a, b)| Area::reduced(a, b));
+        assert_eq!(areas[0] + areas[1], Area::reduced(4, 15));
+        assert_eq!(areas.iter().sum::<Area>(), Area::reduced(1, 1));
+        assert_eq!(areas.into_iter().sum::<Area>(), Area::reduced(1, 1));
+        assert_eq!([].iter().sum::<Area>(), Area::default());
+        let mut total = areas[0];
+        total += areas[0];
+        assert_eq!(total, Area::reduced(1, 3));
+        let large = Area::reduced(u128::MAX, 7);
+        assert_eq!(large + Area::ZERO, large);
+    }
+
+    #[test]
+    #[should_panic(expected = "a sum of areas has more than 128 bits")]
+    fn sum_that_is_too_large() {
+        let _ = Area::reduced(u128::MAX, 1) + Area::reduced(1, 1);
     }
 
     #[test]

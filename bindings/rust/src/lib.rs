@@ -6,7 +6,7 @@
 //! crate wraps it in safe functions.
 //!
 //! ```
-//! # let notes = include_bytes!(concat!(env!("CARGO_MANIFEST_DIR"), "/../../samples/b1.csv"));
+//! # let notes = include_bytes!(concat!(env!("CARGO_MANIFEST_DIR"), "/samples/b1.csv"));
 //! let plat = township::Plat::read(notes)?;
 //! assert_eq!(plat.acres("sec. 5, lots 1 and 2, S1/2NE1/4.")?.to_string(), "161.00");
 //!
@@ -23,6 +23,10 @@
 //! The library frees all the memory it allocates before it returns. If memory runs out, a function
 //! panics with the message `township: out of memory`. Each thread needs a stack of at least
 //! 256 KiB; by default, Rust gives the threads it spawns 2 MiB.
+//!
+//! # Features
+//!
+//! With the feature `serde`, all types here can be serialized and deserialized.
 #![deny(missing_docs)]
 #![deny(unsafe_code)]
 #![warn(clippy::all)]
@@ -31,8 +35,12 @@ mod account;
 mod acres;
 mod answer;
 mod area;
+#[cfg(feature = "serde")]
+mod data;
+mod explanation;
 #[allow(unsafe_code)]
 mod ffi;
+mod parse;
 mod plat;
 mod refused;
 mod report;
@@ -42,6 +50,7 @@ mod township;
 pub use self::account::Account;
 pub use self::acres::Acres;
 pub use self::area::Area;
+pub use self::parse::ParseError;
 pub use self::plat::{NoPlat, Plat, LINES};
 pub use self::refused::{Refusal, Refused};
 pub use self::report::{Report, Tract};

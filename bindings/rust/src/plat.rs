@@ -6,6 +6,7 @@ use crate::refused::{Refused, NOTES};
 use crate::township::Township;
 use std::error::Error;
 use std::fmt;
+use std::str::FromStr;
 
 mod answers;
 
@@ -15,7 +16,7 @@ pub const LINES: usize = 84;
 /// The plat of a township: the result of protracting its field notes, and the basis of every
 /// acreage.
 ///
-/// To make a plat, call [`Plat::read`] with field notes, or [`Plat::of_parts`]. A plat is
+/// To make a plat, call [`Plat::read`] with field notes, or [`Plat::from_parts`]. A plat is
 /// immutable, two plats with the same parts are equal, and several threads can use a plat at once.
 ///
 /// A description can be a string or any bytes; a string is read as UTF-8. If a description is
@@ -25,11 +26,16 @@ pub const LINES: usize = 84;
 ///
 /// If memory runs out, these functions panic with the message `township: out of memory`.
 #[derive(Clone, PartialEq, Eq, Hash)]
+#[cfg_attr(feature = "serde", derive(serde::Serialize, serde::Deserialize))]
+#[cfg_attr(
+    feature = "serde",
+    serde(try_from = "crate::data::PlatData", into = "crate::data::PlatData")
+)]
 pub struct Plat {
     parts: Parts,
 }
 
-/// The error for closing quarters that do not make a plat; see [`Plat::of_parts`].
+/// The error for closing quarters that do not make a plat; see [`Plat::from_parts`].
 #[derive(Clone, Copy, Debug, PartialEq, Eq, Hash)]
 pub struct NoPlat;
 
@@ -43,7 +49,7 @@ impl Plat {
     /// ```
     /// use township::Plat;
     ///
-    /// let notes = include_bytes!(concat!(env!("CARGO_MANIFEST_DIR"), "/../../samples/b1.csv"));
+    /// let notes = include_bytes!(concat!(env!("CARGO_MANIFEST_DIR"), "/samples/b1.csv"));
     /// let plat = Plat::read(notes)?;
     /// assert_eq!(plat.township().to_string(), "T. 2 N., R. 3 W.");
     ///
@@ -75,11 +81,11 @@ impl Plat {
     /// use township::{EastWest, NorthSouth, Plat, Township, LINES};
     ///
     /// let township = Township::new(2, NorthSouth::North, 3, EastWest::West).unwrap();
-    /// let even = Plat::of_parts(township, [20_000; LINES])?;
+    /// let even = Plat::from_parts(township, [20_000; LINES])?;
     /// assert!(even.print().ends_with("township total 23040.00\n"));
     /// # Ok::<(), township::NoPlat>(())
     /// ```
-    pub fn of_parts(township: Township, closing_quarters: [u32; LINES]) -> Result<Plat, NoPlat> {
+    pub fn from_parts(township: Township, closing_quarters: [u32; LINES]) -> Result<Plat, NoPlat> {
         let parts = Parts {
             closing_quarters,
             number: township.number(),
@@ -97,20 +103,47 @@ impl Plat {
 
     /// Returns the township's designation.
     pub fn township(&self) -> Township {
-        Township::of_parts(&self.parts).expect("a plat has a township")
+        Township::from_parts(&self.parts).expect("a plat has a township")
     }
 
     /// Returns the last quarter mile of each section line, by line index, in thousandths of a
     /// chain.
     ///
     /// ```
-    /// # let notes = include_bytes!(concat!(env!("CARGO_MANIFEST_DIR"), "/../../samples/b1.csv"));
+    /// # let notes = include_bytes!(concat!(env!("CARGO_MANIFEST_DIR"), "/samples/b1.csv"));
     /// # let plat = township::Plat::read(notes)?;
     /// assert_eq!(plat.closing_quarters()[3..7], [20_000, 20_200, 20_400, 20_800]);
     /// # Ok::<(), township::Refused>(())
     /// ```
     pub fn closing_quarters(&self) -> &[u32; LINES] {
         &self.parts.closing_quarters
+    }
+}
+
+impl TryFrom<&[u8]> for Plat {
+    type Error = Refused;
+
+    /// Makes the plat of field notes: [`Plat::read`].
+    fn try_from(notes: &[u8]) -> Result<Plat, Refused> {
+        Plat::read(notes)
+    }
+}
+
+impl FromStr for Plat {
+    type Err = Refused;
+
+    /// Makes the plat of field notes: [`Plat::read`].
+    fn from_str(notes: &str) -> Result<Plat, Refused> {
+        Plat::read(notes.as_bytes())
+    }
+}
+
+impl TryFrom<(Township, [u32; LINES])> for Plat {
+    type Error = NoPlat;
+
+    /// Makes a plat from its parts: [`Plat::from_parts`].
+    fn try_from(parts: (Township, [u32; LINES])) -> Result<Plat, NoPlat> {
+        Plat::from_parts(parts.0, parts.1)
     }
 }
 

@@ -1,6 +1,7 @@
 //! Refusals.
 
 use crate::answer::Fault;
+use crate::explanation::message_of;
 use crate::ffi::Answer;
 use crate::text::text_by;
 use std::error::Error;
@@ -11,11 +12,9 @@ pub(crate) const DESCRIPTION: &str = "description";
 pub(crate) const NOTES: &str = "notes";
 pub(crate) const LIST: &str = "tracts";
 
-/// The beginning of every explanation.
-const PROGRAM: &str = "township: ";
-
 /// The number and location of a refusal, displayed as `refused 67 at 19`.
 #[derive(Clone, Copy, Debug, PartialEq, Eq, Hash)]
+#[cfg_attr(feature = "serde", derive(serde::Serialize, serde::Deserialize))]
 pub struct Refusal {
     /// The number, which says what is wrong.
     pub number: u32,
@@ -26,10 +25,10 @@ pub struct Refusal {
 /// The numbered refusal of field notes, a description, or a list of tracts.
 ///
 /// `docs/REFUSALS.md` explains what each number means and how to correct the input. A refusal is
-/// displayed as the first line of its explanation, without the program's name.
+/// displayed as the place and the sentence of its explanation, on one line.
 ///
 /// ```
-/// # let notes = include_bytes!(concat!(env!("CARGO_MANIFEST_DIR"), "/../../samples/b1.csv"));
+/// # let notes = include_bytes!(concat!(env!("CARGO_MANIFEST_DIR"), "/samples/b1.csv"));
 /// # let plat = township::Plat::read(notes)?;
 /// let refused = plat.acres("sec. 14, NE1/4 and N1/2.").unwrap_err();
 /// assert_eq!((refused.number, refused.at), (67, 19));
@@ -44,6 +43,7 @@ pub struct Refusal {
 /// # Ok::<(), township::Refused>(())
 /// ```
 #[derive(Clone, Debug, PartialEq, Eq, Hash)]
+#[cfg_attr(feature = "serde", derive(serde::Serialize, serde::Deserialize))]
 #[non_exhaustive]
 pub struct Refused {
     /// What is wrong: 1 to 11 and 21 to 23 for field notes, 41 to 44 and 61 to 67 for a
@@ -85,7 +85,7 @@ impl Refused {
     /// Returns what is wrong, without the location.
     ///
     /// ```
-    /// # let notes = include_bytes!(concat!(env!("CARGO_MANIFEST_DIR"), "/../../samples/b1.csv"));
+    /// # let notes = include_bytes!(concat!(env!("CARGO_MANIFEST_DIR"), "/samples/b1.csv"));
     /// # let plat = township::Plat::read(notes)?;
     /// let refused = plat.acres("sec. 5, lot 5.").unwrap_err();
     /// assert_eq!(refused.to_string(), "description:1:13: section 5 has lots 1 to 4");
@@ -99,12 +99,6 @@ impl Refused {
             Some((_, sentence)) => sentence.to_owned(),
             None => message,
         }
-    }
-
-    /// Returns the first line of the explanation, if any, without the program's name.
-    fn first_line(&self) -> Option<&str> {
-        let line = self.explanation.lines().next()?;
-        Some(line.strip_prefix(PROGRAM).unwrap_or(line)).filter(|line| !line.is_empty())
     }
 }
 
@@ -121,9 +115,9 @@ impl fmt::Display for Refusal {
 
 impl fmt::Display for Refused {
     fn fmt(&self, f: &mut fmt::Formatter<'_>) -> fmt::Result {
-        match self.first_line() {
-            Some(line) => f.write_str(line),
-            None => write!(f, "refused {} at {}", self.number, self.at),
+        match message_of(&self.explanation).as_str() {
+            "" => write!(f, "refused {} at {}", self.number, self.at),
+            message => f.write_str(message),
         }
     }
 }

@@ -1,10 +1,13 @@
 //! Reports of tracts, as data.
 
 use crate::acres::Acres;
+use crate::parse::ParseError;
 use std::fmt;
+use std::str::FromStr;
 
 /// A tract in a report, with its acreage. It is displayed as `tract A: 39.18 acres`.
 #[derive(Clone, Debug, PartialEq, Eq, Hash)]
+#[cfg_attr(feature = "serde", derive(serde::Serialize, serde::Deserialize))]
 pub struct Tract {
     /// The name: 1 to 64 printable ASCII characters.
     pub name: String,
@@ -14,10 +17,11 @@ pub struct Tract {
 
 /// The report on a list of tracts. Each figure is an exact area, rounded independently.
 ///
-/// It is displayed as the text that [`Plat::report`](crate::Plat::report) returns.
+/// It is displayed as the text that [`Plat::report`](crate::Plat::report) returns, and parsed from
+/// such a text.
 ///
 /// ```
-/// # let notes = include_bytes!(concat!(env!("CARGO_MANIFEST_DIR"), "/../../samples/b1.csv"));
+/// # let notes = include_bytes!(concat!(env!("CARGO_MANIFEST_DIR"), "/samples/b1.csv"));
 /// # let plat = township::Plat::read(notes)?;
 /// let report = plat.report_of([("A", "sec. 7, lot 1."), ("B", "sec. 7, lot 4.")])?;
 /// assert_eq!(report.to_string(), "\
@@ -29,6 +33,7 @@ pub struct Tract {
 /// # Ok::<(), township::Refused>(())
 /// ```
 #[derive(Clone, Debug, PartialEq, Eq, Hash)]
+#[cfg_attr(feature = "serde", derive(serde::Serialize, serde::Deserialize))]
 pub struct Report {
     /// The tracts, in the order of the list.
     pub tracts: Vec<Tract>,
@@ -39,18 +44,8 @@ pub struct Report {
 }
 
 impl Report {
-    /// Parses the text of a report. Returns `None` if the text is not a report.
-    ///
-    /// ```
-    /// # let notes = include_bytes!(concat!(env!("CARGO_MANIFEST_DIR"), "/../../samples/b1.csv"));
-    /// # let plat = township::Plat::read(notes)?;
-    /// let text = plat.report("name,description\nA,sec. 14\n")?;
-    /// let report = township::Report::of_text(&text).unwrap();
-    /// assert_eq!(report.total.to_string(), "640.00");
-    /// assert_eq!(township::Report::of_text("refused 81 at 1\n"), None);
-    /// # Ok::<(), township::Refused>(())
-    /// ```
-    pub fn of_text(text: &str) -> Option<Report> {
+    /// Parses the text of a report.
+    fn from_text(text: &str) -> Option<Report> {
         let lines: Vec<&str> = text.strip_suffix('\n')?.split('\n').collect();
         // A name can contain any printable character, so position identifies these two lines.
         let (remaining, lines) = lines.split_last()?;
@@ -66,6 +61,25 @@ impl Report {
     }
 }
 
+impl FromStr for Report {
+    type Err = ParseError;
+
+    /// Parses the text that [`Plat::report`](crate::Plat::report) returns.
+    ///
+    /// ```
+    /// # let notes = include_bytes!(concat!(env!("CARGO_MANIFEST_DIR"), "/samples/b1.csv"));
+    /// # let plat = township::Plat::read(notes)?;
+    /// let text = plat.report("name,description\nA,sec. 14\n")?;
+    /// let report: township::Report = text.parse().unwrap();
+    /// assert_eq!(report.total.to_string(), "640.00");
+    /// assert!("refused 81 at 1\n".parse::<township::Report>().is_err());
+    /// # Ok::<(), township::Refused>(())
+    /// ```
+    fn from_str(text: &str) -> Result<Report, ParseError> {
+        Report::from_text(text).ok_or(ParseError::not("the text of a report"))
+    }
+}
+
 /// Parses the line of a tract. The name can contain colons and ends at the last one.
 fn tract_of(line: &str) -> Option<Tract> {
     let (name, figure) = line.strip_prefix("tract ")?.rsplit_once(": ")?;
@@ -77,7 +91,7 @@ fn tract_of(line: &str) -> Option<Tract> {
 
 /// Parses a text such as `39.18 acres`.
 fn figure_of(text: &str) -> Option<Acres> {
-    Acres::of_text(text.strip_suffix(" acres")?)
+    text.strip_suffix(" acres")?.parse().ok()
 }
 
 /// Returns the list of tracts (CSV) with these names and descriptions. Every field is quoted.
@@ -140,9 +154,9 @@ total: 160.00 acres
 remaining: 22880.00 acres
 ";
         for text in [nothing, odd_names] {
-            assert_eq!(Report::of_text(text).unwrap().to_string(), text);
+            assert_eq!(text.parse::<Report>().unwrap().to_string(), text);
         }
-        let report = Report::of_text(odd_names).unwrap();
+        let report: Report = odd_names.parse().unwrap();
         let names: Vec<_> = report.tracts.iter().map(|tract| &tract.name[..]).collect();
         assert_eq!(
             names,
@@ -165,7 +179,8 @@ remaining: 22880.00 acres
             "tract A: 1.00\ntotal: 0.00 acres\nremaining: 1.00 acres\n",
             "refused 83 at 2\nrefused 67 at 19\n",
         ] {
-            assert_eq!(Report::of_text(text), None, "{text:?}");
+            let error = text.parse::<Report>().unwrap_err();
+            assert_eq!(error.to_string(), "not the text of a report", "{text:?}");
         }
     }
 

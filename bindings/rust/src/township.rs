@@ -1,7 +1,9 @@
 //! The designation of a township.
 
 use crate::ffi::{self, Parts};
+use crate::parse::{number, ParseError};
 use std::fmt;
+use std::str::FromStr;
 
 /// The largest township or range number.
 const MOST: u8 = 99;
@@ -24,13 +26,15 @@ pub enum EastWest {
     West,
 }
 
-/// A township's designation, without its principal meridian.
+/// A township's designation, without its principal meridian. It is displayed as in the heading of a
+/// description, and parsed from such a text.
 ///
 /// ```
 /// use township::{EastWest, NorthSouth, Township};
 ///
 /// let township = Township::new(2, NorthSouth::North, 3, EastWest::West).unwrap();
 /// assert_eq!(township.to_string(), "T. 2 N., R. 3 W.");
+/// assert_eq!("T. 2 N., R. 3 W.".parse(), Ok(township));
 /// ```
 #[derive(Clone, Copy, Debug, PartialEq, Eq, Hash)]
 pub struct Township {
@@ -85,18 +89,32 @@ impl Township {
     }
 
     /// Returns the township of a plat's parts, if they are valid.
-    pub(crate) fn of_parts(parts: &Parts) -> Option<Township> {
+    pub(crate) fn from_parts(parts: &Parts) -> Option<Township> {
         Township::new(
             parts.number,
-            NorthSouth::of_code(parts.north_south)?,
+            NorthSouth::from_code(parts.north_south)?,
             parts.range,
-            EastWest::of_code(parts.east_west)?,
+            EastWest::from_code(parts.east_west)?,
+        )
+    }
+}
+
+impl Township {
+    fn from_text(text: &str) -> Option<Township> {
+        let (number_side, range_side) = text.strip_prefix("T. ")?.split_once("., R. ")?;
+        let (tier, north_south) = number_side.split_once(' ')?;
+        let (range, east_west) = range_side.strip_suffix('.')?.split_once(' ')?;
+        Township::new(
+            number(tier)?,
+            north_south.parse().ok()?,
+            number(range)?,
+            east_west.parse().ok()?,
         )
     }
 }
 
 impl NorthSouth {
-    fn of_code(code: u8) -> Option<NorthSouth> {
+    fn from_code(code: u8) -> Option<NorthSouth> {
         match code {
             ffi::NORTH => Some(NorthSouth::North),
             ffi::SOUTH => Some(NorthSouth::South),
@@ -114,7 +132,7 @@ impl NorthSouth {
 }
 
 impl EastWest {
-    fn of_code(code: u8) -> Option<EastWest> {
+    fn from_code(code: u8) -> Option<EastWest> {
         match code {
             ffi::EAST => Some(EastWest::East),
             ffi::WEST => Some(EastWest::West),
@@ -128,6 +146,42 @@ impl EastWest {
             EastWest::East => ffi::EAST,
             EastWest::West => ffi::WEST,
         }
+    }
+}
+
+impl FromStr for NorthSouth {
+    type Err = ParseError;
+
+    /// Parses `N` or `S`.
+    fn from_str(letter: &str) -> Result<NorthSouth, ParseError> {
+        match letter {
+            "N" => Ok(NorthSouth::North),
+            "S" => Ok(NorthSouth::South),
+            _ => Err(ParseError::not("a side of the base line, N or S")),
+        }
+    }
+}
+
+impl FromStr for EastWest {
+    type Err = ParseError;
+
+    /// Parses `E` or `W`.
+    fn from_str(letter: &str) -> Result<EastWest, ParseError> {
+        match letter {
+            "E" => Ok(EastWest::East),
+            "W" => Ok(EastWest::West),
+            _ => Err(ParseError::not("a side of the principal meridian, E or W")),
+        }
+    }
+}
+
+impl FromStr for Township {
+    type Err = ParseError;
+
+    /// Parses a text in the form in which townships are displayed, such as `T. 2 N., R. 3 W.`. The
+    /// headings of descriptions may be spelled in more ways.
+    fn from_str(text: &str) -> Result<Township, ParseError> {
+        Township::from_text(text).ok_or(ParseError::not("a township, such as T. 2 N., R. 3 W."))
     }
 }
 

@@ -1,14 +1,14 @@
-//! Worked cases, of which the environment variable `TOWNSHIP_CASE_RECORDS` names the file. Without
-//! it they are skipped; `scripts/rust_tests.sh` makes the file of a zip of cases.
+//! Worked cases, from the file that the environment variable `TOWNSHIP_CASE_RECORDS` names. Without
+//! it they are skipped; `tests/library/rust.sh` makes the file from a zip of cases.
 //!
-//! A case is one line of words, and then the bytes whose numbers it gives, one text right behind
+//! A case is one line of words, and then the bytes whose numbers it gives, one text right after
 //! the other, and a line feed:
 //!
 //! ```text
 //! NAME KIND NOTES INPUT ANSWER
 //! ```
 //!
-//! `tests/c/cases.c` says more of them, and `tests/c/case_records.py` writes them.
+//! `tests/library/c/cases.c` says more about them, and `tests/library/c/case_records.py` writes them.
 
 mod samples;
 
@@ -34,11 +34,11 @@ struct Case {
     notes: &'static [u8],
     /// A description or a list of tracts.
     input: &'static [u8],
-    /// What the program `township` writes.
+    /// The text that the program `township` writes.
     wanted: &'static [u8],
 }
 
-/// The records that are still to be read.
+/// The records that have not been read yet.
 struct Cases(&'static [u8]);
 
 impl Cases {
@@ -50,7 +50,7 @@ impl Cases {
         }))
     }
 
-    /// So many bytes, and what comes after them.
+    /// This many bytes, and the bytes after them.
     fn take(&mut self, length: usize) -> &'static [u8] {
         assert!(length <= self.0.len(), "a case ends too soon");
         let (taken, rest) = self.0.split_at(length);
@@ -119,7 +119,7 @@ fn front(text: &[u8]) -> String {
     String::from_utf8_lossy(&text[..text.len().min(90)]).into_owned()
 }
 
-/// What the program writes.
+/// The text that the program writes.
 fn written(answer: Result<String, Refused>) -> String {
     let refused = match answer {
         Ok(text) => return text,
@@ -146,7 +146,7 @@ fn answer(case: &Case) -> Result<String, Refused> {
     }
 }
 
-/// The acres of a description, which are its area rounded.
+/// The acres of a description, which are its rounded area.
 fn acres_text(plat: &Plat, case: &Case, account: Account) -> Result<String, Refused> {
     let acres = plat.acres_by(case.input, account)?;
     let area = plat.area_by(case.input, account)?;
@@ -157,7 +157,7 @@ fn acres_text(plat: &Plat, case: &Case, account: Account) -> Result<String, Refu
 /// The report of a list, which is the same when it is written from its figures.
 fn report_text(plat: &Plat, case: &Case) -> Result<String, Refused> {
     let text = plat.report(case.input)?;
-    let report = Report::of_text(&text).expect("the text is a report's");
+    let report: Report = text.parse().expect("the text is a report's");
     assert_eq!(report.to_string(), text, "{}", case.name);
     Ok(text)
 }

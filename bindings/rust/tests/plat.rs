@@ -1,10 +1,10 @@
-//! Plats: how they are made, what they answer, and that they are values.
+//! Plats: how they are made, the answers they give, and that they are values.
 
 mod samples;
 
 use samples::{even, rounded, uneven, NOTES};
 use std::collections::HashSet;
-use township::{Account, Acres, EastWest, NoPlat, NorthSouth, Plat, Township, LINES};
+use township::{Account, Acres, Area, EastWest, NoPlat, NorthSouth, Plat, Township, LINES};
 
 // The figures are those of the documents, worked out there by hand.
 
@@ -17,7 +17,7 @@ fn sample_township() -> Township {
 }
 
 fn acres(hundredths: u64) -> Acres {
-    Acres::of_hundredths(hundredths)
+    Acres::from_hundredths(hundredths)
 }
 
 #[test]
@@ -75,7 +75,7 @@ fn normal() {
     );
 }
 
-/// 16 squares of 2.5 acres in each of twenty sections, of which no two make up a larger part.
+/// 16 squares of 2.5 acres in each of twenty sections, no two of which make up a larger part.
 fn land_with_a_long_text() -> String {
     let mut squares = vec![String::new()];
     for _ in 0..4 {
@@ -121,7 +121,8 @@ fn printed() {
     assert_eq!(text.lines().count(), 37);
 }
 
-/// The lands of a printed line, such as `sec. 7: lot 1 39.18, total 636.40`, with their figures.
+/// The lots and the section of a printed line, such as `sec. 7: lot 1 39.18, total 636.40`, with
+/// their figures.
 fn printed_lands(line: &str) -> Vec<(String, &str)> {
     let (section, figures) = line.split_once(": ").unwrap();
     let land = |name: &str| match name {
@@ -164,9 +165,68 @@ fn acres_are_the_area_rounded() {
 fn parts_of_a_plat_make_it() {
     let plat = uneven();
     assert_eq!(plat.township(), sample_township());
-    let made = Plat::of_parts(plat.township(), *plat.closing_quarters());
+    let made = Plat::from_parts(plat.township(), *plat.closing_quarters());
     assert_eq!(made, Ok(plat));
-    assert_eq!(Plat::of_parts(sample_township(), QUARTERS), Ok(even()));
+    assert_eq!(Plat::from_parts(sample_township(), QUARTERS), Ok(even()));
+}
+
+#[test]
+fn conversions() {
+    assert_eq!(Plat::try_from(NOTES), Ok(uneven()));
+    assert_eq!(Plat::try_from(b"".as_slice()), Plat::read(b""));
+    assert_eq!(std::str::from_utf8(NOTES).unwrap().parse(), Ok(uneven()));
+    assert_eq!("line".parse::<Plat>().unwrap_err().number, 3);
+    assert_eq!(Plat::try_from((sample_township(), QUARTERS)), Ok(even()));
+    assert_eq!(Plat::try_from((sample_township(), [0; LINES])), Err(NoPlat));
+}
+
+#[test]
+fn sums_of_areas_are_exact() {
+    // Lots 1 to 4 of section 7 have 39.175, 39.125, 39.075, and 39.025 acres.
+    let lots = (1..=4).map(|lot| format!("sec. 7, lot {lot}."));
+    let areas: Vec<_> = lots.map(|lot| uneven().area(lot).unwrap()).collect();
+    let all = uneven().area("sec. 7, lots 1 to 4.").unwrap();
+    assert_eq!(areas.iter().sum::<Area>(), all);
+    assert_eq!(all.to_string(), "782/5");
+    assert_eq!(areas[0] + areas[3], "391/5".parse().unwrap());
+}
+
+#[test]
+fn townships_parsed() {
+    for text in ["T. 2 N., R. 3 W.", "T. 99 S., R. 1 E."] {
+        assert_eq!(text.parse::<Township>().unwrap().to_string(), text);
+    }
+    for text in [
+        "",
+        "T. 2 N., R. 3 W",
+        "T. 0 N., R. 3 W.",
+        "T. 2 N., R. 100 W.",
+        "T. 300 N., R. 3 W.",
+        "T. +2 N., R. 3 W.",
+        "T. 2 E., R. 3 W.",
+        "T. 2 N., R. 3 n.",
+        "T2N R3W",
+    ] {
+        let error = text.parse::<Township>().unwrap_err();
+        let message = "not a township, such as T. 2 N., R. 3 W.";
+        assert_eq!(error.to_string(), message, "{text}");
+    }
+}
+
+#[test]
+fn sides_and_accounts_parsed() {
+    for side in [NorthSouth::North, NorthSouth::South] {
+        assert_eq!(side.to_string().parse(), Ok(side));
+    }
+    for side in [EastWest::East, EastWest::West] {
+        assert_eq!(side.to_string().parse(), Ok(side));
+    }
+    for account in [Account::Exact, Account::Plat] {
+        assert_eq!(account.to_string().parse(), Ok(account));
+    }
+    assert!("n".parse::<NorthSouth>().is_err());
+    assert!("N".parse::<EastWest>().is_err());
+    assert!("printed".parse::<Account>().is_err());
 }
 
 #[test]
@@ -178,7 +238,7 @@ fn each_side() {
                 township.to_string(),
                 format!("T. 99 {north_south}., R. 1 {east_west}.")
             );
-            let plat = Plat::of_parts(township, QUARTERS).unwrap();
+            let plat = Plat::from_parts(township, QUARTERS).unwrap();
             assert_eq!(plat.township(), township);
             let normal = plat.normal("sec. 14.").unwrap();
             assert_eq!(normal, format!("{township},\nsec. 14, all.\n"));
@@ -204,7 +264,7 @@ fn numbers_of_no_township() {
 
 #[test]
 fn quarters_that_are_no_plats() {
-    // Lines 0 and 83 close, and so have 5 to 25 chains; lines 7 and 58 don't.
+    // Lines 0 and 83 close, and therefore have 5 to 25 chains; lines 7 and 58 do not.
     for (line, quarter) in [
         (0, 0),
         (0, 4_999),
@@ -215,7 +275,7 @@ fn quarters_that_are_no_plats() {
     ] {
         let mut quarters = QUARTERS;
         quarters[line] = quarter;
-        let made = Plat::of_parts(sample_township(), quarters);
+        let made = Plat::from_parts(sample_township(), quarters);
         assert_eq!(made, Err(NoPlat), "line {line} of {quarter}");
     }
     assert_eq!(NoPlat.to_string(), "no plat has these closing quarters");
@@ -226,7 +286,7 @@ fn quarters_at_their_limits() {
     for quarter in [5_000, 25_000] {
         let mut quarters = QUARTERS;
         quarters[0] = quarter;
-        let made = Plat::of_parts(sample_township(), quarters).unwrap();
+        let made = Plat::from_parts(sample_township(), quarters).unwrap();
         assert_eq!(made.closing_quarters(), &quarters);
     }
 }

@@ -1,4 +1,4 @@
-//! Refusals: their numbers, places and explanations.
+//! Refusals: their numbers, places, and explanations.
 
 mod samples;
 
@@ -6,7 +6,7 @@ use samples::{even, uneven, NOTES, TRACTS};
 use std::error::Error;
 use township::{Account, Plat, Refusal, Refused};
 
-/// Refused descriptions with their numbers and places, as `docs/REFUSALS.md` has them.
+/// Refused descriptions with their numbers and places, as in `docs/REFUSALS.md`.
 fn refused_descriptions() -> Vec<(u32, u32, String)> {
     let too_long = " ".repeat(65_537);
     let rows = [
@@ -26,7 +26,7 @@ fn refused_descriptions() -> Vec<(u32, u32, String)> {
         .into()
 }
 
-/// The number and the place of a refusal that has no other inside.
+/// The number and the place of a refusal that contains no other.
 fn number_and_place(refused: &Refused) -> (u32, u32) {
     assert_eq!(refused.inner, None);
     (refused.number, refused.at)
@@ -112,7 +112,7 @@ fn the_most_bytes() {
     assert_eq!(even().acres(most + " ").unwrap_err().number, 41);
 }
 
-/// The uneven notes without the lines that begin so.
+/// The uneven notes without the lines that begin like this.
 fn notes_without(front: &str) -> Vec<u8> {
     let notes = std::str::from_utf8(NOTES).unwrap();
     let kept: Vec<_> = notes
@@ -122,7 +122,7 @@ fn notes_without(front: &str) -> Vec<u8> {
     kept.concat().into_bytes()
 }
 
-/// The uneven notes with one text in the place of another, which they have once.
+/// The uneven notes with one text replaced by another; the text occurs once in them.
 fn notes_with(old: &str, new: &str) -> Vec<u8> {
     let notes = std::str::from_utf8(NOTES).unwrap();
     assert_eq!(notes.matches(old).count(), 1);
@@ -134,7 +134,10 @@ fn notes_without_a_line() {
     let refused = Plat::read(&notes_without("W,6,7,")).unwrap_err();
     assert_eq!(number_and_place(&refused), (11, 53));
     assert_eq!((refused.line, refused.column), (None, None));
-    assert_eq!(refused.sentence(), "missing record: W,6,7 (section line 53)");
+    assert_eq!(
+        refused.sentence(),
+        "missing record: W,6,7 (section line 53)"
+    );
     assert_eq!(
         refused.explanation,
         "township: notes: missing record: W,6,7 (section line 53)\n"

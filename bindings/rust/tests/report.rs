@@ -3,7 +3,6 @@
 mod samples;
 
 use samples::{even, uneven, TRACTS};
-use township::Report;
 
 // The figures are those of the documents, worked out there by hand: lots 1 and 4 of section 7 have
 // 39.175 and 39.025 acres.
@@ -34,7 +33,7 @@ fn tracts() {
     assert_eq!(report.total.hundredths(), 7_820);
     assert_eq!(report.remaining.hundredths(), 2_295_937);
     assert_eq!(report.to_string(), TWO_LOTS_TEXT);
-    assert_eq!(Report::of_text(TWO_LOTS_TEXT), Some(report));
+    assert_eq!(TWO_LOTS_TEXT.parse(), Ok(report));
 }
 
 #[test]

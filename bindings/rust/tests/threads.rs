@@ -10,7 +10,7 @@ use township::{Account, Acres, Area, Plat, Refused, Report, Township};
 const THREADS: usize = 4;
 const ROUNDS: usize = 200;
 
-/// The stack that the library asks for, and room for the thread's own calls.
+/// The stack that the library requires, and room for the thread's own calls.
 const STACK: usize = (256 + 64) * 1024;
 
 /// One answer of each kind.
@@ -47,7 +47,7 @@ fn answers_on(plat: &Plat) -> Answers {
 fn one_plat_in_four_threads() {
     let plat = uneven();
     let wanted = answers_on(&plat);
-    assert_eq!(wanted.acres, Ok(Acres::of_hundredths(16_100)));
+    assert_eq!(wanted.acres, Ok(Acres::from_hundredths(16_100)));
     assert_eq!(wanted.refused.as_ref().unwrap_err().number, 67);
     let together = Barrier::new(THREADS);
     thread::scope(|scope| {
@@ -70,7 +70,7 @@ fn plats_of_their_own() {
     let plat_of = |number| {
         let sample = uneven().township();
         let township = Township::new(number, sample.north_south(), 3, sample.east_west());
-        Plat::of_parts(township.unwrap(), [20_000; township::LINES]).unwrap()
+        Plat::from_parts(township.unwrap(), [20_000; township::LINES]).unwrap()
     };
     let together = Barrier::new(THREADS);
     let run = |number: u8| {

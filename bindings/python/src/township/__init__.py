@@ -4,7 +4,7 @@ A township's field notes make a plat. For a legal description by lots and aliquo
 exact acreage of the land, rounded once, or the numbered refusal of the first error, with its location.
 
 >>> import township
->>> plat = township.Plat.read(open("samples/b1.csv", "rb").read())
+>>> plat = township.Plat.open("samples/b1.csv")
 >>> plat.acres("sec. 5, lots 1 and 2, S1/2NE1/4.")
 Decimal('161.00')
 >>> try:
@@ -16,11 +16,27 @@ Decimal('161.00')
 from __future__ import annotations
 
 from . import _library
+from ._account import Account
 from ._figures import Report, Section, Tract
-from ._plat import Plat, Township
+from ._plat import Plat
 from ._refused import Refusal, Refused, failure_of
+from ._township import EastWest, NorthSouth, Township
+from ._version import __version__
 
-__all__ = ["Plat", "Refusal", "Refused", "Report", "Section", "Township", "Tract", "version"]
+__all__ = [
+    "Account",
+    "EastWest",
+    "NorthSouth",
+    "Plat",
+    "Refusal",
+    "Refused",
+    "Report",
+    "Section",
+    "Township",
+    "Tract",
+    "__version__",
+    "version",
+]
 
 for _public in (Plat, Refusal, Refused, Report, Section, Township, Tract):
     # Tracebacks and pickles name each class as users import it.
@@ -29,7 +45,7 @@ del _public
 
 
 def version() -> str:
-    """Return the version of the library, such as `1.0.0`.
+    """Return the version of the library, such as `1.0.0`. `__version__` is that of the package.
 
     >>> township.version().count(".")
     2

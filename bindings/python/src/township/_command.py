@@ -2,74 +2,161 @@
 from __future__ import annotations
 
 import argparse
-import os
 import sys
-from typing import Optional, Sequence
+from typing import Optional, Sequence, Tuple
 
 from . import version
-from ._batch import Stopped, run_batch
-from ._plat import ACCOUNTS
+from ._account import ACCOUNTS
+from ._batch import Options, Status, Stopped, run_batch
+from ._batch.decoding import ENCODINGS
+from ._batch.workbook import is_workbook
 
-ALL_ACCEPTED = 0
-SOME_REFUSED = 1
-# argparse itself exits with status 2 if the command line is not valid.
-NO_ANSWER = 3
+_USAGE = """python -m township batch [options] NOTES LIST
+       python -m township batch [options] --plats FOLDER LIST"""
 
 _BATCH = """\
-Gives the acres of each description of a list (CSV).
+Gives the acreage of each description in a list.
 
-The list begins with a heading that has a column `description`, and may have any others. Written on standard
-output are the same columns, and these:
+The list is a CSV file or a workbook (.xlsx) with a heading. Its column `description` contains the
+descriptions. All are in the township of the field notes NOTES; or, with --plats, the column `township`
+says in which township each is, as in T. 2 N., R. 3 W. The same columns are written, and these:
 
-  acres     the acres of the land described, where it is accepted
-  refusal   the number of the refusal, where it is refused
-  at        and its place, a byte of the description in UTF-8, counted from 0
-  sentence  and what is wrong, in words
+  acres      the acreage of the land described, if the description is accepted
+  refusal    the number of the refusal, if it is refused
+  at         the location of the error: a byte of the description in UTF-8, counted from 0
+  sentence   what is wrong, in words
+  canonical  the canonical description, which is the same for all descriptions of the same land
 """
 
 _STATUS = """\
 exit status:
-  0  all descriptions are accepted
-  1  some are refused, or the field notes are; then standard error says why
-  2  the command line was misused
-  3  a file can't be read or written, or the list isn't one; standard error says why
+  0    all descriptions are accepted
+  1    some descriptions or field notes are refused; standard error says why the notes are
+  2    the command line is not valid
+  3    a file cannot be read or written, the list has no such column, or memory ran out; standard error
+       says why
+  130  interrupted by Ctrl-C; the answers so far are written
+  141  the reader of the output has closed it
 """
 
 
 def main(words: Optional[Sequence[str]] = None) -> int:
     """Run the command line with these arguments, or with those of the process. Return the exit status."""
-    arguments = _parser().parse_args(words)
     try:
-        every = run_batch(arguments.notes, arguments.list, arguments.account)
+        return run_batch(_options_in(sys.argv[1:] if words is None else list(words)))
     except Stopped as stopped:
-        print(stopped, file=sys.stderr)
-        return SOME_REFUSED if stopped.refused else NO_ANSWER
+        if str(stopped):
+            print(stopped, file=sys.stderr)
+        return stopped.status
     except MemoryError:
         print("township: out of memory", file=sys.stderr)
-        return NO_ANSWER
-    return ALL_ACCEPTED if every else SOME_REFUSED
+        return Status.NO_ANSWER
+    except KeyboardInterrupt:
+        return Status.INTERRUPTED
 
 
-def _parser() -> argparse.ArgumentParser:
-    plain = argparse.RawDescriptionHelpFormatter
-    parser = argparse.ArgumentParser(prog="python -m township", description="Acreage of land in a township")
+def _options_in(words: Sequence[str]) -> Options:
+    """Return what the command line asks for. If it is not valid, exit with status 2."""
+    parser, batch = _parsers()
+    if list(words[:1]) != ["batch"]:
+        parser.parse_args(words)
+        raise AssertionError("there is no other command")
+    # Options may come between the file names, which subcommands of argparse do not allow.
+    asked = batch.parse_intermixed_args(list(words[1:]))
+    wanted = 1 if asked.plats is not None else 2
+    if len(asked.files) != wanted:
+        wrong = "with --plats, name only the list" if asked.plats else "name the field notes and the list"
+        batch.error(wrong)
+    if asked.resume and (asked.output is None or is_workbook(asked.output)):
+        batch.error("--resume needs an --output that is not a workbook")
+    *notes, listed = asked.files
+    return Options(
+        list=listed,
+        notes=notes[0] if notes else None,
+        plats=asked.plats,
+        account=asked.account,
+        column=asked.column,
+        township=asked.township,
+        meridian=asked.meridian,
+        prefix=asked.prefix,
+        encoding=asked.encoding,
+        output=asked.output,
+        resume=asked.resume,
+    )
+
+
+def _parsers() -> Tuple[argparse.ArgumentParser, argparse.ArgumentParser]:
+    """Return the parser of the command line, and that of the command `batch`."""
+    parser = argparse.ArgumentParser(prog="python -m township", description="Acreage of land in a township.")
     parser.add_argument("--version", action="version", version=f"township {version()}")
     commands = parser.add_subparsers(metavar="COMMAND", required=True)
     batch = commands.add_parser(
         "batch",
-        help="give the acres of each description of a list",
+        help="give the acreage of each description in a list",
+        usage=_USAGE,
         description=_BATCH,
         epilog=_STATUS,
-        formatter_class=plain,
+        formatter_class=argparse.RawDescriptionHelpFormatter,
     )
-    batch.add_argument("notes", metavar="NOTES", type=os.fsencode, help="field notes of the township (CSV)")
     batch.add_argument(
-        "list", metavar="LIST", type=os.fsencode, help="the descriptions (CSV), or - for standard input"
+        "files",
+        metavar="NOTES LIST",
+        nargs="*",
+        help="the field notes (CSV), and the list, or - for standard input",
+    )
+    _add_inputs(batch)
+    _add_outputs(batch)
+    return parser, batch
+
+
+def _add_inputs(batch: argparse.ArgumentParser) -> None:
+    """Add the options for what is read."""
+    batch.add_argument(
+        "--plats",
+        metavar="FOLDER",
+        help="a folder of field notes, one file for each township; or of folders by principal meridian",
     )
     batch.add_argument(
         "--account",
         choices=sorted(ACCOUNTS),
         default="exact",
-        help="what a whole lot counts: its exact area, or the acres printed on the plat (default: exact)",
+        help="how a whole lot counts: at its exact area, or as printed on the plat (default: exact)",
     )
-    return parser
+    batch.add_argument(
+        "--column",
+        metavar="NAME",
+        default="description",
+        help="the column of descriptions (default: description)",
+    )
+    batch.add_argument(
+        "--township",
+        metavar="NAME",
+        default="township",
+        help="with --plats, the column of the township (default: township)",
+    )
+    batch.add_argument(
+        "--meridian",
+        metavar="NAME",
+        help="with --plats, the column of the principal meridian (default: meridian, if there is one)",
+    )
+    batch.add_argument(
+        "--encoding",
+        choices=sorted(ENCODINGS),
+        default="utf-8",
+        help="the encoding of a CSV list without a byte order mark (default: utf-8)",
+    )
+
+
+def _add_outputs(batch: argparse.ArgumentParser) -> None:
+    """Add the options for what is written."""
+    batch.add_argument(
+        "--output",
+        metavar="FILE",
+        help="write the answers to this file: CSV, or a workbook if its name ends in .xlsx",
+    )
+    batch.add_argument(
+        "--resume", action="store_true", help="go on where the output of an interrupted batch ends"
+    )
+    batch.add_argument(
+        "--prefix", metavar="TEXT", default="", help="begin the name of each added column with this text"
+    )

@@ -2,10 +2,9 @@
 from __future__ import annotations
 
 from decimal import Context, Decimal
-from typing import Dict, Iterable, NamedTuple, Tuple, Union
+from typing import Dict, Iterable, NamedTuple, Tuple
 
-#: Input text: a `str` is encoded as UTF-8.
-Text = Union[str, bytes]
+from ._text import Text, encoded
 
 # A 64-bit number has at most 20 digits, so nothing is rounded, whatever the caller's decimal context is.
 _scaleb = Context(prec=28).scaleb
@@ -14,22 +13,6 @@ _scaleb = Context(prec=28).scaleb
 def acres_of_hundredths(hundredths: int) -> Decimal:
     """Return an acreage with two decimal places."""
     return _scaleb(hundredths, -2)
-
-
-def encoded(text: Text) -> bytes:
-    """Return the bytes of a text: `bytes` unchanged, and a `str` in UTF-8.
-
-    Every `str` can be encoded. Bytes that Python escaped with `surrogateescape` are restored. Other lone
-    surrogates become bytes that are not allowed in a description, which is then refused at their location.
-    """
-    if isinstance(text, bytes):
-        return text
-    if not isinstance(text, str):
-        raise TypeError(f"a text is str or bytes, not {type(text).__name__}")
-    try:
-        return text.encode("utf-8", "surrogateescape")
-    except UnicodeEncodeError:
-        return text.encode("utf-8", "surrogatepass")
 
 
 class Section(NamedTuple):

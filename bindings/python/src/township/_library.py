@@ -3,11 +3,15 @@ from __future__ import annotations
 
 import ctypes
 import os
+import threading
 from ctypes import POINTER, c_char, c_char_p, c_size_t, c_uint8, c_uint32, c_uint64
-from typing import Callable, Tuple
+from typing import Any, Callable, Tuple
 
 #: The number of section lines in a township.
 LINES = 84
+
+#: The maximum size of field notes, in bytes: longer notes are refused.
+NOTES_MOST = 65_536
 
 # Verdicts.
 ACCEPTED = 0
@@ -28,11 +32,15 @@ BESIDE = os.path.join(os.path.dirname(os.path.abspath(__file__)), "libtownship.s
 UNITS_IN_ACRE = 10_000_000
 
 
+#: The last quarter miles of all section lines.
+Quarters = c_uint32 * LINES
+
+
 class Plat(ctypes.Structure):
     """`township_plat`: 340 bytes."""
 
     _fields_ = [
-        ("closing_quarters", c_uint32 * LINES),
+        ("closing_quarters", Quarters),
         ("number", c_uint8),
         ("north_south", c_uint8),
         ("range", c_uint8),
@@ -81,11 +89,12 @@ _BYTES = (c_char_p, c_size_t)
 _ROOM = (POINTER(c_char), c_size_t)
 
 
-def _call(name: str, *types: type) -> Callable[..., Answer]:
+def _call(name: str, *types: Any) -> Callable[..., Answer]:
     """Return the library function with this name, declared with these argument types."""
-    call = getattr(_LIBRARY, name)
-    call.argtypes = types
-    call.restype = Answer
+    function: Any = getattr(_LIBRARY, name)
+    function.argtypes = types
+    function.restype = Answer
+    call: Callable[..., Answer] = function
     return call
 
 
@@ -104,15 +113,25 @@ version = _call("township_version", *_ROOM)
 USUAL_ROOM = 4096
 
 
+class _Usual(threading.local):
+    """The buffer for first calls. Each thread has its own, because a call lets other threads run."""
+
+    def __init__(self) -> None:
+        self.buffer = ctypes.create_string_buffer(USUAL_ROOM)
+
+
+_usual = _Usual()
+
+
 def text_by(call: Callable[..., Answer], *arguments: object) -> Tuple[Answer, str]:
     """Call a function that writes a text. Return its answer and the text, which is empty if there is none.
 
     If the buffer is too small, the library reports the size it needs, and the function is called again.
     """
-    room = USUAL_ROOM
-    while True:
+    buffer = _usual.buffer
+    answer = call(*arguments, buffer, USUAL_ROOM)
+    while answer.verdict == NO_ROOM:
+        room = answer.length
         buffer = ctypes.create_string_buffer(room)
         answer = call(*arguments, buffer, room)
-        if answer.verdict != NO_ROOM:
-            return answer, ctypes.string_at(buffer, answer.length).decode("utf-8", "replace")
-        room = answer.length
+    return answer, ctypes.string_at(buffer, answer.length).decode("utf-8", "replace")

@@ -1,58 +1,27 @@
 """Plats."""
 from __future__ import annotations
 
+import os
 from ctypes import byref
 from decimal import Decimal
 from fractions import Fraction
 from types import MappingProxyType
-from typing import Any, Iterable, Iterator, Mapping, NamedTuple, Optional, Sequence, Tuple, Union
+from typing import Any, Iterable, Iterator, Mapping, Optional, Sequence, Tuple, Union
 
 from . import _library
-from ._figures import (
-    Report,
-    Section,
-    Text,
-    acres_of_hundredths,
-    encoded,
-    list_of,
-    report_of,
-    sections_of,
-)
-from ._refused import DESCRIPTION, LIST, NOTES, Refused, exception_of, failure_of
-
-#: The accounts, by name: how a whole lot counts.
-ACCOUNTS = {"exact": 0, "plat": 1}
-
-_NORTH_SOUTH = ("N", "S")
-_EAST_WEST = ("E", "W")
-
-
-class Township(NamedTuple):
-    """The designation of a township, without its principal meridian.
-
-    >>> print(plat.township)
-    T. 2 N., R. 3 W.
-    """
-
-    #: The township number, 1 to 99.
-    number: int
-    #: `N` or `S` of the base line.
-    north_south: str
-    #: The range number, 1 to 99.
-    range: int
-    #: `E` or `W` of the principal meridian.
-    east_west: str
-
-    def __str__(self) -> str:
-        return f"T. {self.number} {self.north_south}., R. {self.range} {self.east_west}."
+from ._account import Account, code_of
+from ._figures import Report, Section, acres_of_hundredths, list_of, report_of, sections_of
+from ._refused import DESCRIPTION, LIST, NOTES, Refused, exception_of, failure_of, hinted
+from ._text import Path, Text, encoded, names_a_file, shown
+from ._township import Township, struct_of, township_of
 
 
 class Plat:
     """The plat of a township: the result of protracting its field notes, and the basis of every acreage.
 
-    To make a plat, call `Plat.read` with field notes, or `Plat.of_parts`. A plat is immutable, and two plats
-    with the same parts are equal. It can be pickled, and used from several threads at once; each thread needs
-    a stack of at least 256 KiB.
+    To make a plat, call `Plat.open` with the name of a file of field notes, `Plat.read` with the notes
+    themselves, or `Plat.of_parts`. A plat is immutable, and two plats with the same parts are equal. It can
+    be pickled, and used from several threads at once; each thread needs a stack of at least 256 KiB.
 
     A description can be `str` or `bytes`. A `str` is encoded as UTF-8; bytes that were decoded with Python's
     `surrogateescape` are restored. Methods raise `Refused` if a description is refused, `MemoryError` if
@@ -67,7 +36,7 @@ class Plat:
     _figures: Optional[Tuple[Mapping[int, Section], Decimal]]
 
     def __new__(cls, *_: object, **__: object) -> "Plat":
-        raise TypeError("a plat is made by Plat.read or by Plat.of_parts")
+        raise TypeError("make a plat with Plat.open, Plat.read, or Plat.of_parts")
 
     @classmethod
     def _of_struct(cls, parts: _library.Plat) -> "Plat":
@@ -80,12 +49,34 @@ class Plat:
         return plat
 
     @classmethod
+    def open(cls, path: Path) -> "Plat":
+        """Make the plat of the field notes in a file (CSV, at most 65,536 bytes; see `docs/NOTES-FORMAT.md`).
+
+        Raise `OSError` if the file cannot be read, and `Refused`, with a number from 1 to 23, if the notes do
+        not make a plat. The explanation then shows the name of the file.
+
+        >>> township.Plat.open("samples/b1.csv").township
+        Township(number=2, north_south='N', range=3, east_west='W')
+        >>> try:
+        ...     township.Plat.open("samples/tracts.csv")
+        ... except township.Refused as refused:
+        ...     print(refused.number, refused.at, refused.source)
+        3 1 samples/tracts.csv
+        """
+        with open(path, "rb") as file:
+            # One byte more than the limit is enough for the refusal of notes that are too large.
+            notes = file.read(_library.NOTES_MOST + 1)
+        return cls._of_notes(notes, shown(path).encode("utf-8", "backslashreplace"))
+
+    @classmethod
     def read(cls, notes: Text) -> "Plat":
         """Make the plat of field notes (CSV, at most 65,536 bytes; see `docs/NOTES-FORMAT.md`).
 
-        Raise `Refused`, with a number from 1 to 23, if the notes do not make a plat.
+        Raise `Refused`, with a number from 1 to 23, if the notes do not make a plat. To read a file, call
+        `Plat.open`.
 
-        >>> plat = township.Plat.read(open("samples/b1.csv", "rb").read())
+        >>> with open("samples/b1.csv", "rb") as file:
+        ...     plat = township.Plat.read(file.read())
         >>> plat.township
         Township(number=2, north_south='N', range=3, east_west='W')
         >>> township.Plat.read(b"")
@@ -93,11 +84,23 @@ class Plat:
             ...
         township.Refused: notes: the field notes are empty: they begin with `line,between,and,quarter,corner`
         """
-        given = encoded(notes)
+        if isinstance(notes, os.PathLike):
+            raise TypeError("Plat.read takes the field notes themselves; Plat.open reads a file")
+        try:
+            return cls._of_notes(encoded(notes), NOTES)
+        except Refused as refused:
+            if not names_a_file(notes):
+                raise
+            # The refusal of the name, as if it were notes, explains nothing.
+            raise hinted(refused, "this looks like the name of a file: Plat.open reads one") from None
+
+    @classmethod
+    def _of_notes(cls, notes: bytes, source: bytes) -> "Plat":
+        """Make the plat of field notes, which an explanation calls by this name."""
         parts = _library.Plat()
-        answer = _library.read(given, len(given), byref(parts))
+        answer = _library.read(notes, len(notes), byref(parts))
         if answer.verdict != _library.ACCEPTED:
-            raise exception_of(answer, _library.explain_notes, given, len(given), NOTES, len(NOTES))
+            raise exception_of(answer, _library.explain_notes, notes, len(notes), source=source)
         return cls._of_struct(parts)
 
     @classmethod
@@ -112,20 +115,17 @@ class Plat:
         >>> even = township.Plat.of_parts((2, "N", 3, "W"), [20_000] * 84)
         >>> even.total
         Decimal('23040.00')
-        >>> even == township.Plat.read(open("samples/b0.csv", "rb").read())
+        >>> even == township.Plat.open("samples/b0.csv")
         True
         """
-        plat = cls._of_struct(_struct_of(township, closing_quarters))
+        plat = cls._of_struct(struct_of(township, closing_quarters))
         plat._print()
         return plat
 
     @property
     def township(self) -> Township:
         """The township's designation."""
-        parts = self._parts
-        return Township(
-            parts.number, _NORTH_SOUTH[parts.north_south], parts.range, _EAST_WEST[parts.east_west]
-        )
+        return township_of(self._parts)
 
     @property
     def closing_quarters(self) -> Tuple[int, ...]:
@@ -165,7 +165,7 @@ class Plat:
         """
         return self._printed_figures()[1]
 
-    def acres(self, description: Text, account: str = "exact") -> Decimal:
+    def acres(self, description: Text, account: Account = "exact") -> Decimal:
         """Return the acreage of the land described, rounded once to hundredths, half up.
 
         With the account `plat`, each whole lot counts at the acreage printed on the plat, and other land at
@@ -179,12 +179,12 @@ class Plat:
         Decimal('156.42')
         """
         given = encoded(description)
-        answer = _library.acres(byref(self._parts), given, len(given), _code_of(account))
+        answer = _library.acres(byref(self._parts), given, len(given), code_of(account))
         if answer.verdict != _library.ACCEPTED:
             raise self._exception_of(answer, given)
         return acres_of_hundredths(answer.hundredths)
 
-    def area(self, description: Text, account: str = "exact") -> Fraction:
+    def area(self, description: Text, account: Account = "exact") -> Fraction:
         """Return the exact area of the land described, in acres. `acres` returns it rounded.
 
         >>> plat.area("sec. 5, lot 1.")
@@ -192,7 +192,7 @@ class Plat:
         """
         given = encoded(description)
         area = _library.Area()
-        answer = _library.area(byref(self._parts), given, len(given), _code_of(account), byref(area))
+        answer = _library.area(byref(self._parts), given, len(given), code_of(account), byref(area))
         if answer.verdict != _library.ACCEPTED:
             raise self._exception_of(answer, given)
         return Fraction(area.units_high << 64 | area.units_low, area.over * _library.UNITS_IN_ACRE)
@@ -211,7 +211,7 @@ class Plat:
         return text
 
     def acres_of(
-        self, descriptions: Iterable[Text], account: str = "exact"
+        self, descriptions: Iterable[Text], account: Account = "exact"
     ) -> Iterator[Union[Decimal, Refused]]:
         """Iterate over the answers to many descriptions, in order.
 
@@ -231,7 +231,7 @@ class Plat:
         """
         if isinstance(descriptions, (str, bytes)):
             raise TypeError("this takes many descriptions; for one there is Plat.acres")
-        return self._each_acres(descriptions, _code_of(account))
+        return self._each_acres(descriptions, code_of(account))
 
     def _each_acres(self, descriptions: Iterable[Text], code: int) -> Iterator[Union[Decimal, Refused]]:
         """Yield the answers of `acres_of`. Whatever does not depend on the description is computed once."""
@@ -278,9 +278,8 @@ class Plat:
         given = encoded(tracts)
         answer, text = _library.text_by(_library.report, byref(self._parts), given, len(given))
         if answer.verdict != _library.ACCEPTED:
-            raise exception_of(
-                answer, _library.explain_list, byref(self._parts), given, len(given), LIST, len(LIST)
-            )
+            explain = _library.explain_list
+            raise exception_of(answer, explain, byref(self._parts), given, len(given), source=LIST)
         return report_of(text)
 
     def _print(self) -> str:
@@ -301,12 +300,12 @@ class Plat:
     def _exception_of(self, answer: _library.Answer, given: bytes) -> Exception:
         """Return the exception for a description that is not accepted."""
         explain = _library.explain_description
-        return exception_of(
-            answer, explain, byref(self._parts), given, len(given), DESCRIPTION, len(DESCRIPTION)
-        )
+        return exception_of(answer, explain, byref(self._parts), given, len(given), source=DESCRIPTION)
 
     def __eq__(self, other: object) -> bool:
-        return self._plain == other._plain if isinstance(other, Plat) else NotImplemented
+        if not isinstance(other, Plat):
+            return NotImplemented
+        return self._plain == other._plain
 
     def __hash__(self) -> int:
         return hash(self._plain)
@@ -316,31 +315,3 @@ class Plat:
 
     def __repr__(self) -> str:
         return f"<township.Plat of {self.township}>"
-
-
-def _code_of(account: str) -> int:
-    """Return the library's code for an account."""
-    code = ACCOUNTS.get(account)
-    if code is None:
-        raise ValueError(f"there is no account {account!r}: it is 'exact' or 'plat'")
-    return code
-
-
-def _struct_of(township: Tuple[int, str, int, str], closing_quarters: Sequence[int]) -> _library.Plat:
-    """Return the struct of a plat's parts, checking that each fits its field: ctypes would truncate it."""
-    number, north_south, range_number, east_west = township
-    if len(closing_quarters) != _library.LINES:
-        raise ValueError(f"a township has {_library.LINES} section lines, not {len(closing_quarters)}")
-    if not all(0 <= quarter < 1 << 32 for quarter in closing_quarters):
-        raise ValueError("the last quarter mile of a section line is 5,000 to 25,000 thousandths of a chain")
-    if not (0 < number < 100 and 0 < range_number < 100):
-        raise ValueError("the numbers of a township and of its range are 1 to 99")
-    if north_south not in _NORTH_SOUTH or east_west not in _EAST_WEST:
-        raise ValueError("a township is 'N' or 'S' of its base line, and 'E' or 'W' of its meridian")
-    return _library.Plat(
-        (_library.c_uint32 * _library.LINES)(*closing_quarters),
-        number,
-        _NORTH_SOUTH.index(north_south),
-        range_number,
-        _EAST_WEST.index(east_west),
-    )

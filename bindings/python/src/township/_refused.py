@@ -1,20 +1,18 @@
 """Refusals, and the other ways a call can fail."""
 from __future__ import annotations
 
-import re
-from typing import NamedTuple, Optional
+from typing import Callable, NamedTuple, Optional
 
 from . import _library
+from ._explanation import message_of, sentence_of
 
 # The name that the library uses for each text when it explains a refusal.
 DESCRIPTION = b"description"
 NOTES = b"notes"
 LIST = b"tracts"
 
-# An explanation begins with the program, the text, and, if there are any, the line and column; then the
-# sentence.
-_PROGRAM = "township: "
-_PLACE = re.compile(r"(?:description|notes|tracts)(?::[0-9]+){0,2}: ")
+
+_REFUSALS = (_library.REFUSED, _library.TRACT_REFUSED)
 
 
 class Refusal(NamedTuple):
@@ -24,10 +22,11 @@ class Refusal(NamedTuple):
     at: int
 
 
-class Refused(Exception):
+class Refused(ValueError):
     """The numbered refusal of field notes, a description, or a list of tracts.
 
-    `docs/REFUSALS.md` explains what each number means and how to correct the input.
+    `docs/REFUSALS.md` explains what each number means and how to correct the input. Two refusals are equal if
+    all their attributes are.
 
     >>> try:
     ...     plat.acres("sec. 14, NE1/4 and N1/2.")
@@ -60,6 +59,8 @@ class Refused(Exception):
     explanation: str
     #: For refusal 83, the refusal of the tract's description. None for any other number.
     inner: Optional[Refusal]
+    #: What is refused: `description`, `notes`, `tracts`, or the name of a file.
+    source: str
 
     def __init__(
         self,
@@ -69,37 +70,50 @@ class Refused(Exception):
         column: Optional[int] = None,
         explanation: str = "",
         inner: Optional[Refusal] = None,
+        source: str = "",
     ) -> None:
         # The base class pickles an exception by its arguments, so it needs all of them.
-        super().__init__(number, at, line, column, explanation, inner)
+        super().__init__(number, at, line, column, explanation, inner, source)
         self.number = number
         self.at = at
         self.line = line
         self.column = column
         self.explanation = explanation
         self.inner = inner
+        self.source = source
 
     def __str__(self) -> str:
-        first_line = self.explanation.partition("\n")[0]
-        if not first_line:
-            return f"refused {self.number} at {self.at}"
-        return first_line[len(_PROGRAM) :] if first_line.startswith(_PROGRAM) else first_line
+        return message_of(self.explanation) or f"refused {self.number} at {self.at}"
 
     @property
     def sentence(self) -> str:
         """What is wrong, without the location."""
-        return _PLACE.sub("", str(self), count=1)
+        return sentence_of(str(self), self.source)
+
+    def __eq__(self, other: object) -> bool:
+        if not isinstance(other, Refused):
+            return NotImplemented
+        return self.args == other.args
+
+    def __hash__(self) -> int:
+        return hash(self.args)
 
 
-def refused_by(answer: _library.Answer, explained: _library.Answer, explanation: str) -> Refused:
-    """Return the exception for a refusal, with the library's explanation of it."""
-    inner = None
-    if answer.verdict == _library.TRACT_REFUSED:
-        inner = Refusal(answer.inner_number, answer.inner_at)
-    # The line and column are both 0 if the error is not on any line.
-    return Refused(
-        answer.number, answer.at, explained.line or None, explained.column or None, explanation, inner
+def hinted(refused: Refused, hint: str) -> Refused:
+    """Return a refusal whose explanation ends with one more line. Tracebacks show it from Python 3.11 on."""
+    explanation = f"{refused.explanation}  {hint}\n"
+    again = Refused(
+        refused.number,
+        refused.at,
+        refused.line,
+        refused.column,
+        explanation,
+        refused.inner,
+        refused.source,
     )
+    if hasattr(again, "add_note"):
+        again.add_note(hint)
+    return again
 
 
 def failure_of(verdict: int) -> Exception:
@@ -107,17 +121,28 @@ def failure_of(verdict: int) -> Exception:
     if verdict == _library.NO_MEMORY:
         return MemoryError("township: out of memory")
     if verdict == _library.NO_PLAT:
-        return ValueError("the parts of this plat are those of no plat")
+        return ValueError("these parts do not make a plat")
     if verdict == _library.NO_ACCOUNT:
-        return ValueError("there is no such account")
+        return ValueError("no such account")
     return RuntimeError(f"the township library answered with verdict {verdict}, which is unknown here")
 
 
-def exception_of(answer: _library.Answer, explain, *given: object) -> Exception:
-    """Return the exception for an answer that is not accepted. `explain` is called to explain a refusal."""
-    if answer.verdict not in (_library.REFUSED, _library.TRACT_REFUSED):
+def exception_of(
+    answer: _library.Answer, explain: Callable[..., _library.Answer], *given: object, source: bytes
+) -> Exception:
+    """Return the exception for an answer that is not accepted.
+
+    `explain` is called to explain a refusal of the text or the file with the name `source`.
+    """
+    if answer.verdict not in _REFUSALS:
         return failure_of(answer.verdict)
-    explained, text = _library.text_by(explain, *given)
-    if explained.verdict not in (_library.REFUSED, _library.TRACT_REFUSED):
+    explained, text = _library.text_by(explain, *given, source, len(source))
+    if explained.verdict not in _REFUSALS:
         return failure_of(explained.verdict)
-    return refused_by(answer, explained, text)
+    inner = None
+    if answer.verdict == _library.TRACT_REFUSED:
+        inner = Refusal(answer.inner_number, answer.inner_at)
+    # The line and column are both 0 if the error is not on any line.
+    line, column = explained.line or None, explained.column or None
+    return Refused(answer.number, answer.at, line, column, text, inner, source.decode())
+

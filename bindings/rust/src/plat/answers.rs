@@ -18,7 +18,7 @@ impl Plat {
     /// Returns [`Refused`], with a number from 41 to 67, if the description is refused.
     ///
     /// ```
-    /// # let notes = include_bytes!(concat!(env!("CARGO_MANIFEST_DIR"), "/../../samples/b1.csv"));
+    /// # let notes = include_bytes!(concat!(env!("CARGO_MANIFEST_DIR"), "/samples/b1.csv"));
     /// # let plat = township::Plat::read(notes)?;
     /// let acres = plat.acres("sec. 5, lots 1 and 2, S1/2NE1/4.")?;
     /// assert_eq!(acres.to_string(), "161.00");
@@ -38,7 +38,7 @@ impl Plat {
     /// The same as for [`Plat::acres`], with either account.
     ///
     /// ```
-    /// # let notes = include_bytes!(concat!(env!("CARGO_MANIFEST_DIR"), "/../../samples/b1.csv"));
+    /// # let notes = include_bytes!(concat!(env!("CARGO_MANIFEST_DIR"), "/samples/b1.csv"));
     /// # let plat = township::Plat::read(notes)?;
     /// use township::Account;
     ///
@@ -54,7 +54,7 @@ impl Plat {
     ) -> Result<Acres, Refused> {
         let description = description.as_ref();
         match ffi::acres(&self.parts, description, account.code()).accepted() {
-            Ok(answer) => Ok(Acres::of_hundredths(answer.hundredths)),
+            Ok(answer) => Ok(Acres::from_hundredths(answer.hundredths)),
             Err(fault) => Err(self.description_refused(fault, description)),
         }
     }
@@ -66,7 +66,7 @@ impl Plat {
     /// The same as for [`Plat::acres`].
     ///
     /// ```
-    /// # let notes = include_bytes!(concat!(env!("CARGO_MANIFEST_DIR"), "/../../samples/b1.csv"));
+    /// # let notes = include_bytes!(concat!(env!("CARGO_MANIFEST_DIR"), "/samples/b1.csv"));
     /// # let plat = township::Plat::read(notes)?;
     /// assert_eq!(plat.area("sec. 5, lot 1.")?.to_string(), "809/20");
     /// # Ok::<(), township::Refused>(())
@@ -83,7 +83,7 @@ impl Plat {
     /// The same as for [`Plat::acres`].
     ///
     /// ```
-    /// # let notes = include_bytes!(concat!(env!("CARGO_MANIFEST_DIR"), "/../../samples/b1.csv"));
+    /// # let notes = include_bytes!(concat!(env!("CARGO_MANIFEST_DIR"), "/samples/b1.csv"));
     /// # let plat = township::Plat::read(notes)?;
     /// let area = plat.area_by("sec. 7, lots 1 to 4.", township::Account::Plat)?;
     /// assert_eq!((area.numerator(), area.denominator()), (7_821, 50));
@@ -97,7 +97,7 @@ impl Plat {
         let description = description.as_ref();
         let (answer, fraction) = ffi::area(&self.parts, description, account.code());
         match answer.accepted() {
-            Ok(_) => Ok(Area::of_fraction(fraction)),
+            Ok(_) => Ok(Area::from_fraction(fraction)),
             Err(fault) => Err(self.description_refused(fault, description)),
         }
     }
@@ -110,7 +110,7 @@ impl Plat {
     /// The same as for [`Plat::acres`].
     ///
     /// ```
-    /// # let notes = include_bytes!(concat!(env!("CARGO_MANIFEST_DIR"), "/../../samples/b1.csv"));
+    /// # let notes = include_bytes!(concat!(env!("CARGO_MANIFEST_DIR"), "/samples/b1.csv"));
     /// # let plat = township::Plat::read(notes)?;
     /// let normal = plat.normal("sec. 14, SE1/4, NE1/4, NW1/4.")?;
     /// assert_eq!(normal, "T. 2 N., R. 3 W.,\nsec. 14, N1/2, SE1/4.\n");
@@ -132,7 +132,7 @@ impl Plat {
     /// of them.
     ///
     /// ```
-    /// # let notes = include_bytes!(concat!(env!("CARGO_MANIFEST_DIR"), "/../../samples/b1.csv"));
+    /// # let notes = include_bytes!(concat!(env!("CARGO_MANIFEST_DIR"), "/samples/b1.csv"));
     /// # let plat = township::Plat::read(notes)?;
     /// let descriptions = ["sec. 5, lot 1.", "sec. 5, lot 5.", "sec. 36."];
     /// let shown: Vec<String> = plat
@@ -161,7 +161,7 @@ impl Plat {
     /// Returns the printed plat: the acreage of each lot, of each section, and of the township.
     ///
     /// ```
-    /// # let notes = include_bytes!(concat!(env!("CARGO_MANIFEST_DIR"), "/../../samples/b1.csv"));
+    /// # let notes = include_bytes!(concat!(env!("CARGO_MANIFEST_DIR"), "/samples/b1.csv"));
     /// # let plat = township::Plat::read(notes)?;
     /// assert_eq!(
     ///     plat.print().lines().nth(6),
@@ -175,7 +175,7 @@ impl Plat {
 
     /// Returns the report on a list of tracts (CSV, at most 1,048,576 bytes; see
     /// `docs/TRACTS-FORMAT.md`), as text: the acreage of each tract, of all tracts together, and of
-    /// all other land in the township. [`Report::of_text`] parses it.
+    /// all other land in the township. It can be parsed as a [`Report`].
     ///
     /// # Errors
     ///
@@ -184,7 +184,7 @@ impl Plat {
     /// refusal.
     ///
     /// ```
-    /// # let notes = include_bytes!(concat!(env!("CARGO_MANIFEST_DIR"), "/../../samples/b1.csv"));
+    /// # let notes = include_bytes!(concat!(env!("CARGO_MANIFEST_DIR"), "/samples/b1.csv"));
     /// # let plat = township::Plat::read(notes)?;
     /// let list = "name,description\nA,\"sec. 7, lot 1.\"\nB,\"sec. 7, lot 4.\"\n";
     /// assert_eq!(plat.report(list)?, "\
@@ -216,7 +216,7 @@ impl Plat {
     /// tract with index k is record k + 2.
     ///
     /// ```
-    /// # let notes = include_bytes!(concat!(env!("CARGO_MANIFEST_DIR"), "/../../samples/b1.csv"));
+    /// # let notes = include_bytes!(concat!(env!("CARGO_MANIFEST_DIR"), "/samples/b1.csv"));
     /// # let plat = township::Plat::read(notes)?;
     /// let report = plat.report_of([("A", "sec. 7, lot 1."), ("B", "sec. 7, lot 4.")])?;
     /// assert_eq!(report.tracts[1].acres.to_string(), "39.03");
@@ -236,7 +236,7 @@ impl Plat {
         D: AsRef<[u8]>,
     {
         let text = self.report(list_of(tracts))?;
-        Ok(Report::of_text(&text).expect("the library writes reports"))
+        Ok(text.parse().expect("the library writes reports"))
     }
 
     /// Returns the refusal of a description on this plat, with its explanation.

@@ -1,0 +1,59 @@
+"""Finds the columns of a list by their names."""
+from __future__ import annotations
+
+from typing import List, Optional, Sequence
+
+from .stopped import Stopped
+
+#: The columns that a batch adds.
+ADDED = ("acres", "refusal", "at", "sentence", "canonical")
+
+#: The number of columns that a message lists.
+_SHOWN = 12
+
+
+def index_in(heading: Sequence[str], name: str) -> Optional[int]:
+    """Return the index of the only column with this name, or `None`.
+
+    If no column has exactly this name, capitals and spaces around it make no difference.
+    """
+    exactly = [index for index, each in enumerate(heading) if each == name]
+    found = exactly or [index for index, each in enumerate(heading) if _plain(each) == _plain(name)]
+    return found[0] if len(found) == 1 else None
+
+
+def column_in(heading: Sequence[str], name: str, option: str, place: str) -> int:
+    """Return the index of a column, or stop with a message that shows the heading.
+
+    `option` is the option that names the column, and `place` the file and the line of the heading.
+    """
+    index = index_in(heading, name)
+    if index is not None:
+        return index
+    count = sum(_plain(each) == _plain(name) for each in heading)
+    found = f"{count} columns" if count else "no column"
+    raise Stopped(
+        f"township: {place}: the heading has {found} `{name}`; name the column with {option}. "
+        f"The heading is: {_shown_heading(heading)}"
+    )
+
+
+def added_to(heading: Sequence[str], prefix: str, place: str) -> List[str]:
+    """Return the names of the added columns, or stop if the heading has one of them."""
+    names = [prefix + name for name in ADDED]
+    for name in names:
+        if name in heading:
+            raise Stopped(
+                f"township: {place}: the heading already has a column `{name}`; rename it, or give the added "
+                "columns other names with --prefix"
+            )
+    return names
+
+
+def _plain(name: str) -> str:
+    return name.strip().casefold()
+
+
+def _shown_heading(heading: Sequence[str]) -> str:
+    shown = ", ".join(f"`{name}`" for name in heading[:_SHOWN])
+    return (shown or "empty") + (", .." if len(heading) > _SHOWN else "")

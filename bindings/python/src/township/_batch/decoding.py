@@ -1,0 +1,74 @@
+"""Decodes the bytes of a list, as a spreadsheet may have written them.
+
+A byte order mark says whether a list is UTF-8 or UTF-16. Without one it is UTF-8, unless the command line
+names another encoding. Bytes that are not valid in it are preserved, and go to the output unchanged.
+"""
+from __future__ import annotations
+
+import codecs
+import io
+from typing import Tuple
+
+#: The encodings that the command line can name.
+ENCODINGS = {"utf-8": "utf-8", "windows-1252": "cp1252"}
+
+#: The number of bytes that tell the encoding.
+_HEAD = 4
+
+
+class Counted(io.RawIOBase):
+    """A file whose first bytes can be seen before they are read, and that counts what has been read."""
+
+    def __init__(self, file: io.FileIO) -> None:
+        super().__init__()
+        self._file = file
+        #: The number of bytes read so far.
+        self.position = 0
+        self.head = self._read_head()
+        self._ahead = self.head
+
+    def _read_head(self) -> bytes:
+        head = b""
+        while len(head) < _HEAD:
+            more = self._file.read(_HEAD - len(head))
+            if not more:
+                break
+            head += more
+        return head
+
+    def readable(self) -> bool:
+        return True
+
+    def readinto(self, buffer: "memoryview") -> int:  # type: ignore[override]
+        if self._ahead:
+            count = min(len(self._ahead), len(buffer))
+            buffer[:count] = self._ahead[:count]
+            self._ahead = self._ahead[count:]
+        else:
+            count = self._file.readinto(buffer) or 0
+        self.position += count
+        return count
+
+    def close(self) -> None:
+        self._file.close()
+        super().close()
+
+
+def decoded(file: Counted, encoding: str) -> io.TextIOWrapper:
+    """Return a file as text, whose line ends are kept."""
+    name, errors = _encoding_of(file.head, encoding)
+    return io.TextIOWrapper(io.BufferedReader(file, 1 << 16), encoding=name, errors=errors, newline="")
+
+
+def _encoding_of(head: bytes, encoding: str) -> Tuple[str, str]:
+    """Return the encoding of a list that begins so, and what to do with bytes that are not valid in it."""
+    if head.startswith(codecs.BOM_UTF8):
+        return "utf-8-sig", "surrogateescape"
+    if head.startswith((codecs.BOM_UTF16_LE, codecs.BOM_UTF16_BE)):
+        return "utf-16", "replace"
+    # The first characters of a heading are ASCII, so that in UTF-16 every other byte is 0.
+    if len(head) == _HEAD and head[1] == head[3] == 0 and head[0] and head[2]:
+        return "utf-16-le", "replace"
+    if len(head) == _HEAD and head[0] == head[2] == 0 and head[1] and head[3]:
+        return "utf-16-be", "replace"
+    return ENCODINGS[encoding], "surrogateescape"

@@ -1,0 +1,34 @@
+"""What the command line asks for."""
+from __future__ import annotations
+
+from typing import NamedTuple, Optional
+
+from .._account import Account
+
+#: The argument that means standard input.
+STANDARD_INPUT = "-"
+
+
+class Options(NamedTuple):
+    """The options of a batch, as `python -m township batch --help` describes them."""
+
+    #: The name of the list, or `-`.
+    list: str
+    #: The name of the file of field notes. If it is `None`, `plats` is not.
+    notes: Optional[str] = None
+    #: The name of the folder of field notes.
+    plats: Optional[str] = None
+    account: Account = "exact"
+    #: The names of the columns that are read.
+    column: str = "description"
+    township: str = "township"
+    #: If it is `None`, a column `meridian` is used if there is one.
+    meridian: Optional[str] = None
+    #: What the name of each added column begins with.
+    prefix: str = ""
+    #: The encoding of a list that has no byte order mark.
+    encoding: str = "utf-8"
+    #: The name of the file for the answers. If it is `None`, they go to standard output.
+    output: Optional[str] = None
+    #: Whether to go on where the output ends.
+    resume: bool = False

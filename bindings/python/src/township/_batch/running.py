@@ -1,0 +1,122 @@
+"""Runs a batch, from the list to the answers."""
+from __future__ import annotations
+
+import os
+import sys
+from typing import List, Optional
+
+from .._text import shown
+from .answers import Answers
+from .columns import added_to, column_in, index_in
+from .folder import Folder, plat_in
+from .interrupts import Interrupts
+from .options import Options
+from .plats import FolderPlats, Key, OnePlat, Plats
+from .progress import bar_of, watched
+from .resuming import Earlier
+from .sinks import sink_for
+from .source import Source, source_of
+from .stopped import Status, Stopped
+
+
+def run_batch(options: Options) -> Status:
+    """Read the field notes and the list, and write the answers. Raise `Stopped` if that cannot be completed.
+
+    If it is interrupted, the answers so far are written.
+    """
+    _check_output(options)
+    notes = _Notes(options)
+    with source_of(options) as source:
+        answers = Answers(notes.plats_for(source, options), source.column, options.account)
+        try:
+            with Interrupts() as interrupts:
+                _answer(source, answers, options, interrupts)
+            interrupted = False
+        except KeyboardInterrupt:
+            interrupted = True
+    _say(notes.refused + _remarks(answers, options, interrupted))
+    if interrupted:
+        return Status.INTERRUPTED
+    return Status.REFUSED if answers.refused or notes.refused else Status.ACCEPTED
+
+
+class _Notes:
+    """The field notes that the command line names: a file, or a folder."""
+
+    def __init__(self, options: Options) -> None:
+        self._plat = plat_in(options.notes) if options.notes is not None else None
+        self._folder = Folder(options.plats) if options.plats is not None else None
+
+    @property
+    def refused(self) -> List[str]:
+        """The explanations of the files in the folder that are refused."""
+        return self._folder.refused if self._folder else []
+
+    def plats_for(self, source: Source, options: Options) -> Plats:
+        """Return the plats for the records of a list."""
+        if self._plat is not None:
+            return OnePlat(self._plat)
+        if self._folder is None:
+            raise ValueError("a batch takes field notes, or a folder of them")
+        township = column_in(source.heading, options.township, "--township", source.place)
+        return FolderPlats(self._folder, Key(township, _meridian_in(source, options)))
+
+
+def _meridian_in(source: Source, options: Options) -> Optional[int]:
+    """Return the index of the meridian's column. Only if the command line names it must there be one."""
+    if options.meridian is None:
+        return index_in(source.heading, "meridian")
+    return column_in(source.heading, options.meridian, "--meridian", source.place)
+
+
+def _check_output(options: Options) -> None:
+    """Stop if the output would overwrite an input."""
+    if options.output is None or not os.path.exists(options.output):
+        return
+    for name in (options.list, options.notes):
+        if name is not None and os.path.exists(name) and os.path.samefile(name, options.output):
+            raise Stopped(f"township: {shown(options.output)}: the output must not be one of the inputs")
+
+
+def _answer(source: Source, answers: Answers, options: Options, interrupts: Interrupts) -> None:
+    """Write the list with its answers."""
+    heading = [*source.heading, *added_to(source.heading, options.prefix, source.place)]
+    records = interrupts.between(source.records)
+    begun = False
+    if options.resume and options.output is not None:
+        earlier = Earlier(options.output, heading, source.separator)
+        for record, added in earlier.skipped(records, len(source.heading)):
+            answers.count_earlier(record, added)
+        begun = earlier.begun
+    sink = sink_for(options.output, source.separator, append=begun)
+    bar = bar_of(source.size)
+    try:
+        if not begun:
+            sink.write(heading)
+        for record in watched(records, bar, source.position if source.size else None):
+            sink.write(record.fields + answers.added_to(record))
+    finally:
+        bar.close()
+        sink.close()
+
+
+def _remarks(answers: Answers, options: Options, interrupted: bool) -> List[str]:
+    """Return what there is to say at the end."""
+    remarks = []
+    if answers.undecoded and options.encoding == "utf-8":
+        verb = "is" if answers.undecoded == 1 else "are"
+        remarks.append(
+            f"township: {answers.undecoded} of the descriptions {verb} not UTF-8; if the list is in "
+            "Windows-1252, add --encoding windows-1252"
+        )
+    count = answers.accepted + answers.refused
+    if interrupted:
+        remarks.append(f"township: interrupted after {count} records")
+    elif sys.stderr.isatty():
+        remarks.append(f"township: {count} records: {answers.accepted} accepted, {answers.refused} not")
+    return remarks
+
+
+def _say(remarks: List[str]) -> None:
+    for remark in remarks:
+        print(remark, file=sys.stderr)

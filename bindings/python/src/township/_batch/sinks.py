@@ -1,0 +1,77 @@
+"""Where the answers go: standard output, or a file."""
+from __future__ import annotations
+
+import csv
+from typing import Any, Optional, Protocol, Sequence, TextIO
+
+from .stopped import writing
+from .workbook import WorkbookSink, is_workbook
+
+_CRLF = "\r\n"
+
+#: The file descriptor of standard output.
+_OUTPUT = 1
+
+
+class Sink(Protocol):
+    """Writes records."""
+
+    def write(self, fields: Sequence[Any]) -> None:
+        """Write a record."""
+        ...
+
+    def close(self) -> None:
+        """Write everything that has not been written yet."""
+        ...
+
+
+def sink_for(name: Optional[str], separator: str, append: bool = False) -> Sink:
+    """Return the sink for a file, or for standard output if there is no name."""
+    if name is not None and is_workbook(name):
+        return WorkbookSink(name)
+    return CsvSink(name, separator, append)
+
+
+class CsvSink:
+    """Writes records as UTF-8, preserving other bytes of the list. Each record ends with a line feed."""
+
+    def __init__(self, name: Optional[str], separator: str, append: bool = False) -> None:
+        self._name = name or ""
+        with writing(self._name):
+            self._file: TextIO = open(
+                _OUTPUT if name is None else name,
+                "a" if append else "w",
+                encoding="utf-8",
+                errors="surrogateescape",
+                newline="",
+                closefd=name is not None,
+            )
+        lines = _LineFeeds(self._file)
+        self._write = csv.writer(lines, delimiter=separator, lineterminator=_CRLF).writerow
+
+    def write(self, fields: Sequence[Any]) -> None:
+        """Write a record."""
+        try:
+            self._write(fields)
+        except OSError as error:
+            with writing(self._name):
+                raise error
+
+    def close(self) -> None:
+        """Write everything that has not been written yet."""
+        with writing(self._name):
+            self._file.close()
+
+
+class _LineFeeds:
+    """Ends each record with a line feed.
+
+    The `csv` module itself ends records with CRLF, because it quotes a field that contains a carriage return
+    only if the record terminator contains one.
+    """
+
+    def __init__(self, sink: TextIO) -> None:
+        self._write = sink.write
+
+    def write(self, record: str) -> int:
+        return self._write(record[: -len(_CRLF)] + "\n")

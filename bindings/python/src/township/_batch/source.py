@@ -1,0 +1,78 @@
+"""Opens a list: a CSV file, standard input, or a workbook."""
+from __future__ import annotations
+
+import io
+import os
+from contextlib import contextmanager
+from typing import Callable, Iterator, List, NamedTuple, Optional
+
+from .._text import shown
+from .columns import column_in
+from .decoding import Counted, decoded
+from .options import STANDARD_INPUT, Options
+from .records import Record, records_of
+from .separators import headed
+from .stopped import reading
+from .workbook import is_workbook, text_of, workbook_rows
+
+#: The file descriptor of standard input.
+_INPUT = 0
+
+
+class Source(NamedTuple):
+    """A list whose heading has been read."""
+
+    heading: List[str]
+    #: The index of the column of descriptions.
+    column: int
+    #: The character between fields, which the answers have as well.
+    separator: str
+    records: Iterator[Record]
+    #: The file and the line of the heading.
+    place: str
+    #: The number of bytes of the list, if it is known, and a function that returns how many of them are read.
+    size: Optional[int]
+    position: Callable[[], int]
+
+
+@contextmanager
+def source_of(options: Options) -> Iterator[Source]:
+    """Open the list, and read its heading."""
+    if is_workbook(options.list):
+        yield _workbook(options)
+        return
+    name = "standard input" if options.list == STANDARD_INPUT else options.list
+    with reading(name):
+        file = _opened(options.list)
+        size = os.fstat(file.fileno()).st_size or None
+        counted = Counted(file)
+    with decoded(counted, options.encoding) as text:
+        with reading(name):
+            found = headed(iter(text), options.column)
+        place = f"{shown(name)}:{max(found.line, 1)}"
+        column = column_in(found.heading, options.column, "--column", place)
+        records = _reading_records(name, records_of(found, column))
+        yield Source(found.heading, column, found.separator, records, place, size, lambda: counted.position)
+
+
+def _opened(name: str) -> io.FileIO:
+    """Open a file, or standard input, which stays open when the result is closed."""
+    if name == STANDARD_INPUT:
+        return open(_INPUT, "rb", buffering=0, closefd=False)
+    return open(name, "rb", buffering=0)
+
+
+def _workbook(options: Options) -> Source:
+    """Read the heading of a workbook. Only in another workbook are cells more than texts."""
+    heading, line, records = workbook_rows(options.list)
+    if options.output is None or not is_workbook(options.output):
+        records = (record._replace(fields=list(map(text_of, record.fields))) for record in records)
+    place = f"{shown(options.list)}:{line}"
+    column = column_in(heading, options.column, "--column", place)
+    return Source(heading, column, ",", records, place, None, lambda: 0)
+
+
+def _reading_records(name: str, records: Iterator[Record]) -> Iterator[Record]:
+    """Yield the records of a file, reporting any failure to read it."""
+    with reading(name):
+        yield from records

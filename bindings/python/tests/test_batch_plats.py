@@ -1,0 +1,157 @@
+"""Batches over the townships of a folder."""
+import unittest
+
+from batches import ADDED, EVEN_NOTES, HEADING, BatchCase, records
+
+
+class Folders(BatchCase):
+    def setUp(self):
+        super().setUp()
+        self.put_notes("plats/b1.csv")
+        self.put_notes("plats/other.CSV", "T,3,S,4,E", EVEN_NOTES)
+        self.put("no notes", "plats/readme.txt")
+        self.put("no notes", "plats/.hidden.csv")
+
+    def over(self, data, *words, status=1, folder="plats"):
+        """The records that result from a list over the folder."""
+        run = self.run_words("batch", "--plats", self.folder / folder, self.put(data), *words)
+        self.assertEqual((run.returncode, run.stderr), (status, b""))
+        return records(run.stdout)
+
+    def acres(self, data, *words, status=1, folder="plats"):
+        """The acres of each record, or what is wrong with it."""
+        rows = self.over(data, *words, status=status, folder=folder)
+        width = len(rows[0]) - len(ADDED)
+        return [row[width] or row[width + 3] for row in rows[1:]]
+
+    def test_each_record_is_on_its_own_plat(self):
+        rows = self.over(
+            'township,description\n"T. 2 N., R. 3 W.","sec. 5, lot 1."\n"T. 3 S., R. 4 E.","sec. 5, lot 1."\n', status=0
+        )
+        self.assertEqual(rows[1][2:], ["40.45", "", "", "", HEADING + "sec. 5, lot 1."])
+        self.assertEqual(rows[2][2:], ["40.00", "", "", "", "T. 3 S., R. 4 E., sec. 5, lot 1."])
+
+    def test_accepted_spellings(self):
+        for spelling in ("T. 2 N., R. 3 W.", "T. 2 N., R. 3 W.,", "T2N R3W", "t2n r3w", "T. 2 N. R. 3 W.",
+                         "T 2 N, R 3 W", "  T2N R3W ", "T.2N.,R.3W.", "T2N\tR3W"):
+            with self.subTest(spelling=spelling):
+                data = f'township,description\n"{spelling}","sec. 5, lot 1."\n'
+                self.assertEqual(self.acres(data, status=0), ["40.45"])
+
+    def test_what_is_no_township(self):
+        for spelling, said in (
+            ("", "the township is missing"),
+            ("2N3W", "`2N3W` is not a township, such as T. 2 N., R. 3 W.: "),
+            ("T. 2 N.", "`T. 2 N.` is not a township, such as T. 2 N., R. 3 W.: "),
+            ("sec. 5;", "`sec. 5;` is not a township, such as T. 2 N., R. 3 W."),
+            ("T. 0 N., R. 3 W.", "there are no field notes for T. 0 N., R. 3 W. in "),
+            ("T2N R3W sec. 37;", "there are no field notes for T2N R3W sec. 37; in "),
+        ):
+            with self.subTest(spelling=spelling):
+                [found] = self.acres(f'township,description\n"{spelling}",sec. 14.\n')
+                self.assertTrue(found.startswith(said), found)
+
+    def test_township_without_field_notes(self):
+        [found] = self.acres("township,description\nT5N R3W,sec. 14.\n")
+        self.assertEqual(found, f"there are no field notes for T. 5 N., R. 3 W. in {self.folder / 'plats'}")
+
+    def test_one_fault_never_stops_the_rest(self):
+        found = self.acres('township,description\nT2N,sec. 14.\nT2N R3W,sec. 14.,NE1/4\nT2N R3W,sec. 37.\n"T2N R3W\n'
+                           "T2N R3W,sec. 14.\n")
+        self.assertEqual([each[:8] for each in found], ["`T2N` is", "line 3 h", "there is", "the quot", "640.00"])
+
+    def test_heading_of_a_description_must_be_its_township(self):
+        rows = self.over('township,description\nT3S R4E,"T. 2 N., R. 3 W., sec. 14."\n')
+        self.assertEqual(rows[1][3:5], ["61", "0"])
+
+    def test_named_columns(self):
+        data = "TWP,Legal\nT2N R3W,sec. 14.\n"
+        self.assertEqual(self.acres(data, "--township", "TWP", "--column", "Legal", status=0), ["640.00"])
+
+    def test_list_without_a_township(self):
+        listed = self.put("description\nsec. 14.\n")
+        run = self.run_words("batch", "--plats", self.folder / "plats", listed)
+        self.assertEqual((run.returncode, run.stdout), (3, b""))
+        self.assertIn(b"no column `township`; name the column with --township. The heading is: `desc", run.stderr)
+
+    def test_field_notes_that_are_refused(self):
+        # A township in the other files is still answered, and the status shows that there was an error.
+        bad = self.put("line\n", "plats/bad.csv")
+        run = self.run_words("batch", "--plats", self.folder / "plats", self.put("township,description\nT2N R3W,sec. 14.\n"))
+        self.assertEqual(run.returncode, 1)
+        self.assertEqual(records(run.stdout)[1][2], "640.00")
+        self.assertTrue(run.stderr.startswith(f"township: {bad}:1: ".encode()), run.stderr)
+
+    def test_two_files_for_one_township(self):
+        self.put_notes("plats/again.csv")
+        data = "township,description\nT2N R3W,sec. 14.\n"
+        self.assertEqual(self.acres(data, status=0), ["640.00"])
+        self.put_notes("plats/even.csv", notes=EVEN_NOTES)
+        [found] = self.acres(data)
+        self.assertRegex(found, r"two files have different field notes for T. 2 N., R. 3 W.: \S+again.csv and \S+even.csv")
+
+    def test_folders_that_cannot_be_used(self):
+        (self.folder / "empty").mkdir()
+        listed = self.put("township,description\nT2N R3W,sec. 14.\n")
+        for folder, said in (("empty", b"there are no field notes"), ("none", b"No such file"), ("list.csv", b"Not a dir")):
+            run = self.run_words("batch", "--plats", self.folder / folder, listed)
+            self.assertEqual((run.returncode, run.stdout), (3, b""))
+            self.assertIn(said, run.stderr)
+
+
+class Meridians(Folders):
+    """The tests of folders, with the field notes in the only folder for a meridian."""
+
+    def setUp(self):
+        super().setUp()
+        self.put_notes("meridians/Boise Meridian/b1.csv")
+        self.put_notes("meridians/Willamette/b0.csv", notes=EVEN_NOTES)
+
+    def test_townships_of_two_meridians_are_never_mixed(self):
+        found = self.acres(
+            'meridian,township,description\nBoise meridian,T2N R3W,"sec. 5, lot 1."\nWillamette,T2N R3W,"sec. 5, lot 1."\n'
+            "Ute,T2N R3W,sec. 14.\n,T2N R3W,sec. 14.\n",
+            folder="meridians",
+        )
+        self.assertEqual(found[:2], ["40.45", "40.00"])
+        self.assertTrue(found[2].startswith("there is no folder for the principal meridian `Ute` in "), found)
+        self.assertEqual(found[3], "the principal meridian is missing")
+
+    def test_named_column(self):
+        data = 'pm,township,description\nWILLAMETTE,T2N R3W,"sec. 5, lot 1."\n'
+        self.assertEqual(self.acres(data, "--meridian", "PM", status=0, folder="meridians"), ["40.00"])
+
+    def test_named_column_that_is_not_there(self):
+        listed = self.put("township,description\nT2N R3W,sec. 14.\n")
+        run = self.run_words("batch", "--plats", self.folder / "plats", listed, "--meridian", "pm")
+        self.assertEqual(run.returncode, 3)
+        self.assertIn(b"no column `pm`; name the column with --meridian", run.stderr)
+
+    def test_list_without_a_meridian(self):
+        listed = self.put("township,description\nT2N R3W,sec. 14.\n")
+        run = self.run_words("batch", "--plats", self.folder / "meridians", listed)
+        self.assertEqual((run.returncode, run.stdout), (3, b""))
+        self.assertIn(b"folders by principal meridian; name the column of the meridian with --meridian", run.stderr)
+
+    def test_only_one_meridian(self):
+        self.put_notes("one/Boise/b1.csv")
+        data = 'township,description\nT2N R3W,"sec. 5, lot 1."\n'
+        self.assertEqual(self.acres(data, status=0, folder="one"), ["40.45"])
+
+    def test_files_beside_the_folders_are_on_no_meridian(self):
+        self.put_notes("meridians/local.csv", "T,9,N,9,E")
+        data = "meridian,township,description\n,T9N R9E,sec. 14.\nBoise Meridian,T9N R9E,sec. 14.\n"
+        found = self.acres(data, folder="meridians")
+        self.assertEqual((found[0], found[1][:24]), ("640.00", "there are no field notes"))
+
+    def test_folder_without_meridians_is_of_one(self):
+        found = self.acres(
+            "meridian,township,description\n,T2N R3W,sec. 14.\nBoise,T2N R3W,sec. 14.\nBOISE,T3S R4E,sec. 14.\n"
+            "Ute,T3S R4E,sec. 14.\nBoise,T2N R3W,sec. 14.\n"
+        )
+        self.assertEqual([*found[:3], found[4]], ["640.00"] * 4)
+        self.assertIn("on another principal meridian, `Ute` and not `Boise`", found[3])
+
+
+if __name__ == "__main__":
+    unittest.main()

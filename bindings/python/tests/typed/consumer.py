@@ -1,0 +1,44 @@
+"""A program that uses the package, for a type checker: each line with a comment is an error, and no other line is."""
+from __future__ import annotations
+
+from decimal import Decimal
+from fractions import Fraction
+from pathlib import Path
+from typing import Iterator, List, Mapping, Optional, Union
+
+import township
+import township.pandas
+from township import Account, EastWest, NorthSouth, Plat, Refusal, Refused, Report, Section, Township, Tract
+
+
+def answers(plat: Plat, account: Account) -> Iterator[Union[Decimal, Refused]]:
+    return plat.acres_of(["sec. 14.", b"sec. 15."], account)
+
+
+def figures(path: Path) -> Optional[Decimal]:
+    plat: Plat = township.Plat.open(path)
+    again: Plat = Plat.of_parts(plat.township, plat.closing_quarters)
+    acres: Decimal = plat.acres("sec. 14.", account="plat")
+    area: Fraction = again.area(b"sec. 14.")
+    sections: Mapping[int, Section] = plat.sections
+    report: Report = plat.report([("A", "sec. 14.")])
+    tracts: List[Tract] = list(report.tracts)
+    where: Township = plat.township
+    sides: "tuple[NorthSouth, EastWest]" = (where.north_south, where.east_west)
+    text: str = plat.text + plat.normal("sec. 14.") + township.version() + township.__version__ + sides[0]
+    return max(acres, sections[1].total, tracts[0].acres) if text and area else None
+
+
+def refusal(refused: Refused) -> Union[Refusal, int, str, None]:
+    line: Optional[int] = refused.line
+    error: ValueError = refused
+    return refused.inner or line or refused.sentence + str(error) + refused.source
+
+
+def wrong(plat: Plat) -> None:
+    plat.acres("sec. 14.", account="printed")  # type: ignore[arg-type]
+    plat.acres(14)  # type: ignore[arg-type]
+    Plat.read(Path("b1.csv"))  # type: ignore[arg-type]
+    plat.total = Decimal(1)  # type: ignore[misc]
+    number: str = plat.township.number  # type: ignore[assignment]
+    print(number)

@@ -1,0 +1,72 @@
+//! The texts that `serde` writes, and that they are read back.
+#![cfg(feature = "serde")]
+
+mod samples;
+
+use samples::{even, uneven};
+use serde::{de::DeserializeOwned, Serialize};
+use std::fmt::Debug;
+use township::{Account, Acres, EastWest, NorthSouth, Plat, Refusal, Refused, Township};
+
+/// A value is written as this text, and read back from it.
+fn both_ways<T: Serialize + DeserializeOwned + PartialEq + Debug>(value: T, json: &str) {
+    assert_eq!(serde_json::to_string(&value).unwrap(), json);
+    assert_eq!(serde_json::from_str::<T>(json).unwrap(), value);
+}
+
+#[test]
+fn texts() {
+    both_ways(Acres::from_hundredths(16_100), r#""161.00""#);
+    both_ways(uneven().area("sec. 5, lot 1.").unwrap(), r#""809/20""#);
+    both_ways(Account::Plat, r#""plat""#);
+    both_ways(NorthSouth::South, r#""S""#);
+    both_ways(EastWest::West, r#""W""#);
+    both_ways(uneven().township(), r#""T. 2 N., R. 3 W.""#);
+}
+
+#[test]
+fn texts_of_nothing() {
+    for json in [r#""161""#, "161.00", "null", r#""-1.00""#] {
+        assert!(serde_json::from_str::<Acres>(json).is_err(), "{json}");
+    }
+    let error = serde_json::from_str::<Township>(r#""T. 100 N., R. 3 W.""#).unwrap_err();
+    let message = "not a township, such as T. 2 N., R. 3 W.";
+    assert!(error.to_string().starts_with(message), "{error}");
+}
+
+#[test]
+fn plats() {
+    let quarters = vec!["20000"; township::LINES].join(",");
+    let json = format!(r#"{{"township":"T. 2 N., R. 3 W.","closing_quarters":[{quarters}]}}"#);
+    both_ways(even(), &json);
+    let written = serde_json::to_string(&uneven()).unwrap();
+    assert_eq!(serde_json::from_str::<Plat>(&written).unwrap(), uneven());
+    // Line 0 closes, and its quarter mile is 5 to 25 chains.
+    for wrong in [
+        json.replacen("20000", "25001", 1),
+        json.replacen("20000,", "", 1),
+        json.replacen("20000", "20000,20000", 1),
+    ] {
+        let error = serde_json::from_str::<Plat>(&wrong).unwrap_err();
+        let message = "no plat has these closing quarters";
+        assert!(error.to_string().starts_with(message), "{error}");
+    }
+}
+
+#[test]
+fn refusals() {
+    both_ways(Refusal { number: 67, at: 19 }, r#"{"number":67,"at":19}"#);
+    let refused = uneven().report_of([("A", "sec. 7, lot 5.")]).unwrap_err();
+    let json = serde_json::to_string(&refused).unwrap();
+    assert!(json.starts_with(r#"{"number":83,"at":2,"inner":{"number":64,"at":12},"line":2,"#));
+    assert_eq!(serde_json::from_str::<Refused>(&json).unwrap(), refused);
+}
+
+#[test]
+fn reports() {
+    let report = uneven().report_of([("A", "sec. 14.")]).unwrap();
+    both_ways(
+        report,
+        r#"{"tracts":[{"name":"A","acres":"640.00"}],"total":"640.00","remaining":"22397.57"}"#,
+    );
+}

@@ -1,0 +1,9 @@
+#!/bin/sh
+# Copies the Rust crate to the new folder FOLDER, with the header that its tests read and the samples of its examples:
+#   sh packaging/crate.sh FOLDER
+# In the repository these two are where everyone looks for them, and the prover accepts no links to them.
+set -eu
+cd "$(dirname "$0")/.."
+cp -R bindings/rust "$1"
+rm -rf "$1/target" "$1/Cargo.lock"
+cp -R include samples "$1"
