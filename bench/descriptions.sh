@@ -1,7 +1,7 @@
 #!/bin/sh
 # Builds twp_bench and prints how many instructions it takes to read descriptions: the count of the whole
 # process, less the count for reading nothing. The descriptions are the named files, or by default 65,536
-# bytes of fine parts, the same in lowercase, half as many, and 65,536 bytes of halves of halves in words.
+# bytes of small parts, the same in lowercase, half as many, and 65,536 bytes of halves of halves in words.
 set -eu
 (cd crates/twp_bench && rt run -- lanes count 10 > /dev/null)
 program=crates/twp_bench/out/twp_bench

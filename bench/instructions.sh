@@ -1,16 +1,16 @@
 #!/bin/sh
 # Prints how many instructions the whole process of township takes, from its start to its end: on standard
-# input for the sample, for the longest refused input, and for fine parts; for the commands on the sample;
-# for the spelling of fine parts and of half as many; for reports on 1,000 tracts and on 500; for the texts
+# input for the sample, for the longest refused input, and for small parts; for the commands on the sample;
+# for the spelling of small parts and of half as many; for reports on 1,000 tracts and on 500; for the texts
 # whose bytes cost the most to read; and for refused input of each kind. Each count is followed by its ratio to
 # the one in bench/expected, or by `new` if there is none, and then by its ratio to the count from before
-# refusals were explained and line ends noted: bench/unexplained contains that count, and the largest ratio
+# refusals were explained and doubtful places noted: bench/unexplained contains that count, and the largest ratio
 # allowed. The status is 1 if the first ratio is over 1.02, if the second is over the largest allowed, or if a
 # row of these files is missing.
 #
-# Builds ./township and measures that; a program that is named is measured as it is.
+# Builds ./township and measures it; a program that is named is measured without building it.
 set -eu
-[ $# -gt 0 ] || sh scripts/build.sh
+[ $# -gt 0 ] || sh tools/build.sh
 program=${1:-./township}
 # The input to count is on standard input, or is named by words. The environment is left out, because each
 # of its variables would be counted too.
@@ -99,7 +99,7 @@ quarters='
     }' | tee "$work/place-parts"
     cat samples/b1.csv
 } > "$work/places"
-# A chessboard: every other square of 2.5 acres of the 25 sections without lots, of which no two can be
+# A checkerboard: every other square of 2.5 acres of the 25 sections without lots, of which no two can be
 # joined; or every other place of the first six of them. The number is that of squares along a section's side.
 chessboard() {
     awk -v across="$1" -v last="$2" 'BEGIN {
@@ -130,9 +130,9 @@ awk "$quarters"'BEGIN {
     for (n = 0; n < 1000; n++) printf "%s,\"sec. 8, %s.\"\n", n + 1, quarters(n, 256)
 }' > "$work/place-tracts"
 head -n 501 "$work/tracts" > "$work/half-of-tracts"
-# The same tracts with names of 64 bytes, which fall into one place of a hashed set; and with names that
-# differ from them only in that. bench/colliding-names contains the 13 bytes by which each differs from the
-# others: five of a count, and eight that undo, in the hasher's first step, the change that the count made.
+# The same tracts with names of 64 bytes, which collide in a hashed set; and with similar names that do not
+# collide. bench/colliding-names contains the 13 bytes by which each differs from the others: five of a count,
+# and eight that undo, in the hasher's first step, the change that the count made.
 names() {
     awk -v part="$1" 'NR == FNR { end[NR] = $0; next }
         FNR == 1 { print; next }

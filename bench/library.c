@@ -1,7 +1,7 @@
 /*
  * Makes one call of the library again and again, for bench/library.sh: `library NOTES CALL COUNT`. CALL is `read`
  * (notes to a plat), or a description on the kept plat: `one` part, `two` sections, `fifty` or `hundred` parts.
- * Prints what the calls add up to, so that none is left out, and the seconds of processor that they took.
+ * Prints the sum of the calls' answers, so that no call is optimized away, and their processor time in seconds.
  */
 #include "township.h"
 
@@ -13,7 +13,7 @@
 static uint8_t notes[TOWNSHIP_NOTES_MOST];
 static uint8_t text[4096];
 
-/* Writes a description of so many squares of 2.5 acres of section 14, and gives its length. */
+/* Writes a description of a number of squares of 2.5 acres in section 14, and returns its length. */
 static size_t squares(unsigned count) {
     static const char *corners[] = {"NE1/4", "NW1/4", "SW1/4", "SE1/4"};
     size_t length = (size_t)sprintf((char *)text, "sec. 14");

@@ -6,7 +6,7 @@
 # then prints how many descriptions are answered per second on one core, from C and from Python. It builds lib/ as
 # `make lib` does, unless the first word is `built`.
 set -eu
-[ "${1:-}" = built ] || sh scripts/library.sh > /dev/null
+[ "${1:-}" = built ] || sh tools/library.sh > /dev/null
 work=$(mktemp -d)
 trap 'rm -rf "$work"' EXIT
 "${CC:-cc}" -std=c11 -O2 -Wall -Wextra -Werror -Iinclude -o "$work/library" bench/library.c lib/libtownship.a
@@ -51,7 +51,7 @@ if python=$(command -v "${PYTHON:-python3}"); then
 import time
 import township
 
-plat = township.Plat.read(open("samples/b1.csv", "rb").read())
+plat = township.Plat.open("samples/b1.csv")
 texts = ["sec. 14, NE1/4."] * 200_000
 begun = time.process_time()
 for answer in plat.acres_of(texts):
