@@ -33,7 +33,9 @@ try:
 	@cd crates/twp_cmd && rt try < stdin
 
 ## test           prove everything from nothing, and test it; the last line is N passed, 0 failed
+# What takes a second is tested before the proofs, too, since they take most of an hour.
 test:
+	@sh tests/quick.sh
 	rt ci
 	@sh tests/proved.sh
 
