@@ -43,6 +43,7 @@ needs='
     abigail-tools    command abidiff
     qemu-user-static command qemu-x86_64-static
     debootstrap      command debootstrap
+    faketime         command faketime
 '
 
 # The packages of all rows, or with the word `missing` of the rows whose command or modules are missing.

@@ -33,6 +33,9 @@ FURTHER = 0.6
 # The share of the free memory that is used, and the most processes that prove one crate.
 SHARE_OF_MEMORY = 0.85
 PROCESSES_MOST = 4
+# How many more processes run than there are processors. A crate can't be given more processes once it has begun, so
+# without these, processors idle when the crates beside it end.
+SPARE = 2
 
 
 def kit_rt():
@@ -92,7 +95,7 @@ class Turns:
     def processes_for(self, others):
         """How many processes a crate gets now, given how many others are ready; 0 if it has to wait."""
         counts = [count for _, count in self.running.values()]
-        idle = self.processors - sum(counts)
+        idle = self.processors + SPARE - sum(counts)
         room = self.memory / MEMORY - sum(1 + FURTHER * (count - 1) for count in counts)
         if idle < 1 or (counts and room < 1):
             return 0
