@@ -131,7 +131,7 @@ typedef struct township_answer {
     uint32_t inner_at;
     uint32_t line;         /* of an explanation: the line and column of the fault, from 1, or both 0; for a
                               refused description they are those of the byte `at` or, if only white space
-                              follows, of the end of the text before it */
+                              follows, of the end of the text before it; of a note: those of its place */
     uint32_t column;
     uint32_t reserved;     /* 0 */
     uint64_t hundredths;   /* of an acre, rounded once, half up */
@@ -175,8 +175,12 @@ township_answer township_report(const township_plat *plat, const uint8_t *list, 
  * Explain why field notes, a description, or a list is refused: each returns the same verdict, with the
  * line and column of the fault, and writes some lines of text, as the program shows them; or the verdict
  * is TOWNSHIP_NO_ROOM. `name` is the file name that the text shows, in UTF-8; if it is empty or not valid
- * UTF-8, the text shows `input`. If nothing is refused, there is no text. A text is at most 8 lines long,
- * and a line at most 100 columns wide, not counting a name that is too long for the first line.
+ * UTF-8, the text shows `input`. A text is at most 8 lines long, and a line at most 100 columns wide, not
+ * counting a name that is too long for the first line.
+ *
+ * If a description, or a list, is accepted, but a place in it can be read in two ways, the text is a note
+ * on the first such place, with its line and column, and `number` is 0. Otherwise an accepted input has no
+ * text: `length` is 0. The acres in a note are those of TOWNSHIP_EXACT.
  */
 township_answer township_explain_notes(const uint8_t *notes, size_t notes_length, const uint8_t *name,
                                        size_t name_length, uint8_t *text, size_t room);

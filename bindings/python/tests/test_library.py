@@ -91,6 +91,14 @@ class Verdicts(unittest.TestCase):
         "explain_list": lambda: uneven().report_csv(b""),
     }
 
+    def test_notes(self):
+        for verdict, exception in self.EXCEPTIONS:
+            answer = _library.Answer(verdict=verdict)
+            with self.subTest(verdict=verdict):
+                with mock.patch.object(_library, "explain_description", lambda *_: answer):
+                    with self.assertRaises(exception):
+                        uneven().notes("sec. 14.")
+
     def test_each_call(self):
         for name, call in self.CALLS.items():
             for verdict, exception in self.EXCEPTIONS:
@@ -108,7 +116,7 @@ class Verdicts(unittest.TestCase):
     def test_plat_that_is_none(self):
         # A plat cannot be made like this, but the library detects it anyway.
         none = township.Plat._of_struct(_library.Plat())
-        for call in (none.acres, none.area, none.normal, none.report_csv):
+        for call in (none.acres, none.area, none.normal, none.notes, none.report_csv):
             with self.subTest(call=call.__name__), self.assertRaises(ValueError):
                 call("sec. 14.")
 

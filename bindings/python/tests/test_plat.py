@@ -72,6 +72,33 @@ class Answers(unittest.TestCase):
                 even().acres(description)
 
 
+class Notes(unittest.TestCase):
+    def test_none(self):
+        self.assertEqual(uneven().notes("sec. 14, NE1/4, SE1/4."), [])
+
+    def test_joined_parts(self):
+        # A quarter of a quarter has 40 acres, and two quarters have 320.
+        (note,) = uneven().notes("sec. 14, N½;\nsec. 15, NE¼ SE¼.")
+        self.assertEqual((note.line, note.column), (2, 14))
+        self.assertTrue(note.text.startswith("township: description:2:14: note: NE1/4 SE1/4 is read as one part"))
+        self.assertTrue(note.sentence.startswith("NE1/4 SE1/4 is read as one part of 40.00 acres, the NE1/4 of"))
+        self.assertTrue(note.sentence.endswith("write a comma after NE1/4 (320.00 acres)"))
+
+    def test_several_places(self):
+        (note,) = uneven().notes("sec. 14, NE1/4 SE1/4; sec. 15, W1/2 E1/2.")
+        self.assertTrue(note.text.endswith("\n  1 more such place\n"))
+
+    def test_refused(self):
+        with self.assertRaises(township.Refused) as caught:
+            uneven().notes("sec. 5, N1/2.")
+        self.assertEqual((caught.exception.number, caught.exception.at), (66, 8))
+
+    def test_notes_are_values(self):
+        (note,) = uneven().notes("sec. 14, NE1/4 SE1/4.")
+        self.assertEqual(pickle.loads(pickle.dumps(note)), note)
+        self.assertEqual(uneven().notes("sec. 14, NE1/4 SE1/4."), [note])
+
+
 class Printed(unittest.TestCase):
     def test_text(self):
         self.assertTrue(uneven().text.startswith("sec. 1: lot 1 40.00, "))

@@ -228,7 +228,8 @@ pub(crate) fn explain_notes(notes: &[u8], name: &str, room: &mut [u8]) -> Answer
     }
 }
 
-/// Writes an explanation of why a description is refused. The text calls it `name`.
+/// Writes an explanation of why a description is refused, or a note on an accepted one. The text
+/// calls it `name`.
 pub(crate) fn explain_description(
     plat: &Parts,
     description: &[u8],

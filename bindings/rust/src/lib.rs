@@ -40,6 +40,7 @@ mod data;
 mod explanation;
 #[allow(unsafe_code)]
 mod ffi;
+mod note;
 mod parse;
 mod plat;
 mod refused;
@@ -50,6 +51,7 @@ mod township;
 pub use self::account::Account;
 pub use self::acres::Acres;
 pub use self::area::Area;
+pub use self::note::Note;
 pub use self::parse::ParseError;
 pub use self::plat::{NoPlat, Plat, LINES};
 pub use self::refused::{Refusal, Refused};

@@ -101,6 +101,26 @@ fn normal_longer_than_its_first_room() {
 }
 
 #[test]
+fn notes_on_places_read_in_two_ways() {
+    assert_eq!(uneven().notes("sec. 14, NE1/4, SE1/4."), Ok(vec![]));
+    let notes = uneven().notes("sec. 14, N½;\nsec. 15, NE¼ SE¼.").unwrap();
+    assert_eq!(notes.len(), 1);
+    assert_eq!((notes[0].line, notes[0].column), (2, 14));
+    // A quarter of a quarter has 40 acres, and two quarters have 320.
+    let sentence = notes[0].sentence();
+    assert!(sentence.starts_with("NE1/4 SE1/4 is read as one part of 40.00 acres, the NE1/4 of"));
+    assert!(sentence.ends_with("write a comma after NE1/4 (320.00 acres)"));
+    assert_eq!(
+        notes[0].to_string(),
+        format!("description:2:14: note: {sentence}")
+    );
+    let several = uneven().notes("sec. 14, NE1/4 SE1/4; sec. 15, W1/2 E1/2.");
+    assert!(several.unwrap()[0]
+        .text
+        .ends_with("\n  1 more such place\n"));
+}
+
+#[test]
 fn strings_and_bytes() {
     let half = String::from("sec. 14, S½NE¼.");
     assert_eq!(even().acres(&half), Ok(acres(8_000)));

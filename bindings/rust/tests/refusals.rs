@@ -42,6 +42,7 @@ fn numbers_and_places_of_descriptions() {
             plat.area(&description).unwrap_err(),
             plat.area_by(&description, Account::Plat).unwrap_err(),
             plat.normal(&description).unwrap_err(),
+            plat.notes(&description).unwrap_err(),
         ];
         for refused in &refusals {
             assert_eq!(number_and_place(refused), (number, at));

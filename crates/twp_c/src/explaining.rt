@@ -1,9 +1,10 @@
-//! The calls that explain refusals, as C calls them, and the version.
-ghost use Rattle.std.specs.Prelude.{◌≡◌, ◌≢◌};
+//! The calls that explain refusals and note doubtful places, as C calls them, and the version.
+ghost use Rattle.std.specs.Prelude.{◌≡◌, ◌≢◌, ◌<◌};
 ghost use Rattle.twp_calls.specs.Answers.{ACCEPTED, IsRefused};
 ghost use Rattle.twp_calls.specs.Calls.{IsVersionCall};
 ghost use Rattle.twp_calls.specs.Explanations.{ExplainsNotes, ExplainsDescription, ExplainsList};
-ghost use Rattle.twp_calls.specs.ShownTexts.{IsShownText};
+ghost use Rattle.twp_calls.specs.Explanations.{HasNoText};
+ghost use Rattle.twp_calls.specs.ShownTexts.{IsShownNote, IsShownText};
 
 use std::alloc::Global;
 use twp_calls::{TownshipAnswer, TownshipPlat};
@@ -24,7 +25,8 @@ pub extern "C" fn township_explain_notes(
     twp_calls::township_explain_notes(alloc, notes, name, text)
 }
 
-/// Explains why a description is refused.
+/// Explains why a description is refused, or notes a place of an accepted one that can be read in two
+/// ways.
 #[unsafe(no_mangle)]
 pub extern "C" fn township_explain_description(
     alloc: Global,
@@ -34,14 +36,17 @@ pub extern "C" fn township_explain_description(
     text: &mut [u8],
 ) -> TownshipAnswer
     ensures answer { ExplainsDescription plat.now description.now text.old text.new result }
-    ensures kept { ¬ IsRefused result.verdict → text.new ≡ text.old }
+    ensures kept { HasNoText result.verdict → text.new ≡ text.old }
     ensures shows { IsRefused result.verdict
         → IsShownText description.now name.now text.old text.new result }
+    ensures notes { result.verdict ≡ ACCEPTED → 0 < result.length
+        → IsShownNote description.now name.now text.old text.new result }
 {
     twp_calls::township_explain_description(alloc, plat, description, name, text)
 }
 
-/// Explains why a list of tracts is refused.
+/// Explains why a list of tracts is refused, or notes a place in a description of an accepted one that
+/// can be read in two ways.
 #[unsafe(no_mangle)]
 pub extern "C" fn township_explain_list(
     alloc: Global,
@@ -51,9 +56,11 @@ pub extern "C" fn township_explain_list(
     text: &mut [u8],
 ) -> TownshipAnswer
     ensures answer { ExplainsList plat.now list.now text.old text.new result }
-    ensures kept { ¬ IsRefused result.verdict → text.new ≡ text.old }
+    ensures kept { HasNoText result.verdict → text.new ≡ text.old }
     ensures shows { IsRefused result.verdict
         → IsShownText list.now name.now text.old text.new result }
+    ensures notes { result.verdict ≡ ACCEPTED → 0 < result.length
+        → IsShownNote list.now name.now text.old text.new result }
 {
     twp_calls::township_explain_list(alloc, plat, list, name, text)
 }

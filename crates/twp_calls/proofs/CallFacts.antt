@@ -133,7 +133,7 @@ pub explained_list : (plat : TownshipPlat) (list old new : List ℕ) (told answe
     (is : TractFault) (refusal : Refusal) → refusal_of is ≡ Some refusal
     → AnswersFault plat.township list is → told ≡ answer_of_fault is
     → IsExplained (IsOfFirstFault plat list) told old new answer
-    → Answers (IsOfAccount plat list) (IsExplainedFault plat list old new) answer
+    → Answers (IsOfAccount plat list old new) (IsExplainedFault plat list old new) answer
 explained_list plat list old new told answer is refusal same first told_is explained =
     let known = refused_by is refusal same in
     refused_for (record {
@@ -146,6 +146,14 @@ explained_list plat list old new told answer is refusal same first told_is expla
           subst (λ told. IsExplained (IsOfFirstFault plat list) told old new answer)
           (told_is ∙ ap answer_of_verdict known.1) explained;
     })
+
+-- so the answer of such a fault has one
+pub refused_verdict : (told : TownshipAnswer) (is : TractFault) (refusal : Refusal)
+    → refusal_of is ≡ Some refusal → told ≡ answer_of_fault is → IsRefused told.verdict
+refused_verdict told is refusal same told_is =
+    let known = refused_by is refusal same in
+    subst IsRefused
+    (sym (ap (λ (told : TownshipAnswer). told.verdict) (told_is ∙ ap answer_of_verdict known.1))) known.2
 
 -- nothing is written elsewhere
 pub kept_list : (old new : List ℕ) (told answer : TownshipAnswer) (is : TractFault) (refusal : Refusal)

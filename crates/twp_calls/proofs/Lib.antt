@@ -1,2 +1,3 @@
 pub mod CallFacts
+pub mod NoteFacts
 pub mod PlaceFacts

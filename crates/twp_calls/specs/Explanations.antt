@@ -1,6 +1,7 @@
 -- What the calls answer that explain refusals: the refusal as the other calls answer it, and beside it the
--- line, the column and the text of an explanation of that refusal.
-use Rattle.std.specs.Prelude.{◌≡◌, ℕ, List, Option, Some, None, min, length, drop}
+-- line, the column and the text of an explanation of that refusal; or, of an accepted text, those of a note on
+-- its first doubtful place.
+use Rattle.std.specs.Prelude.{◌≡◌, ◌≢◌, ℕ, List, Option, Some, None, min, length, drop}
 use Rattle.std.specs.List.{AllPass}
 use Rattle.twp_excerpt.specs.Spots.{line_of, column_of, is_white, end_of}
 use Rattle.twp_excerpt.specs.declared.spot.Spot.{Spot}
@@ -15,9 +16,12 @@ use Rattle.twp_acres.specs.ReportAnswers.{IsAccountOf}
 use Rattle.twp_acres.specs.TractFaults.{IsFirstTractFault, refusal_of, verdict_of}
 use Rattle.twp_acres.specs.declared.tract_fault.TractFault.{TractFault}
 use Rattle.twp_acres.specs.declared.verdict.Verdict.{Verdict}
+use Rattle.twp_read.specs.Doubts.{HasNoDoubtfulPlace}
 use Rattle.twp_explain.specs.ShownPlaces.{TOO_LARGE}
+use Rattle.twp_explain.specs.ShownNotes.{IsOfFirst}
 use Rattle.twp_explain.specs.declared.explanation.Explanation.{Explanation}
-use Rattle.twp_calls.specs.Answers.{ACCEPTED, bare, refused, verdict_answer}
+use Rattle.twp_explain.specs.declared.explanation.Note.{Note}
+use Rattle.twp_calls.specs.Answers.{ACCEPTED, IsRefused, bare, refused, verdict_answer}
 use Rattle.twp_calls.specs.Calls.{Answers, IsPut, OnPlat}
 use Rattle.twp_calls.specs.declared.answer.TownshipAnswer.{TownshipAnswer}
 use Rattle.twp_calls.specs.declared.plat.TownshipPlat.{TownshipPlat as GivenPlat}
@@ -35,11 +39,39 @@ abbrev pub column_at : Option Spot → ℕ
 column_at None = 0
 column_at (Some spot) = spot.column
 
+-- a text was put beside the answer, with the line and the column of its spot
+abbrev pub IsToldAt : TownshipAnswer → Option Spot → List ℕ → List ℕ → List ℕ → TownshipAnswer → Type 0
+IsToldAt told spot text old new = IsPut (told_at told (line_at spot) (column_at spot)) text old new
+
 -- the text of an explanation was put beside the answer, with its line and column
 abbrev pub IsTold : TownshipAnswer → Explanation → List ℕ → List ℕ → TownshipAnswer → Type 0
 IsTold told explanation old new =
-    IsPut (told_at told (line_at explanation.spot) (column_at explanation.spot))
-    explanation.text.bytes.items old new
+    IsToldAt told explanation.spot explanation.text.bytes.items old new
+
+-- the text of a note was put beside the verdict that accepts, with its line and column
+abbrev pub IsNotePut : Note → List ℕ → List ℕ → TownshipAnswer → Type 0
+IsNotePut note old new = IsToldAt (bare ACCEPTED) note.spot note.text.bytes.items old new
+
+-- the verdict accepts, and nothing was put beside it
+pub record IsBareAccepted (old new : List ℕ) (answer : TownshipAnswer) : Type 0 where
+  pub answer_is : answer ≡ bare ACCEPTED
+  pub kept : new ≡ old
+
+-- Of an accepted description: where it has a doubtful place, a note on the first one was put beside the
+-- verdict; where it has none, nothing was.
+pub data IsNoted (text old new : List ℕ) (answer : TownshipAnswer) : Type 0 where
+  clear : HasNoDoubtfulPlace text → IsBareAccepted old new answer → IsNoted text old new answer
+  noted : (note : Note) → IsOfFirst text note → IsNotePut note old new answer
+      → IsNoted text old new answer
+
+-- of an accepted list, a note was put beside the verdict, or nothing was
+pub data IsListNoted (old new : List ℕ) (answer : TownshipAnswer) : Type 0 where
+  clear_list : IsBareAccepted old new answer → IsListNoted old new answer
+  noted_list : (note : Note) → IsNotePut note old new answer → IsListNoted old new answer
+
+-- the verdict is neither one that accepts nor one of a refusal: nothing is written
+abbrev pub HasNoText : ℕ → Type 0
+HasNoText verdict = (verdict ≢ ACCEPTED) × ¬ IsRefused verdict
 
 -- an explanation of such a refusal was put there
 pub record IsExplained (IsSuch : Refusal → Type 0) (told : TownshipAnswer) (old new : List ℕ)
@@ -71,12 +103,13 @@ abbrev pub ExplainsNotes : List ℕ → List ℕ → List ℕ → TownshipAnswer
 ExplainsNotes notes old new =
     Answers (IsOfPlat notes) (IsExplainedRefusal (IsNoPlat notes) old new)
 
--- `township_explain_description`: nor of a description that has an area on the plat
-pub record IsOfArea (plat : TownshipPlat) (description : List ℕ) (answer : TownshipAnswer)
+-- `township_explain_description`: of a description that has an area on the plat, its first doubtful place is
+-- noted
+pub record IsOfArea (plat : TownshipPlat) (description old new : List ℕ) (answer : TownshipAnswer)
     : Type 0 where
   pub area : Fraction
   pub has : HasAreaOn plat description Exact area
-  pub answer_is : answer ≡ bare ACCEPTED
+  pub is_noted : IsNoted description old new answer
 
 -- This is the line and the column of a place in a text, or of the text's end.
 pub record IsLineAndColumn (text : List ℕ) (at line column : ℕ) : Type 0 where
@@ -100,15 +133,15 @@ pub record IsExplainedWhereRefused (township : Designation) (description old new
 
 abbrev pub ExplainsDescription : GivenPlat → List ℕ → List ℕ → List ℕ → TownshipAnswer → Type 0
 ExplainsDescription given description old new = OnPlat given (λ plat.
-    Answers (IsOfArea plat description)
+    Answers (IsOfArea plat description old new)
     (IsExplainedWhereRefused plat.township description old new))
 
--- `township_explain_list`: nor of a list that has an account on the plat
-pub record IsOfAccount (plat : TownshipPlat) (list : List ℕ) (answer : TownshipAnswer)
+-- `township_explain_list`: of a list that has an account on the plat, there may be a note
+pub record IsOfAccount (plat : TownshipPlat) (list old new : List ℕ) (answer : TownshipAnswer)
     : Type 0 where
   pub text : List ℕ
   pub has : IsAccountOf plat list text
-  pub answer_is : answer ≡ bare ACCEPTED
+  pub is_noted : IsListNoted old new answer
 
 pub record IsExplainedFault (plat : TownshipPlat) (list old new : List ℕ) (answer : TownshipAnswer)
     : Type 0 where
@@ -120,4 +153,4 @@ pub record IsExplainedFault (plat : TownshipPlat) (list old new : List ℕ) (ans
 
 abbrev pub ExplainsList : GivenPlat → List ℕ → List ℕ → List ℕ → TownshipAnswer → Type 0
 ExplainsList given list old new = OnPlat given (λ plat.
-    Answers (IsOfAccount plat list) (IsExplainedFault plat list old new))
+    Answers (IsOfAccount plat list old new) (IsExplainedFault plat list old new))

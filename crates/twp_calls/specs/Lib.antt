@@ -4,3 +4,4 @@ pub mod Calls
 pub mod Names
 pub mod ShownTexts
 pub mod Explanations
+pub mod steps

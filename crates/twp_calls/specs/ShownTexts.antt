@@ -1,9 +1,11 @@
--- The text of an explanation for C: in which text it shows the fault, and by which name.
+-- The text of an explanation or a note for C: in which text it shows its place, and by which name.
 use Rattle.std.specs.Prelude.{◌≡◌, ℕ, List}
 use Rattle.twp_diagnose.specs.declared.given.Given.{Given}
 use Rattle.twp_explain.specs.ShownMessages.{ShowsIn}
+use Rattle.twp_explain.specs.ShownNotes.{ShowsNoteIn}
 use Rattle.twp_explain.specs.declared.explanation.Explanation.{Explanation}
-use Rattle.twp_calls.specs.Explanations.{IsTold}
+use Rattle.twp_explain.specs.declared.explanation.Note.{Note}
+use Rattle.twp_calls.specs.Explanations.{IsNotePut, IsTold}
 use Rattle.twp_calls.specs.Names.{IsNameOf}
 use Rattle.twp_calls.specs.declared.answer.TownshipAnswer.{TownshipAnswer}
 
@@ -22,3 +24,12 @@ pub record IsShownText (bytes name old new : List ℕ) (answer : TownshipAnswer)
   pub shows : ShowsIn file explanation
   pub refused : TownshipAnswer
   pub told_is : IsTold refused explanation old new answer
+
+-- Beside the verdict that accepts was put the text of a note that shows its place in the text that was given:
+-- it begins with that text's name, and with the line and the column of the answer.
+pub record IsShownNote (bytes name old new : List ℕ) (answer : TownshipAnswer) : Type 0 where
+  pub file : Given
+  pub file_is : IsTextGiven bytes name file
+  pub note : Note
+  pub shows : ShowsNoteIn file note
+  pub note_put : IsNotePut note old new answer

@@ -1,12 +1,13 @@
-//! Explanations of refusals, for C: each refusal as the other calls answer it, with its line and
-//! column, and a text.
-ghost use Rattle.std.specs.Prelude.{◌≡◌, ◌≢◌};
+//! Explanations for C: of each refusal, as the other calls answer it, its line and column and a text;
+//! of accepted input, the same of a note on a place that can be read in two ways.
+ghost use Rattle.std.specs.Prelude.{◌≡◌, ◌≢◌, ◌<◌};
 ghost use Rattle.twp_calls.specs.Answers.{ACCEPTED, IsRefused};
 ghost use Rattle.twp_calls.specs.Calls.{IsVersionCall};
 ghost use Rattle.twp_calls.specs.Explanations.{ExplainsNotes, ExplainsDescription, ExplainsList};
-ghost use Rattle.twp_calls.specs.Explanations.{IsTold, told_at};
+ghost use Rattle.twp_calls.specs.Explanations.{HasNoText, IsTold, IsToldAt, told_at};
 ghost use Rattle.twp_calls.specs.Names.{IsNameOf};
-ghost use Rattle.twp_calls.specs.ShownTexts.{IsShownText};
+ghost use Rattle.twp_calls.specs.ShownTexts.{IsShownNote, IsShownText};
+ghost use Rattle.twp_calls.specs.steps.Noting.{AnswersNoted};
 
 use crate::answer::TownshipAnswer;
 use crate::plat::TownshipPlat;
@@ -14,9 +15,13 @@ use crate::reading::plat_of_notes;
 use crate::text::put;
 use crate::verdict::{ACCEPTED, NO_MEMORY, NO_PLAT};
 use crate::version::VERSION;
-use std::alloc::Global;
+use std::alloc::{AllocError, Global};
 use twp_acres::{Account, Stop, account_on, area_on};
-use twp_explain::{Explanation, Given, explain_description, explain_notes, explain_tracts};
+use twp_excerpt::Spot;
+use twp_explain::{
+    Explanation, Given, Note, explain_description, explain_notes, explain_tracts, note_description,
+    note_tracts,
+};
 
 /// What a text is called that has no name of its own.
 const UNNAMED: &str = "input";
@@ -46,7 +51,8 @@ pub fn township_explain_notes(
     }
 }
 
-/// Explains why a description is refused.
+/// Explains why a description is refused, or notes a place of an accepted one that can be read in two
+/// ways.
 pub fn township_explain_description(
     alloc: Global,
     plat: &TownshipPlat,
@@ -55,26 +61,30 @@ pub fn township_explain_description(
     text: &mut [u8],
 ) -> TownshipAnswer
     ensures answer { ExplainsDescription plat.now description.now text.old text.new result }
-    ensures kept { ¬ IsRefused result.verdict → text.new ≡ text.old }
+    ensures kept { HasNoText result.verdict → text.new ≡ text.old }
     ensures shows { IsRefused result.verdict
         → IsShownText description.now name.now text.old text.new result }
+    ensures notes { result.verdict ≡ ACCEPTED → 0 < result.length
+        → IsShownNote description.now name.now text.old text.new result }
 {
     let Some(plat) = plat.plat() else {
         return TownshipAnswer::bare(NO_PLAT);
     };
+    let file = given(name, description);
     let refused = match area_on(alloc, &plat, description, Account::Exact) {
-        Ok(_) => return TownshipAnswer::bare(ACCEPTED),
+        Ok(_) => return put_noted(note_description(alloc, &plat, &file, Account::Exact), text),
         Err(Stop::Failed(_)) => return TownshipAnswer::bare(NO_MEMORY),
         Err(Stop::Refused(refusal)) => TownshipAnswer::of_refusal(refusal),
     };
-    match explain_description(alloc, plat.township(), &given(name, description)) {
+    match explain_description(alloc, plat.township(), &file) {
         Ok(Some(told)) => put_explanation(refused, &told, text),
         Ok(None) => TownshipAnswer::bare(NO_MEMORY),
         Err(_) => TownshipAnswer::bare(NO_MEMORY),
     }
 }
 
-/// Explains why a list of tracts is refused.
+/// Explains why a list of tracts is refused, or notes a place in a description of an accepted one that
+/// can be read in two ways.
 pub fn township_explain_list(
     alloc: Global,
     plat: &TownshipPlat,
@@ -83,22 +93,25 @@ pub fn township_explain_list(
     text: &mut [u8],
 ) -> TownshipAnswer
     ensures answer { ExplainsList plat.now list.now text.old text.new result }
-    ensures kept { ¬ IsRefused result.verdict → text.new ≡ text.old }
+    ensures kept { HasNoText result.verdict → text.new ≡ text.old }
     ensures shows { IsRefused result.verdict
         → IsShownText list.now name.now text.old text.new result }
+    ensures notes { result.verdict ≡ ACCEPTED → 0 < result.length
+        → IsShownNote list.now name.now text.old text.new result }
 {
     let Some(plat) = plat.plat() else {
         return TownshipAnswer::bare(NO_PLAT);
     };
+    let file = given(name, list);
     let fault = match account_on(alloc, &plat, list) {
-        Ok(_) => return TownshipAnswer::bare(ACCEPTED),
+        Ok(_) => return put_noted(note_tracts(alloc, &plat, &file), text),
         Err(fault) => fault,
     };
     let Some(_) = fault.refusal() else {
         return TownshipAnswer::bare(NO_MEMORY);
     };
     let refused = TownshipAnswer::of_fault(fault);
-    match explain_tracts(alloc, &plat, &given(name, list)) {
+    match explain_tracts(alloc, &plat, &file) {
         Ok(Some(told)) => put_explanation(refused, &told.explanation, text),
         Ok(None) => TownshipAnswer::bare(NO_MEMORY),
         Err(_) => TownshipAnswer::bare(NO_MEMORY),
@@ -135,11 +148,39 @@ fn put_explanation(refused: TownshipAnswer, told: &Explanation, text: &mut [u8])
     ensures told { IsTold refused told.now text.old text.new result }
     ensures kept { result.verdict ≢ refused.verdict → text.new ≡ text.old }
 {
-    let told_at = match told.spot {
-        Some(spot) => at_spot(refused, spot.line, spot.column),
-        None => at_spot(refused, 0, 0),
+    put_message(refused, told.spot, told.text.as_bytes(), text)
+}
+
+/// Puts a note beside the verdict that accepts, if there is one.
+fn put_noted(noted: Result<Option<Note>, AllocError>, text: &mut [u8]) -> TownshipAnswer
+    ensures noted { AnswersNoted noted text.old text.new result }
+    ensures kept { result.verdict ≢ ACCEPTED → text.new ≡ text.old }
+{
+    match noted {
+        Ok(Some(note)) => {
+            let accepted = TownshipAnswer::bare(ACCEPTED);
+            put_message(accepted, note.spot, note.text.as_bytes(), text)
+        }
+        Ok(None) => TownshipAnswer::bare(ACCEPTED),
+        Err(_) => TownshipAnswer::bare(NO_MEMORY),
+    }
+}
+
+/// Puts a message beside an answer, with the line and the column of its place.
+fn put_message(
+    told: TownshipAnswer,
+    spot: Option<Spot>,
+    message: &[u8],
+    text: &mut [u8],
+) -> TownshipAnswer
+    ensures told { IsToldAt told spot message.now text.old text.new result }
+    ensures kept { result.verdict ≢ told.verdict → text.new ≡ text.old }
+{
+    let told_at = match spot {
+        Some(spot) => at_spot(told, spot.line, spot.column),
+        None => at_spot(told, 0, 0),
     };
-    put(told_at, told.text.as_bytes(), text)
+    put(told_at, message, text)
 }
 
 /// An answer with a line and a column.

@@ -161,6 +161,16 @@ static township_answer call_explain_list(void) {
                                  BYTES("tracts.csv"), room_text(texts), MOST_TEXT);
 }
 
+static township_answer call_note_description(void) {
+    return township_explain_description(&plat, BYTES("sec. 14, NE1/4 SE1/4."), BYTES("land.txt"), room_text(texts),
+                                        MOST_TEXT);
+}
+
+static township_answer call_note_list(void) {
+    return township_explain_list(&plat, BYTES("name,description\nA,\"sec. 14, NE1/4 SE1/4.\"\n"),
+                                 BYTES("tracts.csv"), room_text(texts), MOST_TEXT);
+}
+
 static const struct {
     const char *name;
     township_answer (*call)(void);
@@ -176,6 +186,8 @@ static const struct {
     {"township_explain_notes", call_explain_notes},
     {"township_explain_description", call_explain_description},
     {"township_explain_list", call_explain_list},
+    {"township_explain_description, accepted with a note", call_note_description},
+    {"township_explain_list, accepted with a note", call_note_list},
 };
 
 /* Everything that a call can write. */

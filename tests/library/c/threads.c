@@ -7,7 +7,7 @@
 #include "check.h"
 
 #define THREADS 4
-#define CALLS 11
+#define CALLS 13
 
 /* The stack that the library requires, and room for the thread's own calls. */
 #define STACK ((256 + 64) * 1024)
@@ -52,6 +52,10 @@ static void call_all(bytes notes, const township_plat *plat, round_answers *to) 
     answer[9] = township_explain_list(plat, BYTES("name,description\nA,sec. 37.\n"), BYTES("tracts.csv"),
                                       to->texts[9], sizeof to->texts[9]);
     answer[10] = township_version(to->texts[10], sizeof to->texts[10]);
+    answer[11] = township_explain_description(plat, BYTES("sec. 14, NE1/4 SE1/4."), BYTES("land.txt"),
+                                              to->texts[11], sizeof to->texts[11]);
+    answer[12] = township_explain_list(plat, BYTES("name,description\nA,\"sec. 14, NE1/4 SE1/4.\"\n"),
+                                       BYTES("tracts.csv"), to->texts[12], sizeof to->texts[12]);
 }
 
 static bool same_round(const round_answers *a, const round_answers *b) {
@@ -98,6 +102,7 @@ static round_answers *answers_alone(bytes notes, const township_plat *plat) {
 
         CHECK(call < 7 || call > 9 ? verdict == TOWNSHIP_ACCEPTED : wanted->texts[call][0] != 0);
     }
+    CHECK(wanted->texts[11][0] != 0 && wanted->texts[12][0] != 0);
     CHECK(wanted->answers[7].verdict == TOWNSHIP_REFUSED && wanted->answers[8].verdict == TOWNSHIP_REFUSED &&
           wanted->answers[9].verdict == TOWNSHIP_TRACT_REFUSED);
     return wanted;

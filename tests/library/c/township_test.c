@@ -303,6 +303,29 @@ static void explains_notes(const township_plat *plat, bytes notes) {
     "    |                    ^^^^\n"                                                                              \
     "  `NE1/4` at 1:10 overlaps it; both include sec. 14, NE1/4.\n"
 
+/* What a note says of NE1/4 SE1/4: a quarter of a quarter has 40 acres, and two quarters have 320. */
+#define NOTED_IN(file, wrapped)                                                                                     \
+    "township: " file ": NE1/4 SE1/4 is read as one part of 40.00 acres, the " wrapped                             \
+    " SE1/4; if two parts were meant, write a comma after NE1/4 (320.00 acres)\n"
+#define JOINED "sec. 14, NE1/4 SE1/4."
+
+static void notes_description(const township_plat *plat) {
+    bytes joined = bytes_of(JOINED "\n");
+    bytes several = bytes_of("sec. 14, NE1/4 SE1/4; sec. 15, W1/2 E1/2.\n");
+
+    check_text(explain_land, plat, joined, explained(bare(TOWNSHIP_ACCEPTED), 1, 16, 0),
+               NOTED_IN("land.txt:1:16: note", "NE1/4 of the\n ")
+               "  1 | " JOINED "\n"
+               "    |                ^^^^^\n");
+    check_text(explain_land, plat, several, explained(bare(TOWNSHIP_ACCEPTED), 1, 16, 0),
+               NOTED_IN("land.txt:1:16: note", "NE1/4 of the\n ")
+               "  1 | sec. 14, NE1/4 SE1/4; sec. 15, W1/2 E1/2.\n"
+               "    |                ^^^^^\n"
+               "  1 more such place\n");
+    drop(joined);
+    drop(several);
+}
+
 static void explains_description(const township_plat *plat) {
     bytes twice = bytes_of(NAMED_TWICE "\n");
     bytes once = bytes_of("sec. 14, N1/2.\n");
@@ -340,6 +363,16 @@ static void explains_list(const char *samples, const township_plat *plat) {
     drop(refused_tract);
     drop(after_quotes);
     drop(after_sentence);
+    drop(list);
+}
+
+static void notes_list(const township_plat *plat) {
+    bytes list = bytes_of("name,description\nA,\"" JOINED "\"\nB,sec. 15.\n");
+
+    check_text(explain_list, plat, list, explained(bare(TOWNSHIP_ACCEPTED), 2, 19, 0),
+               NOTED_IN("tracts.csv:2:19: note: tract A", "NE1/4\n  of the")
+               "  2 | A,\"" JOINED "\"\n"
+               "    |                   ^^^^^\n");
     drop(list);
 }
 
@@ -487,6 +520,8 @@ int main(int count, char **words) {
     explains_notes(&plat, notes);
     explains_description(&plat);
     explains_list(samples, &plat);
+    notes_description(&plat);
+    notes_list(&plat);
     names_files(&plat);
     makes_plats(&plat);
     refuses_plats();

@@ -6,11 +6,12 @@ from ctypes import byref
 from decimal import Decimal
 from fractions import Fraction
 from types import MappingProxyType
-from typing import Any, Iterable, Iterator, Mapping, Optional, Sequence, Tuple, Union
+from typing import Any, Iterable, Iterator, List, Mapping, Optional, Sequence, Tuple, Union
 
 from . import _library
 from ._account import Account, code_of
 from ._figures import Report, Section, acres_of_hundredths, list_of, report_of, sections_of
+from ._note import Note, notes_of
 from ._refused import DESCRIPTION, LIST, NOTES, Refused, exception_of, failure_of, hinted
 from ._text import Path, Text, encoded, names_a_file, shown
 from ._township import Township, struct_of, township_of
@@ -209,6 +210,27 @@ class Plat:
         if answer.verdict != _library.ACCEPTED:
             raise self._exception_of(answer, given)
         return text
+
+    def notes(self, description: Text) -> List[Note]:
+        """Return the notes on an accepted description: there is one if a place can be read in two ways.
+
+        The note is on the first such place; its last line says how many more there are. The acreage in it is
+        that of the account `exact`. Raise `Refused` if the description is refused.
+
+        >>> plat.notes("sec. 14, NE1/4, SE1/4.")
+        []
+        >>> for note in plat.notes("sec. 14, NE1/4 SE1/4."):
+        ...     print(note.line, note.column, note.sentence)
+        1 16 NE1/4 SE1/4 is read as one part of 40.00 acres, the NE1/4 of the SE1/4; if two parts were meant, \
+write a comma after NE1/4 (320.00 acres)
+        """
+        given = encoded(description)
+        explain = _library.explain_description
+        parts = byref(self._parts)
+        answer, text = _library.text_by(explain, parts, given, len(given), DESCRIPTION, len(DESCRIPTION))
+        if answer.verdict != _library.ACCEPTED:
+            raise self._exception_of(answer, given)
+        return notes_of(answer, text)
 
     def acres_of(
         self, descriptions: Iterable[Text], account: Account = "exact"

@@ -6,6 +6,7 @@ use crate::acres::Acres;
 use crate::answer::Fault;
 use crate::area::Area;
 use crate::ffi;
+use crate::note::Note;
 use crate::refused::{Refused, DESCRIPTION, LIST};
 use crate::report::{list_of, Report};
 use crate::text::{accepted_text_by, text_by};
@@ -121,6 +122,35 @@ impl Plat {
         let (answer, text) = text_by(|room| ffi::normal(&self.parts, description, room));
         match answer.accepted() {
             Ok(_) => Ok(text),
+            Err(fault) => Err(self.description_refused(fault, description)),
+        }
+    }
+
+    /// Returns the notes on an accepted description: there is one if a place can be read in two
+    /// ways.
+    ///
+    /// The note is on the first such place; its last line says how many more there are. The acreage
+    /// in it is that of [`Account::Exact`].
+    ///
+    /// # Errors
+    ///
+    /// The same as for [`Plat::acres`].
+    ///
+    /// ```
+    /// # let notes = include_bytes!(concat!(env!("CARGO_MANIFEST_DIR"), "/samples/b1.csv"));
+    /// # let plat = township::Plat::read(notes)?;
+    /// assert!(plat.notes("sec. 14, NE1/4, SE1/4.")?.is_empty());
+    ///
+    /// let notes = plat.notes("sec. 14, NE1/4 SE1/4.")?;
+    /// assert_eq!((notes[0].line, notes[0].column), (1, 16));
+    /// # Ok::<(), township::Refused>(())
+    /// ```
+    pub fn notes(&self, description: impl AsRef<[u8]>) -> Result<Vec<Note>, Refused> {
+        let description = description.as_ref();
+        let (answer, text) =
+            text_by(|room| ffi::explain_description(&self.parts, description, DESCRIPTION, room));
+        match answer.accepted() {
+            Ok(answer) => Ok(Note::beside(answer, text)),
             Err(fault) => Err(self.description_refused(fault, description)),
         }
     }

@@ -1,10 +1,12 @@
--- Nothing is explained of what has an area; the refusal that is explained is the description's own; or memory
--- ran out.
-use Rattle.std.proofs.Common.{subst}
-use Rattle.twp_calls.specs.Calls.{accepted, refused_for, no_memory, on_plat}
+-- The first doubtful place is noted of what has an area; the refusal that is explained is the description's own;
+-- or memory ran out.
+use Rattle.std.proofs.Common.{IfOk, subst, ap, inl}
+use Rattle.twp_calls.specs.Calls.{refused_for, no_memory, on_plat}
 use Rattle.twp_acres.specs.Answers.{IsNoDescription}
 use Rattle.twp_explain.specs.ShownMessages.{ShowsIn}
+use Rattle.twp_explain.specs.ShownNotes.{IsNoteOf}
 use Rattle.twp_calls.proofs.CallFacts.{held_by}
+use Rattle.twp_calls.proofs.NoteFacts.{noted_on, shown_note, not_accepted}
 use Rattle.twp_calls.proofs.PlaceFacts.{refused_where}
 use Rattle.twp_explain.specs.ToldPlaces.{IsToldWhereRefused}
 use Rattle.twp_calls.proofs.explaining.township_explain_description.Goals as goal
@@ -12,7 +14,25 @@ use Rattle.twp_calls.proofs.explaining.township_explain_description.Goals as goa
 pub returns-in-Ok-clause-answer : goal.returns-in-Ok-clause-answer
 returns-in-Ok-clause-answer c =
     on_plat c.in-Some.plat c.in-Some.ensures
-    (accepted (record { area = c.in-Ok.field-0; has = c.in-Ok.ensures; answer_is = c.bare-in-Ok.ensures }))
+    (noted_on _ c.in-Some.plat c.args.description.now c.args.text.now c.put_noted.new.text c.put_noted.result
+    c.in-Ok.field-0 c.note_description.result c.in-Ok.ensures
+    (subst (λ bytes. IfOk c.note_description.result (IsNoteOf bytes)) c.given-file.ensures.bytes
+    c.note_description.ensures.note)
+    c.put_noted.ensures.noted)
+
+pub returns-in-Ok-clause-kept : goal.returns-in-Ok-clause-kept
+returns-in-Ok-clause-kept c = λ none. c.put_noted.ensures.kept none.0
+
+pub returns-in-Ok-clause-notes : goal.returns-in-Ok-clause-notes
+returns-in-Ok-clause-notes c =
+    shown_note c.args.description.now c.args.name.now c.args.text.now c.put_noted.new.text c.put_noted.result
+    c.given-file.result c.note_description.result
+    (record {
+      name_is = c.given-file.ensures.name;
+      bytes_are = c.given-file.ensures.bytes;
+      first_line_is = c.given-file.ensures.first_line;
+    })
+    c.note_description.ensures.shows c.put_noted.ensures.noted
 
 pub returns-in-Err-Failed-clause-answer : goal.returns-in-Err-Failed-clause-answer
 returns-in-Err-Failed-clause-answer c =
@@ -22,15 +42,15 @@ pub returns-in-Ok-Some-clause-answer : goal.returns-in-Ok-Some-clause-answer
 returns-in-Ok-Some-clause-answer c =
     on_plat c.in-Some.plat c.in-Some.ensures
     (refused_for (refused_where c.in-Some.plat.township c.args.description.now c.args.text.now
-    c.put_explanation.new.text c.given.result c.in-Err-Refused.field-0 c.in-Err-Refused.refusal
+    c.put_explanation.new.text c.given-file.result c.in-Err-Refused.field-0 c.in-Err-Refused.refusal
     c.in-Ok-Some.told
     c.of_refusal-refused.result c.put_explanation.result c.in-Err-Refused.field-0-is c.in-Err-Refused.ensures
-    c.given.ensures.bytes c.given.ensures.first_line
-    (subst (λ township. IsNoDescription township c.given.result.bytes.now c.in-Ok-Some.told.refusal)
+    c.given-file.ensures.bytes c.given-file.ensures.first_line
+    (subst (λ township. IsNoDescription township c.given-file.result.bytes.now c.in-Ok-Some.told.refusal)
     c.township.ensures
-    (held_by (λ told. IsNoDescription c.township.result c.given.result.bytes.now told.refusal)
+    (held_by (λ told. IsNoDescription c.township.result c.given-file.result.bytes.now told.refusal)
     c.in-Ok-Some.field-0 c.in-Ok-Some.told c.in-Ok-Some.field-0-is c.in-Ok-Some.ensures.refusal))
-    (held_by (IsToldWhereRefused c.given.result) c.in-Ok-Some.field-0 c.in-Ok-Some.told
+    (held_by (IsToldWhereRefused c.given-file.result) c.in-Ok-Some.field-0 c.in-Ok-Some.told
     c.in-Ok-Some.field-0-is c.in-Ok-Some.ensures.spot)
     c.of_refusal-refused.ensures c.put_explanation.ensures.told))
 
@@ -44,16 +64,21 @@ returns-in-Err-clause-answer c =
 
 pub returns-in-Ok-Some-clause-shows : goal.returns-in-Ok-Some-clause-shows
 returns-in-Ok-Some-clause-shows c = λ is. record {
-  file = c.given.result;
+  file = c.given-file.result;
   file_is = record {
-    name_is = c.given.ensures.name;
-    bytes_are = c.given.ensures.bytes;
-    first_line_is = c.given.ensures.first_line;
+    name_is = c.given-file.ensures.name;
+    bytes_are = c.given-file.ensures.bytes;
+    first_line_is = c.given-file.ensures.first_line;
   };
   explanation = c.in-Ok-Some.told;
   shows =
-      held_by (ShowsIn c.given.result) c.in-Ok-Some.field-0 c.in-Ok-Some.told c.in-Ok-Some.field-0-is
+      held_by (ShowsIn c.given-file.result) c.in-Ok-Some.field-0 c.in-Ok-Some.told c.in-Ok-Some.field-0-is
       c.in-Ok-Some.ensures.shows;
   refused = c.of_refusal-refused.result;
   told_is = c.put_explanation.ensures.told;
 }
+
+pub returns-in-Ok-Some-clause-notes : goal.returns-in-Ok-Some-clause-notes
+returns-in-Ok-Some-clause-notes c = λ accepts. absurd
+    (not_accepted c.of_refusal-refused.result _ _ _ _ _ c.put_explanation.result
+    (inl (ap (λ told. told.verdict) c.of_refusal-refused.ensures)) c.put_explanation.ensures.told accepts)

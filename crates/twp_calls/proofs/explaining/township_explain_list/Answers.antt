@@ -1,20 +1,32 @@
--- Nothing is explained of what has an account; the fault that is explained is the list's first; or memory ran
+-- There may be a note on what has an account; the fault that is explained is the list's first; or memory ran
 -- out.
 use Rattle.std.proofs.Common.{◌≡◌, Some, sym, subst, ◌∙◌}
 use Rattle.twp_acres.specs.TractFaults.{IsFirstTractFault, refusal_of}
-use Rattle.twp_calls.specs.Calls.{accepted, no_memory, on_plat}
+use Rattle.twp_calls.specs.Calls.{no_memory, on_plat}
 use Rattle.twp_explain.specs.ShownMessages.{ShowsIn}
-use Rattle.twp_calls.proofs.CallFacts.{explained_list, held_by, kept_list}
+use Rattle.twp_calls.proofs.CallFacts.{explained_list, held_by, kept_list, refused_verdict}
+use Rattle.twp_calls.proofs.NoteFacts.{noted_list_on, shown_note, not_accepted}
 use Rattle.twp_calls.proofs.explaining.township_explain_list.Goals as goal
 
 pub returns-in-Ok-clause-answer : goal.returns-in-Ok-clause-answer
 returns-in-Ok-clause-answer c =
     on_plat c.in-Some.plat c.in-Some.ensures
-    (accepted (record {
-      text = c.in-Ok.field-0.items;
-      has = c.in-Ok.ensures.account;
-      answer_is = c.bare-in-Ok.ensures;
-    }))
+    (noted_list_on _ c.in-Some.plat c.args.list.now c.args.text.now c.put_noted.new.text c.put_noted.result
+    c.in-Ok.field-0.items c.note_tracts.result c.in-Ok.ensures.account c.put_noted.ensures.noted)
+
+pub returns-in-Ok-clause-kept : goal.returns-in-Ok-clause-kept
+returns-in-Ok-clause-kept c = λ none. c.put_noted.ensures.kept none.0
+
+pub returns-in-Ok-clause-notes : goal.returns-in-Ok-clause-notes
+returns-in-Ok-clause-notes c =
+    shown_note c.args.list.now c.args.name.now c.args.text.now c.put_noted.new.text c.put_noted.result
+    c.given-file.result c.note_tracts.result
+    (record {
+      name_is = c.given-file.ensures.name;
+      bytes_are = c.given-file.ensures.bytes;
+      first_line_is = c.given-file.ensures.first_line;
+    })
+    c.note_tracts.ensures.shows c.put_noted.ensures.noted
 
 pub returns-in_default-refusal-clause-answer : goal.returns-in_default-refusal-clause-answer
 returns-in_default-refusal-clause-answer c =
@@ -32,8 +44,8 @@ returns-in-Ok-Some-clause-answer c =
         fault = c.in-Ok-Some.told.fault;
         first =
             subst (λ bytes. IsFirstTractFault c.in-Some.plat.township bytes c.in-Ok-Some.told.fault)
-            c.given.ensures.bytes
-            (held_by (λ told. IsFirstTractFault c.in-Some.plat.township c.given.result.bytes.now told.fault)
+            c.given-file.ensures.bytes
+            (held_by (λ told. IsFirstTractFault c.in-Some.plat.township c.given-file.result.bytes.now told.fault)
             c.in-Ok-Some.field-0 c.in-Ok-Some.told c.in-Ok-Some.field-0-is c.in-Ok-Some.ensures.first);
         refusal_is =
             held_by (λ told. refusal_of told.fault ≡ Some told.explanation.refusal) c.in-Ok-Some.field-0
@@ -44,9 +56,9 @@ returns-in-Ok-Some-clause-answer c =
 
 pub returns-in-Ok-Some-clause-kept : goal.returns-in-Ok-Some-clause-kept
 returns-in-Ok-Some-clause-kept c =
-    kept_list c.args.text.now c.put_explanation.new.text c.of_fault-refused.result c.put_explanation.result
-    c.in-Err.fault _ (sym c.refusal.ensures ∙ c.in-Some-refusal.is) c.of_fault-refused.ensures
-    c.put_explanation.ensures.kept
+    λ none. kept_list c.args.text.now c.put_explanation.new.text c.of_fault-refused.result
+    c.put_explanation.result c.in-Err.fault _ (sym c.refusal.ensures ∙ c.in-Some-refusal.is)
+    c.of_fault-refused.ensures c.put_explanation.ensures.kept none.1
 
 pub returns-in-Ok-None-clause-answer : goal.returns-in-Ok-None-clause-answer
 returns-in-Ok-None-clause-answer c =
@@ -58,17 +70,24 @@ returns-in-Err-explain_tracts-clause-answer c =
 
 pub returns-in-Ok-Some-clause-shows : goal.returns-in-Ok-Some-clause-shows
 returns-in-Ok-Some-clause-shows c = λ is. record {
-  file = c.given.result;
+  file = c.given-file.result;
   file_is = record {
-    name_is = c.given.ensures.name;
-    bytes_are = c.given.ensures.bytes;
-    first_line_is = c.given.ensures.first_line;
+    name_is = c.given-file.ensures.name;
+    bytes_are = c.given-file.ensures.bytes;
+    first_line_is = c.given-file.ensures.first_line;
   };
   explanation = c.in-Ok-Some.told.explanation;
   shows =
-      held_by (λ told. ShowsIn c.given.result told.explanation) c.in-Ok-Some.field-0 c.in-Ok-Some.told
+      held_by (λ told. ShowsIn c.given-file.result told.explanation) c.in-Ok-Some.field-0 c.in-Ok-Some.told
       c.in-Ok-Some.field-0-is
       c.in-Ok-Some.ensures.shows;
   refused = c.of_fault-refused.result;
   told_is = c.put_explanation.ensures.told;
 }
+
+pub returns-in-Ok-Some-clause-notes : goal.returns-in-Ok-Some-clause-notes
+returns-in-Ok-Some-clause-notes c = λ accepts. absurd
+    (not_accepted c.of_fault-refused.result _ _ _ _ _ c.put_explanation.result
+    (refused_verdict c.of_fault-refused.result c.in-Err.fault _
+    (sym c.refusal.ensures ∙ c.in-Some-refusal.is) c.of_fault-refused.ensures)
+    c.put_explanation.ensures.told accepts)
