@@ -3,11 +3,13 @@ from __future__ import annotations
 
 from typing import Dict, Literal
 
+from . import _library
+
 #: How a whole lot counts: at its exact area, or at the acreage printed on the plat.
 Account = Literal["exact", "plat"]
 
 #: The library's code for each account.
-ACCOUNTS: Dict[Account, int] = {"exact": 0, "plat": 1}
+ACCOUNTS: Dict[Account, int] = {"exact": _library.EXACT, "plat": _library.BY_PLAT}
 
 
 def code_of(account: Account) -> int:

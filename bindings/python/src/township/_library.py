@@ -22,6 +22,10 @@ NO_ACCOUNT = 4
 NO_ROOM = 5
 NO_MEMORY = 6
 
+# Accounts.
+EXACT = 0
+BY_PLAT = 1
+
 #: The environment variable that gives the path of the library.
 VARIABLE = "TOWNSHIP_LIBRARY"
 

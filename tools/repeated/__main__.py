@@ -1,0 +1,37 @@
+#!/usr/bin/env python3
+"""Compares what several files repeat with the one file that is its source.
+
+    python3 tools/repeated
+
+- The structs and the constants of include/township.h, with those of the library and of the bindings.
+- The limits of the definitions, with those of the code, of the header, and of sentences.
+- The numbers of refusals in docs/REFUSALS.md, with the ranges of numbers that sentences give.
+
+Each difference is named; the status is 1 if there are any. tools/signatures.py compares the functions of the header,
+and tools/header_names.py the names of refusals and the versions.
+"""
+
+import sys
+from typing import List
+
+import constants
+import limits
+import ranges
+import structs
+
+
+def main() -> int:
+    differences: List[str] = []
+    for module in (structs, constants, limits, ranges):
+        compared, found = module.compare()
+        differences += found
+        print(f"{compared} {module.WHAT}")
+        if not compared:
+            differences.append(f"there are no {module.WHAT}")
+    for difference in differences:
+        print(difference)
+    return 1 if differences else 0
+
+
+if __name__ == "__main__":
+    sys.exit(main())

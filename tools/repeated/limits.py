@@ -1,0 +1,105 @@
+"""The limits of the input: the definitions say them, and the code, the header, and sentences repeat them."""
+
+import re
+from typing import Dict, List, NamedTuple, Set
+
+from reading import CALLS, HEADER, PYTHON, ROOT, Compared, number_of, text_of
+
+WHAT = "limits in the code, the header, and sentences"
+
+
+class Limit(NamedTuple):
+    """A limit: the definition, and the constants that repeat it, each with the form of its line."""
+
+    definition: str
+    name: str
+    repeated: Dict[str, str]
+
+
+LIMITS = (
+    Limit(
+        "crates/twp_notes/specs/FieldNotes.antt",
+        "NOTES_MOST",
+        {
+            "crates/twp_notes/src/fault.rt": r"const MOST_BYTES: u32 = ",
+            HEADER: r"#define TOWNSHIP_NOTES_MOST ",
+            f"{PYTHON}/_library.py": r"^NOTES_MOST = ",
+        },
+    ),
+    Limit(
+        "crates/twp_grammar/specs/Sentences.antt",
+        "TEXT_LIMIT",
+        {"crates/twp_read/src/fault.rt": r"const TEXT_LIMIT: usize = ", HEADER: r"#define TOWNSHIP_DESCRIPTION_MOST "},
+    ),
+    Limit(
+        "crates/twp_acres/specs/Tracts.antt",
+        "TRACTS_LIMIT",
+        {"crates/twp_acres/src/tract_fault.rt": r"const TRACTS_LIMIT: u32 = ", HEADER: r"#define TOWNSHIP_LIST_MOST "},
+    ),
+    Limit(
+        "crates/twp_acres/specs/Tracts.antt",
+        "TRACTS_MOST",
+        {"crates/twp_acres/src/tract_fault.rt": r"const TRACTS_MOST: u32 = "},
+    ),
+    Limit(
+        "crates/twp_acres/specs/Tracts.antt",
+        "NAME_MOST",
+        {
+            "crates/twp_acres/src/tract.rt": r"const NAME_MOST: usize = ",
+            "crates/twp_explain/src/rows.rt": r"const NAME_MOST: usize = ",
+        },
+    ),
+)
+
+#: Where sentences for users are. The logs of measurements have numbers of their own.
+SENTENCES = (
+    *("README.md", "SECURITY.md", HEADER, "man/township.1.in", "bindings/*/README.md", "docs/*.md"),
+    *("bindings/python/src/**/*.py", "bindings/rust/src/**/*.rs", "crates/twp_explain/src/**/*.rt"),
+    *("crates/twp_notes/src/fault.rt", "crates/twp_read/src/fault.rt", "crates/twp_acres/src/tract_fault.rt"),
+)
+NO_SENTENCES = {"docs/BENCHMARKS.md", "docs/PERFORMANCE.md", "docs/TRUST.md"}
+
+
+def compare() -> Compared:
+    values = {limit.name: defined(limit) for limit in LIMITS}
+    compared = 0
+    differences: List[str] = []
+    for limit in LIMITS:
+        for place, form in limit.repeated.items():
+            compared += 1
+            found = [number_of(number) for number in re.findall(form + r"([\d_]+)", text_of(place), re.M)]
+            if found != [values[limit.name]]:
+                differences.append(f"{place}: {limit.name} is {values[limit.name]}, and here it is {found}")
+    sizes = {values["NOTES_MOST"], values["TEXT_LIMIT"], values["TRACTS_LIMIT"]}
+    # On standard input, a description and notes with a line feed between them, and one byte more.
+    sizes.add(values["TEXT_LIMIT"] + values["NOTES_MOST"] + 2)
+    for path in files_of_sentences():
+        text = " ".join(text_of(path).split())
+        for form, allowed in (
+            # No smaller or larger number is near a limit.
+            (r"(?<![\d,])(\d{1,3},\d{3},\d{3}|\d{2,3},\d{3}|\d{5,7}) bytes", sizes),
+            (r"(?<![\d,])(\d{1,2},\d{3}|\d{3,5}) tracts", {values["TRACTS_MOST"], values["TRACTS_MOST"] + 1}),
+            (r"\b1 to (\d+) (?:bytes of )?printable", {values["NAME_MOST"]}),
+            (r"\bat most (\d+) are allowed", {values["NAME_MOST"]}),
+        ):
+            found = [number_of(number) for number in re.findall(form, text)]
+            compared += len(found)
+            differences += [
+                f"{path}: {number} is not a limit: {in_order(allowed)}" for number in found if number not in allowed
+            ]
+    return compared, differences
+
+
+def defined(limit: Limit) -> int:
+    """The value in the definition."""
+    [number] = re.findall(rf"^{limit.name} = (\d+)$", text_of(limit.definition), re.M)
+    return int(number)
+
+
+def files_of_sentences() -> List[str]:
+    found = {str(file.relative_to(ROOT)) for pattern in SENTENCES for file in ROOT.glob(pattern)}
+    return sorted(found - NO_SENTENCES)
+
+
+def in_order(numbers: Set[int]) -> str:
+    return ", ".join(str(number) for number in sorted(numbers))
