@@ -266,13 +266,13 @@ module _ (township : Designation) (bytes : List ℕ) (size : length bytes ≤ TR
   first_refused fault.TractsTooLarge next = absurd (next.has)
 
 -- the first record, and those after it
-pub record AreBehind (bytes : List ℕ) (fields : Fields) (rest : List Fields) : Type 0 where
+pub record AreAfter (bytes : List ℕ) (fields : Fields) (rest : List Fields) : Type 0 where
   pub first : record_numbered (records_of bytes) 1 ≡ fields
-  pub behind : tract_records bytes ≡ rest
+  pub after : tract_records bytes ≡ rest
 
-pub behind_of : (bytes : List ℕ) (fields : Fields) (rest : List Fields) → records_of bytes ≡ fields ∷ rest
-    → AreBehind bytes fields rest
-behind_of bytes fields rest split = record { first = rw split refl; behind = rw split refl }
+pub after_of_word : (bytes : List ℕ) (fields : Fields) (rest : List Fields) → records_of bytes ≡ fields ∷ rest
+    → AreAfter bytes fields rest
+after_of_word bytes fields rest split = record { first = rw split refl; after = rw split refl }
 
 -- the lines of a list's refusal are its answer
 pub list_refused : (plat : TownshipPlat) (bytes answer : List ℕ) (verdict : Verdict)

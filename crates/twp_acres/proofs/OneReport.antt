@@ -120,18 +120,18 @@ record AreOne (one other : TractFault) : Type 0 where
   at_ : record_of one ≡ record_of other
   turn : turn_of one ≡ turn_of other
 
-neither_behind : (one other : TractFault) → IsFrom (record_of one) (turn_of one) other
+neither_is_after : (one other : TractFault) → IsFrom (record_of one) (turn_of one) other
     → IsFrom (record_of other) (turn_of other) one → AreOne one other
-neither_behind one other (inl less) (inl more) = absurd (omega arith)
-neither_behind one other (inl less) (inr (at_, turn)) = absurd (omega arith)
-neither_behind one other (inr (at_, turn)) (inl more) = absurd (omega arith)
-neither_behind one other (inr (at_, turn)) (inr (at', turn')) = record { at_ = at_; turn = omega arith }
+neither_is_after one other (inl less) (inl more) = absurd (omega arith)
+neither_is_after one other (inl less) (inr (at_, turn)) = absurd (omega arith)
+neither_is_after one other (inr (at_, turn)) (inl more) = absurd (omega arith)
+neither_is_after one other (inr (at_, turn)) (inr (at', turn')) = record { at_ = at_; turn = omega arith }
 
 -- only one fault of a list is the first
 one_first : (township : Designation) (bytes : List ℕ) (one other : TractFault)
     → IsFirstTractFault township bytes one → IsFirstTractFault township bytes other → one ≡ other
 one_first township bytes one other is is' =
-    let same = neither_behind one other (is.first other is'.is) (is'.first one is.is) in
+    let same = neither_is_after one other (is.first other is'.is) (is'.first one is.is) in
     same_fault township bytes one other is.is is'.is same.at_ same.turn
 
 -- a refused list has only one verdict

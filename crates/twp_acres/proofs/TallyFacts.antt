@@ -199,11 +199,11 @@ pub accepted : (plat : TownshipPlat) (bytes text : List ℕ) (rest : List Fields
     → length rest ≤ TRACTS_MOST
     → IsTallyOf plat rest (length rest) tally → EndsAccount plat tally.places tally.text text
     → IsAccountOf plat bytes text
-accepted plat bytes text rest tally size heading_is behind few taken ends =
+accepted plat bytes text rest tally size heading_is after few taken ends =
     let all : IsTallyOf plat (tract_records bytes) (length (tract_records bytes)) tally =
-    subst (λ rows. IsTallyOf plat rows (length rows) tally) (sym behind) taken in
+    subst (λ rows. IsTallyOf plat rows (length rows) tally) (sym after) taken in
     record {
-      list = record { size = size; heading_is = heading_is; few = rw behind few; tracts = all.tracts };
+      list = record { size = size; heading_is = heading_is; few = rw after few; tracts = all.tracts };
       account = record {
         lines = all.lines;
         lines_are = all.lines_are;

@@ -128,7 +128,7 @@ pub sum-last : (account : Account) (plat : TownshipPlat) (places : ℕ → ℕ �
     (first last number units : ℕ)
     → LieWithin places first last → 1 ≤ number → last < number → number ≤ 37
     → IsSumOf account plat places (number - 1) units → IsSumOf account plat places (37 - 1) units
-sum-last account plat places first last number units within least behind most so_far pieces are =
+sum-last account plat places first last number units within least after most so_far pieces are =
     let none = sum-without pieces places (number - 1) (37 - number) (λ section above below held.
     let lies = within section held.column held.row held.is_held in omega (arith, lies.1)) in
     let all : number - 1 + (37 - number) ≡ 36 = omega arith in

@@ -3,7 +3,7 @@ use Rattle.std.proofs.Common.{◌≡◌, ◌==◌, ℕ, ◌+◌, ◌-◌, ◌*�
 use Rattle.std.proofs.Common.{pos, refl, ap, sym, ◌∙◌, inl, inr, arith, if◌then◌else◌, nat_le}
 use Rattle.std.proofs.lemmas.Bool.{cases_eq}
 use Rattle.std.proofs.lemmas.Bool.Decides.{nat_tests}
-use Rattle.twp_grid.specs.Winding.{IsSection, StandsAt}
+use Rattle.twp_grid.specs.Winding.{IsSection, LiesAt}
 use Rattle.twp_grid.specs.Lines.{north_run, west_run}
 use Rattle.twp_grid.specs.Lots.{lot_at_position}
 use Rattle.twp_grid.specs.steps.WesternSections.{is_western_number}
@@ -45,7 +45,7 @@ western_test : each 6
 unfolding each
 western_test = refl
 
-western : (section row column : ℕ) → StandsAt section row column → column ≡ 5
+western : (section row column : ℕ) → LiesAt section row column → column ≡ 5
     → is_western_number section ≡ true
 western section row column stands west =
     let in_row : row < 6 = stands.row_range in
@@ -55,7 +55,7 @@ western section row column stands west =
     let number : (if row % 2 == 0 then 6 * row + 6 else 6 * row + 1) ≡ section = grind (arith, nat_tests) in
     rw number at test
 
-northern : (section row column : ℕ) → StandsAt section row column → row ≡ 0 → nat_le section 6 ≡ true
+northern : (section row column : ℕ) → LiesAt section row column → row ≡ 0 → nat_le section 6 ≡ true
 northern section row column stands north = let least : section ≤ 6 = omega arith in grind (arith, nat_tests)
 
 -- a position in the last column of a western section is a lot, and so is one in the last row of a

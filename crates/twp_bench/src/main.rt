@@ -36,7 +36,7 @@ fn asked(rt: &(impl Env + Alloc)) -> io::Result<Option<Task>> {
 
 fn main(rt: HostRuntime) -> io::Result<ExitCode> {
     match asked(&rt)? {
-        Some(Task::Text) => reading::tell_items(&rt)?,
+        Some(Task::Text) => reading::print_items(&rt)?,
         Some(Task::Land(kind, work, times)) => {
             let tally = match kind {
                 Kind::Grid => measure::<Grid>(work, times),

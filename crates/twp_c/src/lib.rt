@@ -1,4 +1,4 @@
-//! The library that C calls, and what is built on C: `include/township.h` tells of each call. Each hands
+//! The library that C calls, and what is built on C: `include/township.h` documents each call. Each hands
 //! what it is given to the call of the same name in `twp_calls`.
 #![tactic(auto)]
 

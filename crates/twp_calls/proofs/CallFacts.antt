@@ -88,14 +88,14 @@ stops_by given plat is code account account_is Accepted description stopping ans
     (sym same) (stopped_on (Accepted plat account) plat.township description stopping stops)))
 
 -- a text that was put beside the verdict that it is there
-pub text_put : (IsSuch : List ℕ → Type 0) (told : TownshipAnswer) (text made old new : List ℕ)
-    (answer : TownshipAnswer) → told ≡ bare ACCEPTED → text ≡ made → IsSuch made
-    → IsPut told text old new answer → IsTextPut IsSuch old new answer
-text_put IsSuch told text made old new answer told_is text_is such is_put =
+pub text_put : (IsSuch : List ℕ → Type 0) (explained : TownshipAnswer) (text made old new : List ℕ)
+    (answer : TownshipAnswer) → explained ≡ bare ACCEPTED → text ≡ made → IsSuch made
+    → IsPut explained text old new answer → IsTextPut IsSuch old new answer
+text_put IsSuch explained text made old new answer explained_is text_is such is_put =
     record {
       text = text;
       is = subst IsSuch (sym text_is) such;
-      put_is = subst (λ told. IsPut told text old new answer) told_is is_put;
+      put_is = subst (λ explained. IsPut explained text old new answer) explained_is is_put;
     }
 
 -- the refusal of a description that stopped for it
@@ -129,12 +129,12 @@ refused_by fault.TooManyTracts refusal same = (_, refl, inl refl)
 refused_by fault.Memory refusal same = cc same
 
 -- a list that is refused, and its explanation
-pub explained_list : (plat : TownshipPlat) (list old new : List ℕ) (told answer : TownshipAnswer)
+pub explained_list : (plat : TownshipPlat) (list old new : List ℕ) (explained answer : TownshipAnswer)
     (is : TractFault) (refusal : Refusal) → refusal_of is ≡ Some refusal
-    → AnswersFault plat.township list is → told ≡ answer_of_fault is
-    → IsExplained (IsOfFirstFault plat list) told old new answer
+    → AnswersFault plat.township list is → explained ≡ answer_of_fault is
+    → IsExplained (IsOfFirstFault plat list) explained old new answer
     → Answers (IsOfAccount plat list old new) (IsExplainedFault plat list old new) answer
-explained_list plat list old new told answer is refusal same first told_is explained =
+explained_list plat list old new explained answer is refusal same first explained_is explained =
     let known = refused_by is refusal same in
     refused_for (record {
       fault = is;
@@ -143,26 +143,29 @@ explained_list plat list old new told answer is refusal same first told_is expla
       verdict = known.0;
       verdict_is = known.1;
       explained =
-          subst (λ told. IsExplained (IsOfFirstFault plat list) told old new answer)
-          (told_is ∙ ap answer_of_verdict known.1) explained;
+          subst (λ explained. IsExplained (IsOfFirstFault plat list) explained old new answer)
+          (explained_is ∙ ap answer_of_verdict known.1) explained;
     })
 
 -- so the answer of such a fault has one
-pub refused_verdict : (told : TownshipAnswer) (is : TractFault) (refusal : Refusal)
-    → refusal_of is ≡ Some refusal → told ≡ answer_of_fault is → IsRefused told.verdict
-refused_verdict told is refusal same told_is =
+pub refused_verdict : (explained : TownshipAnswer) (is : TractFault) (refusal : Refusal)
+    → refusal_of is ≡ Some refusal → explained ≡ answer_of_fault is → IsRefused explained.verdict
+refused_verdict explained is refusal same explained_is =
     let known = refused_by is refusal same in
     subst IsRefused
-    (sym (ap (λ (told : TownshipAnswer). told.verdict) (told_is ∙ ap answer_of_verdict known.1))) known.2
+    (sym
+    (ap (λ (explained : TownshipAnswer). explained.verdict) (explained_is ∙ ap answer_of_verdict known.1)))
+    known.2
 
 -- nothing is written elsewhere
-pub kept_list : (old new : List ℕ) (told answer : TownshipAnswer) (is : TractFault) (refusal : Refusal)
-    → refusal_of is ≡ Some refusal → told ≡ answer_of_fault is
-    → (answer.verdict ≢ told.verdict → new ≡ old) → ¬ IsRefused answer.verdict → new ≡ old
-kept_list old new told answer is refusal same told_is kept none =
+pub kept_list : (old new : List ℕ) (explained answer : TownshipAnswer) (is : TractFault) (refusal : Refusal)
+    → refusal_of is ≡ Some refusal → explained ≡ answer_of_fault is
+    → (answer.verdict ≢ explained.verdict → new ≡ old) → ¬ IsRefused answer.verdict → new ≡ old
+kept_list old new explained answer is refusal same explained_is kept none =
     let known = refused_by is refusal same in
     kept (λ alike. none (subst IsRefused
-    (sym (alike ∙ ap (λ told. told.verdict) (told_is ∙ ap answer_of_verdict known.1))) known.2))
+    (sym (alike ∙ ap (λ explained. explained.verdict) (explained_is ∙ ap answer_of_verdict known.1)))
+    known.2))
 
 -- a number is what its two words make
 pub two_words : (n : ℕ) → n % 18446744073709551616 + 2 ^ 64 * (n / 18446744073709551616) ≡ n

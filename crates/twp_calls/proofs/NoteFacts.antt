@@ -11,7 +11,7 @@ use Rattle.twp_explain.specs.ShownNotes.{IsNoteOf, ShowsNoteIn}
 use Rattle.twp_explain.specs.declared.explanation.Note.{Note}
 use Rattle.twp_calls.specs.Answers.{ACCEPTED, IsRefused}
 use Rattle.twp_calls.specs.Calls.{Answers, IsPut, accepted, no_memory, put, not_put}
-use Rattle.twp_calls.specs.Explanations.{IsOfArea, IsOfAccount, told_at}
+use Rattle.twp_calls.specs.Explanations.{IsOfArea, IsOfAccount, located_at}
 use Rattle.twp_calls.specs.Explanations.{clear, noted, clear_list, noted_list}
 use Rattle.twp_calls.specs.ShownTexts.{IsShownNote, IsTextGiven}
 use Rattle.twp_calls.specs.steps.Noting.{AnswersNoted}
@@ -19,9 +19,10 @@ use Rattle.twp_calls.specs.declared.answer.TownshipAnswer.{TownshipAnswer}
 
 -- a description that is accepted, and its note
 pub noted_on : {E : Type 0} (Refused : TownshipAnswer → Type 0) (plat : TownshipPlat)
-    (description old new : List ℕ) (answer : TownshipAnswer) (area : Fraction) (told : Result (Option Note) E)
-    → HasAreaOn plat description Exact area → IfOk told (IsNoteOf description)
-    → AnswersNoted told old new answer → Answers (IsOfArea plat description old new) Refused answer
+    (description old new : List ℕ) (answer : TownshipAnswer) (area : Fraction)
+    (explained : Result (Option Note) E)
+    → HasAreaOn plat description Exact area → IfOk explained (IsNoteOf description)
+    → AnswersNoted explained old new answer → Answers (IsOfArea plat description old new) Refused answer
 noted_on Refused plat description old new answer area (Ok (Some note)) has first is =
     accepted (record { area = area; has = has; is_noted = noted note first is })
 noted_on Refused plat description old new answer area (Ok None) has none is =
@@ -30,8 +31,8 @@ noted_on Refused plat description old new answer area (Err fault) has none is = 
 
 -- a list that is accepted, and its note
 pub noted_list_on : {E : Type 0} (Refused : TownshipAnswer → Type 0) (plat : TownshipPlat)
-    (list old new : List ℕ) (answer : TownshipAnswer) (text : List ℕ) (told : Result (Option Note) E)
-    → IsAccountOf plat list text → AnswersNoted told old new answer
+    (list old new : List ℕ) (answer : TownshipAnswer) (text : List ℕ) (explained : Result (Option Note) E)
+    → IsAccountOf plat list text → AnswersNoted explained old new answer
     → Answers (IsOfAccount plat list old new) Refused answer
 noted_list_on Refused plat list old new answer text (Ok (Some note)) has is =
     accepted (record { text = text; has = has; is_noted = noted_list note is })
@@ -41,8 +42,8 @@ noted_list_on Refused plat list old new answer text (Err fault) has is = no_memo
 
 -- a note shows its place in the text that was given
 pub shown_note : {E : Type 0} (bytes name old new : List ℕ) (answer : TownshipAnswer) (file : Given)
-    (told : Result (Option Note) E) → IsTextGiven bytes name file
-    → IfOk told (λ it. IfSome it (ShowsNoteIn file)) → AnswersNoted told old new answer
+    (explained : Result (Option Note) E) → IsTextGiven bytes name file
+    → IfOk explained (λ it. IfSome it (ShowsNoteIn file)) → AnswersNoted explained old new answer
     → answer.verdict ≡ ACCEPTED → 0 < answer.length → IsShownNote bytes name old new answer
 shown_note bytes name old new answer file (Ok (Some note)) file_is shows is accepts longer =
     record { file = file; file_is = file_is; note = note; shows = shows; note_put = is }
@@ -54,12 +55,15 @@ shown_note bytes name old new answer file (Err fault) file_is shows is accepts l
     (let other : answer.verdict ≡ 6 = ap (λ (a : TownshipAnswer). a.verdict) is in omega arith)
 
 -- what was put beside a refusal doesn't accept
-pub not_accepted : (told : TownshipAnswer) (line column : ℕ) (text old new : List ℕ) (answer : TownshipAnswer)
-    → IsRefused told.verdict → IsPut (told_at told line column) text old new answer
+pub not_accepted : (explained : TownshipAnswer) (line column : ℕ) (text old new : List ℕ)
+    (answer : TownshipAnswer)
+    → IsRefused explained.verdict → IsPut (located_at explained line column) text old new answer
     → answer.verdict ≡ ACCEPTED → ⊥
-not_accepted told line column text old new answer (inl refused) (put room new_is answer_is) accepts =
-    let same : answer.verdict ≡ told.verdict = ap (λ (a : TownshipAnswer). a.verdict) answer_is in omega arith
-not_accepted told line column text old new answer (inr refused) (put room new_is answer_is) accepts =
-    let same : answer.verdict ≡ told.verdict = ap (λ (a : TownshipAnswer). a.verdict) answer_is in omega arith
-not_accepted told line column text old new answer refused (not_put room answer_is) accepts =
+not_accepted explained line column text old new answer (inl refused) (put room new_is answer_is) accepts =
+    let same : answer.verdict ≡ explained.verdict = ap (λ (a : TownshipAnswer). a.verdict) answer_is in
+    omega arith
+not_accepted explained line column text old new answer (inr refused) (put room new_is answer_is) accepts =
+    let same : answer.verdict ≡ explained.verdict = ap (λ (a : TownshipAnswer). a.verdict) answer_is in
+    omega arith
+not_accepted explained line column text old new answer refused (not_put room answer_is) accepts =
     let other : answer.verdict ≡ 5 = ap (λ (a : TownshipAnswer). a.verdict) answer_is in omega arith

@@ -22,10 +22,11 @@ use Rattle.twp_explain.specs.ShownPlaces.{TOO_LARGE}
 use Rattle.twp_diagnose.specs.Spots.{MOST_BYTES, IsSpotIn}
 use Rattle.twp_explain.specs.declared.explanation.Explanation.{Explanation}
 use Rattle.twp_diagnose.specs.declared.given.Given.{Given}
-use Rattle.twp_explain.specs.ToldPlaces.{IsSpotRefused, IsToldWhereRefused}
+use Rattle.twp_explain.specs.ExplainedPlaces.{IsSpotRefused, IsExplainedWhereRefused}
 use Rattle.twp_calls.specs.Answers.{refused}
 use Rattle.twp_calls.specs.Calls.{put, not_put}
-use Rattle.twp_calls.specs.Explanations.{IsTold, IsLineAndColumn, IsWhereRefused, IsExplainedWhereRefused}
+use Rattle.twp_calls.specs.Explanations.{PutsExplanation, IsLineAndColumn, IsWhereRefused}
+use Rattle.twp_calls.specs.Explanations.{IsExplainedWhereRefused}
 use Rattle.twp_calls.specs.Explanations.{line_at, column_at, too_large, at_its_place, at_the_end}
 use Rattle.twp_calls.specs.declared.answer.TownshipAnswer.{TownshipAnswer}
 use Rattle.twp_calls.proofs.CallFacts.{refused_on}
@@ -96,7 +97,7 @@ where_refused : (file : Given) (text : List ℕ) (r : Refusal) (found : Option S
     → file.first_line ≡ 1 → (r.number ≡ TOO_LARGE) ⊎ (length text ≤ TEXT_LIMIT)
     → MatchOption found ((r.number ≡ TOO_LARGE) ⊎ (MOST_BYTES < length file.bytes.now)) (IsSpotRefused file r)
     → IsWhereRefused text r (line_at found) (column_at found)
-where_refused file text r found same first (inl large) told = too_large large
+where_refused file text r found same first (inl large) explained = too_large large
 where_refused file text r None same first (inr few) (inl large) = too_large large
 where_refused file text r None same first (inr few) (inr long) =
     absurd (let bytes : length file.bytes.now ≤ TEXT_LIMIT = rw same few in omega arith)
@@ -109,7 +110,7 @@ where_refused file text r (Some spot) same first (inr few) (inr (white, there)) 
 
 -- the answer has the line and the column of the explanation
 of_answer : (r : Refusal) (explanation : Explanation) (text old new : List ℕ) (answer : TownshipAnswer)
-    → IsTold (refused r) explanation old new answer
+    → PutsExplanation (refused r) explanation old new answer
     → IsWhereRefused text r (line_at explanation.spot) (column_at explanation.spot)
     → IsWhereRefused text r answer.line answer.column
 of_answer r explanation text old new answer (put room new_is answer_is) is = rw answer_is is
@@ -117,30 +118,32 @@ of_answer r explanation text old new answer (not_put room answer_is) is = rw ans
 
 -- a description that is refused, and its explanation
 pub refused_where : (township : Designation) (text old new : List ℕ) (file : Given) (stopping : Stop)
-    (r : Refusal) (explanation : Explanation) (told answer : TownshipAnswer)
+    (r : Refusal) (explanation : Explanation) (explained answer : TownshipAnswer)
     → stopping ≡ stop.Refused r → StopsOn township text stopping
     → file.bytes.now ≡ text → file.first_line ≡ 1
-    → IsNoDescription township file.bytes.now explanation.refusal → IsToldWhereRefused file explanation
-    → told ≡ refused r → IsTold told explanation old new answer
+    → IsNoDescription township file.bytes.now explanation.refusal → IsExplainedWhereRefused file explanation
+    → explained ≡ refused r → PutsExplanation explained explanation old new answer
     → IsExplainedWhereRefused township text old new answer
-refused_where township text old new file stopping r explanation told answer stops_is stops same first such
+refused_where township text old new file stopping r explanation explained answer stops_is stops same first
+    such
     place
-    told_is is_told =
+    explained_is is_told =
     let refused_text = refused_on township text stopping r stops_is stops in
     let such_text : IsNoDescription township text explanation.refusal =
     subst (λ bytes. IsNoDescription township bytes explanation.refusal) same such in
     let alike : explanation.refusal ≡ r =
     one_description_refusal township text explanation.refusal r such_text refused_text in
-    let told_refused : IsTold (refused r) explanation old new answer =
-    subst (λ told. IsTold told explanation old new answer) told_is is_told in
+    let explained_refused : PutsExplanation (refused r) explanation old new answer =
+    subst (λ explained. PutsExplanation explained explanation old new answer) explained_is is_told in
     record {
       explained = record {
         refusal = r;
         first = refused_text;
-        explained = record { explanation = explanation; is_such = such_text; told_is = told_refused };
+        explained =
+            record { explanation = explanation; is_such = such_text; explained_is = explained_refused };
       };
       place =
-          of_answer r explanation text old new answer told_refused
+          of_answer r explanation text old new answer explained_refused
           (where_refused file text r explanation.spot same first (is_within township text r refused_text)
           (subst (λ (refusal : Refusal). MatchOption explanation.spot
           ((refusal.number ≡ TOO_LARGE) ⊎ (MOST_BYTES < length file.bytes.now)) (IsSpotRefused file refusal))

@@ -60,10 +60,10 @@ accepted_acres hundredths = answer ACCEPTED 0 0 0 0 hundredths 0
 
 -- an answer beside which a text of this length was written, and one for whose text there is no room
 abbrev pub with_text : TownshipAnswer → ℕ → TownshipAnswer
-with_text told length = record told { length = length }
+with_text explained length = record explained { length = length }
 
 abbrev pub without_room : TownshipAnswer → ℕ → TownshipAnswer
-without_room told length = record told { verdict = NO_ROOM; length = length }
+without_room explained length = record explained { verdict = NO_ROOM; length = length }
 
 -- a refusal
 abbrev pub refused : Refusal → TownshipAnswer

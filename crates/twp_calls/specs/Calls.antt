@@ -51,12 +51,12 @@ pub record IsRefusedFor (HasFirst : Refusal → Type 0) (answer : TownshipAnswer
 
 -- A text was written at the front of the room, beside an answer; or there is less room than it has
 -- bytes.
-pub data IsPut (told : TownshipAnswer) (text old new : List ℕ) (answer : TownshipAnswer)
+pub data IsPut (explained : TownshipAnswer) (text old new : List ℕ) (answer : TownshipAnswer)
     : Type 0 where
   put : length text ≤ length old → new ≡ text ++ drop (length text) old
-      → answer ≡ with_text told (length text) → IsPut told text old new answer
-  not_put : length old < length text → answer ≡ without_room told (length text)
-      → IsPut told text old new answer
+      → answer ≡ with_text explained (length text) → IsPut explained text old new answer
+  not_put : length old < length text → answer ≡ without_room explained (length text)
+      → IsPut explained text old new answer
 
 -- such a text was put there
 pub record IsTextPut (IsSuch : List ℕ → Type 0) (old new : List ℕ) (answer : TownshipAnswer)

@@ -1,6 +1,6 @@
 -- What the calls answer that explain refusals: the refusal as the other calls answer it, and beside it the
--- line, the column and the text of an explanation of that refusal; or, of an accepted text, those of a note on
--- its first doubtful place.
+-- line, the column and the text of an explanation of that refusal; or, of an accepted text, those of a note
+-- on its first doubtful place.
 use Rattle.std.specs.Prelude.{◌≡◌, ◌≢◌, ℕ, List, Option, Some, None, min, length, drop}
 use Rattle.std.specs.List.{AllPass}
 use Rattle.twp_excerpt.specs.Spots.{line_of, column_of, is_white, end_of}
@@ -27,10 +27,10 @@ use Rattle.twp_calls.specs.declared.answer.TownshipAnswer.{TownshipAnswer}
 use Rattle.twp_calls.specs.declared.plat.TownshipPlat.{TownshipPlat as GivenPlat}
 
 -- an answer with a line and a column
-abbrev pub told_at : TownshipAnswer → ℕ → ℕ → TownshipAnswer
-told_at told line column = record told { line = line; column = column }
+abbrev pub located_at : TownshipAnswer → ℕ → ℕ → TownshipAnswer
+located_at explained line column = record explained { line = line; column = column }
 
--- the line and the column where a fault stands; 0 where it stands at no one place
+-- the line and the column where a fault is; 0 where it is at no one place
 abbrev pub line_at : Option Spot → ℕ
 line_at None = 0
 line_at (Some spot) = spot.line
@@ -40,17 +40,18 @@ column_at None = 0
 column_at (Some spot) = spot.column
 
 -- a text was put beside the answer, with the line and the column of its spot
-abbrev pub IsToldAt : TownshipAnswer → Option Spot → List ℕ → List ℕ → List ℕ → TownshipAnswer → Type 0
-IsToldAt told spot text old new = IsPut (told_at told (line_at spot) (column_at spot)) text old new
+abbrev pub IsPutAt : TownshipAnswer → Option Spot → List ℕ → List ℕ → List ℕ → TownshipAnswer → Type 0
+IsPutAt explained spot text old new =
+    IsPut (located_at explained (line_at spot) (column_at spot)) text old new
 
 -- the text of an explanation was put beside the answer, with its line and column
-abbrev pub IsTold : TownshipAnswer → Explanation → List ℕ → List ℕ → TownshipAnswer → Type 0
-IsTold told explanation old new =
-    IsToldAt told explanation.spot explanation.text.bytes.items old new
+abbrev pub PutsExplanation : TownshipAnswer → Explanation → List ℕ → List ℕ → TownshipAnswer → Type 0
+PutsExplanation explained explanation old new =
+    IsPutAt explained explanation.spot explanation.text.bytes.items old new
 
 -- the text of a note was put beside the verdict that accepts, with its line and column
 abbrev pub IsNotePut : Note → List ℕ → List ℕ → TownshipAnswer → Type 0
-IsNotePut note old new = IsToldAt (bare ACCEPTED) note.spot note.text.bytes.items old new
+IsNotePut note old new = IsPutAt (bare ACCEPTED) note.spot note.text.bytes.items old new
 
 -- the verdict accepts, and nothing was put beside it
 pub record IsBareAccepted (old new : List ℕ) (answer : TownshipAnswer) : Type 0 where
@@ -74,11 +75,11 @@ abbrev pub HasNoText : ℕ → Type 0
 HasNoText verdict = (verdict ≢ ACCEPTED) × ¬ IsRefused verdict
 
 -- an explanation of such a refusal was put there
-pub record IsExplained (IsSuch : Refusal → Type 0) (told : TownshipAnswer) (old new : List ℕ)
+pub record IsExplained (IsSuch : Refusal → Type 0) (explained : TownshipAnswer) (old new : List ℕ)
     (answer : TownshipAnswer) : Type 0 where
   pub explanation : Explanation
   pub is_such : IsSuch explanation.refusal
-  pub told_is : IsTold told explanation old new answer
+  pub explained_is : PutsExplanation explained explanation old new answer
 
 -- the refusal of the first fault is explained
 pub record IsExplainedRefusal (HasFirst : Refusal → Type 0) (old new : List ℕ)

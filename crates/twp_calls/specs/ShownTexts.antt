@@ -5,7 +5,7 @@ use Rattle.twp_explain.specs.ShownMessages.{ShowsIn}
 use Rattle.twp_explain.specs.ShownNotes.{ShowsNoteIn}
 use Rattle.twp_explain.specs.declared.explanation.Explanation.{Explanation}
 use Rattle.twp_explain.specs.declared.explanation.Note.{Note}
-use Rattle.twp_calls.specs.Explanations.{IsNotePut, IsTold}
+use Rattle.twp_calls.specs.Explanations.{IsNotePut, PutsExplanation}
 use Rattle.twp_calls.specs.Names.{IsNameOf}
 use Rattle.twp_calls.specs.declared.answer.TownshipAnswer.{TownshipAnswer}
 
@@ -23,7 +23,7 @@ pub record IsShownText (bytes name old new : List ℕ) (answer : TownshipAnswer)
   pub explanation : Explanation
   pub shows : ShowsIn file explanation
   pub refused : TownshipAnswer
-  pub told_is : IsTold refused explanation old new answer
+  pub explained_is : PutsExplanation refused explanation old new answer
 
 -- Beside the verdict that accepts was put the text of a note that shows its place in the text that was given:
 -- it begins with that text's name, and with the line and the column of the answer.

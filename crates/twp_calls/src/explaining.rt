@@ -4,7 +4,7 @@ ghost use Rattle.std.specs.Prelude.{◌≡◌, ◌≢◌, ◌<◌};
 ghost use Rattle.twp_calls.specs.Answers.{ACCEPTED, IsRefused};
 ghost use Rattle.twp_calls.specs.Calls.{IsVersionCall};
 ghost use Rattle.twp_calls.specs.Explanations.{ExplainsNotes, ExplainsDescription, ExplainsList};
-ghost use Rattle.twp_calls.specs.Explanations.{HasNoText, IsTold, IsToldAt, told_at};
+ghost use Rattle.twp_calls.specs.Explanations.{HasNoText, PutsExplanation, IsPutAt, located_at};
 ghost use Rattle.twp_calls.specs.Names.{IsNameOf};
 ghost use Rattle.twp_calls.specs.ShownTexts.{IsShownNote, IsShownText};
 ghost use Rattle.twp_calls.specs.steps.Noting.{AnswersNoted};
@@ -44,7 +44,7 @@ pub fn township_explain_notes(
         Err(Stop::Refused(refusal)) => TownshipAnswer::of_refusal(refusal),
     };
     match explain_notes(alloc, &given(name, notes)) {
-        Ok(Some(told)) => put_explanation(refused, &told, text),
+        Ok(Some(explained)) => put_explanation(refused, &explained, text),
         // What is refused has an explanation.
         Ok(None) => TownshipAnswer::bare(NO_MEMORY),
         Err(_) => TownshipAnswer::bare(NO_MEMORY),
@@ -77,7 +77,7 @@ pub fn township_explain_description(
         Err(Stop::Refused(refusal)) => TownshipAnswer::of_refusal(refusal),
     };
     match explain_description(alloc, plat.township(), &file) {
-        Ok(Some(told)) => put_explanation(refused, &told, text),
+        Ok(Some(explained)) => put_explanation(refused, &explained, text),
         Ok(None) => TownshipAnswer::bare(NO_MEMORY),
         Err(_) => TownshipAnswer::bare(NO_MEMORY),
     }
@@ -112,7 +112,7 @@ pub fn township_explain_list(
     };
     let refused = TownshipAnswer::of_fault(fault);
     match explain_tracts(alloc, &plat, &file) {
-        Ok(Some(told)) => put_explanation(refused, &told.explanation, text),
+        Ok(Some(explained)) => put_explanation(refused, &explained.explanation, text),
         Ok(None) => TownshipAnswer::bare(NO_MEMORY),
         Err(_) => TownshipAnswer::bare(NO_MEMORY),
     }
@@ -144,11 +144,11 @@ fn given<'a>(name: &'a [u8], bytes: &'a [u8]) -> Given<'a>
 }
 
 /// Puts an explanation beside the refusal that it is of.
-fn put_explanation(refused: TownshipAnswer, told: &Explanation, text: &mut [u8]) -> TownshipAnswer
-    ensures told { IsTold refused told.now text.old text.new result }
+fn put_explanation(refused: TownshipAnswer, explained: &Explanation, text: &mut [u8]) -> TownshipAnswer
+    ensures explained { PutsExplanation refused explained.now text.old text.new result }
     ensures kept { result.verdict ≢ refused.verdict → text.new ≡ text.old }
 {
-    put_message(refused, told.spot, told.text.as_bytes(), text)
+    put_message(refused, explained.spot, explained.text.as_bytes(), text)
 }
 
 /// Puts a note beside the verdict that accepts, if there is one.
@@ -168,28 +168,28 @@ fn put_noted(noted: Result<Option<Note>, AllocError>, text: &mut [u8]) -> Townsh
 
 /// Puts a message beside an answer, with the line and the column of its place.
 fn put_message(
-    told: TownshipAnswer,
+    explained: TownshipAnswer,
     spot: Option<Spot>,
     message: &[u8],
     text: &mut [u8],
 ) -> TownshipAnswer
-    ensures told { IsToldAt told spot message.now text.old text.new result }
-    ensures kept { result.verdict ≢ told.verdict → text.new ≡ text.old }
+    ensures explained { IsPutAt explained spot message.now text.old text.new result }
+    ensures kept { result.verdict ≢ explained.verdict → text.new ≡ text.old }
 {
-    let told_at = match spot {
-        Some(spot) => at_spot(told, spot.line, spot.column),
-        None => at_spot(told, 0, 0),
+    let located_at = match spot {
+        Some(spot) => at_spot(explained, spot.line, spot.column),
+        None => at_spot(explained, 0, 0),
     };
-    put(told_at, message, text)
+    put(located_at, message, text)
 }
 
 /// An answer with a line and a column.
-fn at_spot(told: TownshipAnswer, line: u32, column: u32) -> TownshipAnswer
-    ensures { result ≡ told_at told line column }
+fn at_spot(explained: TownshipAnswer, line: u32, column: u32) -> TownshipAnswer
+    ensures { result ≡ located_at explained line column }
 {
     TownshipAnswer {
         line,
         column,
-        ..told
+        ..explained
     }
 }

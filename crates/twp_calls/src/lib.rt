@@ -1,5 +1,5 @@
 //! What the library for C answers: a plat is plain data, answers are plain data too, and texts go to
-//! the caller's memory. `include/township.h` tells of each call; `twp_c` gives them to C.
+//! the caller's memory. `include/township.h` documents each call; `twp_c` gives them to C.
 #![tactic(auto)]
 
 mod account;

@@ -7,18 +7,18 @@ use crate::verdict::NO_ROOM;
 
 /// Puts a text at the front of the room for it, beside an answer; or nothing where there is too
 /// little.
-pub(crate) fn put(told: TownshipAnswer, text: &[u8], room: &mut [u8]) -> TownshipAnswer
-    ensures put { IsPut told text.now room.old room.new result }
-    ensures kept { result.verdict ≢ told.verdict → room.new ≡ room.old }
+pub(crate) fn put(answer: TownshipAnswer, text: &[u8], room: &mut [u8]) -> TownshipAnswer
+    ensures put { IsPut answer text.now room.old room.new result }
+    ensures kept { result.verdict ≢ answer.verdict → room.new ≡ room.old }
 {
     let length = text.len() as u64;
     if room.len() < text.len() {
         return TownshipAnswer {
             verdict: NO_ROOM,
             length,
-            ..told
+            ..answer
         };
     }
     room[..text.len()].copy_from_slice(text);
-    TownshipAnswer { length, ..told }
+    TownshipAnswer { length, ..answer }
 }

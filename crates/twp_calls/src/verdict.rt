@@ -6,9 +6,9 @@ pub const ACCEPTED: u32 = 0;
 pub const REFUSED: u32 = 1;
 /// A tract's description has a fault of its own.
 pub const TRACT_REFUSED: u32 = 2;
-/// The plat that was given is none.
+/// The given plat is not valid.
 pub const NO_PLAT: u32 = 3;
-/// The account that was given is none.
+/// The given number is no account.
 pub const NO_ACCOUNT: u32 = 4;
 /// There is less room than the text has bytes.
 pub const NO_ROOM: u32 = 5;

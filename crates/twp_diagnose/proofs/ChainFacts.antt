@@ -10,18 +10,18 @@ use Rattle.twp_grammar.specs.Items.{Tree, tokens, ◌&◌}
 use Rattle.twp_diagnose.specs.Marks.{end_of, AreLongestPart}
 use Rattle.twp_diagnose.specs.Marks.{BeginWithPart, a_part, a_token}
 use Rattle.twp_diagnose.specs.steps.Marking.{AreLeft}
-use Rattle.twp_diagnose.specs.steps.Marking.{behind_second, behind_step, behind_link}
+use Rattle.twp_diagnose.specs.steps.Marking.{after_second, after_chain_step, after_link}
 use Rattle.twp_diagnose.specs.steps.Marking.{link, IsSecond, TakesSecond, tokens_of_links}
 use Rattle.twp_diagnose.specs.steps.Marking.{EndsLinks, EndsPart}
 use Rattle.twp_diagnose.proofs.StepFacts.{step_tree}
 
 -- a derivation is cut off as it was put together
-step_complete : (v : Tree step) (rest : List Token) → behind_step (tokens step v ++ rest) ≡ Some rest
+step_complete : (v : Tree step) (rest : List Token) → after_chain_step (tokens step v ++ rest) ≡ Some rest
 step_complete (inl (inl side & half)) rest = refl
 step_complete (inl (inr side & half)) rest = refl
 step_complete (inr (corner & quarter)) rest = refl
 
-link_complete : (v : Tree link) (rest : List Token) → behind_link (tokens link v ++ rest) ≡ Some rest
+link_complete : (v : Tree link) (rest : List Token) → after_link (tokens link v ++ rest) ≡ Some rest
 link_complete (inl (word & inl article) & inl (inl side & half)) rest = refl
 link_complete (inl (word & inl article) & inl (inr side & half)) rest = refl
 link_complete (inl (word & inl article) & inr (corner & quarter)) rest = refl
@@ -36,19 +36,19 @@ abbrev some_of : List Token → Option (List Token) → List Token
 some_of other None = other
 some_of other (Some list) = list
 
-behind_links : (v : Tree link) (links : List (Tree link)) (rest : List Token)
-    → behind_link (tokens_of_links (v ∷ links) ++ rest) ≡ Some (tokens_of_links links ++ rest)
-behind_links v links rest =
-    ap behind_link (append_assoc (tokens link v) (tokens_of_links links) rest)
+after_links : (v : Tree link) (links : List (Tree link)) (rest : List Token)
+    → after_link (tokens_of_links (v ∷ links) ++ rest) ≡ Some (tokens_of_links links ++ rest)
+after_links v links rest =
+    ap after_link (append_assoc (tokens link v) (tokens_of_links links) rest)
     ∙ link_complete v (tokens_of_links links ++ rest)
 
 -- where no more follow, other halves and quarters leave no fewer tokens
-no_fewer : (links others : List (Tree link)) (rest rest' : List Token) → behind_link rest ≡ None
+no_fewer : (links others : List (Tree link)) (rest rest' : List Token) → after_link rest ≡ None
     → tokens_of_links links ++ rest ≡ tokens_of_links others ++ rest' → length rest ≤ length rest'
 no_fewer [] [] rest rest' none e = rw e (omega arith)
 no_fewer [] (v ∷ others) rest rest' none e =
     let apart : ◌≡◌ {A = Option (List Token)} None (Some (tokens_of_links others ++ rest')) =
-    sym none ∙ ap behind_link e ∙ behind_links v others rest' in
+    sym none ∙ ap after_link e ∙ after_links v others rest' in
     cc apart
 no_fewer (v ∷ links) [] rest rest' none e =
     let long : length (tokens_of_links (v ∷ links)) + length rest ≡ length rest' =
@@ -56,15 +56,15 @@ no_fewer (v ∷ links) [] rest rest' none e =
     omega arith
 no_fewer (v ∷ links) (w ∷ others) rest rest' none e =
     no_fewer links others rest rest' none
-    (ap (some_of []) (sym (behind_links v links rest) ∙ ap behind_link e ∙ behind_links w others rest'))
+    (ap (some_of []) (sym (after_links v links rest) ∙ ap after_link e ∙ after_links w others rest'))
 
-behind_first : (v : Tree step) (links : List (Tree link)) (rest : List Token)
-    → behind_step (tokens chain (v & links) ++ rest) ≡ Some (tokens_of_links links ++ rest)
-behind_first v links rest =
-    ap behind_step (append_assoc (tokens step v) (tokens_of_links links) rest)
+after_the_first : (v : Tree step) (links : List (Tree link)) (rest : List Token)
+    → after_chain_step (tokens chain (v & links) ++ rest) ≡ Some (tokens_of_links links ++ rest)
+after_the_first v links rest =
+    ap after_chain_step (append_assoc (tokens step v) (tokens_of_links links) rest)
     ∙ step_complete v (tokens_of_links links ++ rest)
 
-no_longer : (v : Tree step) (links : List (Tree link)) (rest : List Token) → behind_link rest ≡ None
+no_longer : (v : Tree step) (links : List (Tree link)) (rest : List Token) → after_link rest ≡ None
     → (tree : Tree chain) (other rest' : List Token) → tokens chain tree ≡ other
     → tokens chain (v & links) ++ rest ≡ other ++ rest' → length other ≤ length (tokens chain (v & links))
 no_longer v links rest none (w & others) other rest' is e =
@@ -73,7 +73,7 @@ no_longer v links rest none (w & others) other rest' is e =
     let less : length rest ≤ length rest' =
     no_fewer links others rest rest' none
     (ap (some_of [])
-    (sym (behind_first v links rest) ∙ ap behind_step whole ∙ behind_first w others rest')) in
+    (sym (after_the_first v links rest) ∙ ap after_chain_step whole ∙ after_the_first w others rest')) in
     let sum : length (tokens chain (v & links)) + length rest ≡ length other + length rest' =
     sym (length-append (tokens chain (v & links)) rest) ∙ ap length e ∙ length-append other rest' in
     omega arith
@@ -82,7 +82,7 @@ not_nothing : (first : Token) (more : List Token) → ¬ (first ∷ more ≡ [])
 not_nothing first more e = cc e
 
 -- no aliquot part begins with the token
-no_part_there : (first : Token) (list : List Token) → behind_second first.kind list ≡ None
+no_part_there : (first : Token) (list : List Token) → after_second first.kind list ≡ None
     → ¬ BeginWithPart (first ∷ list)
 no_part_there first list none b = by_tree b.is.0 b.is.1
   where
@@ -90,8 +90,8 @@ no_part_there first list none b = by_tree b.is.0 b.is.1
     by_tree (v & links) is =
         let apart : ◌≡◌ {A = Option (List Token)} None (Some (tokens_of_links links ++ b.rest)) =
         sym none
-        ∙ ap behind_step (b.first ∙ ap (λ l. l ++ b.rest) (sym is))
-        ∙ behind_first v links b.rest in
+        ∙ ap after_chain_step (b.first ∙ ap (λ l. l ++ b.rest) (sym is))
+        ∙ after_the_first v links b.rest in
         cc apart
 
 pub no_part : (old after : Left) (first : Piece)
@@ -108,7 +108,7 @@ no_part old after first none list has = record {
 }
 
 longest_part : (all : List Token) (v : Tree step) (links : List (Tree link)) (rest : List Token)
-    → all ≡ tokens chain (v & links) ++ rest → behind_link rest ≡ None
+    → all ≡ tokens chain (v & links) ++ rest → after_link rest ≡ None
     → AreLongestPart all (tokens chain (v & links))
 longest_part all v links rest is none = record {
   rest = rest;
@@ -153,5 +153,5 @@ no_part_of_none b = by_tree b.is.0 b.is.1
     by_tree : (tree : Tree chain) → tokens chain tree ≡ b.part → ⊥
     by_tree (v & links) is =
         let apart : ◌≡◌ {A = Option (List Token)} None (Some (tokens_of_links links ++ b.rest)) =
-        ap behind_step (b.first ∙ ap (λ l. l ++ b.rest) (sym is)) ∙ behind_first v links b.rest in
+        ap after_chain_step (b.first ∙ ap (λ l. l ++ b.rest) (sym is)) ∙ after_the_first v links b.rest in
         cc apart

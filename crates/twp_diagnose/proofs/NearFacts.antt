@@ -94,17 +94,17 @@ GoOn start m byte bytes list left =
     → tokens_from m list ≡ tokens_from m left
 
 -- behind white space, bytes have the tokens that they have alone
-behind_white : (n m : ℕ) (front : List ℕ) (byte : ℕ) (bytes : List ℕ) (list left : List Token)
+after_white : (n m : ℕ) (front : List ℕ) (byte : ℕ) (bytes : List ℕ) (list left : List Token)
     → is_white byte ≡ true → m ≡ n + length front + 1 → HasTokens n (front ++ (byte ∷ bytes)) list
     → HasTokens m bytes left → tokens_from m list ≡ tokens_from m left
-behind_white n m front byte bytes [] left white is has has' =
+after_white n m front byte bytes [] left white is has has' =
     let all : AllPass is_white bytes = λ k d within.
     subst (λ b. is_white b ≡ true) (get_or-behind front byte bytes k d)
     (has (length front + suc k) d (omega (arith, length-append front (byte ∷ bytes)))) in
     sym (ap (tokens_from m) (one_token_list m bytes left [] has' all))
-behind_white n m front byte bytes (token ∷ more) left white is (rest, s, has) has' =
+after_white n m front byte bytes (token ∷ more) left white is (rest, s, has) has' =
     by_place (λ further m_is more_has.
-    behind_white (token.at + length token.text) m further byte bytes more left white m_is more_has has')
+    after_white (token.at + length token.text) m further byte bytes more left white m_is more_has has')
     (cases_lt (length s.space) (length front + 1))
   where
     spelled : (front ++ (byte ∷ [])) ++ bytes ≡ s.space ++ (token.text ++ rest)
@@ -173,16 +173,16 @@ behind_white n m front byte bytes (token ∷ more) left white is (rest, s, has) 
         longer s.space (token.text ++ rest) front (byte ∷ bytes) (sym s.spelled) (omega (arith, over)) in
         in_text go_on l.0 l.1 l.2
 
--- the same of a place in a text that white space stands before
-pub same_behind_white : (text : List ℕ) (at : ℕ) → 0 < at → at ≤ length text
+-- the same of a place in a text that white space is before
+pub same_after_white : (text : List ℕ) (at : ℕ) → 0 < at → at ≤ length text
     → is_white (get_or text (at - 1) 0) ≡ true → (list left : List Token) → HasTokens 0 text list
     → HasTokens at (drop at text) left → tokens_from at list ≡ tokens_from at left
-same_behind_white text at some within white list left has has' =
+same_after_white text at some within white list left has has' =
     let next : suc (at - 1) ≡ at = omega arith in
     let cut : take (at - 1) text ++ (get_or text (at - 1) 0 ∷ drop at text) ≡ text =
     ap (λ n. take (at - 1) text ++ (get_or text (at - 1) 0 ∷ drop n text)) (sym next)
     ∙ ap (λ t. take (at - 1) text ++ t) (sym (drop-cons text (at - 1) 0 (omega arith)))
     ∙ take-append-drop (at - 1) text in
-    behind_white 0 at (take (at - 1) text) (get_or text (at - 1) 0) (drop at text) list left white
+    after_white 0 at (take (at - 1) text) (get_or text (at - 1) 0) (drop at text) list left white
     (omega (arith, length-take (at - 1) text))
     (subst (λ t. HasTokens 0 t list) (sym cut) has) has'

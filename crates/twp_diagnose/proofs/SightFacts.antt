@@ -1,4 +1,4 @@
--- What stands at a refused place has bytes unless the text ends there but for white space.
+-- What is at a refused place has bytes unless the text ends there but for white space.
 use Rattle.std.proofs.Common.{◌≡◌, ℕ, ◌<◌, false, List, [], ◌∷◌, ◌++◌}
 use Rattle.std.proofs.Common.{length, drop, refl, sym, ap, subst, ◌∙◌, ◌+◌, arith, inl, inr}
 use Rattle.std.proofs.Common.{slice_index, length-append, get_or-append-add}
@@ -27,7 +27,7 @@ pub has_token : (at : ℕ) (bytes : List ℕ) (token : Token) (rest : List ℕ) 
 has_token at bytes token rest s =
     let cut : IsTheCut token.text rest token.kind = the_cut token.text rest token.kind s.is in
     let some : 0 < length token.text = cut.some in
-    let behind : length (token.text ++ rest) ≡ length token.text + length rest =
+    let after : length (token.text ++ rest) ≡ length token.text + length rest =
     length-append token.text rest in
     let whole : length bytes ≡ length s.space + length (token.text ++ rest) =
     ap length s.spelled ∙ length-append s.space (token.text ++ rest) in

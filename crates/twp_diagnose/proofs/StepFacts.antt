@@ -14,7 +14,8 @@ use Rattle.twp_grammar.specs.Items.{Tree, tokens, ◌&◌}
 use Rattle.twp_diagnose.specs.Marks.{end_of}
 use Rattle.twp_diagnose.specs.steps.Marking.{AreLeft, GivesFirstOf, is_step, is_of}
 use Rattle.twp_diagnose.specs.steps.Marking.{is_the}
-use Rattle.twp_diagnose.specs.steps.Marking.{behind_second, behind_step, behind_of, behind_the, behind_link}
+use Rattle.twp_diagnose.specs.steps.Marking.{after_second, after_chain_step, after_of_word, after_the}
+use Rattle.twp_diagnose.specs.steps.Marking.{after_link}
 use Rattle.twp_diagnose.specs.steps.Marking.{link, IsSecond, TakesSecond, IsLink, TakesLink, tokens_of_links}
 use Rattle.twp_diagnose.specs.steps.Marking.{EndsLinks}
 
@@ -62,7 +63,7 @@ the_is : (k : Kind) → is_the k ≡ true → k ≡ The
 the_is The h = refl
 the_is _ h = cc h
 
--- what stands before a half or a quarter
+-- what comes before a half or a quarter
 abbrev lead : Ebnf
 lead = maybe (one of ⨾ maybe (one the))
 
@@ -70,12 +71,12 @@ record HasLead (list rest : List Token) : Type 0 where
   tree : Tree lead
   list_is : list ≡ tokens lead tree ++ rest
 
-lead_behind : (token : Token) (more : List Token) → token.kind ≡ Of → HasLead (token ∷ more) (behind_the more)
-lead_behind token [] e = record {
+lead_after : (token : Token) (more : List Token) → token.kind ≡ Of → HasLead (token ∷ more) (after_the more)
+lead_after token [] e = record {
   tree = inl (record { value = tt; text = token.text; at = token.at } & inr tt);
   list_is = ap (λ k. with_kind k token ∷ []) e;
 }
-lead_behind token (next ∷ more) e = elim (cases_Bool (is_the next.kind)) [
+lead_after token (next ∷ more) e = elim (cases_Bool (is_the next.kind)) [
   | inl said ↦ rw said (record {
     tree = inl (record { value = tt; text = token.text; at = token.at }
         & inl (record { value = tt; text = next.text; at = next.at }));
@@ -89,10 +90,10 @@ lead_behind token (next ∷ more) e = elim (cases_Bool (is_the next.kind)) [
   })
 ]
 
-lead_of : (list : List Token) → HasLead list (behind_of list)
+lead_of : (list : List Token) → HasLead list (after_of_word list)
 lead_of [] = record { tree = inr tt; list_is = refl }
 lead_of (token ∷ more) = elim (cases_Bool (is_of token.kind)) [
-  | inl said ↦ rw said (lead_behind token more (of_is token.kind said))
+  | inl said ↦ rw said (lead_after token more (of_is token.kind said))
   | inr not ↦ rw not (record { tree = inr tt; list_is = refl })
 ]
 
@@ -121,54 +122,54 @@ second_taken old after first second found is list has =
 pub no_second : (old after : Left) (first : Kind) (second : Piece)
     → ((list : List Token) → AreLeft old list → GivesFirstOf list (Some second) after)
     → is_step first second.kind ≡ false → (list : List Token) → AreLeft old list
-    → behind_second first list ≡ None
+    → after_second first list ≡ None
 no_second old after first second found not list has =
-    let there = found list has in ap (λ l. behind_second first l) there.1 ∙ rw not refl
+    let there = found list has in ap (λ l. after_second first l) there.1 ∙ rw not refl
 
--- a token behind `the`
+-- a token after `the`
 pub no_the : (old after : Left) (first : Piece)
     → ((list : List Token) → AreLeft old list → GivesFirstOf list (Some first) after)
     → is_the first.kind ≡ false → (list : List Token) → AreLeft old list
-    → GivesFirstOf (behind_the list) (Some first) after
+    → GivesFirstOf (after_the list) (Some first) after
 no_the old after first found not list has =
-    let there = found list has in (there.0, ap behind_the there.1 ∙ rw not refl, there.2)
+    let there = found list has in (there.0, ap after_the there.1 ∙ rw not refl, there.2)
 
-pub behind_a_the : (old mid after : Left) (first : Piece) (o : Option Piece)
+pub after_a_the : (old mid after : Left) (first : Piece) (o : Option Piece)
     → ((list : List Token) → AreLeft old list → GivesFirstOf list (Some first) mid)
     → is_the first.kind ≡ true
     → ((list : List Token) → AreLeft mid list → GivesFirstOf list o after)
-    → (list : List Token) → AreLeft old list → GivesFirstOf (behind_the list) o after
-behind_a_the old mid after first o found is more list has =
+    → (list : List Token) → AreLeft old list → GivesFirstOf (after_the list) o after
+after_a_the old mid after first o found is more list has =
     let there = found list has in
-    let left : behind_the list ≡ there.0 = ap behind_the there.1 ∙ rw is refl in
+    let left : after_the list ≡ there.0 = ap after_the there.1 ∙ rw is refl in
     subst (λ (l : List Token). GivesFirstOf l o after) (sym left) (more there.0 there.2)
 
--- a token behind `of` or `of the`
+-- a token after `of` or `of the`
 pub no_of : (old after : Left) (first : Piece)
     → ((list : List Token) → AreLeft old list → GivesFirstOf list (Some first) after)
     → is_of first.kind ≡ false → (list : List Token) → AreLeft old list
-    → GivesFirstOf (behind_of list) (Some first) after
+    → GivesFirstOf (after_of_word list) (Some first) after
 no_of old after first found not list has =
-    let there = found list has in (there.0, ap behind_of there.1 ∙ rw not refl, there.2)
+    let there = found list has in (there.0, ap after_of_word there.1 ∙ rw not refl, there.2)
 
-pub behind_an_of : (old mid after : Left) (first : Piece) (o : Option Piece)
+pub after_an_of : (old mid after : Left) (first : Piece) (o : Option Piece)
     → ((list : List Token) → AreLeft old list → GivesFirstOf list (Some first) mid)
     → is_of first.kind ≡ true
-    → ((list : List Token) → AreLeft mid list → GivesFirstOf (behind_the list) o after)
-    → (list : List Token) → AreLeft old list → GivesFirstOf (behind_of list) o after
-behind_an_of old mid after first o found is more list has =
+    → ((list : List Token) → AreLeft mid list → GivesFirstOf (after_the list) o after)
+    → (list : List Token) → AreLeft old list → GivesFirstOf (after_of_word list) o after
+after_an_of old mid after first o found is more list has =
     let there = found list has in
-    let left : behind_of list ≡ behind_the there.0 = ap behind_of there.1 ∙ rw is refl in
+    let left : after_of_word list ≡ after_the there.0 = ap after_of_word there.1 ∙ rw is refl in
     subst (λ (l : List Token). GivesFirstOf l o after) (sym left) (more there.0 there.2)
 
 -- a further half or quarter, or none
 pub no_first : (old after : Left)
-    → ((list : List Token) → AreLeft old list → GivesFirstOf (behind_of list) None after)
-    → (list : List Token) → AreLeft old list → behind_link list ≡ None
-no_first old after found list has = ap behind_step (found list has)
+    → ((list : List Token) → AreLeft old list → GivesFirstOf (after_of_word list) None after)
+    → (list : List Token) → AreLeft old list → after_link list ≡ None
+no_first old after found list has = ap after_chain_step (found list has)
 
 link_of : (list rest : List Token) (first : Token) (end : ℕ) (after : Left)
-    → behind_of list ≡ first ∷ rest → IsSecond first.kind rest end after → IsLink list end after
+    → after_of_word list ≡ first ∷ rest → IsSecond first.kind rest end after → IsLink list end after
 link_of list rest first end after e s =
     let before = lead_of list in
     let step_is = step_tree first s.second s.step_is in
@@ -191,11 +192,11 @@ link_of list rest first end after e s =
     }
 
 pub link_taken : (old mid after : Left) (first : Piece) (o : Option ℕ)
-    → ((list : List Token) → AreLeft old list → GivesFirstOf (behind_of list) (Some first) mid)
+    → ((list : List Token) → AreLeft old list → GivesFirstOf (after_of_word list) (Some first) mid)
     → ((list : List Token) → AreLeft mid list → TakesSecond first.kind list o after)
     → (list : List Token) → AreLeft old list → TakesLink list o after
 link_taken old mid after first None found second list has =
-    let there = found list has in ap behind_step there.1 ∙ second there.0 there.2
+    let there = found list has in ap after_chain_step there.1 ∙ second there.0 there.2
 link_taken old mid after first (Some end) found second list has =
     let there = found list has in
     link_of list there.0 (seen first) end after there.1 (second there.0 there.2)

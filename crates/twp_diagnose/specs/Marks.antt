@@ -1,4 +1,4 @@
--- What is underlined of a text: the token that stands at a place, the aliquot part or the heading that
+-- What is underlined of a text: the token at a place, the aliquot part or the heading that
 -- begins with it, or what lies between it and another one.
 use Rattle.std.specs.Prelude.{◌≡◌, ◌==◌, ℕ, ◌+◌, ◌≤◌, Bool, true, false, min, List, [], ◌∷◌, ◌++◌, length}
 use Rattle.std.specs.Prelude.{if◌then◌else◌}
@@ -9,7 +9,7 @@ use Rattle.twp_grammar.specs.Tokens.{Token, HasTokens}
 use Rattle.twp_grammar.specs.Grammar.{chain}
 use Rattle.twp_grammar.specs.Items.{Tree, tokens}
 
--- the tokens from the one that stands at a place
+-- the tokens from the one at a place
 abbrev pub tokens_from : ℕ → List Token → List Token
 tokens_from at [] = []
 tokens_from at (token ∷ more) = if token.at == at then token ∷ more else tokens_from at more
@@ -34,7 +34,7 @@ abbrev pub first_of : List Token → List Token
 first_of [] = []
 first_of (token ∷ more) = token ∷ []
 
--- the bytes of the token that stands at this place of the text
+-- the bytes of the token at this place of the text
 pub record IsTokenSpan (text : List ℕ) (at : ℕ) (found : Span) : Type 0 where
   pub tokens : List Token
   pub cut : HasTokens 0 text tokens
@@ -49,7 +49,7 @@ pub record AreLongestPart (all part : List Token) : Type 0 where
   pub rest : List Token
   pub first : all ≡ part ++ rest
   pub is : ArePart part
-  pub longest : (other behind : List Token) → all ≡ other ++ behind → ArePart other
+  pub longest : (other after : List Token) → all ≡ other ++ after → ArePart other
       → length other ≤ length part
 
 -- an aliquot part begins some tokens
@@ -64,7 +64,7 @@ pub data AreMarked (all marked : List Token) : Type 0 where
   a_part : AreLongestPart all marked → AreMarked all marked
   a_token : ¬ BeginWithPart all → marked ≡ first_of all → AreMarked all marked
 
--- the bytes of the aliquot part whose first token stands at this place of the text
+-- the bytes of the aliquot part whose first token is at this place of the text
 pub record IsChainSpan (text : List ℕ) (at : ℕ) (found : Span) : Type 0 where
   pub tokens : List Token
   pub cut : HasTokens 0 text tokens
@@ -82,18 +82,18 @@ abbrev pub up_to_side : List Token → List Token
 up_to_side [] = []
 up_to_side (token ∷ more) = if is_side token.kind then token ∷ [] else token ∷ up_to_side more
 
--- the first of some tokens, and those behind it up to a range's side
+-- the first of some tokens, and those after it up to a range's side
 abbrev pub heading_of : List Token → List Token
 heading_of [] = []
 heading_of (token ∷ more) = token ∷ up_to_side more
 
--- the bytes of the heading whose first token stands at this place of the text
+-- the bytes of the heading whose first token is at this place of the text
 pub record IsHeadingSpan (text : List ℕ) (at : ℕ) (found : Span) : Type 0 where
   pub tokens : List Token
   pub cut : HasTokens 0 text tokens
   pub span_is : found ≡ span_of text at (heading_of (tokens_from at tokens))
 
--- the bytes from the token that stands at a place of the text to the one that stands at another
+-- the bytes from the token at a place of the text to the one at another
 pub record IsRangeSpan (text : List ℕ) (first last : ℕ) (found : Span) : Type 0 where
   pub from : Span
   pub from_first : IsTokenSpan text first from

@@ -8,8 +8,8 @@ use Rattle.twp_diagnose.specs.declared.shared_land.Shared.{Shared}
 
 -- the items are refused for the later of the two; the earlier is the first that names a place of
 -- it, and the text is the one spelling of the places that both name
-pub record TellsShared (g : ℕ) (township : Designation) (items : List Item) (told : Shared)
+pub record TellsShared (g : ℕ) (township : Designation) (items : List Item) (explained : Shared)
     : Type 0 where
   pub places : ℕ → ℕ → ℕ → Bool
-  pub both : AreFirstSharing g township items told.items places
-  pub text_is : IsCanonicalText g township places told.text.items
+  pub both : AreFirstSharing g township items explained.items places
+  pub text_is : IsCanonicalText g township places explained.text.items

@@ -1,4 +1,4 @@
--- Where a text is shown that is refused, and what stands there.
+-- Where a text is shown that is refused, and what is there.
 use Rattle.std.specs.Prelude.{◌≡◌, ◌≢◌, ℕ, List, length, drop, if◌then◌else◌}
 use Rattle.std.specs.List.{AllPass, list_all}
 use Rattle.twp_excerpt.specs.Spots.{is_white, end_of, first_size}

@@ -1,4 +1,4 @@
--- Where in its file a fault is said to stand.
+-- Where in its file a fault is said to be.
 use Rattle.std.specs.Prelude.{◌≡◌, ℕ, ◌+◌, ◌≤◌, ◌<◌, min, Option, None, length}
 use Rattle.std.specs.Prelude.{MatchOption}
 use Rattle.twp_excerpt.specs.Spots.{line_of, column_of}
@@ -18,7 +18,7 @@ pub record IsSpotIn (file : Given) (at : ℕ) (spot : Spot) : Type 0 where
       → spot.line + 1 ≡ line_of file.bytes.now (in_file file at) + file.first_line
   pub column : spot.column ≡ column_of file.bytes.now (in_file file at)
 
--- the most bytes of a file in which places are told, which is more than any run reads
+-- the most bytes of a file in which places are shown, which is more than any run reads
 abbrev pub MOST_BYTES : ℕ
 MOST_BYTES = 0x7FFFFFFF
 
@@ -26,7 +26,7 @@ MOST_BYTES = 0x7FFFFFFF
 abbrev pub IsSpotAt : Given → ℕ → Option Spot → Type 0
 IsSpotAt file at spot = MatchOption spot (MOST_BYTES < length file.bytes.now) (IsSpotIn file at)
 
--- the line and the column that are told of what is shown: none of a file as a whole
+-- the line and the column that are explained of what is shown: none of a file as a whole
 abbrev pub IsSpotOf : Given → Location → Option Spot → Type 0
 IsSpotOf file Whole spot = spot ≡ None
 IsSpotOf file (Line at_) spot = IsSpotAt file at_ spot

@@ -23,4 +23,4 @@ pub use numbers::{is_short_number, number_in, thousandths, thousandths_of};
 pub use origin::Origin;
 pub use records::Record;
 pub use shared_land::{Shared, shared_land_text};
-pub use sight::{Sight, TokenAt};
+pub use sight::{Surroundings, TokenAt};

@@ -54,31 +54,31 @@ impl<'a> Listed<'a> {
         self.record.text(place)
     }
 
-    /// Where a field stands in the file, with its quotes; the record's end where there is no such
+    /// Where a field is in the file, with its quotes; the record's end where there is no such
     /// field.
     pub fn span(&self, place: usize) -> Span {
         self.record.span(place, place)
     }
 
-    /// A field as it stands in the file, with its quotes.
+    /// A field as it is written in the file, with its quotes.
     pub fn written(&self, place: usize) -> &[u8] {
         let Span { start, end } = self.span(place);
         self.between(start, end)
     }
 
-    /// What stands in the file from a field up to the record's end.
+    /// What the file contains from a field up to the record's end.
     pub fn written_from(&self, place: usize) -> &[u8] {
         let Span { start, end } = self.record.span(place, self.len());
         self.between(start, end)
     }
 
-    /// What stands in the file from a field up to the last one but one.
+    /// What the file contains from a field up to the last one but one.
     pub fn written_before_last(&self, place: usize) -> &[u8] {
         let Span { start, end } = self.record.span(place, self.len().saturating_sub(2));
         self.between(start, end)
     }
 
-    /// What stands in the file from an offset to another, where there is such a part.
+    /// What the file contains from an offset to another, where there is such a part.
     fn between(&self, start: usize, end: usize) -> &[u8] {
         let bytes = self.file.bytes;
         if start > end || end > bytes.len() {

@@ -5,7 +5,7 @@ ghost use Rattle.twp_diagnose.specs.Spots.{IsSpotAt, IsSpotOf};
 use crate::given::Given;
 use twp_excerpt::{Span, Spot, spot_of};
 
-/// The most bytes of a file in which places are told, which is more than any run reads.
+/// The most bytes of a file in which places are shown, which is more than any run reads.
 const MOST_BYTES: usize = 0x7FFF_FFFF;
 
 /// Where in a file a fault is shown.
@@ -21,7 +21,7 @@ pub enum Location {
     Part(Span),
 }
 
-/// Where a place stands, if at one line.
+/// Where a place is, if at one line.
 pub fn spot_of_place(file: &Given<'_>, place: Location) -> Option<Spot>
     ensures { IsSpotOf file.now place result }
 {
@@ -32,7 +32,7 @@ pub fn spot_of_place(file: &Given<'_>, place: Location) -> Option<Spot>
     }
 }
 
-/// Where a byte stands in a file, whose lines are numbered from its first. None in a file of more
+/// Where a byte is in a file, whose lines are numbered from its first. None in a file of more
 /// bytes than any run reads.
 pub fn spot_in(file: &Given<'_>, at: usize) -> Option<Spot>
     ensures { IsSpotAt file.now at result }

@@ -37,7 +37,7 @@ pub fn part_of_lots(
     section: Section,
     steps: &Steps,
 ) -> Result<Option<PartOfLots>, AllocError>
-    ensures { IfOk result (λ told. MatchOption told (¬ AreWithin PLACE_DIGITS (cuts_of steps.now))
+    ensures { IfOk result (λ explained. MatchOption explained (¬ AreWithin PLACE_DIGITS (cuts_of steps.now))
         (IsPartOfLots PLACE_DIGITS township section steps.now)) }
 {
     let Some(block) = chain_block(steps) else {

@@ -5,13 +5,13 @@ ghost use Rattle.twp_diagnose.specs.Marks.{tokens_from, span_of, end_of, is_side
 ghost use Rattle.twp_diagnose.specs.Marks.{IsChainSpan, IsHeadingSpan, IsRangeSpan};
 ghost use Rattle.twp_diagnose.specs.steps.Marking.{AreLeft, HaveSameFrom, GivesFirstOf, TakesSecond, TakesLink};
 ghost use Rattle.twp_diagnose.specs.steps.Marking.{EndsLinks, EndsPart, end_of_left, end_of_token};
-ghost use Rattle.twp_diagnose.specs.steps.Marking.{behind_of, behind_the, is_of, is_the, is_step};
+ghost use Rattle.twp_diagnose.specs.steps.Marking.{after_of_word, after_the, is_of, is_the, is_step};
 
 use twp_excerpt::Span;
 use twp_grammar::{Kind, Token};
 use twp_read::Tokens;
 
-/// The bytes of the token that stands at a place of a text. None of them where no token stands
+/// The bytes of the token at a place of a text. None of them where no token stands
 /// there.
 pub fn token_span(text: &[u8], at: usize) -> Span
     ensures { IsTokenSpan text.now at result }
@@ -26,7 +26,7 @@ pub fn token_span(text: &[u8], at: usize) -> Span
     }
 }
 
-/// The bytes of the aliquot part whose first token stands at a place of a text, from its first byte
+/// The bytes of the aliquot part whose first token is at a place of a text, from its first byte
 /// up to its last token's last: the longest part of the grammar that begins there. Where none does,
 /// the bytes of the token.
 #[tactic(auto, using(crate::proofs::MarkFacts::chain_found, crate::proofs::MarkFacts::chain_missing))]
@@ -43,8 +43,8 @@ pub fn chain_span(text: &[u8], at: usize) -> Span
     }
 }
 
-/// The bytes of a heading whose first token stands at a place of a text, up to its range's side: the
-/// first `E` or `W` behind that token, or else the text's last token.
+/// The bytes of a heading whose first token is at a place of a text, up to its range's side: the
+/// first `E` or `W` after that token, or else the text's last token.
 #[tactic(auto, using(crate::proofs::HeadingFacts::heading_found, crate::proofs::HeadingFacts::heading_missing))]
 pub fn heading_span(text: &[u8], at: usize) -> Span
     ensures { IsHeadingSpan text.now at result }
@@ -59,7 +59,7 @@ pub fn heading_span(text: &[u8], at: usize) -> Span
     }
 }
 
-/// The bytes from the token that stands at a place of a text to the one that stands at another.
+/// The bytes from the token at a place of a text to the one at another.
 #[tactic(auto, using(crate::proofs::HeadingFacts::range_found))]
 pub fn range_span(text: &[u8], first: usize, last: usize) -> Span
     ensures { IsRangeSpan text.now first last result }
@@ -70,14 +70,14 @@ pub fn range_span(text: &[u8], first: usize, last: usize) -> Span
     }
 }
 
-/// The tokens of a text, from one on that isn't behind a place. Where white space stands before the
+/// The tokens of a text, from one on that isn't after a place. If there is white space before the
 /// place, those before it are left out: it parts them from the others.
 fn tokens_near<'a>(text: &'a [u8], at: usize) -> Tokens<'a>
     ensures same { HaveSameFrom at text.now result }
     ensures end { end_of_left result ≡ length text.now }
 {
     if 0 < at && at <= text.len() && is_white(text[at - 1]) {
-        return Tokens::behind(text, at);
+        return Tokens::after(text, at);
     }
     Tokens::new(text)
 }
@@ -97,7 +97,7 @@ fn no_bytes(text: &[u8], at: usize) -> Span
     Span { start: at, end: at }
 }
 
-/// Takes the tokens up to the one that stands at a place.
+/// Takes the tokens up to the one at a place.
 #[tactic(auto, using(crate::proofs::MarkFacts::passed_none, crate::proofs::MarkFacts::passed_more, crate::proofs::MarkFacts::passed_to, crate::proofs::MarkFacts::passed_all))]
 fn seek<'a>(tokens: &mut Tokens<'a>, at: usize) -> Option<Token<'a>>
     ensures found { (list : List SeenToken) → AreLeft tokens.old list
@@ -113,7 +113,7 @@ fn seek<'a>(tokens: &mut Tokens<'a>, at: usize) -> Option<Token<'a>>
     None
 }
 
-/// Takes the rest of an aliquot part, behind its first token, and gives where it ends. Where it is
+/// Takes the rest of an aliquot part, after its first token, and gives where it ends. Where it is
 /// none, that is the token's end.
 #[tactic(auto, using(crate::proofs::ChainFacts::no_part, crate::proofs::ChainFacts::part_ends))]
 fn take_chain(tokens: &mut Tokens<'_>, first: Token<'_>) -> usize
@@ -128,7 +128,7 @@ fn take_chain(tokens: &mut Tokens<'_>, first: Token<'_>) -> usize
     take_links(tokens, end)
 }
 
-/// Takes the further halves and quarters, behind one that ends at a place, and gives where the last
+/// Takes the further halves and quarters, after one that ends at a place, and gives where the last
 /// of all ends.
 #[tactic(auto, using(crate::proofs::StepFacts::links_begin, crate::proofs::StepFacts::links_go_on, crate::proofs::StepFacts::links_end))]
 fn take_links(tokens: &mut Tokens<'_>, start: usize) -> usize
@@ -142,7 +142,7 @@ fn take_links(tokens: &mut Tokens<'_>, start: usize) -> usize
     end
 }
 
-/// Takes the tokens up to a range's side, behind one that ends at a place, and gives where the last
+/// Takes the tokens up to a range's side, after one that ends at a place, and gives where the last
 /// of all ends.
 #[tactic(auto, using(crate::proofs::HeadingFacts::side_sought, crate::proofs::HeadingFacts::no_side_yet, crate::proofs::HeadingFacts::side_found, crate::proofs::HeadingFacts::no_side))]
 fn take_to_side(tokens: &mut Tokens<'_>, start: usize) -> usize
@@ -167,7 +167,7 @@ fn is_side(kind: Kind) -> bool
     matches!(kind, Kind::EastWest(_))
 }
 
-/// Takes a further half or quarter with what stands before it, and gives where it ends.
+/// Takes a further half or quarter with what comes before it, and gives where it ends.
 #[tactic(auto, using(crate::proofs::StepFacts::no_first, crate::proofs::StepFacts::link_taken))]
 fn take_link(tokens: &mut Tokens<'_>) -> Option<usize>
     requires { end_of_left tokens.old ≤ usize.MAX }
@@ -180,11 +180,11 @@ fn take_link(tokens: &mut Tokens<'_>) -> Option<usize>
     take_second(tokens, first.kind)
 }
 
-/// Takes a token behind `of`, `of the`, or nothing.
-#[tactic(auto, using(crate::proofs::StepFacts::no_of, crate::proofs::StepFacts::behind_an_of))]
+/// Takes a token after `of`, `of the`, or nothing.
+#[tactic(auto, using(crate::proofs::StepFacts::no_of, crate::proofs::StepFacts::after_an_of))]
 fn first_of_step<'a>(tokens: &mut Tokens<'a>) -> Option<Token<'a>>
     ensures found { (list : List SeenToken) → AreLeft tokens.old list
-        → GivesFirstOf (behind_of list) result tokens.new }
+        → GivesFirstOf (after_of_word list) result tokens.new }
     ensures end { end_of_left tokens.new ≡ end_of_left tokens.old }
     ensures less { IfSome result (λ _. length tokens.new.bytes < length tokens.old.bytes) }
 {
@@ -192,14 +192,14 @@ fn first_of_step<'a>(tokens: &mut Tokens<'a>) -> Option<Token<'a>>
     if !is_of(first.kind) {
         return Some(first);
     }
-    first_behind_the(tokens)
+    first_after_the(tokens)
 }
 
-/// Takes a token behind `the` or nothing.
-#[tactic(auto, using(crate::proofs::StepFacts::no_the, crate::proofs::StepFacts::behind_a_the))]
-fn first_behind_the<'a>(tokens: &mut Tokens<'a>) -> Option<Token<'a>>
+/// Takes a token after `the` or nothing.
+#[tactic(auto, using(crate::proofs::StepFacts::no_the, crate::proofs::StepFacts::after_a_the))]
+fn first_after_the<'a>(tokens: &mut Tokens<'a>) -> Option<Token<'a>>
     ensures found { (list : List SeenToken) → AreLeft tokens.old list
-        → GivesFirstOf (behind_the list) result tokens.new }
+        → GivesFirstOf (after_the list) result tokens.new }
     ensures end { end_of_left tokens.new ≡ end_of_left tokens.old }
     ensures less { IfSome result (λ _. length tokens.new.bytes < length tokens.old.bytes) }
 {

@@ -1,4 +1,4 @@
-//! Where a record stands in its file, and where its fields do.
+//! Where a record is in its file, and where its fields do.
 ghost use Rattle.std.specs.Prelude.{◌≡◌, IfOk, IfSome};
 ghost use Rattle.csv.specs.Records.{fields_of};
 ghost use Rattle.twp_notes.specs.FieldNotes.{NamesLine};
@@ -103,7 +103,7 @@ impl<'a> Record<'a> {
         self.start
     }
 
-    /// Where fields of it stand, from one to another, with their quotation marks. It ends with the
+    /// Where fields of it are, from one to another, with their quotation marks. It ends with the
     /// record where that has no such fields.
     pub fn span(&self, first: usize, last: usize) -> Span {
         let Span { start, .. } = self.field_span(first);

@@ -28,7 +28,7 @@ pub fn shared_land_text(
     description: &Description,
     township: Township,
 ) -> Result<Option<Shared>, AllocError>
-    ensures { IfOk result (λ told. MatchOption told
+    ensures { IfOk result (λ explained. MatchOption explained
         (¬ AreRefusedForOverlap PLACE_DIGITS township description.now)
         (TellsShared PLACE_DIGITS township description.now)) }
 {

@@ -21,12 +21,12 @@ pub struct TokenAt<'a> {
     pub is_joined: bool,
 }
 
-/// What stands at a refused place and around it.
+/// What is at a refused place and around it.
 #[derive(Clone, Copy)]
-pub struct Sight<'a> {
+pub struct Surroundings<'a> {
     /// The refusal's number.
     pub number: u8,
-    /// What could stand at the place, for a fault of syntax.
+    /// What was expected at the place, for a fault of syntax.
     pub expected: Option<Expected>,
     /// Where the sign at the place begins in the text, or where the text ends but for white space.
     pub start: usize,
@@ -42,16 +42,16 @@ pub struct Sight<'a> {
     pub rest: &'a [u8],
 }
 
-impl<'a> Sight<'a> {
+impl<'a> Surroundings<'a> {
     /// What is seen of a text where it is refused.
-    pub fn of(text: &'a [u8], refusal: Refusal, expected: Option<Expected>) -> Sight<'a>
+    pub fn of(text: &'a [u8], refusal: Refusal, expected: Option<Expected>) -> Surroundings<'a>
         ensures start { result.start ≡ shown_place text.now refusal.at }
         ensures sign { TakesSign (drop refusal.at text.now) (length result.at.bytes.now) }
     {
         let at = (refusal.at as usize).min(text.len());
-        let (ahead, behind) = text.split_at(at);
-        let (sign, rest) = behind.split_at(size_of_sign(behind));
-        Sight {
+        let (ahead, after) = text.split_at(at);
+        let (sign, rest) = after.split_at(size_of_sign(after));
+        Surroundings {
             number: refusal.number,
             expected,
             start: if sign.is_empty() {
@@ -92,7 +92,7 @@ impl<'a> Sight<'a> {
     }
 }
 
-/// What stands where a text begins or ends.
+/// What is where a text begins or ends.
 const NOTHING: TokenAt<'static> = TokenAt {
     bytes: &[],
     is_joined: false,

@@ -168,7 +168,7 @@ fn end_of_line(text: &[u8], start: usize, at: usize) -> usize
     requires ordered { start ≤ at }
     requires within { at ≤ length text.now }
     ensures value { result ≡ line_end text.now at }
-    ensures behind { start ≤ result }
+    ensures after { start ≤ result }
     ensures within { result ≤ length text.now }
 {
     let Some(feed) = memchr(b'\n', &text[at..]) else {

@@ -99,22 +99,22 @@ other_than_found Is (stop.Found finding) verdict one found other refusal is said
     other (subst (λ r. verdict ≡ Refused r) (one refusal finding.refusal is found) said)
 other_than_found Is stop.Memory verdict one found other refusal is said = absurd other
 
--- and so where nothing was told of the notes, or of the land, since the verdict is another
+-- and so where nothing was explained of the notes, or of the land, since the verdict is another
 pub none_of_notes : {E : Type 0} (result : Result (Option Explanation) E) (bytes : List ℕ) (stopped : Failure)
     (verdict : Verdict)
     → IfFound stopped (IsNoPlat bytes)
-    → IfOk result (λ told. told ≡ None → IsNotOf stopped verdict)
-    → IfOk result (λ told. told ≡ None → IsOfNone (IsNoPlat bytes) verdict)
-none_of_notes (Ok told) bytes stopped verdict found none = λ is.
+    → IfOk result (λ explained. explained ≡ None → IsNotOf stopped verdict)
+    → IfOk result (λ explained. explained ≡ None → IsOfNone (IsNoPlat bytes) verdict)
+none_of_notes (Ok explained) bytes stopped verdict found none = λ is.
     other_than_found (IsNoPlat bytes) stopped verdict (one_plat_refusal bytes) found (none is)
 none_of_notes (Err fault) bytes stopped verdict found none = tt
 
 pub none_of_land : {E : Type 0} (result : Result (Option Explanation) E) (notes description : List ℕ)
     (stopped : Failure) (verdict : Verdict)
     → IfFound stopped (IsRefusal notes description)
-    → IfOk result (λ told. told ≡ None → IsNotOf stopped verdict)
-    → IfOk result (λ told. told ≡ None → IsOfNone (IsRefusal notes description) verdict)
-none_of_land (Ok told) notes description stopped verdict found none = λ is.
+    → IfOk result (λ explained. explained ≡ None → IsNotOf stopped verdict)
+    → IfOk result (λ explained. explained ≡ None → IsOfNone (IsRefusal notes description) verdict)
+none_of_land (Ok explained) notes description stopped verdict found none = λ is.
     other_than_found (IsRefusal notes description) stopped verdict (one_refusal notes description) found
     (none is)
 none_of_land (Err fault) notes description stopped verdict found none = tt

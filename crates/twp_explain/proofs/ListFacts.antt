@@ -1,4 +1,4 @@
--- What is told of a refused list is its first fault; over plain values.
+-- The explanation of a refused list is its first fault; over plain values.
 use Rattle.std.proofs.Common.{◌≡◌, ◌≢◌, ℕ, List, Some, refl, inl, inr, subst}
 use Rattle.twp_grid.specs.Townships.{Designation}
 use Rattle.twp_grid.specs.declared.refusal.Refusal.{Refusal}
@@ -49,7 +49,7 @@ same_refusal fault.TooManyTracts verdict refusal judged refused =
     subst (λ v. first_refusal v ≡ Some refusal) same refl
 same_refusal fault.Memory verdict refusal judged refused = absurd (cc refused)
 
--- notes that make no plat are what is told of
+-- notes that make no plat are what is explained of
 pub told_of_notes : (stopped : Failure) (notes tracts : List ℕ) (verdict : Verdict) (refusal : Refusal)
     → IfFound stopped (IsNoPlat notes) → IsOf stopped refusal → verdict ≡ Refused refusal
     → IsListRefusal notes tracts verdict refusal
@@ -57,7 +57,7 @@ told_of_notes (stop.Found finding) notes tracts verdict refusal none is judged =
     inl (subst (IsNoPlat notes) is none, judged)
 told_of_notes stop.Memory notes tracts verdict refusal none is judged = absurd is
 
--- a list's first fault is what is told of
+-- a list's first fault is what is explained of
 pub told_of_list : (notes tracts : List ℕ) (plat : TownshipPlat) (is : TractFault) (verdict : Verdict)
     (refusal : Refusal)
     → ArePlatted notes plat → IsFirstTractFault plat.township tracts is

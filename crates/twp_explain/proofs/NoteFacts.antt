@@ -7,7 +7,7 @@ use Rattle.twp_explain.specs.declared.explanation.Note.{Note}
 
 pub note_first : {E : Type 0} (text : List ℕ) (doubts : Doubts) (r : Result (Option Note) E)
     → AreDoubts text doubts
-    → IfOk r (λ told. MatchOption told ⊥ (λ note. note.at ≡ doubts.first.at))
+    → IfOk r (λ explained. MatchOption explained ⊥ (λ note. note.at ≡ doubts.first.at))
     → IfOk r (IsNoteOf text)
 note_first text doubts (Ok None) are is = absurd is
 note_first text doubts (Ok (Some note)) are is = record { doubts = doubts; are = are; at_is = is }

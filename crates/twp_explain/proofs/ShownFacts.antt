@@ -1,4 +1,4 @@
--- Where a refused description is shown and told, over plain values.
+-- Where a refused description is shown and explained, over plain values.
 use Rattle.std.proofs.Common.{◌≡◌, ◌<◌, ◌≤◌, ◌+◌, ◌⊎◌, ℕ, Bool, true, false, cond, List, Option, Some, None}
 use Rattle.std.proofs.Common.{Result, Ok, Err, min, length, drop, refl, sym, ap, subst, inl, inr, arith}
 use Rattle.std.specs.Prelude.{IfOk, IfSome, MatchOption}
@@ -23,7 +23,7 @@ use Rattle.twp_explain.specs.declared.finding.Failure.{Failure}
 use Rattle.twp_explain.specs.declared.finding.Failure.TheVariants as stop
 use Rattle.twp_acres.specs.Answers.{MakePlat, IsNoPlat}
 use Rattle.twp_acres.proofs.OneAnswer.{not_platted}
-use Rattle.twp_explain.specs.ToldPlaces.{IsSpotOfStop, IsSpotRefused, IsToldWhereRefused}
+use Rattle.twp_explain.specs.ExplainedPlaces.{IsSpotOfStop, IsSpotRefused, IsExplainedWhereRefused}
 
 -- ---- what was found of a description shows where it is refused
 
@@ -75,7 +75,7 @@ items_shown Is (Ok finding) stopped bytes refusal stop_is same begins is =
 items_shown Is (Err error) stopped bytes refusal stop_is same begins is =
     subst (IfShown bytes) (sym stop_is) tt
 
--- ---- what is shown there is told of there
+-- ---- what is shown there is explained of there
 
 same_spot : (file : Given) (at at' : ℕ) (spot : Spot) → in_file file at ≡ in_file file at'
     → IsSpotIn file at spot → IsSpotIn file at' spot
@@ -86,12 +86,12 @@ same_spot file at at' spot same is = record {
   column = subst (λ n. spot.column ≡ column_of file.bytes.now n) same is.column;
 }
 
-told_at : (file : Given) (refusal : Refusal) (place : Location) (spot : Option Spot) (at : ℕ)
+located_at : (file : Given) (refusal : Refusal) (place : Location) (spot : Option Spot) (at : ℕ)
     → BeginsAt file.bytes.now at place → ((s : Spot) → IsSpotIn file at s → IsSpotRefused file refusal s)
     → IsSpotOf file place spot
     → MatchOption spot ((refusal.number ≡ TOO_LARGE) ⊎ (MOST_BYTES < length file.bytes.now))
     (IsSpotRefused file refusal)
-told_at file refusal place spot at begins refused is =
+located_at file refusal place spot at begins refused is =
     go spot (subst (λ (p : Location). IsSpotOf file p spot) begins.is_part is)
   where
     go : (s : Option Spot) → IsSpotAt file begins.span.start s
@@ -102,53 +102,53 @@ told_at file refusal place spot at begins refused is =
         let starts : begins.span.start ≡ min at (length file.bytes.now) = begins.starts in
         refused s (same_spot file begins.span.start at s (omega arith) here)
 
-told_refused : (file : Given) (refusal : Refusal) (place : Location) (spot : Option Spot)
+explained_refused : (file : Given) (refusal : Refusal) (place : Location) (spot : Option Spot)
     → ShowsRefused file.bytes.now refusal place → IsSpotOf file place spot
     → MatchOption spot ((refusal.number ≡ TOO_LARGE) ⊎ (MOST_BYTES < length file.bytes.now))
     (IsSpotRefused file refusal)
-told_refused file refusal place spot (as_a_whole large whole) is =
+explained_refused file refusal place spot (as_a_whole large whole) is =
     let none : spot ≡ None = subst (λ (p : Location). IsSpotOf file p spot) whole is in
     subst (λ (s : Option Spot). MatchOption s
     ((refusal.number ≡ TOO_LARGE) ⊎ (MOST_BYTES < length file.bytes.now)) (IsSpotRefused file refusal))
     (sym none) (inl large)
-told_refused file refusal place spot (there begins) is =
-    told_at file refusal place spot refusal.at begins (λ s here. inl here) is
-told_refused file refusal place spot (at_the_end white begins) is =
-    told_at file refusal place spot (end_of file.bytes.now) begins (λ s here. inr (white, here)) is
+explained_refused file refusal place spot (there begins) is =
+    located_at file refusal place spot refusal.at begins (λ s here. inl here) is
+explained_refused file refusal place spot (at_the_end white begins) is =
+    located_at file refusal place spot (end_of file.bytes.now) begins (λ s here. inr (white, here)) is
 
-pub told_where : (file : Given) (stopped : Failure) (explanation : Explanation)
+pub explained_where : (file : Given) (stopped : Failure) (explanation : Explanation)
     → IfShown file.bytes.now stopped → IsOf stopped explanation.refusal
-    → IsSpotOfStop file stopped explanation → IsToldWhereRefused file explanation
-told_where file (stop.Found finding) explanation shown of spot =
-    told_refused file explanation.refusal finding.place explanation.spot
+    → IsSpotOfStop file stopped explanation → IsExplainedWhereRefused file explanation
+explained_where file (stop.Found finding) explanation shown of spot =
+    explained_refused file explanation.refusal finding.place explanation.spot
     (subst (λ (r : Refusal). ShowsRefused file.bytes.now r finding.place) spot.0 shown) spot.1
-told_where file stop.Memory explanation shown of spot = absurd of
+explained_where file stop.Memory explanation shown of spot = absurd of
 
--- what is told of what was found is told where the description is refused
+-- what is explained of what was found is explained where the description is refused
 pub tells_where : {Error : Type 0} (result : Result (Option Explanation) Error) (file : Given)
     (stopped : Failure) → IfShown file.bytes.now stopped
-    → IfOk result (λ told. IfSome told (λ explanation. IsOf stopped explanation.refusal))
-    → IfOk result (λ told. IfSome told (IsSpotOfStop file stopped))
-    → IfOk result (λ told. IfSome told (IsToldWhereRefused file))
+    → IfOk result (λ explained. IfSome explained (λ explanation. IsOf stopped explanation.refusal))
+    → IfOk result (λ explained. IfSome explained (IsSpotOfStop file stopped))
+    → IfOk result (λ explained. IfSome explained (IsExplainedWhereRefused file))
 tells_where (Ok (Some explanation)) file stopped shown of spot =
-    told_where file stopped explanation shown of spot
+    explained_where file stopped explanation shown of spot
 tells_where (Ok None) file stopped shown of spot = tt
 tells_where (Err error) file stopped shown of spot = tt
 
--- what was found is of the refusal that is told
+-- what was found is of the refusal that is explained
 pub found_is : (Is : Refusal → Type 0) (stopped : Failure) (refusal : Refusal) → IfFound stopped Is
     → IsOf stopped refusal → Is refusal
 found_is Is (stop.Found finding) refusal found of = subst Is of found
 found_is Is stop.Memory refusal found of = absurd of
 
--- of notes that make a plat nothing is told
+-- of notes that make a plat nothing is explained
 pub platted_tells_none : {Error : Type 0} (result : Result (Option Explanation) Error) (bytes : List ℕ)
-    (stopped : Failure) (Told : Explanation → Type 0)
+    (stopped : Failure) (Explained : Explanation → Type 0)
     → IfFound stopped (IsNoPlat bytes)
-    → IfOk result (λ told. IfSome told (λ explanation. IsOf stopped explanation.refusal))
-    → MakePlat bytes → IfOk result (λ told. IfSome told Told)
-platted_tells_none (Ok (Some explanation)) bytes stopped Told found of (plat, are) =
+    → IfOk result (λ explained. IfSome explained (λ explanation. IsOf stopped explanation.refusal))
+    → MakePlat bytes → IfOk result (λ explained. IfSome explained Explained)
+platted_tells_none (Ok (Some explanation)) bytes stopped Explained found of (plat, are) =
     absurd (not_platted bytes explanation.refusal plat
     (found_is (IsNoPlat bytes) stopped explanation.refusal found of) are)
-platted_tells_none (Ok None) bytes stopped Told found of makes = tt
-platted_tells_none (Err error) bytes stopped Told found of makes = tt
+platted_tells_none (Ok None) bytes stopped Explained found of makes = tt
+platted_tells_none (Err error) bytes stopped Explained found of makes = tt

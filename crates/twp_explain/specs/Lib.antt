@@ -4,5 +4,5 @@ pub mod ShownPlaces
 pub mod Underlined
 pub mod Refusals
 pub mod steps
-pub mod ToldPlaces
+pub mod ExplainedPlaces
 pub mod ShownNotes

@@ -12,7 +12,7 @@ use Rattle.twp_acres.specs.declared.verdict.Verdict.TheVariants.{Accepted, Refus
 use Rattle.twp_explain.specs.declared.finding.Failure.{Failure}
 use Rattle.twp_explain.specs.declared.finding.Failure.TheVariants.{Found, Memory}
 
--- the verdict is none of these refusals
+-- the verdict is not one of these refusals
 abbrev pub IsOfNone : (Refusal → Type 0) → Verdict → Type 0
 IsOfNone Is verdict = (refusal : Refusal) → Is refusal → verdict ≢ Refused refusal
 

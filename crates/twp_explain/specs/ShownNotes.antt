@@ -16,7 +16,7 @@ pub record IsOfFirst (text : List ℕ) (note : Note) : Type 0 where
 
 -- there is a note exactly if the text has a doubtful place
 abbrev pub IsNoteOf : List ℕ → Option Note → Type 0
-IsNoteOf text told = MatchOption told (HasNoDoubtfulPlace text) (IsOfFirst text)
+IsNoteOf text explained = MatchOption explained (HasNoDoubtfulPlace text) (IsOfFirst text)
 
 -- The note shows a location in this file: its spot is there, and its text is a message that begins with the
 -- file's name and that spot.

@@ -20,7 +20,7 @@ pub(crate) fn lacks_neighbor(record: &Record<'_>) -> bool {
     }
 }
 
-/// Whether a record goes on behind the fields of a line: the sixth can't be the decimals of the
+/// Whether a record goes on after the fields of a line: the sixth can't be the decimals of the
 /// fifth.
 pub(crate) fn goes_on(record: &Record<'_>) -> bool {
     if record.len() <= FIELDS || length_at(record, 3).is_none() || length_at(record, 4).is_none() {

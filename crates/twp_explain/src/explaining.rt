@@ -7,7 +7,7 @@ ghost use Rattle.twp_read.specs.TextFaults.{refusal_of as refusal_of_text};
 ghost use Rattle.twp_resolve.specs.PlaceFaults.{refusal_of as refusal_of_places};
 ghost use Rattle.twp_acres.specs.Answers.{ArePlatted, MakePlat, IsNoPlat, IsNoDescription, IsRefusal};
 ghost use Rattle.twp_explain.specs.Refusals.{IsOfNone, IsNotOf, DescribeLand};
-ghost use Rattle.twp_explain.specs.ToldPlaces.{IsSpotOfStop, IsToldWhereRefused};
+ghost use Rattle.twp_explain.specs.ExplainedPlaces.{IsSpotOfStop, IsExplainedWhereRefused};
 ghost use Rattle.twp_explain.specs.Findings.{IfFound, IsOf};
 ghost use Rattle.twp_explain.specs.ShownMessages.{ShowsFault, ShowsIn};
 ghost use Rattle.twp_explain.specs.ShownPlaces.{IsTextOf, IfShown};
@@ -26,28 +26,28 @@ use twp_plat::{Plat, PlatFault};
 use twp_read::{Description, TextFault};
 use twp_resolve::{PlaceFault, resolve};
 
-/// What is told of field notes that a run of them alone refused. None where they don't have the
+/// The explanation of field notes that a run of them alone refused. None where they don't have the
 /// verdict's fault.
 pub fn explain_plat(
     alloc: Global,
     notes: &Given<'_>,
     verdict: Verdict,
 ) -> Result<Option<Explanation>, AllocError>
-    ensures refusal { IfOk result (λ told. IfSome told (λ explanation.
+    ensures refusal { IfOk result (λ explained. IfSome explained (λ explanation.
         IsNoPlat notes.now.bytes.now explanation.refusal)) }
-    ensures verdict { IfOk result (λ told. IfSome told (λ explanation.
+    ensures verdict { IfOk result (λ explained. IfSome explained (λ explanation.
         verdict ≡ Refused explanation.refusal)) }
-    ensures none { IfOk result (λ told. told ≡ None
+    ensures none { IfOk result (λ explained. explained ≡ None
         → IsOfNone (IsNoPlat notes.now.bytes.now) verdict) }
-    ensures shows { IfOk result (λ told. IfSome told (ShowsIn notes.now)) }
+    ensures shows { IfOk result (λ explained. IfSome explained (ShowsIn notes.now)) }
 {
     match plat_of(alloc, notes) {
         Ok(_) => Ok(None),
-        Err(stop) => tell(alloc, notes, stop, verdict),
+        Err(stop) => explain(alloc, notes, stop, verdict),
     }
 }
 
-/// What is told of field notes and a description that a run refused. None where they don't have the
+/// The explanation of field notes and a description that a run refused. None where they don't have the
 /// verdict's fault.
 pub fn explain_land(
     alloc: Global,
@@ -55,41 +55,41 @@ pub fn explain_land(
     description: &Given<'_>,
     verdict: Verdict,
 ) -> Result<Option<Explanation>, AllocError>
-    ensures refusal { IfOk result (λ told. IfSome told (λ explanation.
+    ensures refusal { IfOk result (λ explained. IfSome explained (λ explanation.
         IsRefusal notes.now.bytes.now description.now.bytes.now explanation.refusal)) }
-    ensures verdict { IfOk result (λ told. IfSome told (λ explanation.
+    ensures verdict { IfOk result (λ explained. IfSome explained (λ explanation.
         verdict ≡ Refused explanation.refusal)) }
-    ensures spot { MakePlat notes.now.bytes.now → IfOk result (λ told. IfSome told
-        (IsToldWhereRefused description.now)) }
-    ensures none { IfOk result (λ told. told ≡ None
+    ensures spot { MakePlat notes.now.bytes.now → IfOk result (λ explained. IfSome explained
+        (IsExplainedWhereRefused description.now)) }
+    ensures none { IfOk result (λ explained. explained ≡ None
         → IsOfNone (IsRefusal notes.now.bytes.now description.now.bytes.now) verdict) }
-    ensures shows { IfOk result (λ told. IfSome told (ShowsFault notes.now description.now)) }
+    ensures shows { IfOk result (λ explained. IfSome explained (ShowsFault notes.now description.now)) }
 {
     let plat = match plat_of(alloc, notes) {
         Ok(plat) => plat,
-        Err(stop) => return tell(alloc, notes, stop, verdict),
+        Err(stop) => return explain(alloc, notes, stop, verdict),
     };
     let origin = Origin::of_file(*description);
     match describe(alloc, &origin, description.bytes, plat.township()) {
         Ok(()) => Ok(None),
-        Err(stop) => tell(alloc, description, stop, verdict),
+        Err(stop) => explain(alloc, description, stop, verdict),
     }
 }
 
 /// The message of a stop, where it is for the verdict's refusal.
-pub(crate) fn tell(
+pub(crate) fn explain(
     alloc: Global,
     file: &Given<'_>,
     stop: Failure,
     verdict: Verdict,
 ) -> Result<Option<Explanation>, AllocError>
-    ensures found { IfOk result (λ told. IfSome told (λ explanation.
+    ensures found { IfOk result (λ explained. IfSome explained (λ explanation.
         IsOf stop explanation.refusal)) }
-    ensures verdict { IfOk result (λ told. IfSome told (λ explanation.
+    ensures verdict { IfOk result (λ explained. IfSome explained (λ explanation.
         verdict ≡ Refused explanation.refusal)) }
-    ensures spot { IfOk result (λ told. IfSome told (IsSpotOfStop file.now stop)) }
-    ensures none { IfOk result (λ told. told ≡ None → IsNotOf stop verdict) }
-    ensures shows { IfOk result (λ told. IfSome told (ShowsIn file.now)) }
+    ensures spot { IfOk result (λ explained. IfSome explained (IsSpotOfStop file.now stop)) }
+    ensures none { IfOk result (λ explained. explained ≡ None → IsNotOf stop verdict) }
+    ensures shows { IfOk result (λ explained. IfSome explained (ShowsIn file.now)) }
 {
     let Failure::Found(finding) = stop else {
         return Err(AllocError);
@@ -97,7 +97,7 @@ pub(crate) fn tell(
     if verdict != Verdict::Refused(finding.refusal) {
         return Ok(None);
     }
-    Ok(Some(finding.tell(alloc, file)?))
+    Ok(Some(finding.explain(alloc, file)?))
 }
 
 /// The plat of field notes, or what is wrong with them.

@@ -1,14 +1,14 @@
 use twp_excerpt::Spot;
 use twp_grid::Refusal;
 
-/// What is told of a refusal.
+/// An explanation of a refusal.
 #[derive(Drop)]
 pub struct Explanation {
     /// The refusal that is explained.
     pub refusal: Refusal,
-    /// Where the fault stands in its file, where it stands at one place.
+    /// Where the fault is in its file, where it is at one place.
     pub spot: Option<Spot>,
-    /// What is told, in some lines, each with a line feed at its end.
+    /// Some lines, each with a line feed at its end.
     pub text: String,
 }
 
@@ -19,6 +19,6 @@ pub struct Note {
     pub at: usize,
     /// Where that is in its file.
     pub spot: Option<Spot>,
-    /// What is told, in some lines, each with a line feed at its end.
+    /// Some lines, each with a line feed at its end.
     pub text: String,
 }

@@ -1,4 +1,4 @@
-//! What was found wrong, and the message that tells it.
+//! What was found wrong, and the message that says so.
 ghost use Rattle.std.specs.Prelude.{◌≡◌, IfOk};
 ghost use Rattle.twp_explain.specs.Findings.{IfFound, IsStopOf};
 ghost use Rattle.twp_explain.specs.ShownMessages.{ShowsIn};
@@ -19,7 +19,7 @@ pub struct Finding {
     pub place: Location,
     /// What is wrong.
     pub sentence: String,
-    /// What mends it or tells more of it: lines without the last line feed; empty for none.
+    /// What corrects it or explains it further: lines without the last line feed; empty for none.
     pub help: String,
 }
 
@@ -54,7 +54,7 @@ impl Failure {
 
 impl Finding {
     /// The message about a file.
-    pub fn tell(&self, alloc: Global, file: &Given<'_>) -> Result<Explanation, AllocError>
+    pub fn explain(&self, alloc: Global, file: &Given<'_>) -> Result<Explanation, AllocError>
         ensures refusal { IfOk result (λ explanation. explanation.refusal ≡ self.now.refusal) }
         ensures spot { IfOk result (λ explanation.
             IsSpotOf file.now self.now.place explanation.spot) }

@@ -1,4 +1,4 @@
-//! What may have led to a half mile that is out of its limits, where the distances tell it.
+//! What may have led to a half mile that is out of its limits, where the distances explain it.
 
 use crate::lines::write_chains;
 use std::alloc::AllocError;

@@ -1,4 +1,4 @@
-//! Section lines and lengths, as they are told.
+//! Section lines and lengths, as explanations show them.
 ghost use Rattle.std.specs.Prelude.{◌≡◌};
 ghost use Rattle.twp_plat.specs.Closing.{last_quarter};
 ghost use Rattle.twp_explain.specs.steps.HalfMiles.{half_mile_of};

@@ -4,7 +4,7 @@ ghost use Rattle.twp_acres.specs.TractFaults.{IsFirstTractFault, refusal_of, ver
 ghost use Rattle.twp_explain.specs.ShownMessages.{ShowsFault, ShowsIn};
 ghost use Rattle.twp_explain.specs.Refusals.{IsListRefusal, HasAccount, first_refusal};
 
-use crate::explaining::{plat_of, tell};
+use crate::explaining::{plat_of, explain};
 use crate::explanation::Explanation;
 use crate::tracts;
 use std::alloc::{AllocError, Global};
@@ -13,7 +13,7 @@ use twp_diagnose::Given;
 use twp_grid::{Refusal, Township};
 use twp_plat::Plat;
 
-/// What is told of field notes and a list of tracts that a run refused. None where they don't have
+/// The explanation of field notes and a list of tracts that a run refused. None where they don't have
 /// the verdict's fault.
 #[tactic(auto, using(crate::proofs::ListFacts::same_refusal, crate::proofs::ListFacts::told_of_notes, crate::proofs::ListFacts::told_of_list))]
 pub fn explain_list(
@@ -22,15 +22,15 @@ pub fn explain_list(
     tracts: &Given<'_>,
     verdict: Verdict,
 ) -> Result<Option<Explanation>, AllocError>
-    ensures refusal { IfOk result (λ told. IfSome told (λ explanation.
+    ensures refusal { IfOk result (λ explained. IfSome explained (λ explanation.
         IsListRefusal notes.now.bytes.now tracts.now.bytes.now verdict explanation.refusal)) }
-    ensures verdict { IfOk result (λ told. IfSome told (λ explanation.
+    ensures verdict { IfOk result (λ explained. IfSome explained (λ explanation.
         first_refusal verdict ≡ Some explanation.refusal)) }
-    ensures shows { IfOk result (λ told. IfSome told (ShowsFault notes.now tracts.now)) }
+    ensures shows { IfOk result (λ explained. IfSome explained (ShowsFault notes.now tracts.now)) }
 {
     let plat = match plat_of(alloc, notes) {
         Ok(plat) => plat,
-        Err(stop) => return tell(alloc, notes, stop, verdict),
+        Err(stop) => return explain(alloc, notes, stop, verdict),
     };
     let Some(fault) = fault_of(alloc, &plat, tracts.bytes)? else {
         return Ok(None);
@@ -38,7 +38,7 @@ pub fn explain_list(
     let Some(refusal) = refusal_by(fault, verdict) else {
         return Ok(None);
     };
-    let explanation = tell_fault(alloc, tracts, plat.township(), fault, refusal)?;
+    let explanation = explain_fault(alloc, tracts, plat.township(), fault, refusal)?;
     Ok(Some(explanation))
 }
 
@@ -55,7 +55,7 @@ fn refusal_by(fault: TractFault, verdict: Verdict) -> Option<Refusal>
 
 /// The message of a list's fault.
 #[inline(never)]
-pub(crate) fn tell_fault(
+pub(crate) fn explain_fault(
     alloc: Global,
     tracts: &Given<'_>,
     township: Township,
@@ -66,7 +66,7 @@ pub(crate) fn tell_fault(
     ensures shows { IfOk result (ShowsIn tracts.now) }
 {
     let finding = tracts::find(alloc, tracts, township, fault, refusal)?;
-    finding.tell(alloc, tracts)
+    finding.explain(alloc, tracts)
 }
 
 /// The first fault of a list of tracts, where it has one.

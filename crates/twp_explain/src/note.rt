@@ -38,7 +38,7 @@ pub fn note_land(
     account: Account,
 ) -> Result<Option<Note>, AllocError>
     ensures note { IfOk result (IsNoteOf description.now.bytes.now) }
-    ensures shows { IfOk result (λ told. IfSome told (ShowsNoteIn description.now)) }
+    ensures shows { IfOk result (λ explained. IfSome explained (ShowsNoteIn description.now)) }
 {
     let Some(doubts) = doubts_in(alloc, description.bytes)? else {
         return Ok(None);
@@ -55,7 +55,7 @@ pub fn note_description(
     account: Account,
 ) -> Result<Option<Note>, AllocError>
     ensures note { IfOk result (IsNoteOf description.now.bytes.now) }
-    ensures shows { IfOk result (λ told. IfSome told (ShowsNoteIn description.now)) }
+    ensures shows { IfOk result (λ explained. IfSome explained (ShowsNoteIn description.now)) }
 {
     let Some(doubts) = doubts_in(alloc, description.bytes)? else {
         return Ok(None);
@@ -71,8 +71,8 @@ fn note_on(
     account: Account,
     doubts: Doubts,
 ) -> Result<Option<Note>, AllocError>
-    ensures at { IfOk result (λ told. MatchOption told ⊥ (λ note. note.at ≡ doubts.first.at)) }
-    ensures shows { IfOk result (λ told. IfSome told (ShowsNoteIn description.now)) }
+    ensures at { IfOk result (λ explained. MatchOption explained ⊥ (λ note. note.at ≡ doubts.first.at)) }
+    ensures shows { IfOk result (λ explained. IfSome explained (ShowsNoteIn description.now)) }
 {
     let reckoner = Reckoner { plat, account };
     let mut sentence = String::new(alloc);
@@ -96,7 +96,7 @@ pub fn note_list(
     notes: &Given<'_>,
     tracts: &Given<'_>,
 ) -> Result<Option<Note>, AllocError>
-    ensures shows { IfOk result (λ told. IfSome told (ShowsNoteIn tracts.now)) }
+    ensures shows { IfOk result (λ explained. IfSome explained (ShowsNoteIn tracts.now)) }
 {
     let Some(found) = doubts_of_list(alloc, tracts.bytes)? else {
         return Ok(None);
@@ -111,7 +111,7 @@ pub fn note_tracts(
     plat: &Plat,
     tracts: &Given<'_>,
 ) -> Result<Option<Note>, AllocError>
-    ensures shows { IfOk result (λ told. IfSome told (ShowsNoteIn tracts.now)) }
+    ensures shows { IfOk result (λ explained. IfSome explained (ShowsNoteIn tracts.now)) }
 {
     let Some(found) = doubts_of_list(alloc, tracts.bytes)? else {
         return Ok(None);
@@ -176,7 +176,7 @@ fn note_tract(
     tracts: &Given<'_>,
     found: ListDoubts,
 ) -> Result<Option<Note>, AllocError>
-    ensures shows { IfOk result (λ told. IfSome told (ShowsNoteIn tracts.now)) }
+    ensures shows { IfOk result (λ explained. IfSome explained (ShowsNoteIn tracts.now)) }
 {
     let Some(listed) = Listed::numbered(alloc, *tracts, found.record)? else {
         return Ok(None);

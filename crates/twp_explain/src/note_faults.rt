@@ -1,4 +1,4 @@
-//! What a record of field notes is refused for, as it is told, and which of its fields is to blame.
+//! What a record of field notes is refused for, as the explanation says it, and which of its fields is to blame.
 
 use crate::lines::write_names;
 use crate::note_hints::HEADING;

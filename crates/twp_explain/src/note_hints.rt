@@ -1,4 +1,4 @@
-//! What mends a record of field notes, where its bytes tell it: a table of which the first row that
+//! What mends a record of field notes, where its bytes explain it: a table of which the first row that
 //! fits counts.
 
 use crate::columns::{goes_on, has_cut_distances, lacks_neighbor};

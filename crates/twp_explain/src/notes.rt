@@ -10,7 +10,7 @@ use twp_diagnose::{Given, Location, Record};
 use twp_grid::{Line, Refusal, Run, Section};
 use twp_notes::NotesFault;
 
-/// What is told of a fault of field notes.
+/// The explanation of a fault of field notes.
 pub fn find(
     alloc: Global,
     notes: &Given<'_>,
@@ -118,7 +118,7 @@ fn write_help(
     }
 }
 
-/// The number of the line on which a byte of notes stands.
+/// The number of the line that a byte of notes is on.
 fn line_at(notes: &Given<'_>, at: usize) -> u32 {
     let before = notes.bytes.get(..at).unwrap_or(b"");
     let ended = before.iter().filter(|byte| **byte == b'\n').count();

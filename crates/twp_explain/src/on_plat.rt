@@ -1,77 +1,77 @@
 //! Explanations without a run: of field notes, and on a plat that is kept of a description and of a
-//! list of tracts. What is told of is the first fault, and nothing is told of what has none.
+//! list of tracts. The first fault is explained, and nothing is explained where there is none.
 ghost use Rattle.std.specs.Prelude.{◌≡◌, Some, None, IfOk, IfSome};
 ghost use Rattle.twp_acres.specs.Answers.{MakePlat, IsNoPlat, IsNoDescription};
 ghost use Rattle.twp_acres.specs.TractFaults.{IsFirstTractFault, refusal_of};
 ghost use Rattle.twp_explain.specs.Refusals.{DescribeLand, HasAccount};
 ghost use Rattle.twp_explain.specs.ShownMessages.{ShowsIn};
-ghost use Rattle.twp_explain.specs.ToldPlaces.{IsSpotOfStop, IsToldWhereRefused};
+ghost use Rattle.twp_explain.specs.ExplainedPlaces.{IsSpotOfStop, IsExplainedWhereRefused};
 ghost use Rattle.twp_explain.specs.Findings.{IsOf};
 
 use crate::explaining::{describe, plat_of};
 use crate::explanation::Explanation;
 use crate::finding::Failure;
-use crate::list::{fault_of, tell_fault};
+use crate::list::{fault_of, explain_fault};
 use std::alloc::{AllocError, Global};
 use twp_acres::TractFault;
 use twp_diagnose::{Given, Origin};
 use twp_grid::Township;
 use twp_plat::Plat;
 
-/// What is told of field notes that make no plat.
+/// The explanation of field notes that make no plat.
 pub fn explain_notes(alloc: Global, notes: &Given<'_>) -> Result<Option<Explanation>, AllocError>
-    ensures refusal { IfOk result (λ told. IfSome told (λ explanation.
+    ensures refusal { IfOk result (λ explained. IfSome explained (λ explanation.
         IsNoPlat notes.now.bytes.now explanation.refusal)) }
-    ensures none { IfOk result (λ told. told ≡ None → MakePlat notes.now.bytes.now) }
-    ensures shows { IfOk result (λ told. IfSome told (ShowsIn notes.now)) }
+    ensures none { IfOk result (λ explained. explained ≡ None → MakePlat notes.now.bytes.now) }
+    ensures shows { IfOk result (λ explained. IfSome explained (ShowsIn notes.now)) }
 {
     match plat_of(alloc, notes) {
         Ok(_) => Ok(None),
-        Err(stop) => Ok(Some(tell_stop(alloc, notes, stop)?)),
+        Err(stop) => Ok(Some(explain_stop(alloc, notes, stop)?)),
     }
 }
 
-/// What is told of the bytes of a description that describe no land on the plat of a township.
+/// The explanation of the bytes of a description that describe no land on the plat of a township.
 pub fn explain_description(
     alloc: Global,
     township: Township,
     description: &Given<'_>,
 ) -> Result<Option<Explanation>, AllocError>
-    ensures refusal { IfOk result (λ told. IfSome told (λ explanation.
+    ensures refusal { IfOk result (λ explained. IfSome explained (λ explanation.
         IsNoDescription township description.now.bytes.now explanation.refusal)) }
-    ensures spot { IfOk result (λ told. IfSome told (IsToldWhereRefused description.now)) }
-    ensures none { IfOk result (λ told. told ≡ None
+    ensures spot { IfOk result (λ explained. IfSome explained (IsExplainedWhereRefused description.now)) }
+    ensures none { IfOk result (λ explained. explained ≡ None
         → DescribeLand township description.now.bytes.now) }
-    ensures shows { IfOk result (λ told. IfSome told (ShowsIn description.now)) }
+    ensures shows { IfOk result (λ explained. IfSome explained (ShowsIn description.now)) }
 {
     let origin = Origin::of_file(*description);
     match describe(alloc, &origin, description.bytes, township) {
         Ok(()) => Ok(None),
-        Err(stop) => Ok(Some(tell_stop(alloc, description, stop)?)),
+        Err(stop) => Ok(Some(explain_stop(alloc, description, stop)?)),
     }
 }
 
-/// The fault of a list of tracts, and what is told of it.
+/// The fault of a list of tracts, and its explanation.
 #[derive(Drop)]
 pub struct ToldFault {
     /// The list's first fault.
     pub fault: TractFault,
-    /// What is told of it.
+    /// Its explanation.
     pub explanation: Explanation,
 }
 
-/// What is told of a list of tracts that has no account on a plat.
+/// The explanation of a list of tracts that has no account on a plat.
 pub fn explain_tracts(
     alloc: Global,
     plat: &Plat,
     tracts: &Given<'_>,
 ) -> Result<Option<ToldFault>, AllocError>
-    ensures first { IfOk result (λ told. IfSome told (λ it.
+    ensures first { IfOk result (λ explained. IfSome explained (λ it.
         IsFirstTractFault plat.now.township tracts.now.bytes.now it.fault)) }
-    ensures refusal { IfOk result (λ told. IfSome told (λ it.
+    ensures refusal { IfOk result (λ explained. IfSome explained (λ it.
         refusal_of it.fault ≡ Some it.explanation.refusal)) }
-    ensures none { IfOk result (λ told. told ≡ None → HasAccount plat.now tracts.now.bytes.now) }
-    ensures shows { IfOk result (λ told. IfSome told (λ it. ShowsIn tracts.now it.explanation)) }
+    ensures none { IfOk result (λ explained. explained ≡ None → HasAccount plat.now tracts.now.bytes.now) }
+    ensures shows { IfOk result (λ explained. IfSome explained (λ it. ShowsIn tracts.now it.explanation)) }
 {
     let Some(fault) = fault_of(alloc, plat, tracts.bytes)? else {
         return Ok(None);
@@ -79,12 +79,12 @@ pub fn explain_tracts(
     let Some(refusal) = fault.refusal() else {
         return Err(AllocError);
     };
-    let explanation = tell_fault(alloc, tracts, plat.township(), fault, refusal)?;
+    let explanation = explain_fault(alloc, tracts, plat.township(), fault, refusal)?;
     Ok(Some(ToldFault { fault, explanation }))
 }
 
 /// The message of a stop, where memory didn't run out.
-fn tell_stop(alloc: Global, file: &Given<'_>, stop: Failure) -> Result<Explanation, AllocError>
+fn explain_stop(alloc: Global, file: &Given<'_>, stop: Failure) -> Result<Explanation, AllocError>
     ensures refusal { IfOk result (λ explanation. IsOf stop explanation.refusal) }
     ensures spot { IfOk result (IsSpotOfStop file.now stop) }
     ensures shows { IfOk result (ShowsIn file.now) }
@@ -92,5 +92,5 @@ fn tell_stop(alloc: Global, file: &Given<'_>, stop: Failure) -> Result<Explanati
     let Failure::Found(finding) = stop else {
         return Err(AllocError);
     };
-    finding.tell(alloc, file)
+    finding.explain(alloc, file)
 }

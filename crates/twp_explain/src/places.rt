@@ -10,7 +10,7 @@ mod words;
 
 use crate::finding::Finding;
 use crate::places::items::{
-    begins_at, bytes_of, item_span, number_at, range_to, section_behind, section_of_number,
+    begins_at, bytes_of, item_span, number_at, range_to, section_after, section_of_number,
 };
 pub use crate::places::words::write_land;
 use crate::places::words::{
@@ -41,16 +41,16 @@ struct Described<'a> {
     township: Township,
 }
 
-/// What is told of one fault: where what is underlined of the text ends, which begins at the fault's
+/// The explanation of one fault: where what is underlined of the text ends, which begins at the fault's
 /// place; what is wrong with it, and what helps.
 #[derive(Drop)]
-struct Told {
+struct Explained {
     end: usize,
     sentence: String,
     help: String,
 }
 
-/// What is told of a description, read from a text, that has a fault on the plat of a township.
+/// The explanation of a description, read from a text, that has a fault on the plat of a township.
 pub fn find(
     alloc: Global,
     origin: &Origin<'_>,
@@ -72,33 +72,33 @@ pub fn find(
         description,
         township,
     };
-    let told = described.tell(alloc, fault)?;
+    let explained = described.explain(alloc, fault)?;
     let span = Span {
         start: origin.in_file(refusal.at as usize),
-        end: origin.in_file(told.end),
+        end: origin.in_file(explained.end),
     };
     Ok(Finding {
         refusal,
         place: Location::Part(span),
-        sentence: told.sentence,
-        help: told.help,
+        sentence: explained.sentence,
+        help: explained.help,
     })
 }
 
 impl<'a> Described<'a> {
-    /// What is told of a fault.
-    fn tell(&self, alloc: Global, fault: PlaceFault) -> Result<Told, AllocError>
-        ensures { IfOk result (λ told.
-            EndsAs (IsFaultSpan self.now.text.now self.now.description.now fault) told.end) }
+    /// The explanation of a fault.
+    fn explain(&self, alloc: Global, fault: PlaceFault) -> Result<Explained, AllocError>
+        ensures { IfOk result (λ explained.
+            EndsAs (IsFaultSpan self.now.text.now self.now.description.now fault) explained.end) }
     {
         match fault {
-            PlaceFault::OtherTownship { at } => self.tell_heading(alloc, at),
-            PlaceFault::NoSection { at } => self.tell_section(alloc, at),
-            PlaceFault::Backward { at } => self.tell_range(alloc, at),
-            PlaceFault::NoLot { at } => self.tell_lot(alloc, at),
-            PlaceFault::TooFine { at } => self.tell_fine_part(alloc, at),
-            PlaceFault::OnLot { at } => self.tell_part_of_lots(alloc, at),
-            PlaceFault::Overlap { at } => self.tell_overlap(alloc, at),
+            PlaceFault::OtherTownship { at } => self.explain_heading(alloc, at),
+            PlaceFault::NoSection { at } => self.explain_section(alloc, at),
+            PlaceFault::Backward { at } => self.explain_range(alloc, at),
+            PlaceFault::NoLot { at } => self.explain_lot(alloc, at),
+            PlaceFault::TooFine { at } => self.explain_fine_part(alloc, at),
+            PlaceFault::OnLot { at } => self.explain_part_of_lots(alloc, at),
+            PlaceFault::Overlap { at } => self.explain_overlap(alloc, at),
         }
     }
 
@@ -122,14 +122,14 @@ impl<'a> Described<'a> {
             if begins_at(item, at) {
                 break;
             }
-            section = section_behind(section, item);
+            section = section_after(section, item);
         }
         section
     }
 
     /// A heading of another township.
-    fn tell_heading(&self, alloc: Global, at: u32) -> Result<Told, AllocError>
-        ensures { IfOk result (λ told. EndsAs (IsHeadingSpan self.now.text.now at) told.end) }
+    fn explain_heading(&self, alloc: Global, at: u32) -> Result<Explained, AllocError>
+        ensures { IfOk result (λ explained. EndsAs (IsHeadingSpan self.now.text.now at) explained.end) }
     {
         let mut sentence = String::new(alloc);
         sentence.push_str("this heading says ")?;
@@ -138,7 +138,7 @@ impl<'a> Described<'a> {
         }
         sentence.push_str("; the field notes are for ")?;
         write_township(self.township, &mut sentence)?;
-        Ok(Told {
+        Ok(Explained {
             end: heading_span(self.text, at as usize).end,
             sentence,
             help: String::new(alloc),
@@ -146,8 +146,8 @@ impl<'a> Described<'a> {
     }
 
     /// A number that is no section's.
-    fn tell_section(&self, alloc: Global, at: u32) -> Result<Told, AllocError>
-        ensures { IfOk result (λ told. EndsAs (IsTokenSpan self.now.text.now at) told.end) }
+    fn explain_section(&self, alloc: Global, at: u32) -> Result<Explained, AllocError>
+        ensures { IfOk result (λ explained. EndsAs (IsTokenSpan self.now.text.now at) explained.end) }
     {
         let mut sentence = String::new(alloc);
         let number = number_at(self.description.items(), at);
@@ -156,7 +156,7 @@ impl<'a> Described<'a> {
             "there is no section {}: sections are 1 to 36",
             number
         )?;
-        Ok(Told {
+        Ok(Explained {
             end: token_span(self.text, at as usize).end,
             sentence,
             help: String::new(alloc),
@@ -164,8 +164,8 @@ impl<'a> Described<'a> {
     }
 
     /// A range whose last number is less than its first.
-    fn tell_range(&self, alloc: Global, at: u32) -> Result<Told, AllocError>
-        ensures { IfOk result (λ told. EndsAs (IsTokenSpan self.now.text.now at) told.end) }
+    fn explain_range(&self, alloc: Global, at: u32) -> Result<Explained, AllocError>
+        ensures { IfOk result (λ explained. EndsAs (IsTokenSpan self.now.text.now at) explained.end) }
     {
         let (first, last) = range_to(self.description.items(), at);
         let mut sentence = String::new(alloc);
@@ -176,7 +176,7 @@ impl<'a> Described<'a> {
         )?;
         let mut help = String::new(alloc);
         write!(help, "write {} to {}", last, first)?;
-        Ok(Told {
+        Ok(Explained {
             end: token_span(self.text, at as usize).end,
             sentence,
             help,
@@ -184,14 +184,14 @@ impl<'a> Described<'a> {
     }
 
     /// A number that is no lot's.
-    fn tell_lot(&self, alloc: Global, at: u32) -> Result<Told, AllocError>
-        ensures { IfOk result (λ told. EndsAs (IsTokenSpan self.now.text.now at) told.end) }
+    fn explain_lot(&self, alloc: Global, at: u32) -> Result<Explained, AllocError>
+        ensures { IfOk result (λ explained. EndsAs (IsTokenSpan self.now.text.now at) explained.end) }
     {
         let mut sentence = String::new(alloc);
         if let Some(section) = section_of_number(self.description.items(), at) {
             write_lots_of(section, &mut sentence)?;
         }
-        Ok(Told {
+        Ok(Explained {
             end: token_span(self.text, at as usize).end,
             sentence,
             help: String::new(alloc),
@@ -199,8 +199,8 @@ impl<'a> Described<'a> {
     }
 
     /// An aliquot part that is finer than places are.
-    fn tell_fine_part(&self, alloc: Global, at: u32) -> Result<Told, AllocError>
-        ensures { IfOk result (λ told. EndsAs (IsChainSpan self.now.text.now at) told.end) }
+    fn explain_fine_part(&self, alloc: Global, at: u32) -> Result<Explained, AllocError>
+        ensures { IfOk result (λ explained. EndsAs (IsChainSpan self.now.text.now at) explained.end) }
     {
         let mut sentence = String::new(alloc);
         sentence.push_str(
@@ -209,7 +209,7 @@ impl<'a> Described<'a> {
         let mut help = String::new(alloc);
         help.push_str("the smallest part is 0.625 acre, such as ")?;
         help.push_str("NE1/4NE1/4NE1/4NE1/4NE1/4")?;
-        Ok(Told {
+        Ok(Explained {
             end: chain_span(self.text, at as usize).end,
             sentence,
             help,
@@ -217,8 +217,8 @@ impl<'a> Described<'a> {
     }
 
     /// An aliquot part that includes land of lots.
-    fn tell_part_of_lots(&self, alloc: Global, at: u32) -> Result<Told, AllocError>
-        ensures { IfOk result (λ told. EndsAs (IsChainSpan self.now.text.now at) told.end) }
+    fn explain_part_of_lots(&self, alloc: Global, at: u32) -> Result<Explained, AllocError>
+        ensures { IfOk result (λ explained. EndsAs (IsChainSpan self.now.text.now at) explained.end) }
     {
         let mut sentence = String::new(alloc);
         let mut help = String::new(alloc);
@@ -231,7 +231,7 @@ impl<'a> Described<'a> {
                 write_lots_and_rest(&part, &mut help)?;
             }
         }
-        Ok(Told {
+        Ok(Explained {
             end: chain_span(self.text, at as usize).end,
             sentence,
             help,
@@ -271,9 +271,9 @@ impl<'a> Described<'a> {
     }
 
     /// Land that was named before.
-    fn tell_overlap(&self, alloc: Global, at: u32) -> Result<Told, AllocError>
-        ensures { IfOk result (λ told.
-            EndsAs (IsSpanAt self.now.text.now self.now.description.now at) told.end) }
+    fn explain_overlap(&self, alloc: Global, at: u32) -> Result<Explained, AllocError>
+        ensures { IfOk result (λ explained.
+            EndsAs (IsSpanAt self.now.text.now self.now.description.now at) explained.end) }
     {
         let items = self.description.items();
         let mut sentence = String::new(alloc);
@@ -285,7 +285,7 @@ impl<'a> Described<'a> {
                 write_land(&shared.text, &mut help)?;
             }
         }
-        Ok(Told {
+        Ok(Explained {
             end: self.span_at(at).end,
             sentence,
             help,
@@ -302,7 +302,7 @@ impl<'a> Described<'a> {
         }
     }
 
-    /// Appends an item as it is written, and where it stands.
+    /// Appends an item as it is written, and where it is.
     fn write_earlier(&self, item: &Item, out: &mut String) -> Result<(), AllocError> {
         let span = item_span(self.text, item);
         write_quoted(bytes_of(self.text, span), out)?;

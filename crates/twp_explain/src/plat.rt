@@ -16,7 +16,7 @@ const QUARTER: usize = 3;
 
 const CORNER: usize = 4;
 
-/// What is told of notes that make no plat.
+/// The explanation of notes that make no plat.
 pub fn find(
     alloc: Global,
     file: &Given<'_>,
@@ -58,7 +58,7 @@ fn place_of(record: &Option<Record<'_>>, field: usize) -> Location {
     }
 }
 
-/// What mends a record, where its text tells it.
+/// What mends a record, where its text shows it.
 fn advice_of(
     record: &Option<Record<'_>>,
     refusal: Refusal,
@@ -70,7 +70,7 @@ fn advice_of(
     }
 }
 
-/// What is told of a line besides its fault: its index, and some advice, or else a hint from its
+/// What the explanation says of a line besides its fault: its index, and some advice, or else a hint from its
 /// distances.
 fn help(
     alloc: Global,

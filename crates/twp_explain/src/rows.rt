@@ -19,7 +19,7 @@ const NAME_MOST: usize = 64;
 const SHOWN_MOST: usize = 100;
 
 /// Tells of a record that isn't the heading, or isn't a tract.
-pub(crate) fn tell(
+pub(crate) fn explain(
     alloc: Global,
     listed: &Listed<'_>,
     finding: &mut Finding,
@@ -201,7 +201,7 @@ fn is_unquoted(listed: &Listed<'_>) -> bool {
     listed.len() > 2 && begins && !rest.contains(&b'"')
 }
 
-/// Whether a whole description, with its full stop, ends before the last field, which may then be
+/// Whether a whole description, with its period, ends before the last field, which may then be
 /// another column.
 fn ends_before_last(alloc: Global, listed: &Listed<'_>) -> Result<bool, AllocError> {
     let front = listed.written_before_last(1);

@@ -52,7 +52,7 @@ fn tract_into<L: Land>(
     land_into(alloc, township, &row, land)
 }
 
-/// The first of so many tracts of a list that shares land with the one behind them, whose land this
+/// The first of so many tracts of a list that shares land with the one after them, whose land this
 /// is.
 #[inline(never)]
 fn first_before<L: Land>(

@@ -10,7 +10,7 @@ mod character;
 use crate::finding::Finding;
 use crate::text::character::write_not_allowed;
 use std::alloc::{AllocError, Global};
-use twp_diagnose::{Location, Origin, Sight};
+use twp_diagnose::{Location, Origin, Surroundings};
 use twp_excerpt::{Span, write_escaped};
 use twp_grammar::Expected;
 use twp_grid::Refusal;
@@ -20,7 +20,7 @@ use twp_repairs::advice_on;
 /// The most bytes of a token that a sentence quotes.
 const QUOTED_LIMIT: usize = 20;
 
-/// What is told of a text, which is the whole of its file or a field of it, that has a fault.
+/// The explanation of a text, which is the whole of its file or a field of it, that has a fault.
 pub fn find(
     alloc: Global,
     origin: &Origin<'_>,
@@ -35,7 +35,7 @@ pub fn find(
         → EndsWithSign text.now refusal.at finding.place) }
 {
     let expected = expected(fault);
-    let sight = Sight::of(text, refusal, expected);
+    let sight = Surroundings::of(text, refusal, expected);
     let mut sentence = String::new(alloc);
     write_sentence(&sight, fault, &mut sentence)?;
     let advice = advice_on(alloc, text, refusal, expected)?;
@@ -57,7 +57,7 @@ fn expected(fault: TextFault) -> Option<Expected> {
 
 /// What is underlined: the refused sign, or the place where the text ends.
 #[tactic(auto, using(crate::proofs::UnderlinedFacts::shows_a_part))]
-fn place(origin: &Origin<'_>, text: &[u8], sight: &Sight<'_>, fault: TextFault) -> Location
+fn place(origin: &Origin<'_>, text: &[u8], sight: &Surroundings<'_>, fault: TextFault) -> Location
     ensures begins { IsTextOf origin.now text.now
         → ShowsAt text.now fault sight.now.start result }
     ensures ends { fault ≢ TooLarge → IsTextOf origin.now text.now
@@ -75,7 +75,7 @@ fn place(origin: &Origin<'_>, text: &[u8], sight: &Sight<'_>, fault: TextFault) 
 }
 
 /// Appends what is wrong.
-fn write_sentence(sight: &Sight<'_>, fault: TextFault, out: &mut String) -> Result<(), AllocError> {
+fn write_sentence(sight: &Surroundings<'_>, fault: TextFault, out: &mut String) -> Result<(), AllocError> {
     match fault {
         TextFault::TooLarge => out.push_str("the description is longer than 65,536 bytes"),
         TextFault::BadByte { .. } => write_not_allowed(sight.at.bytes, out),
@@ -89,7 +89,7 @@ fn write_sentence(sight: &Sight<'_>, fault: TextFault, out: &mut String) -> Resu
 }
 
 /// Appends what goes wrong at a token, or where a text ends.
-fn write_syntax(sight: &Sight<'_>, expected: Expected, out: &mut String) -> Result<(), AllocError> {
+fn write_syntax(sight: &Surroundings<'_>, expected: Expected, out: &mut String) -> Result<(), AllocError> {
     if !sight.at.bytes.is_empty() {
         out.push_str("unexpected `")?;
         write_quoted(sight.at.bytes, out)?;

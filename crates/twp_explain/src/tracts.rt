@@ -19,7 +19,7 @@ use twp_spell::spell;
 /// The number of the record after the heading, the first one of a tract.
 const FIRST_TRACT: u32 = 2;
 
-/// What is told of a list of tracts that has a fault, on the plat of a township.
+/// The explanation of a list of tracts that has a fault, on the plat of a township.
 #[inline(never)]
 pub(crate) fn find(
     alloc: Global,
@@ -40,18 +40,18 @@ pub(crate) fn find(
         help: String::new(alloc),
     };
     match fault {
-        TractFault::TractRow(_) => rows::tell(alloc, &listed, &mut finding)?,
-        TractFault::NameRepeated(_) => tell_name(alloc, &listed, &mut finding)?,
+        TractFault::TractRow(_) => rows::explain(alloc, &listed, &mut finding)?,
+        TractFault::NameRepeated(_) => explain_name(alloc, &listed, &mut finding)?,
         TractFault::TractRefused { .. } => {
-            tell_description(alloc, &listed, township, &mut finding)?
+            explain_tract(alloc, &listed, township, &mut finding)?
         }
-        TractFault::TractsOverlap(_) => tell_overlap(alloc, &listed, township, &mut finding)?,
-        _ => tell_many(&listed, &mut finding)?,
+        TractFault::TractsOverlap(_) => explain_overlap(alloc, &listed, township, &mut finding)?,
+        _ => explain_many(&listed, &mut finding)?,
     }
     Ok(finding)
 }
 
-/// What is told of a list of too many bytes, or without a heading.
+/// The explanation of a list of too many bytes, or without a heading.
 fn find_none(alloc: Global, fault: TractFault, refusal: Refusal) -> Result<Finding, AllocError>
     ensures refusal { IfOk result (λ finding. finding.refusal ≡ refusal) }
 {
@@ -72,7 +72,7 @@ fn find_none(alloc: Global, fault: TractFault, refusal: Refusal) -> Result<Findi
 }
 
 /// Tells of one tract too many.
-fn tell_many(listed: &Listed<'_>, finding: &mut Finding) -> Result<(), AllocError>
+fn explain_many(listed: &Listed<'_>, finding: &mut Finding) -> Result<(), AllocError>
     ensures refusal { finding.new.refusal ≡ finding.old.refusal }
 {
     write!(
@@ -85,7 +85,7 @@ fn tell_many(listed: &Listed<'_>, finding: &mut Finding) -> Result<(), AllocErro
 
 /// Tells of a tract that has the name of an earlier one.
 #[inline(never)]
-fn tell_name(alloc: Global, listed: &Listed<'_>, finding: &mut Finding) -> Result<(), AllocError>
+fn explain_name(alloc: Global, listed: &Listed<'_>, finding: &mut Finding) -> Result<(), AllocError>
     ensures refusal { finding.new.refusal ≡ finding.old.refusal }
 {
     finding.place = Location::Field(listed.span(0));
@@ -123,7 +123,7 @@ fn first_named(alloc: Global, listed: &Listed<'_>) -> Result<u32, AllocError> {
 
 /// Tells of a tract whose description is refused.
 #[inline(never)]
-fn tell_description(
+fn explain_tract(
     alloc: Global,
     listed: &Listed<'_>,
     township: Township,
@@ -156,7 +156,7 @@ fn tell_description(
 
 /// Tells of a tract that shares land with an earlier one.
 #[inline(never)]
-fn tell_overlap(
+fn explain_overlap(
     alloc: Global,
     listed: &Listed<'_>,
     township: Township,

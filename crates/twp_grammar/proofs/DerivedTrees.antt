@@ -96,18 +96,18 @@ alternatives g never = alone_left g
 alternatives g h = themselves (g ∣ h)
 
 -- a sequence in which the first grammar has no trees, or no tokens
-abbrev behind_never : (k : Ebnf) → Tree (never ⨾ k) → ⊥
-behind_never k (none & w) = none
+abbrev after_never : (k : Ebnf) → Tree (never ⨾ k) → ⊥
+after_never k (none & w) = none
 
-abbrev behind_nothing : (k : Ebnf) → Tree (nothing ⨾ k) → Tree k
-behind_nothing k (_ & w) = w
+abbrev after_nothing : (k : Ebnf) → Tree (nothing ⨾ k) → Tree k
+after_nothing k (_ & w) = w
 
-behind_nothing_back : (k : Ebnf) (v : Tree (nothing ⨾ k)) → tt & behind_nothing k v ≡ v
-behind_nothing_back k (_ & w) = refl
+after_nothing_back : (k : Ebnf) (v : Tree (nothing ⨾ k)) → tt & after_nothing k v ≡ v
+after_nothing_back k (_ & w) = refl
 
-behind_nothing_spelled : (k : Ebnf) (v : Tree (nothing ⨾ k))
-    → tokens k (behind_nothing k v) ≡ tokens (nothing ⨾ k) v
-behind_nothing_spelled k (_ & w) = refl
+after_nothing_spelled : (k : Ebnf) (v : Tree (nothing ⨾ k))
+    → tokens k (after_nothing k v) ≡ tokens (nothing ⨾ k) v
+after_nothing_spelled k (_ & w) = refl
 
 -- two and one more, regrouped as one and two more
 abbrev with_two : (g h k : Ebnf) → Tree g → Tree (h ⨾ k) → Tree ((g ⨾ h) ⨾ k)
@@ -133,15 +133,15 @@ apart_spelled g h k stand ((x & y) & z) =
 pub sequences : (g k : Ebnf) → StandFor (seq g k) (g ⨾ k)
 sequences never k = record {
   into = λ none. absurd none;
-  out = behind_never k;
-  back = λ v. absurd (behind_never k v);
-  spelled = λ v. absurd (behind_never k v);
+  out = after_never k;
+  back = λ v. absurd (after_never k v);
+  spelled = λ v. absurd (after_never k v);
 }
 sequences nothing k = record {
   into = λ w. tt & w;
-  out = behind_nothing k;
-  back = behind_nothing_back k;
-  spelled = behind_nothing_spelled k;
+  out = after_nothing k;
+  back = after_nothing_back k;
+  spelled = after_nothing_spelled k;
 }
 sequences (g ⨾ h) k =
     let stand : StandFor (seq h k) (h ⨾ k) = sequences h k in

@@ -295,10 +295,10 @@ stripped (many g) single token ts (x ∷ xs) first =
 abbrev HasOneTree : Ebnf → List Token → Type 0
 HasOneTree g ts = (v w : Tree g) → tokens g v ≡ ts → tokens g w ≡ ts → v ≡ w
 
-one_behind : (s : State) (c : Class) (ts : List Token) → ((s' : State) → HasOneTree (table.rest s') ts)
+one_after : (s : State) (c : Class) (ts : List Token) → ((s' : State) → HasOneTree (table.rest s') ts)
     → (o : Option State) → next s c ≡ o → HasOneTree (after c (table.rest s)) ts
-one_behind s c ts each None stuck v w e e' = absurd (subst (λ (g : Ebnf). Tree g) (table.no_edge s c stuck) v)
-one_behind s c ts each (Some s') step v w e e' =
+one_after s c ts each None stuck v w e e' = absurd (subst (λ (g : Ebnf). Tree g) (table.no_edge s c stuck) v)
+one_after s c ts each (Some s') step v w e e' =
     subst (λ (g : Ebnf). HasOneTree g ts) (sym (table.edge s s' c step)) (each s') v w e e'
 
 one_of_rest : (ts : List Token) (s : State) → HasOneTree (table.rest s) ts
@@ -307,7 +307,7 @@ one_of_rest (token ∷ ts) s v w e e' =
     let made = stripped (table.rest s) (table.one_empty s) token ts v e in
     let made' = stripped (table.rest s) (table.one_empty s) token ts w e' in
     let behind : HasOneTree (past token (table.rest s)) ts =
-    one_behind s (class_of token.kind) ts (one_of_rest ts) (next s (class_of token.kind)) refl in
+    one_after s (class_of token.kind) ts (one_of_rest ts) (next s (class_of token.kind)) refl in
     let same : made.tree ≡ made'.tree = behind made.tree made'.tree made.spelled made'.spelled in
     sym made.back ∙ ap (put token (table.rest s)) same ∙ made'.back
 

@@ -6,15 +6,15 @@ use Rattle.twp_grammar.specs.declared.state.State.TheVariants as past
 use Rattle.twp_grammar.specs.Grammar.{lot, sec, north_south, east_west, corner}
 use Rattle.twp_grammar.specs.Machine.{next, is_in_chain}
 
-pub leads_on : (o : Option State) (behind : State) → is_some o ≡ true
-    → Some behind ≡ option_map (λ _. behind) o
-leads_on None behind h = cc h
-leads_on (Some s) behind h = refl
+pub leads_on : (o : Option State) (after : State) → is_some o ≡ true
+    → Some after ≡ option_map (λ _. after) o
+leads_on None after h = cc h
+leads_on (Some s) after h = refl
 
-pub leads_nowhere : (o : Option State) (behind : State) → is_some o ≡ false
-    → None ≡ option_map (λ _. behind) o
-leads_nowhere None behind h = refl
-leads_nowhere (Some s) behind h = cc h
+pub leads_nowhere : (o : Option State) (after : State) → is_some o ≡ false
+    → None ≡ option_map (λ _. after) o
+leads_nowhere None after h = refl
+leads_nowhere (Some s) after h = cc h
 
 pub ruleset leads = (leads_on, leads_nowhere)
 

@@ -11,7 +11,7 @@ use Rattle.twp_grammar.specs.Grammar.{east_west, corner, half, quarter, number, 
 use Rattle.twp_grammar.specs.Grammar.{other, bad_number, bad_byte, Ebnf, never, nothing, one, ◌⨾◌, ◌∣◌, many}
 use Rattle.twp_grammar.specs.Grammar.{description}
 use Rattle.twp_grammar.specs.Machine.{next, is_final}
-use Rattle.twp_grammar.specs.Expected.{told, named, expected_of, IsNamed}
+use Rattle.twp_grammar.specs.Expected.{reported, named, expected_of, IsNamed}
 use Rattle.twp_grammar.proofs.Derivatives.{classes, place_of_class, class_at_place, same_class}
 use Rattle.twp_grammar.proofs.Derivatives.{same_class_tells, is_nullable, has_one_empty, both, after}
 
@@ -160,13 +160,13 @@ record Row (s : State) : Type 0 where
   no_number : next s bad_number ≡ None
   no_word : next s other ≡ None
   names_all : list_all (λ c. is_among c (next s c) (named (expected_of s))) classes ≡ true
-  tells_all : list_all (λ c. is_some (next s c)) (told (expected_of s)) ≡ true
+  tells_all : list_all (λ c. is_some (next s c)) (reported (expected_of s)) ≡ true
 
 a_row : {s : State} → list_all (λ c. is_edge s c (next s c)) classes ≡ true → is_end s (is_final s) ≡ true
     → has_one_empty (rest s) ≡ true → leads_out (Some s) (way_out s) ≡ true → length (way_out s) ≤ 7
     → next s bad_byte ≡ None → next s bad_number ≡ None → next s other ≡ None
     → list_all (λ c. is_among c (next s c) (named (expected_of s))) classes ≡ true
-    → list_all (λ c. is_some (next s c)) (told (expected_of s)) ≡ true
+    → list_all (λ c. is_some (next s c)) (reported (expected_of s)) ≡ true
     → Row s
 a_row edges end empty out few no_byte no_number no_word names_all tells_all = record {
   edges = edges;
@@ -338,5 +338,5 @@ told_among s c (d ∷ ds) each is =
       | inr later ↦ told_among s c ds parts.1 later
     ]
 
-pub told_follows : (s : State) (c : Class) → IsNamed c (told (expected_of s)) → is_some (next s c) ≡ true
-told_follows s c is = told_among s c (told (expected_of s)) (row s).tells_all is
+pub told_follows : (s : State) (c : Class) → IsNamed c (reported (expected_of s)) → is_some (next s c) ≡ true
+told_follows s c is = told_among s c (reported (expected_of s)) (row s).tells_all is

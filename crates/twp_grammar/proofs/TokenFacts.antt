@@ -30,9 +30,9 @@ first_of : (left : List ℕ) → 0 < length left → begins_with is_white left �
 first_of [] some ends = absurd (omega arith)
 first_of (byte ∷ bytes) some ends = cut_is_token byte bytes ends
 
-pub first_behind : (bytes : List ℕ) → 0 < length (drop (spaces bytes) bytes)
+pub first_after : (bytes : List ℕ) → 0 < length (drop (spaces bytes) bytes)
     → IsFirstToken (drop (spaces bytes) bytes) (cut (drop (spaces bytes) bytes))
-first_behind bytes some = first_of (drop (spaces bytes) bytes) some (front_ends is_white bytes)
+first_after bytes some = first_of (drop (spaces bytes) bytes) some (front_ends is_white bytes)
 
 pub starts_with : (at : ℕ) (bytes : List ℕ) → 0 < length (drop (spaces bytes) bytes)
     → StartsWith at bytes
@@ -41,7 +41,7 @@ pub starts_with : (at : ℕ) (bytes : List ℕ) → 0 < length (drop (spaces byt
 starts_with at bytes some =
     let left = drop (spaces bytes) bytes in
     let l = cut left in
-    let first : IsFirstToken left l = first_behind bytes some in
+    let first : IsFirstToken left l = first_after bytes some in
     record {
       space = take (spaces bytes) bytes;
       white = all_white bytes;
@@ -66,18 +66,18 @@ no_more bytes e =
     subst (λ (t : List ℕ). AllPass is_white t) whole (all_white bytes)
 
 -- the bytes from the place after the white space
-behind_spaces : (text : List ℕ) (from at : ℕ) → at ≡ from + spaces (drop from text)
+after_spaces : (text : List ℕ) (from at : ℕ) → at ≡ from + spaces (drop from text)
     → drop (spaces (drop from text)) (drop from text) ≡ drop at text
-behind_spaces text from at is = drop-drop (spaces (drop from text)) from text ∙ ap (λ n. drop n text) (sym is)
+after_spaces text from at is = drop-drop (spaces (drop from text)) from text ∙ ap (λ n. drop n text) (sym is)
 
 -- the token that is split off there
 pub first_at : (text : List ℕ) (from at : ℕ) → at ≡ from + spaces (drop from text) → at < length text
     → IsFirstToken (drop at text) (cut (drop at text))
 first_at text from at is below =
     let left : drop (spaces (drop from text)) (drop from text) ≡ drop at text =
-    behind_spaces text from at is in
+    after_spaces text from at is in
     subst (λ (b : List ℕ). IsFirstToken b (cut b)) left
-    (first_behind (drop from text) (rw left (rw (length-drop at text) (omega arith))))
+    (first_after (drop from text) (rw left (rw (length-drop at text) (omega arith))))
 
 pub first_in : (text : List ℕ) (from at : ℕ) (l : Lexeme) (token : List ℕ)
     → at ≡ from + spaces (drop from text) → at < length text → l ≡ cut (drop at text)
@@ -85,7 +85,7 @@ pub first_in : (text : List ℕ) (from at : ℕ) (l : Lexeme) (token : List ℕ)
     → IsFirstIn text from (record { kind = l.kind; text = token; at = at })
 first_in text from at l token is below l_is token_is =
     let bytes : List ℕ = drop from text in
-    let left : drop (spaces bytes) bytes ≡ drop at text = behind_spaces text from at is in
+    let left : drop (spaces bytes) bytes ≡ drop at text = after_spaces text from at is in
     let some : 0 < length (drop at text) = rw (length-drop at text) (omega arith) in
     let first : IsFirstToken (drop at text) l =
     subst (λ (m : Lexeme). IsFirstToken (drop at text) m) (sym l_is) (first_at text from at is below) in
@@ -116,7 +116,7 @@ pub none_in : (text : List ℕ) (from : ℕ) → length text ≡ from + spaces (
     → AllPass is_white (drop from text)
 none_in text from is =
     no_more (drop from text)
-    (behind_spaces text from (length text) is ∙ drop_all (length text) text (omega arith))
+    (after_spaces text from (length text) is ∙ drop_all (length text) text (omega arith))
 
 -- facts about a token that the bytes begin with
 record IsStart (at : ℕ) (bytes : List ℕ) (token : Token) (rest : List ℕ) : Type 0 where
@@ -220,15 +220,15 @@ cut_one n others at bytes few (byte ∷ more) e =
     let left : List ℕ = drop (spaces bytes) bytes in
     let long : length left ≡ length (byte ∷ more) = ap length e in
     let some : 0 < length left = omega arith in
-    let first : IsFirstToken left (cut left) = first_behind bytes some in
+    let first : IsFirstToken left (cut left) = first_after bytes some in
     let size : 0 < (cut left).size = first.some in
     let shorter : length (drop (cut left).size left) ≡ length left - (cut left).size =
     length-drop (cut left).size left in
     let whole : length left ≡ length bytes - spaces bytes = length-drop (spaces bytes) bytes in
     let token : Token = token_with (cut left) (at + spaces bytes) left in
-    let behind : Cutting (token.at + length token.text) (drop (cut left).size left) =
+    let after : Cutting (token.at + length token.text) (drop (cut left).size left) =
     others (token.at + length token.text) (drop (cut left).size left) (omega arith) in
-    (token ∷ behind.0, (drop (cut left).size left, starts_with at bytes some, behind.1))
+    (token ∷ after.0, (drop (cut left).size left, starts_with at bytes some, after.1))
 
 cutting : (n : ℕ) (at : ℕ) (bytes : List ℕ) → length bytes ≤ n → Cutting at bytes
 cutting zero at bytes few = (

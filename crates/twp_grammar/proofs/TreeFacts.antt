@@ -4,7 +4,7 @@ use Rattle.std.proofs.Common.{true, false, map}
 use Rattle.std.specs.List.{flat_map}
 use Rattle.twp_grammar.specs.Tokens.{Token}
 use Rattle.twp_grammar.specs.Grammar.{Ebnf, never, nothing, one, ◌⨾◌, ◌∣◌, many, heading, description}
-use Rattle.twp_grammar.specs.Items.{token_of, ◌&◌, Tree, tokens, behind, items, numeral, end_of, range_of}
+use Rattle.twp_grammar.specs.Items.{token_of, ◌&◌, Tree, tokens, after, items, numeral, end_of, range_of}
 use Rattle.twp_grammar.specs.Items.{whole_sections_item, parts_items, group_items, heading_item}
 use Rattle.twp_grammar.specs.Items.{BeginWithSections}
 use Rattle.twp_grammar.specs.declared.item.Item.{Item}
@@ -47,23 +47,23 @@ onto_is (g ∣ h) (inr w) ts = onto_is h w ts
 onto_is (many g) vs ts = each_onto_is (λ v us. onto g v us) (λ v. tokens g v) (λ v us. onto_is g v us) vs ts
 
 -- a sentence names sections first
-behind_heading : (h : Tree heading) (first last : Numeral) (whole : Bool) (more : List Item)
+after_heading : (h : Tree heading) (first last : Numeral) (whole : Bool) (more : List Item)
     → BeginWithSections (heading_item h ∷ item.Sections first last whole ∷ more)
-behind_heading (letter & st & n & side & st2 & c & r & st3 & m & way & st4 & c2) first last whole more = tt
+after_heading (letter & st & n & side & st2 & c & r & st3 & m & way & st4 & c2) first last whole more = tt
 
 pub tree_begins : (v : Tree description) → BeginWithSections (items v)
 tree_begins (inl h & inl (word & st & n & inl (mark & v)) & more & end) =
-    behind_heading h (numeral n) (numeral n) false
-    (parts_items v ++ flat_map (behind (behind group_items)) more)
+    after_heading h (numeral n) (numeral n) false
+    (parts_items v ++ flat_map (after (after group_items)) more)
 tree_begins (inl h & inl (word & st & n & inr _) & more & end) =
-    behind_heading h (numeral n) (numeral n) true (flat_map (behind (behind group_items)) more)
+    after_heading h (numeral n) (numeral n) true (flat_map (after (after group_items)) more)
 tree_begins (inl h & inr (word & st & (n & inl thru & others) & w) & more & end) =
-    behind_heading h (numeral n) (end_of thru) true
-    (map whole_sections_item (map (behind range_of) others) ++ flat_map (behind (behind group_items)) more)
+    after_heading h (numeral n) (end_of thru) true
+    (map whole_sections_item (map (after range_of) others) ++ flat_map (after (after group_items)) more)
 tree_begins (inl h & inr (word & st & (n & inr (s & second) & others) & w) & more & end) =
-    behind_heading h (numeral n) (numeral n) true
-    (whole_sections_item (range_of second) ∷ map whole_sections_item (map (behind range_of) others)
-    ++ flat_map (behind (behind group_items)) more)
+    after_heading h (numeral n) (numeral n) true
+    (whole_sections_item (range_of second) ∷ map whole_sections_item (map (after range_of) others)
+    ++ flat_map (after (after group_items)) more)
 tree_begins (inr _ & inl (word & st & n & inl (mark & v)) & more & end) = tt
 tree_begins (inr _ & inl (word & st & n & inr _) & more & end) = tt
 tree_begins (inr _ & inr (word & st & (n & inl thru & others) & w) & more & end) = tt

@@ -17,37 +17,37 @@ abbrev pub marks : List Class
 marks = comma ∷ stop ∷ []
 
 -- the classes of tokens that are reported as expected: each can come next
-abbrev pub told : Expected → List Class
-told expected.Beginning = t ∷ sec ∷ []
-told expected.TownshipNumber = number ∷ []
-told expected.TownshipSide = north_south ∷ []
-told expected.Range = r ∷ []
-told expected.RangeNumber = number ∷ []
-told expected.RangeSide = east_west ∷ []
-told expected.Sections = sec ∷ []
-told expected.SectionNumber = number ∷ []
-told expected.PartsOrSections = to ∷ and ∷ semicolon ∷ colon ∷ marks ++ part_begins
-told expected.PartOrSection = and ∷ number ∷ part_begins
-told expected.MoreSections = and ∷ all ∷ semicolon ∷ colon ∷ marks
-told expected.InclusiveOrMoreSections = inclusive ∷ and ∷ all ∷ semicolon ∷ colon ∷ marks
-told expected.LastSection = number ∷ []
-told expected.SectionOrAll = number ∷ and ∷ all ∷ []
-told expected.InclusiveSectionOrAll = inclusive ∷ number ∷ and ∷ all ∷ []
-told expected.All = all ∷ []
-told expected.GroupEnd = semicolon ∷ stop ∷ []
-told expected.LotNumber = number ∷ []
-told expected.MoreLots = and ∷ semicolon ∷ marks
-told expected.InclusiveOrMoreLots = inclusive ∷ and ∷ semicolon ∷ marks
-told expected.LastLot = number ∷ []
-told expected.LotOrPart = number ∷ part_begins
-told expected.InclusiveLotOrPart = inclusive ∷ number ∷ and ∷ part_begins
-told expected.Part = part_begins
-told expected.Half = half ∷ []
-told expected.Quarter = quarter ∷ []
-told expected.MoreStepsOrParts = of ∷ north_south ∷ east_west ∷ corner ∷ and ∷ semicolon ∷ marks
-told expected.MoreParts = and ∷ semicolon ∷ marks
-told expected.Step = north_south ∷ east_west ∷ corner ∷ []
-told expected.Nothing = []
+abbrev pub reported : Expected → List Class
+reported expected.Beginning = t ∷ sec ∷ []
+reported expected.TownshipNumber = number ∷ []
+reported expected.TownshipSide = north_south ∷ []
+reported expected.Range = r ∷ []
+reported expected.RangeNumber = number ∷ []
+reported expected.RangeSide = east_west ∷ []
+reported expected.Sections = sec ∷ []
+reported expected.SectionNumber = number ∷ []
+reported expected.PartsOrSections = to ∷ and ∷ semicolon ∷ colon ∷ marks ++ part_begins
+reported expected.PartOrSection = and ∷ number ∷ part_begins
+reported expected.MoreSections = and ∷ all ∷ semicolon ∷ colon ∷ marks
+reported expected.InclusiveOrMoreSections = inclusive ∷ and ∷ all ∷ semicolon ∷ colon ∷ marks
+reported expected.LastSection = number ∷ []
+reported expected.SectionOrAll = number ∷ and ∷ all ∷ []
+reported expected.InclusiveSectionOrAll = inclusive ∷ number ∷ and ∷ all ∷ []
+reported expected.All = all ∷ []
+reported expected.GroupEnd = semicolon ∷ stop ∷ []
+reported expected.LotNumber = number ∷ []
+reported expected.MoreLots = and ∷ semicolon ∷ marks
+reported expected.InclusiveOrMoreLots = inclusive ∷ and ∷ semicolon ∷ marks
+reported expected.LastLot = number ∷ []
+reported expected.LotOrPart = number ∷ part_begins
+reported expected.InclusiveLotOrPart = inclusive ∷ number ∷ and ∷ part_begins
+reported expected.Part = part_begins
+reported expected.Half = half ∷ []
+reported expected.Quarter = quarter ∷ []
+reported expected.MoreStepsOrParts = of ∷ north_south ∷ east_west ∷ corner ∷ and ∷ semicolon ∷ marks
+reported expected.MoreParts = and ∷ semicolon ∷ marks
+reported expected.Step = north_south ∷ east_west ∷ corner ∷ []
+reported expected.Nothing = []
 
 -- the marks and words that can come before them, after some of the beginnings for which they are
 -- reported
@@ -66,7 +66,7 @@ leading _ = []
 
 -- every token that can come next belongs to one of these classes
 abbrev pub named : Expected → List Class
-named e = told e ++ leading e
+named e = reported e ++ leading e
 
 -- the class is named
 abbrev pub IsNamed : Class → List Class → Type 0

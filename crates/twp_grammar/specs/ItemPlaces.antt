@@ -55,15 +55,15 @@ item_places g part section column row =
     is_place g column row && in_item g part.section part.item section column row
 
 -- the section of the next item: lots, aliquot parts, and `all` belong to the section named last
-abbrev pub section_behind : ℕ → Item → ℕ
-section_behind section (Sections first last whole) = first.value
-section_behind section other = section
+abbrev pub section_after : ℕ → Item → ℕ
+section_after section (Sections first last whole) = first.value
+section_after section other = section
 
 -- each item of a list with its section, if the list follows this section
 abbrev pub with_sections : ℕ → List Item → List ItemOfSection
 with_sections section [] = []
 with_sections section (item ∷ items) =
-    record { section = section; item = item } ∷ with_sections (section_behind section item) items
+    record { section = section; item = item } ∷ with_sections (section_after section item) items
 
 -- the items of a description, each with its section; before the first section there is none
 abbrev pub parts_of : List Item → List ItemOfSection

@@ -35,8 +35,8 @@ pub data Then (A B : Type 0) : Type 0 where
   ◌&◌ : A → B → Then A B
 
 -- the value that is read from the second tree
-abbrev pub behind : {A B C : Type 0} → (B → C) → Then A B → C
-behind read (_ & w) = read w
+abbrev pub after : {A B C : Type 0} → (B → C) → Then A B → C
+after read (_ & w) = read w
 
 -- the derivations in a grammar
 abbrev pub Tree : Ebnf → Type 0
@@ -85,7 +85,7 @@ place_of_step (inr (corner & _)) = corner.at
 
 -- a chain has the place of its first token
 abbrev pub chain_item : Tree chain → Item
-chain_item (first & more) = Chain (step_of first ∷ map (behind step_of) more) (place_of_step first)
+chain_item (first & more) = Chain (step_of first ∷ map (after step_of) more) (place_of_step first)
 
 -- the numbers from first to last
 pub record Range : Type 0 where
@@ -103,15 +103,15 @@ range_of (only & inr _) = record { first = numeral only; last = numeral only }
 
 -- the ranges of entries, in order
 abbrev pub ranges_of : Tree entries → List Range
-ranges_of (first & more) = range_of first ∷ map (behind range_of) more
+ranges_of (first & more) = range_of first ∷ map (after range_of) more
 
 -- the ranges of several entries, in order
 abbrev pub ranges_of_several : Tree several → List Range
 ranges_of_several (first & inl thru & more) =
-    record { first = numeral first; last = end_of thru } ∷ map (behind range_of) more
+    record { first = numeral first; last = end_of thru } ∷ map (after range_of) more
 ranges_of_several (first & inr (_ & second) & more) =
     record { first = numeral first; last = numeral first } ∷ range_of second
-    ∷ map (behind range_of) more
+    ∷ map (after range_of) more
 
 -- the lots of a range
 abbrev pub lots_item : Range → Item
@@ -129,7 +129,7 @@ part_items (inr (inr word)) = All word.at ∷ []
 
 -- the items of parts, in order
 abbrev pub parts_items : Tree parts → List Item
-parts_items (first & more) = part_items first ++ flat_map (behind part_items) more
+parts_items (first & more) = part_items first ++ flat_map (after part_items) more
 
 -- sections, and then their parts; `all` after several sections is not an item
 abbrev pub group_items : Tree group → List Item
@@ -146,8 +146,8 @@ heading_item (letter & _ & township & side & _ & _ & _ & _ & range & way & _) =
 -- the items of a description: its heading, and those of its groups in order
 abbrev pub items : Tree description → List Item
 items (inl v & first & more & _) =
-    heading_item v ∷ group_items first ++ flat_map (behind (behind group_items)) more
-items (inr _ & first & more & _) = group_items first ++ flat_map (behind (behind group_items)) more
+    heading_item v ∷ group_items first ++ flat_map (after (after group_items)) more
+items (inr _ & first & more & _) = group_items first ++ flat_map (after (after group_items)) more
 
 -- the items begin with sections, after a heading or immediately
 abbrev pub BeginWithSections : List Item → Type 0

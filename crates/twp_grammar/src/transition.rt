@@ -86,11 +86,11 @@ impl State {
     /// The first token of a part of one section, which leads to the given state.
     #[inline(always)]
     #[tactic(auto, using(crate::proofs::StateFacts::leads))]
-    fn with_part(self, behind: State) -> Option<State>
-        ensures { result ≡ option_map (λ _. behind) (next self lot) }
+    fn with_part(self, after: State) -> Option<State>
+        ensures { result ≡ option_map (λ _. after) (next self lot) }
     {
         if self.begins_part() {
-            Some(behind)
+            Some(after)
         } else {
             None
         }
@@ -99,11 +99,11 @@ impl State {
     /// The first token of a step, which leads to the given state.
     #[inline(always)]
     #[tactic(auto, using(crate::proofs::StateFacts::leads))]
-    fn with_step(self, behind: State) -> Option<State>
-        ensures { result ≡ option_map (λ _. behind) (next self corner) }
+    fn with_step(self, after: State) -> Option<State>
+        ensures { result ≡ option_map (λ _. after) (next self corner) }
     {
         if self.begins_step() {
-            Some(behind)
+            Some(after)
         } else {
             None
         }
@@ -271,8 +271,8 @@ impl State {
 
     /// The end of a group, which leads to the given state.
     #[inline(always)]
-    fn with_end(self, behind: State) -> Option<State>
-        ensures { result ≡ option_map (λ _. behind) (next self semicolon) }
+    fn with_end(self, after: State) -> Option<State>
+        ensures { result ≡ option_map (λ _. after) (next self semicolon) }
     {
         match self {
             State::SectionNumber
@@ -284,7 +284,7 @@ impl State {
             | State::LotLast
             | State::LotInclusive
             | State::Step
-            | State::All => Some(behind),
+            | State::All => Some(after),
             _ => None,
         }
     }

@@ -2,7 +2,7 @@
 use Rattle.std.proofs.Common.{◌≡◌, ◌≢◌, ℕ, ◌+◌, ◌-◌, ◌/◌, ◌%◌, ◌≤◌, ◌<◌, ◌⊎◌, inl, inr, Option}
 use Rattle.std.proofs.Common.{Some, None, arith}
 use Rattle.std.proofs.lemmas.Bool.{cases_lt}
-use Rattle.twp_grid.specs.Winding.{StandsAt}
+use Rattle.twp_grid.specs.Winding.{LiesAt}
 use Rattle.twp_grid.specs.Lines.{north_run, west_run, IsSide, LiesBeside, IsLineOf, IsClosing}
 use Rattle.twp_grid.specs.declared.line.Run.{Run}
 use Rattle.twp_grid.specs.declared.line.Run.TheVariants as run
@@ -14,13 +14,13 @@ HasSide row column index =
     (index ≡ north_run row column) ⊎ (index ≡ north_run row (column + 1)) ⊎ (index ≡ west_run row column)
     ⊎ (index ≡ west_run (row + 1) column)
 
-pub side_at : (k row column index : ℕ) → StandsAt k row column → IsSide k index → HasSide row column index
+pub side_at : (k row column index : ℕ) → LiesAt k row column → IsSide k index → HasSide row column index
 side_at k row column index stands is =
     let same = same_standing k row column is.row is.column stands is.stands in
     rw (same.0, same.1) is.side
 
 -- two sections that share a north-run line are side by side in a row
-pub share_north : (a b row column row' column' index : ℕ) → StandsAt a row column → StandsAt b row' column'
+pub share_north : (a b row column row' column' index : ℕ) → LiesAt a row column → LiesAt b row' column'
     → a ≢ b → IsSide a index → IsSide b index → index < 42
     → (row ≡ row')
     × (((column' ≡ column + 1) × (index ≡ north_run row column'))
@@ -32,7 +32,7 @@ share_north a b row column row' column' index at-a at-b different is-a is-b nort
     λ r c. different (same_number a b row column at-a (rw (r, c) at-b)) in
     (grind arith, grind arith)
 
-pub share_west : (a b row column row' column' index : ℕ) → StandsAt a row column → StandsAt b row' column'
+pub share_west : (a b row column row' column' index : ℕ) → LiesAt a row column → LiesAt b row' column'
     → a ≢ b → IsSide a index → IsSide b index → 42 ≤ index
     → (column ≡ column')
     × (((row' ≡ row + 1) × (index ≡ west_run row' column))
@@ -47,7 +47,7 @@ share_west a b row column row' column' index at-a at-b different is-a is-b west 
 pub ruleset shared_ends = (share_north, share_west)
 
 -- a section whose side is no other section's has no neighbor with that side
-only_standing : (k row column row' column' index : ℕ) → StandsAt k row column
+only_standing : (k row column row' column' index : ℕ) → LiesAt k row column
     → ((other : ℕ) → IsSide other index → other ≡ k)
     → row' < 6 → column' < 6 → HasSide row' column' index → (row' ≡ row) × (column' ≡ column)
 only_standing k row column row' column' index stands only row_range column_range side =
@@ -62,7 +62,7 @@ OnBoundary row column index =
     ((column ≡ 0) × (index ≡ north_run row 0)) ⊎ ((column ≡ 5) × (index ≡ north_run row 6))
     ⊎ ((row ≡ 0) × (index ≡ west_run 0 column)) ⊎ ((row ≡ 5) × (index ≡ west_run 6 column))
 
-pub on_boundary : (k row column index : ℕ) → StandsAt k row column → LiesBeside k None index
+pub on_boundary : (k row column index : ℕ) → LiesAt k row column → LiesBeside k None index
     → OnBoundary row column index
 on_boundary k row column index stands beside =
     let stands_there = λ (row' column' : ℕ). only_standing k row column row' column' index stands beside.1 in

@@ -1,7 +1,7 @@
 -- Laws over the definitions.
 use Rattle.std.specs.Prelude.{List, Option, Some, false, length, true, ℕ, ◌&&◌, ◌+◌, ◌-◌, ◌^◌, ◌↔◌}
 use Rattle.std.specs.Prelude.{◌≡◌, ◌≤◌, ◌⊎◌}
-use Rattle.twp_grid.specs.Winding.{IsSection, StandsAt}
+use Rattle.twp_grid.specs.Winding.{IsSection, LiesAt}
 use Rattle.twp_grid.specs.Lines.{IsLineOf}
 use Rattle.twp_grid.specs.Lots.{POSITIONS_ACROSS, IsPosition, lot_at_position, position_of_lot}
 use Rattle.twp_grid.specs.Places.{places_across, IsPlace, position_along, binary, begins}
@@ -13,12 +13,12 @@ use Rattle.twp_grid.specs.declared.line.Run.{Run}
 -- a section is at one row and column
 abbrev pub OneStanding : Type 0
 OneStanding = (number row column row' column' : ℕ)
-    → StandsAt number row column → StandsAt number row' column' → (row ≡ row') × (column ≡ column')
+    → LiesAt number row column → LiesAt number row' column' → (row ≡ row') × (column ≡ column')
 
 -- only one section is at a row and column
 abbrev pub OneSection : Type 0
 OneSection = (number number' row column : ℕ)
-    → StandsAt number row column → StandsAt number' row column → number ≡ number'
+    → LiesAt number row column → LiesAt number' row column → number ≡ number'
 
 -- only one line of a run lies between two sections, or between a section and the township's outside
 abbrev pub OneLine : Type 0

@@ -2,7 +2,7 @@
 -- (this project's).
 use Rattle.std.specs.Prelude.{◌≡◌, ◌≢◌, ℕ, ◌+◌, ◌*◌, ◌≤◌, ◌<◌, ◌⊎◌, List, [], ◌∷◌, Option, Some}
 use Rattle.std.specs.Prelude.{None}
-use Rattle.twp_grid.specs.Winding.{SECTIONS_ACROSS, WESTERN_COLUMN, StandsAt}
+use Rattle.twp_grid.specs.Winding.{SECTIONS_ACROSS, WESTERN_COLUMN, LiesAt}
 use Rattle.twp_grid.specs.declared.line.Run.{Run}
 use Rattle.twp_grid.specs.declared.line.Run.TheVariants.{North, West}
 
@@ -41,7 +41,7 @@ RunsAs West index = NORTH_RUN_COUNT ≤ index
 pub record AreSides (section : ℕ) (sides : List ℕ) : Type 0 where
   pub row : ℕ
   pub column : ℕ
-  pub stands : StandsAt section row column
+  pub stands : LiesAt section row column
   pub sides_are : sides ≡ north_run row column ∷ north_run row (column + 1)
       ∷ west_run row column ∷ west_run (row + 1) column ∷ []
 
@@ -49,7 +49,7 @@ pub record AreSides (section : ℕ) (sides : List ℕ) : Type 0 where
 pub record IsSide (section index : ℕ) : Type 0 where
   pub row : ℕ
   pub column : ℕ
-  pub stands : StandsAt section row column
+  pub stands : LiesAt section row column
   pub side : (index ≡ north_run row column) ⊎ (index ≡ north_run row (column + 1))
       ⊎ (index ≡ west_run row column) ⊎ (index ≡ west_run (row + 1) column)
 

@@ -20,7 +20,7 @@ IsSection number = (1 ≤ number) × (number ≤ SECTION_COUNT)
 
 -- The section with this number is at this row from the north and this column from the east: even
 -- rows are numbered from the east, odd rows from the west.
-pub record StandsAt (number row column : ℕ) : Type 0 where
+pub record LiesAt (number row column : ℕ) : Type 0 where
   pub row_range : row < SECTIONS_ACROSS
   pub column_range : column < SECTIONS_ACROSS
   pub winds : ((row % 2 ≡ 0) × (number ≡ SECTIONS_ACROSS * row + column + 1))

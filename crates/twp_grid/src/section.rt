@@ -1,6 +1,6 @@
 ghost use Rattle.std.specs.Prelude.{◌≡◌, ℕ, ◌≤◌, ◌<◌};
 ghost use Rattle.std.specs.Option.{SomeIff};
-ghost use Rattle.twp_grid.specs.Winding.{SECTIONS_ACROSS, IsSection, StandsAt};
+ghost use Rattle.twp_grid.specs.Winding.{SECTIONS_ACROSS, IsSection, LiesAt};
 
 use std::marker::Model;
 
@@ -49,7 +49,7 @@ impl Section {
     pub fn at(row: u8, column: u8) -> Section
         requires row { row < SECTIONS_ACROSS }
         requires column { column < SECTIONS_ACROSS }
-        ensures { StandsAt result row column }
+        ensures { LiesAt result row column }
     {
         let offset = if row % 2 == 0 { column } else { 5 - column };
         Section {
@@ -67,14 +67,14 @@ impl Section {
 
     /// The row, 0 in the north to 5 in the south.
     pub fn row(self) -> u8
-        ensures { (column : ℕ) × StandsAt self result column }
+        ensures { (column : ℕ) × LiesAt self result column }
     {
         self.standing().row
     }
 
     /// The column, 0 in the east to 5 in the west.
     pub fn column(self) -> u8
-        ensures { (row : ℕ) × StandsAt self row result }
+        ensures { (row : ℕ) × LiesAt self row result }
     {
         self.standing().column
     }
@@ -82,7 +82,7 @@ impl Section {
     /// The row and the column.
     #[tactic(auto, using(crate::proofs::WindingFacts::where_it_stands))]
     pub(crate) fn standing(self) -> Standing
-        ensures { StandsAt self result.row result.column }
+        ensures { LiesAt self result.row result.column }
     {
         let Section { number } = self;
         let row = (number - 1) / 6;

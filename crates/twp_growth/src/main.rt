@@ -9,7 +9,7 @@
 
 mod reading;
 mod spelling;
-mod telling;
+mod showing;
 mod writing;
 
 use std::process::ExitCode;

@@ -1,6 +1,6 @@
 //! The call that writes the canonical text of land.
 
-use crate::telling::{ANSWERED, OUT_OF_MEMORY, start, tell};
+use crate::showing::{ANSWERED, OUT_OF_MEMORY, start, explain};
 use std::io;
 use twp_grid::{EastWest, NorthSouth, Township};
 use twp_land::Lanes;
@@ -23,7 +23,7 @@ pub fn spell_land(rt: &HostRuntime, text: &[u8]) -> io::Result<()> {
     };
     start(rt)?;
     match spell(rt.alloc(), &land, township) {
-        Ok(spelled) => tell(rt, ANSWERED, spelled.as_slice()),
+        Ok(spelled) => explain(rt, ANSWERED, spelled.as_slice()),
         Err(_) => rt.println(OUT_OF_MEMORY),
     }
 }

@@ -1,6 +1,6 @@
 //! Calls that write into a vector, which is printed as they leave it.
 
-use crate::telling::{ANSWERED, OUT_OF_MEMORY, start, tell};
+use crate::showing::{ANSWERED, OUT_OF_MEMORY, start, explain};
 use std::{fs, io};
 use twp_grid::Bytes;
 use twp_measure::{Length, write_acres};
@@ -48,5 +48,5 @@ pub fn write(rt: &HostRuntime, call: &str, input: &str, room: &str) -> io::Resul
         Ok(()) => ANSWERED,
         Err(_) => OUT_OF_MEMORY,
     };
-    tell(rt, answer, vector.as_slice())
+    explain(rt, answer, vector.as_slice())
 }

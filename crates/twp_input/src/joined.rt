@@ -85,7 +85,7 @@ pub fn run_joined_noting<R: Source, W: Sink>(
     ensures exact { R.has_failed input.new ≡ false → result ≢ Err RunFault.Memory
         → TakesFirst (R.remaining input.old) (R.remaining input.new) JOINED_MOST }
 
-    // What was written is the answer to what was read, whatever the devices tell of it.
+    // What was written is the answer to what was read, whatever the devices explain of it.
     ensures ran { Reads (R.remaining input.old) (λ bytes.
         IsRun (IsAcresAnswer (joined_notes bytes) (joined_description bytes))
         (W.contents out.old) (W.contents out.new) result) }
@@ -113,7 +113,7 @@ pub fn run_joined_noting<R: Source, W: Sink>(
 /// The bytes before the first line feed and those after it; all and none if there is no line feed.
 pub fn split_at_line_feed(bytes: &[u8]) -> (&[u8], &[u8])
     ensures before { result.0.now ≡ before_first (λ byte. byte == 10) bytes.now }
-    ensures behind { result.1.now ≡ after_first (λ byte. byte == 10) bytes.now }
+    ensures after { result.1.now ≡ after_first (λ byte. byte == 10) bytes.now }
 {
     let at = line_feed_place(bytes);
     if at == bytes.len() {

@@ -20,7 +20,7 @@ common_to most places more section column row =
 pub common_first : (places more : ℕ → ℕ → ℕ → Bool) (before first last : ℕ) → LieWithin places first last
     → before < first
     → places ≡ common_to before places more
-common_first places more before first last within behind =
+common_first places more before first last within after =
     fun_ext (λ section. fun_ext (λ column. fun_ext (λ row. elim (cases_Bool (places section column row)) [
       | inl held ↦
           let lies = within section column row held in

@@ -19,7 +19,7 @@ joined_to most places more section column row =
 pub joined_first : (places more : ℕ → ℕ → ℕ → Bool) (before first last : ℕ) → LieWithin more first last
     → before < first
     → places ≡ joined_to before places more
-joined_first places more before first last within behind =
+joined_first places more before first last within after =
     fun_ext (λ section. fun_ext (λ column. fun_ext (λ row.
     none section column row (cases_Bool (more section column row)) (places section column row))))
   where

@@ -39,7 +39,7 @@ common : (a b : Span) → 0 < a.len → 0 < b.len → Cross a b → Common a b
 common a b some some' over = elim (cases_lt a.start b.start) [
   | inl before ↦
       record { at = b.start; in_first = grind (arith, nat_tests); in_second = grind (arith, nat_tests) }
-  | inr behind ↦
+  | inr after ↦
       record { at = a.start; in_first = grind (arith, nat_tests); in_second = grind (arith, nat_tests) }
 ]
 

@@ -20,7 +20,7 @@ taken_to most places less section column row =
 pub taken_first : (places less : ℕ → ℕ → ℕ → Bool) (before first last : ℕ) → LieWithin less first last
     → before < first
     → places ≡ taken_to before places less
-taken_first places less before first last within behind =
+taken_first places less before first last within after =
     fun_ext (λ section. fun_ext (λ column. fun_ext (λ row.
     none section column row (cases_Bool (less section column row)) (places section column row))))
   where

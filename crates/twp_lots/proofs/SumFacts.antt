@@ -74,7 +74,7 @@ sum-first table places first last within =
 pub sum-last : (table : ReturnedLots) (places : ℕ → ℕ → ℕ → Bool) (first last number units : ℕ)
     → LieWithin places first last → 1 ≤ number → last < number → number ≤ 37
     → IsSumOf table places (number - 1) units → IsSumOf table places (37 - 1) units
-sum-last table places first last number units within least behind most so_far =
+sum-last table places first last number units within least after most so_far =
     let pieces : ℕ → ℕ → ℕ → ℕ = position_units_by table in
     let none = sum-without pieces places (number - 1) (37 - number) (λ section above below held.
     let lies = within section held.column held.row held.is_held in omega (arith, lies.1)) in

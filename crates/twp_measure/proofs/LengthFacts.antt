@@ -8,7 +8,7 @@ use Rattle.std.proofs.lemmas.List.{take_all, take_at, get_or_append_left}
 use Rattle.std.proofs.lemmas.List.Sums.{position_or_len_is, split_at_first, passes_at_first}
 use Rattle.std.proofs.lemmas.Str.Parse.{digit_at}
 use Rattle.std.proofs.Math.Seq.{get_or-append_seam, drop-append-add}
-use Rattle.twp_measure.specs.LengthTexts.{point, place_of_point, before_point, behind_point}
+use Rattle.twp_measure.specs.LengthTexts.{point, place_of_point, before_point, after_point}
 use Rattle.twp_measure.specs.LengthTexts.{fraction_of, IsLengthText}
 
 -- a digit is not a point
@@ -40,9 +40,9 @@ pub record HasParts (text : List ℕ) (v : ℕ) : Type 0 where
   pub whole : IsNumeral 10 (before_point text)
   pub few : length (before_point text) ≤ 2
   pub rest : ((place_of_point text ≡ length text) × (v ≡ 1000 * digits_value 10 (before_point text)))
-      ⊎ ((place_of_point text < length text) × IsNumeral 10 (behind_point text)
-      × (length (behind_point text) ≤ 3)
-      × (v ≡ 1000 * digits_value 10 (before_point text) + fraction_of (behind_point text)))
+      ⊎ ((place_of_point text < length text) × IsNumeral 10 (after_point text)
+      × (length (after_point text) ≤ 3)
+      × (v ≡ 1000 * digits_value 10 (before_point text) + fraction_of (after_point text)))
 
 pub parts_of : (text : List ℕ) (v : ℕ) → IsLengthText text v → HasParts text v
 parts_of text v (inl (chains, is, value)) =
@@ -59,18 +59,18 @@ parts_of text v (inr p) =
     place_after_digits p.whole p.decimals p.before.numeral.1 in
     let before : before_point here ≡ p.whole =
     rw place (take_at p.whole (point ∷ p.decimals) (length p.whole) refl) in
-    let behind : behind_point here ≡ p.decimals = rw place (one_past p.whole p.decimals point) in
+    let after : after_point here ≡ p.decimals = rw place (one_past p.whole p.decimals point) in
     let long : length here ≡ length p.whole + (1 + length p.decimals) =
     rw (length-append p.whole (point ∷ p.decimals)) (omega arith) in
-    let value : v ≡ 1000 * digits_value 10 (before_point here) + fraction_of (behind_point here) =
-    rw (before, behind)
+    let value : v ≡ 1000 * digits_value 10 (before_point here) + fraction_of (after_point here) =
+    rw (before, after)
     (p.value
     ∙ ap (λ n. 1000 * n + p.thousandths) p.before.value
-    ∙ ap (λ n. 1000 * digits_value 10 p.whole + n) p.behind.value) in
+    ∙ ap (λ n. 1000 * digits_value 10 p.whole + n) p.after.value) in
     let parts : HasParts here v = record {
       whole = rw before p.before.numeral;
       few = rw before p.before.places;
-      rest = inr (omega arith, rw behind p.behind.numeral, rw behind p.behind.places, value);
+      rest = inr (omega arith, rw after p.after.numeral, rw after p.after.places, value);
     } in
     rw p.text_is parts
 
@@ -86,14 +86,14 @@ text_of_parts text v parts = elim parts.rest [
   | inr (place, numeral, places, value) ↦
       inr (record {
         whole = before_point text;
-        decimals = behind_point text;
+        decimals = after_point text;
         chains = digits_value 10 (before_point text);
-        thousandths = fraction_of (behind_point text);
+        thousandths = fraction_of (after_point text);
         before = record { numeral = parts.whole; places = parts.few; value = refl };
-        behind = record { numeral = numeral; places = places; value = refl };
+        after = record { numeral = numeral; places = places; value = refl };
         text_is =
             split_at_first (λ byte. byte == point) text 0 place
-            ∙ ap (λ b. before_point text ++ b ∷ behind_point text)
+            ∙ ap (λ b. before_point text ++ b ∷ after_point text)
             (eqb-true _ _ (passes_at_first (λ byte. byte == point) text 0 place));
         value = value;
       })

@@ -59,7 +59,7 @@ written_by v true bound none =
       chains = v / 1000;
       thousandths = 100 * (v / 100 % 10) + 10 * (v / 10 % 10);
       before = whole_chains (v / 1000) (omega arith);
-      behind = two_decimals (v / 100 % 10) (v / 10 % 10) (omega arith) (omega arith);
+      after = two_decimals (v / 100 % 10) (v / 10 % 10) (omega arith) (omega arith);
       text_is = refl;
       value = omega arith;
     })
@@ -70,7 +70,7 @@ written_by v false bound some =
       chains = v / 1000;
       thousandths = 100 * (v / 100 % 10) + 10 * (v / 10 % 10) + v % 10;
       before = whole_chains (v / 1000) (omega arith);
-      behind = three_decimals (v / 100 % 10) (v / 10 % 10) (v % 10) (omega arith) (omega arith) (omega arith);
+      after = three_decimals (v / 100 % 10) (v / 10 % 10) (v % 10) (omega arith) (omega arith) (omega arith);
       text_is = refl;
       value = omega arith;
     })

@@ -22,8 +22,8 @@ abbrev pub before_point : List ℕ → List ℕ
 before_point text = take (place_of_point text) text
 
 -- the bytes after the first point: no bytes if there is none
-abbrev pub behind_point : List ℕ → List ℕ
-behind_point text = drop (place_of_point text + 1) text
+abbrev pub after_point : List ℕ → List ℕ
+after_point text = drop (place_of_point text + 1) text
 
 -- one or two digits spell this number
 pub record IsShortNumber (text : List ℕ) (n : ℕ) : Type 0 where
@@ -48,7 +48,7 @@ pub record IsPointed (text : List ℕ) (v : ℕ) : Type 0 where
   pub chains : ℕ
   pub thousandths : ℕ
   pub before : IsShortNumber whole chains
-  pub behind : IsDecimals decimals thousandths
+  pub after : IsDecimals decimals thousandths
   pub text_is : text ≡ whole ++ point ∷ decimals
   pub value : v ≡ 1000 * chains + thousandths
 

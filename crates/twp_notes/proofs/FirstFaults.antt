@@ -19,23 +19,23 @@ use Rattle.twp_notes.specs.declared.reading.ReadFault.TheVariants as reading
 use Rattle.twp_notes.specs.declared.returned.Returned.{Returned}
 use Rattle.twp_notes.proofs.NameFacts.{names_one, has_run, has_section}
 use Rattle.twp_notes.proofs.FieldFacts.{has_lengths}
-use Rattle.twp_notes.proofs.RecordPlaces.{AreBehind, IsPlaced, placed, on_line}
+use Rattle.twp_notes.proofs.RecordPlaces.{AreAfter, IsPlaced, placed, on_line}
 
 -- a later place than this one, or this place with at least this number
-abbrev IsBehind : ℕ → ℕ → ℕ → ℕ → Type 0
-IsBehind place number at own =
+abbrev IsAfter : ℕ → ℕ → ℕ → ℕ → Type 0
+IsAfter place number at own =
     let once : ℕ = 1 in
     (once < once) ⊎ ((once ≡ once) × (place < at)) ⊎ ((once ≡ once) × (place ≡ at) × (number ≤ own))
 
 -- a fault that none of the records so far has, and that the next one does not have either if its
 -- number is less than `number`
 from_here : (Bad : Fields → Type 0) (bytes : List ℕ) (rows : List Fields) (count number own at : ℕ)
-    → AreBehind bytes rows
+    → AreAfter bytes rows
     → ((place : ℕ) → place < count → Bad (record_at rows place) → ⊥)
     → (own < number → Bad (record_at rows count) → ⊥)
-    → HasOnLine bytes at Bad → IsBehind (count + 3) number at own
-from_here Bad bytes rows count number own at behind before here (is, bad) =
-    let at_is : IsPlaced bytes rows at = placed bytes rows at behind is in
+    → HasOnLine bytes at Bad → IsAfter (count + 3) number at own
+from_here Bad bytes rows count number own at after before here (is, bad) =
+    let at_is : IsPlaced bytes rows at = placed bytes rows at after is in
     let there : Bad (record_at rows at_is.place) = subst Bad at_is.is bad in
     elim (cases_lt at_is.place count) [
       | inl below ↦ absurd (before at_is.place below there)
@@ -58,13 +58,13 @@ pub record IsGoodBefore (fields : Fields) (number : ℕ) : Type 0 where
 
 -- of the records that were entered, none is for the line of an earlier one
 not_repeated : (bytes : List ℕ) (rows : List Fields) (count number at : ℕ) (table : List (Option Returned))
-    → AreBehind bytes rows → AreTaken rows count table → number ≤ 10
+    → AreAfter bytes rows → AreTaken rows count table → number ≤ 10
     → IsLineNumber (records_of bytes) at → IsRepeated (records_of bytes) at
-    → IsBehind (count + 3) number at 10
-not_repeated bytes rows count number at table behind taken most is again =
-    let at_is : IsPlaced bytes rows at = placed bytes rows at behind is in
+    → IsAfter (count + 3) number at 10
+not_repeated bytes rows count number at table after taken most is again =
+    let at_is : IsPlaced bytes rows at = placed bytes rows at after is in
     let earlier : IsPlaced bytes rows again.earlier =
-    placed bytes rows again.earlier behind again.earlier_is_of_a_line in
+    placed bytes rows again.earlier after again.earlier_is_of_a_line in
     let order : earlier.place < at_is.place =
     omega (arith, at_is.number_is, earlier.number_is, again.is_earlier) in
     elim (cases_lt at_is.place count) [
@@ -83,56 +83,56 @@ not_repeated bytes rows count number at table behind taken most is again =
 -- no fault comes before those of the next record, and that record has none with a number less than
 -- `number`
 none_before : (bytes : List ℕ) (rows : List Fields) (count number : ℕ) (table : List (Option Returned))
-    → AreBehind bytes rows → AreTaken rows count table
+    → AreAfter bytes rows → AreTaken rows count table
     → IsGoodBefore (record_at rows count) number → number ≤ 10 → (other : NotesFault) → HasFault bytes other
     → IsFrom 1 (count + 3) number other
-none_before bytes rows count number table behind taken good most fault.TooLarge has =
-    absurd (omega (arith, behind.size))
-none_before bytes rows count number table behind taken good most fault.Empty has =
-    absurd (cc (sym behind.split ∙ has))
-none_before bytes rows count number table behind taken good most fault.Heading has =
-    absurd (has (rw behind.split behind.heading_is))
-none_before bytes rows count number table behind taken good most (fault.Columns at) (from, to, wrong) =
+none_before bytes rows count number table after taken good most fault.TooLarge has =
+    absurd (omega (arith, after.size))
+none_before bytes rows count number table after taken good most fault.Empty has =
+    absurd (cc (sym after.split ∙ has))
+none_before bytes rows count number table after taken good most fault.Heading has =
+    absurd (has (rw after.split after.heading_is))
+none_before bytes rows count number table after taken good most (fault.Columns at) (from, to, wrong) =
     elim (cases_lt at 3) [
       | inl second ↦
           let e : at ≡ 2 = omega arith in
           absurd
           (subst (λ n. length (record_numbered (records_of bytes) n) ≢ FIELDS) e wrong
-          (rw behind.split behind.township_is.columns))
+          (rw after.split after.township_is.columns))
       | inr line ↦
-          from_here (λ (f : Fields). length f ≢ FIELDS) bytes rows count number 4 at behind
+          from_here (λ (f : Fields). length f ≢ FIELDS) bytes rows count number 4 at after
           (λ place below wrong'. wrong' (taken.each place below).is.names.columns) good.columns
           ((line, to), wrong)
     ]
-none_before bytes rows count number table behind taken good most fault.Township has =
-    absurd (has behind.township (rw behind.split behind.township_is))
-none_before bytes rows count number table behind taken good most (fault.Run at) has =
-    from_here HasNoRun bytes rows count number 6 at behind
+none_before bytes rows count number table after taken good most fault.Township has =
+    absurd (has after.township (rw after.split after.township_is))
+none_before bytes rows count number table after taken good most (fault.Run at) has =
+    from_here HasNoRun bytes rows count number 6 at after
     (λ place below. has_run _ _ (taken.each place below).is.names) good.run has
-none_before bytes rows count number table behind taken good most (fault.Section at) has =
-    from_here HasNoSection bytes rows count number 7 at behind
+none_before bytes rows count number table after taken good most (fault.Section at) has =
+    from_here HasNoSection bytes rows count number 7 at after
     (λ place below. has_section _ _ (taken.each place below).is.names) good.section has
-none_before bytes rows count number table behind taken good most (fault.NoLine at) has =
-    from_here NamesNoLine bytes rows count number 8 at behind
+none_before bytes rows count number table after taken good most (fault.NoLine at) has =
+    from_here NamesNoLine bytes rows count number 8 at after
     (λ place below none. none _ (taken.each place below).is.names) good.names has
-none_before bytes rows count number table behind taken good most (fault.Length at) has =
-    from_here HasNoLength bytes rows count number 9 at behind
+none_before bytes rows count number table after taken good most (fault.Length at) has =
+    from_here HasNoLength bytes rows count number 9 at after
     (λ place below. has_lengths _ _ (taken.each place below).is.returns) good.lengths has
-none_before bytes rows count number table behind taken good most (fault.Repeated at) (is, again) =
-    not_repeated bytes rows count number at table behind taken most is again
-none_before bytes rows count number table behind taken good most (fault.Missing line) has = inl (omega arith)
-none_before bytes rows count number table behind taken good most fault.Read has = absurd has
-none_before bytes rows count number table behind taken good most fault.Memory has = absurd has
+none_before bytes rows count number table after taken good most (fault.Repeated at) (is, again) =
+    not_repeated bytes rows count number at table after taken most is again
+none_before bytes rows count number table after taken good most (fault.Missing line) has = inl (omega arith)
+none_before bytes rows count number table after taken good most fault.Read has = absurd has
+none_before bytes rows count number table after taken good most fault.Memory has = absurd has
 
 -- the record that names the line of an entry is before the next one
-repeated_is : (bytes : List ℕ) (rows : List Fields) (count line : ℕ) → AreBehind bytes rows
+repeated_is : (bytes : List ℕ) (rows : List Fields) (count line : ℕ) → AreAfter bytes rows
     → count < length rows → IsNamedBy rows count line
     → NamesLine (record_at rows count) line → IsRepeated (records_of bytes) (count + 3)
-repeated_is bytes rows count line behind within earlier names =
+repeated_is bytes rows count line after within earlier names =
     let before =
-    on_line (λ (f : Fields). NamesLine f line) bytes rows earlier.place behind
+    on_line (λ (f : Fields). NamesLine f line) bytes rows earlier.place after
     (omega (arith, earlier.within)) earlier.names in
-    let here = on_line (λ (f : Fields). NamesLine f line) bytes rows count behind within names in
+    let here = on_line (λ (f : Fields). NamesLine f line) bytes rows count after within names in
     record {
       earlier = earlier.place + 3;
       line = line;
@@ -143,9 +143,9 @@ repeated_is bytes rows count line behind within earlier names =
     }
 
 -- the record that is not entered has the first fault
-pub first_of_next : (bytes : List ℕ) (rows : List Fields) (is : NotesFault) → AreBehind bytes rows
+pub first_of_next : (bytes : List ℕ) (rows : List Fields) (is : NotesFault) → AreAfter bytes rows
     → IsRefusedNext rows is → IsFirstFault bytes is
-first_of_next bytes rows (fault.Columns at) behind next =
+first_of_next bytes rows (fault.Columns at) after next =
     let (at_is, wrong) = next.not_taken in
     let good : IsGoodBefore (record_at rows next.count) 4 = record {
       columns = λ h. absurd (omega arith);
@@ -154,12 +154,12 @@ first_of_next bytes rows (fault.Columns at) behind next =
       names = λ h. absurd (omega arith);
       lengths = λ h. absurd (omega arith);
     } in
-    let has = on_line (λ (f : Fields). length f ≢ FIELDS) bytes rows next.count behind next.within wrong in
+    let has = on_line (λ (f : Fields). length f ≢ FIELDS) bytes rows next.count after next.within wrong in
     subst (λ n. IsFirstFault bytes (fault.Columns n)) (sym at_is) (record {
       is = (omega arith, has.0.1, has.1);
-      first = none_before bytes rows next.count 4 next.table behind next.taken good (omega arith);
+      first = none_before bytes rows next.count 4 next.table after next.taken good (omega arith);
     })
-first_of_next bytes rows (fault.Run at) behind next =
+first_of_next bytes rows (fault.Run at) after next =
     let (five, (at_is, wrong)) = next.not_taken in
     let good : IsGoodBefore (record_at rows next.count) 6 = record {
       columns = λ h not. not five;
@@ -169,10 +169,10 @@ first_of_next bytes rows (fault.Run at) behind next =
       lengths = λ h. absurd (omega arith);
     } in
     subst (λ n. IsFirstFault bytes (fault.Run n)) (sym at_is) (record {
-      is = on_line HasNoRun bytes rows next.count behind next.within wrong;
-      first = none_before bytes rows next.count 6 next.table behind next.taken good (omega arith);
+      is = on_line HasNoRun bytes rows next.count after next.within wrong;
+      first = none_before bytes rows next.count 6 next.table after next.taken good (omega arith);
     })
-first_of_next bytes rows (fault.Section at) behind next =
+first_of_next bytes rows (fault.Section at) after next =
     let (five, (at_is, wrong, run)) = next.not_taken in
     let good : IsGoodBefore (record_at rows next.count) 7 = record {
       columns = λ h not. not five;
@@ -182,10 +182,10 @@ first_of_next bytes rows (fault.Section at) behind next =
       lengths = λ h. absurd (omega arith);
     } in
     subst (λ n. IsFirstFault bytes (fault.Section n)) (sym at_is) (record {
-      is = on_line HasNoSection bytes rows next.count behind next.within wrong;
-      first = none_before bytes rows next.count 7 next.table behind next.taken good (omega arith);
+      is = on_line HasNoSection bytes rows next.count after next.within wrong;
+      first = none_before bytes rows next.count 7 next.table after next.taken good (omega arith);
     })
-first_of_next bytes rows (fault.NoLine at) behind next =
+first_of_next bytes rows (fault.NoLine at) after next =
     let (five, (at_is, wrong, run, section)) = next.not_taken in
     let good : IsGoodBefore (record_at rows next.count) 8 = record {
       columns = λ h not. not five;
@@ -195,10 +195,10 @@ first_of_next bytes rows (fault.NoLine at) behind next =
       lengths = λ h. absurd (omega arith);
     } in
     subst (λ n. IsFirstFault bytes (fault.NoLine n)) (sym at_is) (record {
-      is = on_line NamesNoLine bytes rows next.count behind next.within wrong;
-      first = none_before bytes rows next.count 8 next.table behind next.taken good (omega arith);
+      is = on_line NamesNoLine bytes rows next.count after next.within wrong;
+      first = none_before bytes rows next.count 8 next.table after next.taken good (omega arith);
     })
-first_of_next bytes rows (fault.Length at) behind next =
+first_of_next bytes rows (fault.Length at) after next =
     let (at_is, wrong, named) = next.not_taken in
     let good : IsGoodBefore (record_at rows next.count) 9 = record {
       columns = λ h not. named (λ line names. not names.columns);
@@ -208,10 +208,10 @@ first_of_next bytes rows (fault.Length at) behind next =
       lengths = λ h. absurd (omega arith);
     } in
     subst (λ n. IsFirstFault bytes (fault.Length n)) (sym at_is) (record {
-      is = on_line HasNoLength bytes rows next.count behind next.within wrong;
-      first = none_before bytes rows next.count 9 next.table behind next.taken good (omega arith);
+      is = on_line HasNoLength bytes rows next.count after next.within wrong;
+      first = none_before bytes rows next.count 9 next.table after next.taken good (omega arith);
     })
-first_of_next bytes rows (fault.Repeated at) behind next =
+first_of_next bytes rows (fault.Repeated at) after next =
     let (at_is, again, lengths) = next.not_taken in
     let good : IsGoodBefore (record_at rows next.count) 10 = record {
       columns = λ h not. not again.names.columns;
@@ -221,62 +221,62 @@ first_of_next bytes rows (fault.Repeated at) behind next =
       lengths = λ h. lengths;
     } in
     let has =
-    on_line (λ (f : Fields). NamesLine f again.line) bytes rows next.count behind next.within again.names in
+    on_line (λ (f : Fields). NamesLine f again.line) bytes rows next.count after next.within again.names in
     subst (λ n. IsFirstFault bytes (fault.Repeated n)) (sym at_is) (record {
       is = (
         has.0,
-        repeated_is bytes rows next.count again.line behind next.within
+        repeated_is bytes rows next.count again.line after next.within
             (next.taken.named again.line again.before) again.names,
       );
-      first = none_before bytes rows next.count 10 next.table behind next.taken good (omega arith);
+      first = none_before bytes rows next.count 10 next.table after next.taken good (omega arith);
     })
-first_of_next bytes rows _ behind next = absurd next.not_taken
+first_of_next bytes rows _ after next = absurd next.not_taken
 
 -- the result if the records of lines were refused
-pub answer_refused : (bytes : List ℕ) (rows : List Fields) (is : NotesFault) → AreBehind bytes rows
+pub answer_refused : (bytes : List ℕ) (rows : List Fields) (is : NotesFault) → AreAfter bytes rows
     → IsRefusedAfter rows is → IfSome (refusal_of is) (λ _. IsFirstFault bytes is)
-answer_refused bytes rows fault.Memory behind refused = tt
-answer_refused bytes rows fault.Read behind refused = tt
-answer_refused bytes rows (fault.Columns at) behind refused =
-    first_of_next bytes rows (fault.Columns at) behind refused
-answer_refused bytes rows (fault.Run at) behind refused =
-    first_of_next bytes rows (fault.Run at) behind refused
-answer_refused bytes rows (fault.Section at) behind refused =
-    first_of_next bytes rows (fault.Section at) behind refused
-answer_refused bytes rows (fault.NoLine at) behind refused =
-    first_of_next bytes rows (fault.NoLine at) behind refused
-answer_refused bytes rows (fault.Length at) behind refused =
-    first_of_next bytes rows (fault.Length at) behind refused
-answer_refused bytes rows (fault.Repeated at) behind refused =
-    first_of_next bytes rows (fault.Repeated at) behind refused
-answer_refused bytes rows _ behind refused = absurd refused.not_taken
+answer_refused bytes rows fault.Memory after refused = tt
+answer_refused bytes rows fault.Read after refused = tt
+answer_refused bytes rows (fault.Columns at) after refused =
+    first_of_next bytes rows (fault.Columns at) after refused
+answer_refused bytes rows (fault.Run at) after refused =
+    first_of_next bytes rows (fault.Run at) after refused
+answer_refused bytes rows (fault.Section at) after refused =
+    first_of_next bytes rows (fault.Section at) after refused
+answer_refused bytes rows (fault.NoLine at) after refused =
+    first_of_next bytes rows (fault.NoLine at) after refused
+answer_refused bytes rows (fault.Length at) after refused =
+    first_of_next bytes rows (fault.Length at) after refused
+answer_refused bytes rows (fault.Repeated at) after refused =
+    first_of_next bytes rows (fault.Repeated at) after refused
+answer_refused bytes rows _ after refused = absurd refused.not_taken
 
 -- if all records were entered, no record has a fault
-not_further : (bytes : List ℕ) (rows : List Fields) (number at own : ℕ) → AreBehind bytes rows
-    → at ≤ length (records_of bytes) → IsBehind (length rows + 3) number at own → ⊥
-not_further bytes rows number at own behind within (inl never) = absurd (omega arith)
-not_further bytes rows number at own behind within (inr (inl further)) =
-    let long : length (records_of bytes) ≡ suc (suc (length rows)) = ap length behind.split in
+not_further : (bytes : List ℕ) (rows : List Fields) (number at own : ℕ) → AreAfter bytes rows
+    → at ≤ length (records_of bytes) → IsAfter (length rows + 3) number at own → ⊥
+not_further bytes rows number at own after within (inl never) = absurd (omega arith)
+not_further bytes rows number at own after within (inr (inl further)) =
+    let long : length (records_of bytes) ≡ suc (suc (length rows)) = ap length after.split in
     absurd (omega arith)
-not_further bytes rows number at own behind within (inr (inr here)) =
-    let long : length (records_of bytes) ≡ suc (suc (length rows)) = ap length behind.split in
+not_further bytes rows number at own after within (inr (inr here)) =
+    let long : length (records_of bytes) ≡ suc (suc (length rows)) = ap length after.split in
     absurd (omega arith)
 
 -- a line with an entry is named
 named_of : (bytes : List ℕ) (rows : List Fields) (table : List (Option Returned)) (line : ℕ)
-    → AreBehind bytes rows → AreTaken rows (length rows) table
+    → AreAfter bytes rows → AreTaken rows (length rows) table
     → IsSome (entry_of table line) → IsNamed (records_of bytes) line
-named_of bytes rows table line behind taken some =
+named_of bytes rows table line after taken some =
     let by : IsNamedBy rows (length rows) line = taken.named line some in
-    let is = on_line (λ (f : Fields). NamesLine f line) bytes rows by.place behind by.within by.names in
+    let is = on_line (λ (f : Fields). NamesLine f line) bytes rows by.place after by.within by.names in
     (by.place + 3, is.0, is.1)
 
 -- a line without an entry is not named
 unnamed_of : (bytes : List ℕ) (rows : List Fields) (table : List (Option Returned)) (line : ℕ)
-    → AreBehind bytes rows → AreTaken rows (length rows) table
+    → AreAfter bytes rows → AreTaken rows (length rows) table
     → entry_of table line ≡ None → IsNamed (records_of bytes) line → ⊥
-unnamed_of bytes rows table line behind taken none (number, is, names) =
-    let at : IsPlaced bytes rows number = placed bytes rows number behind is in
+unnamed_of bytes rows table line after taken none (number, is, names) =
+    let at : IsPlaced bytes rows number = placed bytes rows number after is in
     let entry : IsTaken (record_at rows at.place) table = taken.each at.place at.within in
     let same : entry.line ≡ line =
     names_one _ _ _ entry.is.names (subst (λ (f : Fields). NamesLine f line) at.is names) in
@@ -284,44 +284,44 @@ unnamed_of bytes rows table line behind taken none (number, is, names) =
 
 -- of the missing lines, the one with the smallest index is reported
 missing_first : (bytes : List ℕ) (rows : List Fields) (table : List (Option Returned)) (line : ℕ)
-    → AreBehind bytes rows → AreTaken rows (length rows) table
+    → AreAfter bytes rows → AreTaken rows (length rows) table
     → IsLeastMissing table line → (other : NotesFault) → HasFault bytes other
     → IsFrom 1 (length rows + 3) 4 other → IsFrom 2 line 11 other
-missing_first bytes rows table line behind taken least (fault.Columns at) (_, to, _) from =
-    absurd (not_further bytes rows 4 at 4 behind to from)
-missing_first bytes rows table line behind taken least (fault.Run at) ((_, to), _) from =
-    absurd (not_further bytes rows 4 at 6 behind to from)
-missing_first bytes rows table line behind taken least (fault.Section at) ((_, to), _) from =
-    absurd (not_further bytes rows 4 at 7 behind to from)
-missing_first bytes rows table line behind taken least (fault.NoLine at) ((_, to), _) from =
-    absurd (not_further bytes rows 4 at 8 behind to from)
-missing_first bytes rows table line behind taken least (fault.Length at) ((_, to), _) from =
-    absurd (not_further bytes rows 4 at 9 behind to from)
-missing_first bytes rows table line behind taken least (fault.Repeated at) ((_, to), _) from =
-    absurd (not_further bytes rows 4 at 10 behind to from)
-missing_first bytes rows table line behind taken least (fault.Missing other) (is, not) from =
+missing_first bytes rows table line after taken least (fault.Columns at) (_, to, _) from =
+    absurd (not_further bytes rows 4 at 4 after to from)
+missing_first bytes rows table line after taken least (fault.Run at) ((_, to), _) from =
+    absurd (not_further bytes rows 4 at 6 after to from)
+missing_first bytes rows table line after taken least (fault.Section at) ((_, to), _) from =
+    absurd (not_further bytes rows 4 at 7 after to from)
+missing_first bytes rows table line after taken least (fault.NoLine at) ((_, to), _) from =
+    absurd (not_further bytes rows 4 at 8 after to from)
+missing_first bytes rows table line after taken least (fault.Length at) ((_, to), _) from =
+    absurd (not_further bytes rows 4 at 9 after to from)
+missing_first bytes rows table line after taken least (fault.Repeated at) ((_, to), _) from =
+    absurd (not_further bytes rows 4 at 10 after to from)
+missing_first bytes rows table line after taken least (fault.Missing other) (is, not) from =
     elim (cases_lt other line) [
-      | inl before ↦ absurd (not (named_of bytes rows table other behind taken (least.before other before)))
+      | inl before ↦ absurd (not (named_of bytes rows table other after taken (least.before other before)))
       | inr over ↦ elim (cases_eq other line) [
         | inl same ↦ inr (inr (refl, sym same, omega arith))
         | inr more ↦ inr (inl (refl, omega arith))
       ]
     ]
-missing_first bytes rows table line behind taken least fault.TooLarge has from =
-    absurd (omega (arith, behind.size))
-missing_first bytes rows table line behind taken least fault.Empty has from =
-    absurd (cc (sym behind.split ∙ has))
-missing_first bytes rows table line behind taken least fault.Heading has from =
-    absurd (has (rw behind.split behind.heading_is))
-missing_first bytes rows table line behind taken least fault.Township has from =
-    absurd (has behind.township (rw behind.split behind.township_is))
-missing_first bytes rows table line behind taken least fault.Read has from = absurd has
-missing_first bytes rows table line behind taken least fault.Memory has from = absurd has
+missing_first bytes rows table line after taken least fault.TooLarge has from =
+    absurd (omega (arith, after.size))
+missing_first bytes rows table line after taken least fault.Empty has from =
+    absurd (cc (sym after.split ∙ has))
+missing_first bytes rows table line after taken least fault.Heading has from =
+    absurd (has (rw after.split after.heading_is))
+missing_first bytes rows table line after taken least fault.Township has from =
+    absurd (has after.township (rw after.split after.township_is))
+missing_first bytes rows table line after taken least fault.Read has from = absurd has
+missing_first bytes rows table line after taken least fault.Memory has from = absurd has
 
 pub missing_is_first : (bytes : List ℕ) (rows : List Fields) (table : List (Option Returned)) (line : ℕ)
-    → AreBehind bytes rows → AreTaken rows (length rows) table
+    → AreAfter bytes rows → AreTaken rows (length rows) table
     → IsLeastMissing table line → IsFirstFault bytes (fault.Missing line)
-missing_is_first bytes rows table line behind taken least =
+missing_is_first bytes rows table line after taken least =
     let good : IsGoodBefore (record_at rows (length rows)) 4 = record {
       columns = λ h. absurd (omega arith);
       run = λ h. absurd (omega arith);
@@ -330,9 +330,9 @@ missing_is_first bytes rows table line behind taken least =
       lengths = λ h. absurd (omega arith);
     } in
     record {
-      is = (least.is_line, unnamed_of bytes rows table line behind taken least.missing);
-      first = λ other has. missing_first bytes rows table line behind taken least other has
-          (none_before bytes rows (length rows) 4 table behind taken good (omega arith) other has);
+      is = (least.is_line, unnamed_of bytes rows table line after taken least.missing);
+      first = λ other has. missing_first bytes rows table line after taken least other has
+          (none_before bytes rows (length rows) 4 table after taken good (omega arith) other has);
     }
 
 -- only lines have entries
@@ -345,29 +345,29 @@ entry_is_line table line returned size some = elim (cases_lt line 84) [
 
 -- if all lines have entries, the records are notes
 pub notes_of_table : (bytes : List ℕ) (rows : List Fields) (table : List (Option Returned))
-    (lines : List Returned) (behind : AreBehind bytes rows)
+    (lines : List Returned) (after : AreAfter bytes rows)
     → AreTaken rows (length rows) table
-    → AreEntries table lines → AreNotes bytes (record { township = behind.township; lines = lines })
-notes_of_table bytes rows table lines behind taken entries = record {
-  size = behind.size;
+    → AreEntries table lines → AreNotes bytes (record { township = after.township; lines = lines })
+notes_of_table bytes rows table lines after taken entries = record {
+  size = after.size;
   records_are = record {
-    heading_is = rw behind.split behind.heading_is;
-    township_is = rw behind.split behind.township_is;
+    heading_is = rw after.split after.heading_is;
+    township_is = rw after.split after.township_is;
     each = λ number is.
-        let at : IsPlaced bytes rows number = placed bytes rows number behind is in
+        let at : IsPlaced bytes rows number = placed bytes rows number after is in
         let entry : IsTaken (record_at rows at.place) table = taken.each at.place at.within in
         let line : IsLine entry.line = entry_is_line table entry.line entry.returned taken.size entry.taken in
         let same : entry.returned ≡ slice_index_or lines entry.line nothing_returned =
         cc (sym entry.taken ∙ entries.each entry.line line) in
         (entry.line, rw at.is (rw same at entry.is));
     once = λ number other line is is' names names'.
-        let at : IsPlaced bytes rows number = placed bytes rows number behind is in
-        let at' : IsPlaced bytes rows other = placed bytes rows other behind is' in
+        let at : IsPlaced bytes rows number = placed bytes rows number after is in
+        let at' : IsPlaced bytes rows other = placed bytes rows other after is' in
         let same : at.place ≡ at'.place = taken.once at.place at'.place line at.within at'.within
         (subst (λ (f : Fields). NamesLine f line) at.is names)
         (subst (λ (f : Fields). NamesLine f line) at'.is names') in
         omega (arith, at.number_is, at'.number_is);
-    all = λ line is. named_of bytes rows table line behind taken (rw (entries.each line is) refl);
+    all = λ line is. named_of bytes rows table line after taken (rw (entries.each line is) refl);
     lines = entries.count;
   };
 }

@@ -7,7 +7,7 @@ use Rattle.twp_notes.specs.FieldNotes.{NOTES_MOST, heading, IsTownshipRecord, Is
 use Rattle.twp_notes.specs.NotesFaults.{HasOnLine}
 
 -- the bytes are not too many, and these records come after the heading and the township's record
-pub record AreBehind (bytes : List ℕ) (rows : List Fields) : Type 0 where
+pub record AreAfter (bytes : List ℕ) (rows : List Fields) : Type 0 where
   pub size : length bytes ≤ NOTES_MOST
   pub first : Fields
   pub second : Fields
@@ -17,12 +17,12 @@ pub record AreBehind (bytes : List ℕ) (rows : List Fields) : Type 0 where
   pub township_is : IsTownshipRecord second township
 
 -- the first two records were read, and are valid
-abbrev pub behind_of : (bytes : List ℕ) (first second : Fields) (start after rest : List Fields)
+abbrev pub after_of_word : (bytes : List ℕ) (first second : Fields) (start after rest : List Fields)
     (township : Designation)
     → length bytes ≤ NOTES_MOST → start ≡ records_of bytes
     → start ≡ first ∷ after → after ≡ second ∷ rest → first ≡ heading → IsTownshipRecord second township
-    → AreBehind bytes rest
-behind_of bytes first second start after rest township size all one two heading_is township_is = record {
+    → AreAfter bytes rest
+after_of_word bytes first second start after rest township size all one two heading_is township_is = record {
   size = size;
   first = first;
   second = second;
@@ -45,7 +45,7 @@ numbered first second rows place =
     let e : place + 3 - 1 ≡ suc (suc place) = omega arith in
     rw e refl
 
-pub placed : (bytes : List ℕ) (rows : List Fields) (number : ℕ) → AreBehind bytes rows
+pub placed : (bytes : List ℕ) (rows : List Fields) (number : ℕ) → AreAfter bytes rows
     → IsLineNumber (records_of bytes) number → IsPlaced bytes rows number
 placed bytes rows number behind is =
     let long : length (records_of bytes) ≡ suc (suc (length rows)) = ap length behind.split in
@@ -64,7 +64,7 @@ placed bytes rows number behind is =
     }
 
 -- the index of a line's record, by its number
-pub on_line : (Bad : Fields → Type 0) (bytes : List ℕ) (rows : List Fields) (place : ℕ) → AreBehind bytes rows
+pub on_line : (Bad : Fields → Type 0) (bytes : List ℕ) (rows : List Fields) (place : ℕ) → AreAfter bytes rows
     → place < length rows → Bad (record_at rows place) → HasOnLine bytes (place + 3) Bad
 on_line Bad bytes rows place behind within bad =
     let long : length (records_of bytes) ≡ suc (suc (length rows)) = ap length behind.split in (

@@ -4,7 +4,7 @@ use Rattle.std.specs.Prelude.{◌≡◌, ℕ, ◌+◌, ◌<◌, List, [], ◌∷
 use Rattle.std.specs.Prelude.{None, codes, decimal, ⊤}
 use Rattle.std.specs.List.{flat_map}
 use Rattle.twp_measure.specs.LengthTexts.{IsLength, length_text}
-use Rattle.twp_grid.specs.Winding.{StandsAt}
+use Rattle.twp_grid.specs.Winding.{LiesAt}
 use Rattle.twp_grid.specs.Lines.{LINE_COUNT, IsLine, IsLineOf, north_run, west_run}
 use Rattle.twp_grid.specs.Townships.{Designation, IsTownshipNumber}
 use Rattle.twp_grid.specs.Texts.{north_south_letter, east_west_letter, line_feed}
@@ -41,15 +41,15 @@ far_side run.North row column = north_run row (column + 1)
 far_side run.West row column = west_run (row + 1) column
 
 -- the section is east of a line that is run north, or north of a line that is run west
-pub record StandsBefore (run : Run) (section line : ℕ) : Type 0 where
+pub record IsListedBefore (run : Run) (section line : ℕ) : Type 0 where
   pub row : ℕ
   pub column : ℕ
-  pub stands : StandsAt section row column
+  pub stands : LiesAt section row column
   pub side : line ≡ far_side run row column
 
 -- of two sections beside a line, the one on its east or its north is named first
 abbrev pub IsNamedFirst : Run → ℕ → Option ℕ → ℕ → Type 0
-IsNamedFirst run section (Some other) line = StandsBefore run section line
+IsNamedFirst run section (Some other) line = IsListedBefore run section line
 IsNamedFirst run section None line = ⊤
 
 -- the run and the sections that name a line in writing

@@ -35,8 +35,8 @@ pub first_here : (notes : FieldNotes) (index : ℕ) (fault : PlatFault) → IsLi
 first_here notes index fault is_line before here = record {
   is = rw here.place (is_line, here.is);
   first = λ other has. rw here.place (elim (cases_lt index (place_of other)) [
-    | inl behind ↦ inl behind
-    | inr not_behind ↦ elim (cases_lt (place_of other) index) [
+    | inl after ↦ inl after
+    | inr not_after ↦ elim (cases_lt (place_of other) index) [
       | inl ahead ↦
           absurd
           (no_line_fault (place_of other) (returned_of notes (place_of other)) other

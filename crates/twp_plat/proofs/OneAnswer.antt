@@ -114,9 +114,9 @@ one_fault line returned (fault.ClosingLong at) (fault.ClosingShort at') has has'
 -- if two faults are both the first, they are at the same place
 same_spot : (f f' : PlatFault) → IsFrom (place_of f) (half_of f) f' → IsFrom (place_of f') (half_of f') f
     → (place_of f ≡ place_of f') × (half_of f ≡ half_of f')
-same_spot f f' (inl ahead) (inl behind) = absurd (omega arith)
+same_spot f f' (inl ahead) (inl after) = absurd (omega arith)
 same_spot f f' (inl ahead) (inr same) = absurd (omega (arith, same.0))
-same_spot f f' (inr same) (inl behind) = absurd (omega (arith, same.0))
+same_spot f f' (inr same) (inl after) = absurd (omega (arith, same.0))
 same_spot f f' (inr same) (inr same') = (same.0, omega (arith, same.1, same'.1))
 
 one_first_fault : (notes : FieldNotes) (f f' : PlatFault) → IsFirstFault notes f → IsFirstFault notes f'

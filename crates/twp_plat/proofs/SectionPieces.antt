@@ -3,7 +3,7 @@ use Rattle.std.proofs.Common.{◌≡◌, ℕ, ◌+◌, ◌-◌, ◌/◌, ◌%◌
 use Rattle.std.proofs.Common.{arith}
 use Rattle.std.proofs.lemmas.Bool.{cases_lt}
 use Rattle.twp_measure.specs.Areas.{Fraction}
-use Rattle.twp_grid.specs.Winding.{IsSection, StandsAt}
+use Rattle.twp_grid.specs.Winding.{IsSection, LiesAt}
 use Rattle.twp_grid.specs.Lines.{north_run, west_run}
 use Rattle.twp_grid.specs.Lots.{IsPosition}
 use Rattle.twp_grid.proofs.WindingFacts.{parity, stands_even, stands_odd}
@@ -18,7 +18,7 @@ use Rattle.twp_plat.proofs.OneAnswer.{one_area}
 record Stands (section : ℕ) : Type 0 where
   row : ℕ
   column : ℕ
-  stands : StandsAt section row column
+  stands : LiesAt section row column
 
 standing : (section : ℕ) → IsSection section → Stands section
 standing section range = elim (parity ((section - 1) / 6)) [

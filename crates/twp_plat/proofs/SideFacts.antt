@@ -3,7 +3,7 @@ use Rattle.std.proofs.Common.{◌≡◌, ◌≢◌, ℕ, ◌+◌, ◌*◌, ◌<�
 use Rattle.std.proofs.Common.{ap, sym, ◌∙◌, inl, inr, arith}
 use Rattle.std.proofs.lemmas.Bool.{cases_lt}
 use Rattle.std.specs.Option.{SomeIff}
-use Rattle.twp_grid.specs.Winding.{StandsAt}
+use Rattle.twp_grid.specs.Winding.{LiesAt}
 use Rattle.twp_grid.proofs.WindingFacts.{same_standing}
 use Rattle.twp_grid.specs.Lines.{IsLine, IsClosing, AreSides, north_run, west_run}
 use Rattle.twp_plat.specs.Closing.{QUARTER_MILE}
@@ -16,7 +16,7 @@ use Rattle.twp_plat.specs.Pieces.{line_length, over_of}
 pub record Lines (section east west north south : ℕ) : Type 0 where
   pub row : ℕ
   pub column : ℕ
-  pub stands : StandsAt section row column
+  pub stands : LiesAt section row column
   pub east_is : east ≡ north_run row column
   pub west_is : west ≡ north_run row (column + 1)
   pub north_is : north ≡ west_run row column
@@ -45,7 +45,7 @@ north_run_regular row place south below in_place (inl (place', below', is)) = om
 north_run_regular row place south below in_place (inr (tier, below', is)) = omega arith
 
 -- the section in the northwest corner is section 6
-pub corner_is_six : (section row column : ℕ) → StandsAt section row column → row ≡ 0 → column ≡ 5
+pub corner_is_six : (section row column : ℕ) → LiesAt section row column → row ≡ 0 → column ≡ 5
     → section ≡ 6
 corner_is_six section row column stands top west = omega arith
 
@@ -115,7 +115,7 @@ pub over_is : (plat : TownshipPlat) (q : ClosingQuarters) → AreClosingQuarters
 unfolding over_of
 over_is plat q are =
     let lines = lines_of 6 are.east_line are.west_line are.north_line are.south_line are.sides in
-    let corner : StandsAt 6 0 5 =
+    let corner : LiesAt 6 0 5 =
     record { row_range = omega arith; column_range = omega arith; winds = inl (refl, refl) } in
     let same = same_standing 6 lines.row lines.column 0 5 lines.stands corner in
     let north : are.north_line ≡ 47 = omega (arith, lines.north_is, same.0, same.1) in

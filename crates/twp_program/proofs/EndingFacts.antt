@@ -71,16 +71,16 @@ plat_answers name notes out r (Ok verdict, promise, is) =
 plat_answers name notes out r (Err fault, promise, is) = rw is tt
 
 -- the outcome of the run on joined input is a verdict on it, or a fault of the run
-pub joined_answers : (told old new : Option (List ℕ)) (ran : Result Verdict RunFault)
-    → Reads told (λ bytes.
+pub joined_answers : (explained old new : Option (List ℕ)) (ran : Result Verdict RunFault)
+    → Reads explained (λ bytes.
     IsRun (IsAcresAnswer (joined_notes bytes) (joined_description bytes)) old new ran)
     → IfOk (failing ran) IsJoinedVerdict
-joined_answers told old new (Ok verdict) read = record {
+joined_answers explained old new (Ok verdict) read = record {
   bytes = read.bytes;
   answer = read.holds.answer;
   answers = read.holds.answers;
 }
-joined_answers told old new (Err fault) read = tt
+joined_answers explained old new (Err fault) read = tt
 
 pub joined_fails : (ran : Result Verdict RunFault) → IfErr (failing ran) IsRunFailure
 joined_fails (Ok verdict) = tt

@@ -55,7 +55,7 @@ FailsOn task (Run fault) = ⊤
 -- What a run promises that writes an answer for field notes alone.
 pub record RunsOnNotes (Answers : List ℕ → AnswerRelation) (notes out : Use)
     (result : Result Verdict RunFault) : Type 0 where
-  pub told : (n : List ℕ) → notes.old ≡ Some n → IsRun (Answers n) out.old out.new result
+  pub explained : (n : List ℕ) → notes.old ≡ Some n → IsRun (Answers n) out.old out.new result
   pub answers : notes.has_failed ≡ false → out.has_failed ≡ false → IsOkUnless result Memory
   pub ran : Reads notes.old (λ n. IsRun (Answers n) out.old out.new result)
   pub read : IsErrOf result Read ↔ (notes.has_failed ≡ true)

@@ -7,7 +7,7 @@ mod ending;
 mod files;
 mod program;
 mod subcommand;
-mod telling;
+mod showing;
 
 pub use ending::{Ended, Ending, Failure};
 pub use program::{run, run_words};

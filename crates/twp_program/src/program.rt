@@ -6,7 +6,7 @@ ghost use Rattle.twp_program.specs.Statuses.{IsStatusOf, words_fault};
 
 use crate::ending::{Ended, Ending, Failure, NO_ANSWER, outcome_of};
 use crate::subcommand::run_task;
-use crate::telling::tell_joined;
+use crate::showing::show_joined;
 use std::env::Env;
 use std::io::ErrorKind;
 use std::rt::Files;
@@ -79,7 +79,7 @@ fn run_standard_input<R: Input + Print + Eprint + AllocGlobal>(rt: &R) -> Result
     let mut out = Device::new(io::writer(rt));
     let mut clarity = Clarity::Unclear;
     let outcome = outcome_of(run_joined_noting(rt.alloc(), &mut input, &mut out, &mut clarity));
-    tell_joined(rt, &outcome, clarity, &input);
+    show_joined(rt, &outcome, clarity, &input);
     outcome
 }
 

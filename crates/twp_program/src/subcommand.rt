@@ -12,7 +12,7 @@ ghost use Rattle.twp_program.specs.Endings.{EndsRun, FailsOn, IsVerdictOf, RunsO
 
 use crate::ending::{Failure, outcome_of};
 use crate::files::{OpenedNotes, OpenedText, open_notes, open_text};
-use crate::telling::{tell_land, tell_list, tell_plat};
+use crate::showing::{show_land, show_list, show_plat};
 use std::alloc::Global;
 use std::io;
 use std::rt::Files;
@@ -55,7 +55,7 @@ fn open_plat<R: Files + Print + Eprint + AllocGlobal>(
     let mut notes = open_notes(rt, notes)?;
     let mut out = Device::new(io::writer(rt));
     let outcome = plat(rt.alloc(), &mut notes, &mut out);
-    tell_plat(rt, &outcome, &notes);
+    show_plat(rt, &outcome, &notes);
     outcome
 }
 
@@ -82,7 +82,7 @@ fn open_acres<R: Files + Print + Eprint + AllocGlobal>(
         account,
         &mut clarity,
     );
-    tell_land(rt, &outcome, clarity, &notes, &description, account);
+    show_land(rt, &outcome, clarity, &notes, &description, account);
     outcome
 }
 
@@ -107,7 +107,7 @@ fn open_normal<R: Files + Print + Eprint + AllocGlobal>(
         &mut out,
         &mut clarity,
     );
-    tell_land(rt, &outcome, clarity, &notes, &description, Account::Exact);
+    show_land(rt, &outcome, clarity, &notes, &description, Account::Exact);
     outcome
 }
 
@@ -126,7 +126,7 @@ fn open_report<R: Files + Print + Eprint + AllocGlobal>(
     let mut out = Device::new(io::writer(rt));
     let mut clarity = Clarity::Unclear;
     let outcome = report(rt.alloc(), &mut notes, &mut tracts, &mut out, &mut clarity);
-    tell_list(rt, &outcome, clarity, &notes, &tracts);
+    show_list(rt, &outcome, clarity, &notes, &tracts);
     outcome
 }
 

@@ -11,7 +11,7 @@ use Rattle.twp_grammar.specs.Tokens.{Token, HasTokens, StartsWith, is_white, see
 use Rattle.twp_read.specs.declared.doubt.DoubtfulPlace.{DoubtfulPlace}
 use Rattle.twp_read.specs.declared.doubt.Doubts.{Doubts}
 use Rattle.twp_read.specs.Doubts.{doubt_at, doubts, with_place, IsFound}
-use Rattle.twp_read.proofs.ReaderFacts.{Before, one_behind, all_tokens, IsWithin, is_within}
+use Rattle.twp_read.proofs.ReaderFacts.{Before, one_after, all_tokens, IsWithin, is_within}
 
 -- the tokens so far
 pub record Cut (text : List ℕ) (at : ℕ) (bytes : List ℕ) (tokens : List Token) : Type 0 where
@@ -35,7 +35,7 @@ cut_next text at bytes tokens token to rest c starts place =
     record {
       before =
           subst (λ n. Before text n rest (tokens ++ token ∷ [])) (sym place)
-          (one_behind text at bytes tokens token rest c.before starts);
+          (one_after text at bytes tokens token rest c.before starts);
       within = omega arith;
     }
 
@@ -168,8 +168,8 @@ cut_more text at bytes pieces grown piece to rest c starts place is =
 pub is_after : (at size next : ℕ) → at < next → size < next - at → ltb (at + size) next ≡ true
 is_after at size next below small = lt-ltb (at + size) next (omega arith)
 
-pub is_at_or_behind : (at size next : ℕ) → next ≤ at → ltb (at + size) next ≡ false
-is_at_or_behind at size next above = le-ltb (at + size) next (omega arith)
+pub is_at_or_after : (at size next : ℕ) → next ≤ at → ltb (at + size) next ≡ false
+is_at_or_after at size next above = le-ltb (at + size) next (omega arith)
 
 pub is_too_long : (at size next : ℕ) → at < next → next - at ≤ size → ltb (at + size) next ≡ false
 is_too_long at size next below large = le-ltb (at + size) next (omega arith)

@@ -53,7 +53,7 @@ one_place text at at' a b =
     ∙ ap (λ k. place_of_token b.tokens k (length text)) i
     ∙ sym b.place
 
--- each token of bytes that stand at a place stands there or after it
+-- each token of bytes that are at a place is there or after it
 not_before : (at : ℕ) (bytes : List ℕ) (token : Token) (rest : List ℕ) → StartsWith at bytes token rest
     → at ≤ token.at
 not_before at bytes token rest starts =
@@ -69,7 +69,7 @@ stands_from (first ∷ before) token after at bytes (rest, starts, more) =
     stands_from before token after (first.at + length first.text) rest more in
     omega arith
 
--- a later token stands after the first
+-- a later token comes after the first
 stands_after : (first : Token) (before : List Token) (token : Token) (after : List Token) (at : ℕ)
     (bytes : List ℕ)
     → HasTokens at bytes (first ∷ before ++ token ∷ after) → first.at < token.at
@@ -85,7 +85,7 @@ none_among : (before : List Token) (token : Token) (after : List Token) → None
 none_among [] token after none = none.0
 none_among (first ∷ before) token after none = none_among before token after none.1
 
--- the leftmost bad token stands before each other
+-- the leftmost bad token is before each other
 leftmost : (before : List Token) (token : Token) (after before' : List Token) (token' : Token)
     (after' : List Token) (at : ℕ) (bytes : List ℕ) (other : TextFault)
     → HasTokens at bytes (before ++ token ∷ after)
@@ -160,17 +160,17 @@ has_bad text BadNumber at is same has =
     subst (HasTextFault text) e has
 has_bad text _ at is same has = cc same
 
-record StandsThere (at : ℕ) (is : TextFault) : Type 0 where
+record IsAtPlace (at : ℕ) (is : TextFault) : Type 0 where
   stage : stage_of is ≡ 1
   place : place_of is ≡ at
 
-bad_stands : (kind : Kind) (at : ℕ) (is : TextFault) → fault_of_bad kind at ≡ Some is → StandsThere at is
+bad_stands : (kind : Kind) (at : ℕ) (is : TextFault) → fault_of_bad kind at ≡ Some is → IsAtPlace at is
 bad_stands BadByte at is same =
     let e : fault.BadByte at ≡ is = cc same in
-    subst (StandsThere at) e (record { stage = refl; place = refl })
+    subst (IsAtPlace at) e (record { stage = refl; place = refl })
 bad_stands BadNumber at is same =
     let e : fault.BadNumber at ≡ is = cc same in
-    subst (StandsThere at) e (record { stage = refl; place = refl })
+    subst (IsAtPlace at) e (record { stage = refl; place = refl })
 bad_stands _ at is same = cc same
 
 -- a text that is too large has no fault before that
@@ -201,7 +201,7 @@ bad_first text is small bad = record {
   first = after;
 }
   where
-    there : StandsThere bad.token.at is
+    there : IsAtPlace bad.token.at is
     there = bad_stands bad.token.kind bad.token.at is bad.fault_is
 
     other_bad : (kind : Kind) (at : ℕ) (other : TextFault) → fault_of_bad kind at ≡ Some other
@@ -215,7 +215,7 @@ bad_first text is small bad = record {
         let below : bad.token.at ≤ has.token.at =
         leftmost bad.before bad.token bad.after has.before has.token has.after 0 text other bad.cut lists
         bad.none_before is_bad in
-        let stands : StandsThere at other = bad_stands kind at other wrong in
+        let stands : IsAtPlace at other = bad_stands kind at other wrong in
         let stage_is : stage_of other ≡ 1 = stands.stage in
         let place_is : place_of other ≡ at = stands.place in
         inr (omega arith, omega arith)

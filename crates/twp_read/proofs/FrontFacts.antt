@@ -25,11 +25,11 @@ use Rattle.std.specs.Option.{is_some}
 use Rattle.twp_grammar.specs.Grammar.{class_of, sec, lot, stop, comma, number}
 use Rattle.twp_grammar.specs.Machine.{next}
 use Rattle.twp_read.specs.steps.TokenSteps.{take_token, take_township, take_number, before_parts, with_newest}
-use Rattle.twp_read.specs.steps.Usual.{Leads, IsNumberBehind, may_be_doubtful}
+use Rattle.twp_read.specs.steps.Usual.{Leads, IsNumberAfter, may_be_doubtful}
 use Rattle.twp_read.specs.steps.Watching.{is_step, is_usual}
 use Rattle.twp_read.proofs.WatchFacts.{not_step, number_is_usual}
 use Rattle.twp_read.proofs.Leading.{IsMark, the_comma, mark_leads, made, leads_token, leads_space, leads_then}
-use Rattle.twp_read.proofs.Leading.{left_behind, white_leads}
+use Rattle.twp_read.proofs.Leading.{left_after, white_leads}
 
 pub a_full_stop : IsMark 46 Stop
 a_full_stop = record {
@@ -38,46 +38,46 @@ a_full_stop = record {
   usual = λ state end token. refl;
 }
 
--- a full stop, and the space after it
-pub stop_leads : (text : List ℕ) (at : ℕ) (state behind : State) (its : List Item)
-    → next state stop ≡ Some behind → drop at text ≡ codes ". " ++ drop (at + 2) text → at + 2 ≤ length text
-    → is_step behind ≡ false → Leads text at state its (at + 2) behind its
-stop_leads text at state behind its is spelled within no_step =
+-- a period, and the space after it
+pub stop_leads : (text : List ℕ) (at : ℕ) (state after : State) (its : List Item)
+    → next state stop ≡ Some after → drop at text ≡ codes ". " ++ drop (at + 2) text → at + 2 ≤ length text
+    → is_step after ≡ false → Leads text at state its (at + 2) after its
+stop_leads text at state after its is spelled within no_step =
     let space : drop (at + 1) text ≡ codes " " ++ drop (at + 2) text =
-    left_behind text at 1 (codes ". " ++ drop (at + 2) text) spelled in
+    left_after text at 1 (codes ". " ++ drop (at + 2) text) spelled in
     let end : (at + 1) + 1 ≡ at + 2 = omega arith in
-    leads_then text at state its (at + 1) behind its (at + 2) behind its
-    (mark_leads text at 46 Stop state behind its a_full_stop is (rw space spelled) (omega arith))
-    (subst (λ (n : ℕ). Leads text (at + 1) behind its n behind its) end
-    (leads_space text (at + 1) behind its (rw end space) (omega arith) no_step))
+    leads_then text at state its (at + 1) after its (at + 2) after its
+    (mark_leads text at 46 Stop state after its a_full_stop is (rw space spelled) (omega arith))
+    (subst (λ (n : ℕ). Leads text (at + 1) after its n after its) end
+    (leads_space text (at + 1) after its (rw end space) (omega arith) no_step))
 
--- a full stop and a comma
-pub stop_comma_leads : (text : List ℕ) (at : ℕ) (state between behind : State) (its : List Item)
-    → next state stop ≡ Some between → next between comma ≡ Some behind
+-- a period and a comma
+pub stop_comma_leads : (text : List ℕ) (at : ℕ) (state between after : State) (its : List Item)
+    → next state stop ≡ Some between → next between comma ≡ Some after
     → drop at text ≡ codes ".," ++ drop (at + 2) text → at + 2 ≤ length text
-    → Leads text at state its (at + 2) behind its
-stop_comma_leads text at state between behind its is is_behind spelled within =
+    → Leads text at state its (at + 2) after its
+stop_comma_leads text at state between after its is is_after_it spelled within =
     let left : drop (at + 1) text ≡ codes "," ++ drop (at + 2) text =
-    left_behind text at 1 (codes ".," ++ drop (at + 2) text) spelled in
+    left_after text at 1 (codes ".," ++ drop (at + 2) text) spelled in
     let end : (at + 1) + 1 ≡ at + 2 = omega arith in
-    leads_then text at state its (at + 1) between its (at + 2) behind its
+    leads_then text at state its (at + 1) between its (at + 2) after its
     (mark_leads text at 46 Stop state between its a_full_stop is (rw left spelled) (omega arith))
-    (subst (λ (n : ℕ). Leads text (at + 1) between its n behind its) end
-    (mark_leads text (at + 1) 44 Comma between behind its the_comma is_behind (rw end left) (omega arith)))
+    (subst (λ (n : ℕ). Leads text (at + 1) between its n after its) end
+    (mark_leads text (at + 1) 44 Comma between after its the_comma is_after_it (rw end left) (omega arith)))
 
--- a full stop and a comma, and the space after them
-pub stop_comma_space_leads : (text : List ℕ) (at : ℕ) (state between behind : State) (its : List Item)
-    → next state stop ≡ Some between → next between comma ≡ Some behind
-    → drop at text ≡ codes "., " ++ drop (at + 3) text → at + 3 ≤ length text → is_step behind ≡ false
-    → Leads text at state its (at + 3) behind its
-stop_comma_space_leads text at state between behind its is is_behind spelled within no_step =
+-- a period and a comma, and the space after them
+pub stop_comma_space_leads : (text : List ℕ) (at : ℕ) (state between after : State) (its : List Item)
+    → next state stop ≡ Some between → next between comma ≡ Some after
+    → drop at text ≡ codes "., " ++ drop (at + 3) text → at + 3 ≤ length text → is_step after ≡ false
+    → Leads text at state its (at + 3) after its
+stop_comma_space_leads text at state between after its is is_after_it spelled within no_step =
     let space : drop (at + 2) text ≡ codes " " ++ drop (at + 3) text =
-    left_behind text at 2 (codes "., " ++ drop (at + 3) text) spelled in
+    left_after text at 2 (codes "., " ++ drop (at + 3) text) spelled in
     let end : (at + 2) + 1 ≡ at + 3 = omega arith in
-    leads_then text at state its (at + 2) behind its (at + 3) behind its
-    (stop_comma_leads text at state between behind its is is_behind (rw space spelled) (omega arith))
-    (subst (λ (n : ℕ). Leads text (at + 2) behind its n behind its) end
-    (leads_space text (at + 2) behind its (rw end space) (omega arith) no_step))
+    leads_then text at state its (at + 2) after its (at + 3) after its
+    (stop_comma_leads text at state between after its is is_after_it (rw space spelled) (omega arith))
+    (subst (λ (n : ℕ). Leads text (at + 2) after its n after its) end
+    (leads_space text (at + 2) after its (rw end space) (omega arith) no_step))
 
 -- letters that are a word of this kind
 record IsWord (letters : List ℕ) (kind : Kind) : Type 0 where
@@ -87,13 +87,13 @@ record IsWord (letters : List ℕ) (kind : Kind) : Type 0 where
 
 -- a word after white space, before what isn't a letter
 word_leads : (text : List ℕ) (at place end : ℕ) (space letters rest : List ℕ) (kind : Kind)
-    (state behind : State) (its : List Item)
+    (state after : State) (its : List Item)
     → AllPass is_white space → IsWord letters kind → begins_with is_ascii_alphabetic rest ≡ false
     → drop at text ≡ space ++ (letters ++ rest) → drop end text ≡ rest
     → place ≡ at + length space → place + length letters ≡ end → end ≤ length text
-    → next state (class_of kind) ≡ Some behind → is_usual state at (made kind letters place) kind ≡ true
-    → Leads text at state its end behind (take_token state kind place its)
-word_leads text at place end space letters rest kind state behind its white word ends spelled left here size
+    → next state (class_of kind) ≡ Some after → is_usual state at (made kind letters place) kind ≡ true
+    → Leads text at state its end after (take_token state kind place its)
+word_leads text at place end space letters rest kind state after its white word ends spelled left here size
     within is usual =
     let starts : StartsWith at (drop at text) (made kind letters place) (drop end text) =
     rw left (record {
@@ -103,7 +103,7 @@ word_leads text at place end space letters rest kind state behind its white word
       place = here;
       is = good (a_word (record { some = word.some; all = word.all; ends = ends }) word.is);
     }) in
-    leads_token text at state its (made kind letters place) end behind starts size within is usual
+    leads_token text at state its (made kind letters place) end after starts size within is usual
 
 no_space : AllPass is_white []
 no_space = AllPass-from_list_all is_white [] refl
@@ -155,15 +155,15 @@ pub township_leads : (text : List ℕ) (at : ℕ) (its : List Item)
     → Leads text at past.Start its (at + 3) past.TownshipStop (take_township at its)
 township_leads text at its spelled within =
     let more : List ℕ = drop (at + 3) text in
-    let behind : drop (at + 1) text ≡ codes ". " ++ more =
-    left_behind text at 1 (codes "T. " ++ more) spelled in
+    let after : drop (at + 1) text ≡ codes ". " ++ more =
+    left_after text at 1 (codes "T. " ++ more) spelled in
     let end : (at + 1) + 2 ≡ at + 3 = omega arith in
     let begun : List Item = take_township at its in
     leads_then text at past.Start its (at + 1) past.Township begun (at + 3) past.TownshipStop begun
     (word_leads text at at (at + 1) [] (codes "T") (codes ". " ++ more) T past.Start past.Township its
-    no_space one_t refl spelled behind (omega arith) refl (omega arith) refl refl)
+    no_space one_t refl spelled after (omega arith) refl (omega arith) refl refl)
     (subst (λ (n : ℕ). Leads text (at + 1) past.Township begun n past.TownshipStop begun) end
-    (stop_leads text (at + 1) past.Township past.TownshipStop begun refl (rw end behind) (omega arith) refl))
+    (stop_leads text (at + 1) past.Township past.TownshipStop begun refl (rw end after) (omega arith) refl))
 
 -- ` N., R. ` and ` S., R. `
 side_leads : (text : List ℕ) (at letter : ℕ) (side : NorthOrSouth) (its : List Item)
@@ -173,9 +173,9 @@ side_leads : (text : List ℕ) (at letter : ℕ) (side : NorthOrSouth) (its : Li
 side_leads text at letter side its word spelled within =
     let more : List ℕ = drop (at + 8) text in
     let whole : List ℕ = 32 ∷ letter ∷ (codes "., R. " ++ more) in
-    let marks : drop (at + 2) text ≡ codes "., R. " ++ more = left_behind text at 2 whole spelled in
-    let range : drop (at + 5) text ≡ codes "R. " ++ more = left_behind text at 5 whole spelled in
-    let mark : drop (at + 6) text ≡ codes ". " ++ more = left_behind text at 6 whole spelled in
+    let marks : drop (at + 2) text ≡ codes "., R. " ++ more = left_after text at 2 whole spelled in
+    let range : drop (at + 5) text ≡ codes "R. " ++ more = left_after text at 5 whole spelled in
+    let mark : drop (at + 6) text ≡ codes ". " ++ more = left_after text at 6 whole spelled in
     let marks_end : (at + 2) + 3 ≡ at + 5 = omega arith in
     let mark_end : (at + 6) + 2 ≡ at + 8 = omega arith in
     let sided : List Item = with_newest (TownshipSide side) its in
@@ -212,7 +212,7 @@ way_leads : (text : List ℕ) (at letter : ℕ) (way : EastOrWest) (its : List I
 way_leads text at letter way its word spelled within =
     let more : List ℕ = drop (at + 4) text in
     let marks : drop (at + 2) text ≡ codes ".," ++ more =
-    left_behind text at 2 (32 ∷ letter ∷ (codes ".," ++ more)) spelled in
+    left_after text at 2 (32 ∷ letter ∷ (codes ".," ++ more)) spelled in
     let end : (at + 2) + 2 ≡ at + 4 = omega arith in
     let sided : List Item = with_newest (RangeSide way) its in
     leads_then text at past.RangeNumber its (at + 2) past.RangeSide sided (at + 4) past.BeforeGroup sided
@@ -241,7 +241,7 @@ pub sec_leads : (text : List ℕ) (from at : ℕ) (state : State) (its : List It
 sec_leads text from at state its is here spelled within =
     let more : List ℕ = drop (at + 5) text in
     let mark : drop (at + 3) text ≡ codes ". " ++ more =
-    left_behind text at 3 (codes "sec. " ++ more) spelled in
+    left_after text at 3 (codes "sec. " ++ more) spelled in
     let end : (at + 3) + 2 ≡ at + 5 = omega arith in
     leads_then text from state its at state its (at + 5) past.SectionStop its
     (white_leads text from at state its here (omega arith) (not_step sec state past.SectionWord refl is))
@@ -258,7 +258,7 @@ pub section_leads : (text : List ℕ) (from at : ℕ) (state : State) (its : Lis
 section_leads text from at state its is here spelled within =
     let more : List ℕ = drop (at + 8) text in
     let space : drop (at + 7) text ≡ codes " " ++ more =
-    left_behind text at 7 (codes "Section " ++ more) spelled in
+    left_after text at 7 (codes "Section " ++ more) spelled in
     let end : (at + 7) + 1 ≡ at + 8 = omega arith in
     leads_then text from state its at state its (at + 8) past.SectionWord its
     (white_leads text from at state its here (omega arith) (not_step sec state past.SectionWord refl is))
@@ -287,9 +287,9 @@ colon_leads text at its spelled within =
 -- a number that is the next token
 pub number_leads : (text : List ℕ) (from : ℕ) (token : Token) (it : Numeral) (end : ℕ)
     → IsFirstIn text from token → token.kind ≡ Number it.value → token.at ≡ it.at
-    → token.at + length token.text ≡ end → IsNumberBehind text from it end
-number_leads text from token it end first kind_is at_is ends state behind its is plain =
-    let step_is : next state (class_of token.kind) ≡ Some behind =
+    → token.at + length token.text ≡ end → IsNumberAfter text from it end
+number_leads text from token it end first kind_is at_is ends state after its is plain =
+    let step_is : next state (class_of token.kind) ≡ Some after =
     ap (λ k. next state (class_of k)) kind_is ∙ is in
     let grown_is : take_token state token.kind token.at its ≡ take_number state it its =
     ap (λ k. take_token state k token.at its) kind_is
@@ -299,8 +299,8 @@ number_leads text from token it end first kind_is at_is ends state behind its is
     let within : end ≤ length text = subst (λ (n : ℕ). n ≤ length text) ends first.within in
     let sure : may_be_doubtful state (drop token.at text) ≡ false =
     subst (λ (n : ℕ). may_be_doubtful state (drop n text) ≡ false) (sym at_is) plain in
-    subst (λ (js : List Item). Leads text from state its end behind js) grown_is
-    (leads_token text from state its token end behind starts ends within step_is
+    subst (λ (js : List Item). Leads text from state its end after js) grown_is
+    (leads_token text from state its token end after starts ends within step_is
     (number_is_usual text from state token it.value (drop end text) starts kind_is sure))
 
 -- where a part may begin, the word of lots does
@@ -329,7 +329,7 @@ lots_leads text at state its begins spelled within =
     let more : List ℕ = drop (at + 5) text in
     let begun : List Item = before_parts state its in
     let space : drop (at + 4) text ≡ codes " " ++ more =
-    left_behind text at 4 (codes "lots " ++ more) spelled in
+    left_after text at 4 (codes "lots " ++ more) spelled in
     let end : (at + 4) + 1 ≡ at + 5 = omega arith in
     leads_then text at state its (at + 4) past.Lot begun (at + 5) past.Lot begun
     (word_leads text at at (at + 4) [] (codes "lots") (codes " " ++ more) Lot state past.Lot its no_space
@@ -345,9 +345,9 @@ comma_lots_leads text at its spelled within =
     let more : List ℕ = drop (at + 7) text in
     let begun : List Item = before_parts past.SectionNumber its in
     let word : drop (at + 1) text ≡ codes " lots " ++ more =
-    left_behind text at 1 (codes ", lots " ++ more) spelled in
+    left_after text at 1 (codes ", lots " ++ more) spelled in
     let space : drop (at + 6) text ≡ codes " " ++ more =
-    left_behind text at 6 (codes ", lots " ++ more) spelled in
+    left_after text at 6 (codes ", lots " ++ more) spelled in
     let end : (at + 6) + 1 ≡ at + 7 = omega arith in
     leads_then text at past.SectionNumber its (at + 1) past.SectionComma its (at + 7) past.Lot begun
     (mark_leads text at 44 Comma past.SectionNumber past.SectionComma its the_comma refl (rw word spelled)

@@ -29,11 +29,11 @@ use Rattle.twp_read.proofs.ReaderFacts.{Front}
 
 -- the reader continues with what leads on
 unfoldable pub goes_further : (text : List ℕ) (at : ℕ) (state : State) (its : List Item) (to : ℕ)
-    (behind : State)
+    (after : State)
     (grown : List Item)
-    → Front text at (drop at text) state its → Leads text at state its to behind grown
-    → Front text to (drop to text) behind grown
-goes_further text at state its to behind grown f l =
+    → Front text at (drop at text) state its → Leads text at state its to after grown
+    → Front text to (drop to text) after grown
+goes_further text at state its to after grown f l =
     let within : to ≤ length text = l.within in
     record {
       tokens = f.tokens ++ l.tokens;
@@ -45,10 +45,10 @@ goes_further text at state its to behind grown f l =
 
 -- what leads to where more leads on
 pub leads_then : (text : List ℕ) (at : ℕ) (state : State) (its : List Item) (mid : ℕ) (between : State)
-    (some : List Item) (to : ℕ) (behind : State) (grown : List Item)
-    → Leads text at state its mid between some → Leads text mid between some to behind grown
-    → Leads text at state its to behind grown
-leads_then text at state its mid between some to behind grown f g =
+    (some : List Item) (to : ℕ) (after : State) (grown : List Item)
+    → Leads text at state its mid between some → Leads text mid between some to after grown
+    → Leads text at state its to after grown
+leads_then text at state its mid between some to after grown f g =
     let first : at ≤ mid = f.forward in
     let then : mid ≤ to = g.forward in
     record {
@@ -57,18 +57,18 @@ leads_then text at state its mid between some to behind grown f g =
       walked = run-append (Some state) its f.tokens g.tokens ∙ ap (λ o. go_on o g.tokens) f.walked ∙ g.walked;
       usual =
           usual_then at mid (Some state) its between some f.tokens g.tokens f.usual f.walked f.stays g.usual;
-      stays = stays_then at mid to between some behind grown f.tokens g.tokens f.stays g.walked g.stays;
+      stays = stays_then at mid to between some after grown f.tokens g.tokens f.stays g.walked g.stays;
       forward = omega arith;
       within = g.within;
     }
 
 -- one token
 pub leads_token : (text : List ℕ) (at : ℕ) (state : State) (its : List Item) (token : Token) (to : ℕ)
-    (behind : State)
+    (after : State)
     → StartsWith at (drop at text) token (drop to text) → end_of token ≡ to → to ≤ length text
-    → next state (class_of token.kind) ≡ Some behind → is_usual state at token token.kind ≡ true
-    → Leads text at state its to behind (take_token state token.kind token.at its)
-leads_token text at state its token to behind starts ends within is usual =
+    → next state (class_of token.kind) ≡ Some after → is_usual state at token token.kind ≡ true
+    → Leads text at state its to after (take_token state token.kind token.at its)
+leads_token text at state its token to after starts ends within is usual =
     let place : token.at ≡ at + length starts.space = starts.place in
     record {
       tokens = token ∷ [];
@@ -78,7 +78,7 @@ leads_token text at state its token to behind starts ends within is usual =
         subst (λ (n : ℕ). HasTokens n (drop to text) left) (sym ends) has,
       );
       walked = ap (λ o. run o (take_token state token.kind token.at its) []) is;
-      usual = usual_token at state behind token usual is;
+      usual = usual_token at state after token usual is;
       stays = λ _. sym ends;
       forward = omega arith;
       within = within;
@@ -161,9 +161,9 @@ quarter_leads text at its spelled within =
     (quarter_starts text at spelled) refl within refl refl
 
 -- what is left of a text after some bytes that it continues with
-pub left_behind : (text : List ℕ) (at n : ℕ) (bytes : List ℕ) → drop at text ≡ bytes
+pub left_after : (text : List ℕ) (at n : ℕ) (bytes : List ℕ) → drop at text ≡ bytes
     → drop (at + n) text ≡ drop n bytes
-left_behind text at n bytes spelled = sym (drop-drop n at text) ∙ ap (λ b. drop n b) spelled
+left_after text at n bytes spelled = sym (drop-drop n at text) ∙ ap (λ b. drop n b) spelled
 
 -- `of` and `the` after a step, and the space after them
 pub of_the_leads : (text : List ℕ) (at : ℕ) (its : List Item)
@@ -171,17 +171,17 @@ pub of_the_leads : (text : List ℕ) (at : ℕ) (its : List Item)
     → Leads text at past.Step its (at + 8) past.OfThe its
 of_the_leads text at its spelled within =
     let more : List ℕ = drop (at + 8) text in
-    let behind_of : drop (at + 3) text ≡ codes " the " ++ more =
-    left_behind text at 3 (codes " of the " ++ more) spelled in
-    let behind_the : drop (at + 7) text ≡ codes " " ++ more =
-    left_behind text at 7 (codes " of the " ++ more) spelled in
+    let after_of_word : drop (at + 3) text ≡ codes " the " ++ more =
+    left_after text at 3 (codes " of the " ++ more) spelled in
+    let after_the : drop (at + 7) text ≡ codes " " ++ more =
+    left_after text at 7 (codes " of the " ++ more) spelled in
     let of_starts : StartsWith at (drop at text) (made Of (codes "of") (at + 1)) (drop (at + 3) text) =
     record {
       space = codes " ";
       white = AllPass-from_list_all is_white (codes " ") refl;
-      spelled = rw behind_of spelled;
+      spelled = rw after_of_word spelled;
       place = refl;
-      is = rw behind_of (good (a_word (record {
+      is = rw after_of_word (good (a_word (record {
         some = omega arith;
         all = AllPass-from_list_all is_ascii_alphabetic (codes "of") refl;
         ends = refl;
@@ -191,16 +191,16 @@ of_the_leads text at its spelled within =
     (drop (at + 7) text) = record {
       space = codes " ";
       white = AllPass-from_list_all is_white (codes " ") refl;
-      spelled = rw behind_the behind_of;
+      spelled = rw after_the after_of_word;
       place = omega arith;
-      is = rw behind_the (good (a_word (record {
+      is = rw after_the (good (a_word (record {
         some = omega arith;
         all = AllPass-from_list_all is_ascii_alphabetic (codes "the") refl;
         ends = refl;
       }) refl));
     } in
     let the_end : (at + 7) + 1 ≡ at + 8 = omega arith in
-    let space : drop (at + 7) text ≡ codes " " ++ drop ((at + 7) + 1) text = rw the_end behind_the in
+    let space : drop (at + 7) text ≡ codes " " ++ drop ((at + 7) + 1) text = rw the_end after_the in
     leads_then text at past.Step its (at + 7) past.OfThe its (at + 8) past.OfThe its
     (leads_then text at past.Step its (at + 3) past.Of its (at + 7) past.OfThe its
     (leads_token text at past.Step its (made Of (codes "of") (at + 1)) (at + 3) past.Of of_starts
@@ -223,10 +223,10 @@ the_comma = record {
   usual = λ state end token. refl;
 }
 
-pub mark_leads : (text : List ℕ) (at byte : ℕ) (kind : Kind) (state behind : State) (its : List Item)
-    → IsMark byte kind → next state (class_of kind) ≡ Some behind → drop at text ≡ byte ∷ drop (at + 1) text
-    → at + 1 ≤ length text → Leads text at state its (at + 1) behind its
-mark_leads text at byte kind state behind its mark is spelled within =
+pub mark_leads : (text : List ℕ) (at byte : ℕ) (kind : Kind) (state after : State) (its : List Item)
+    → IsMark byte kind → next state (class_of kind) ≡ Some after → drop at text ≡ byte ∷ drop (at + 1) text
+    → at + 1 ≤ length text → Leads text at state its (at + 1) after its
+mark_leads text at byte kind state after its mark is spelled within =
     let starts : StartsWith at (drop at text) (made kind (byte ∷ []) at) (drop (at + 1) text) =
     record {
       space = [];
@@ -235,8 +235,8 @@ mark_leads text at byte kind state behind its mark is spelled within =
       place = omega arith;
       is = good (mark.is (drop (at + 1) text));
     } in
-    subst (λ (js : List Item). Leads text at state its (at + 1) behind js) (mark.kept state at its)
-    (leads_token text at state its (made kind (byte ∷ []) at) (at + 1) behind starts refl within is
+    subst (λ (js : List Item). Leads text at state its (at + 1) after js) (mark.kept state at its)
+    (leads_token text at state its (made kind (byte ∷ []) at) (at + 1) after starts refl within is
     (mark.usual state at (made kind (byte ∷ []) at)))
 
 -- `and` after the comma of a part, and the space after it
@@ -244,7 +244,7 @@ pub and_leads : (text : List ℕ) (at : ℕ) (its : List Item) → drop at text 
     → at + 4 ≤ length text → Leads text at past.PartComma its (at + 4) past.BeforePart its
 and_leads text at its spelled within =
     let space : drop (at + 3) text ≡ codes " " ++ drop (at + 4) text =
-    left_behind text at 3 (codes "and " ++ drop (at + 4) text) spelled in
+    left_after text at 3 (codes "and " ++ drop (at + 4) text) spelled in
     let end : (at + 3) + 1 ≡ at + 4 = omega arith in
     let starts : StartsWith at (drop at text) (made And (codes "and") at) (drop (at + 3) text) = record {
       space = [];
@@ -271,10 +271,10 @@ white_append (x ∷ xs) ys h k =
     rw parts.0 (white_append xs ys parts.1 k)
 
 -- a token after white space starts where the white space does
-behind_space : (text : List ℕ) (from at : ℕ) (token : Token) (rest : List ℕ)
+after_space : (text : List ℕ) (from at : ℕ) (token : Token) (rest : List ℕ)
     → at ≡ from + prefix_len is_white (drop from text) → StartsWith at (drop at text) token rest
     → StartsWith from (drop from text) token rest
-behind_space text from at token rest is s =
+after_space text from at token rest is s =
     let bytes : List ℕ = drop from text in
     let n : ℕ = prefix_len is_white bytes in
     let left : drop n bytes ≡ drop at text = drop-drop n from text ∙ ap (λ m. drop m text) (sym is) in
@@ -313,8 +313,8 @@ white_leads text from at state its is within no_step =
     bytes : List ℕ
     bytes = drop from text
 
-    behind : drop (prefix_len is_white bytes) bytes ≡ drop at text
-    behind = drop-drop (prefix_len is_white bytes) from text ∙ ap (λ m. drop m text) (sym is)
+    after : drop (prefix_len is_white bytes) bytes ≡ drop at text
+    after = drop-drop (prefix_len is_white bytes) from text ∙ ap (λ m. drop m text) (sym is)
 
     before : (left : List Token) → HasTokens at (drop at text) left → HasTokens from (drop from text) left
     before [] has =
@@ -323,10 +323,10 @@ white_leads text from at state its is within no_step =
         white_append front (drop at text) (list_all-from_AllPass is_white front (all_white bytes))
         (list_all-from_AllPass is_white (drop at text) has) in
         subst (λ (b : List ℕ). AllPass is_white b)
-        (ap (λ b. front ++ b) (sym behind) ∙ take-append-drop (prefix_len is_white bytes) bytes)
+        (ap (λ b. front ++ b) (sym after) ∙ take-append-drop (prefix_len is_white bytes) bytes)
         (AllPass-from_list_all is_white (front ++ drop at text) all)
     before (token ∷ tokens) (rest, starts, more) =
-        (rest, behind_space text from at token rest is starts, more)
+        (rest, after_space text from at token rest is starts, more)
 
 -- a comma after a part, and the space after it
 pub comma_space_leads : (text : List ℕ) (at : ℕ) (its : List Item)
@@ -334,7 +334,7 @@ pub comma_space_leads : (text : List ℕ) (at : ℕ) (its : List Item)
     → Leads text at past.Step its (at + 2) past.PartComma its
 comma_space_leads text at its spelled within =
     let space : drop (at + 1) text ≡ codes " " ++ drop (at + 2) text =
-    left_behind text at 1 (codes ", " ++ drop (at + 2) text) spelled in
+    left_after text at 1 (codes ", " ++ drop (at + 2) text) spelled in
     let end : (at + 1) + 1 ≡ at + 2 = omega arith in
     leads_then text at past.Step its (at + 1) past.PartComma its (at + 2) past.PartComma its
     (mark_leads text at 44 Comma past.Step past.PartComma its the_comma refl (rw space spelled) (omega arith))
@@ -342,11 +342,11 @@ comma_space_leads text at its spelled within =
     (leads_space text (at + 1) past.PartComma its (rw end space) (omega arith) refl))
 
 -- a comma after a part, and the white space after it
-pub comma_leads : (text : List ℕ) (at behind : ℕ) (its : List Item)
+pub comma_leads : (text : List ℕ) (at after : ℕ) (its : List Item)
     → drop at text ≡ codes "," ++ drop (at + 1) text → at + 1 ≤ length text
-    → behind ≡ (at + 1) + prefix_len is_white (drop (at + 1) text) → behind ≤ length text
-    → Leads text at past.Step its behind past.PartComma its
-comma_leads text at behind its spelled begins is within =
-    leads_then text at past.Step its (at + 1) past.PartComma its behind past.PartComma its
+    → after ≡ (at + 1) + prefix_len is_white (drop (at + 1) text) → after ≤ length text
+    → Leads text at past.Step its after past.PartComma its
+comma_leads text at after its spelled begins is within =
+    leads_then text at past.Step its (at + 1) past.PartComma its after past.PartComma its
     (mark_leads text at 44 Comma past.Step past.PartComma its the_comma refl spelled begins)
-    (white_leads text (at + 1) behind past.PartComma its is within refl)
+    (white_leads text (at + 1) after past.PartComma its is within refl)

@@ -11,7 +11,7 @@ use Rattle.twp_grammar.specs.declared.state.State.TheVariants as past
 use Rattle.twp_grammar.specs.Tokens.{Token}
 use Rattle.twp_grammar.specs.Grammar.{of, the, number, Ebnf, one, ◌⨾◌, many, maybe, step, through, entry}
 use Rattle.twp_grammar.specs.Grammar.{separator}
-use Rattle.twp_grammar.specs.Items.{Leaf, token_of, ◌&◌, behind, Tree, numeral, step_of, Range, end_of}
+use Rattle.twp_grammar.specs.Items.{Leaf, token_of, ◌&◌, after, Tree, numeral, step_of, Range, end_of}
 use Rattle.twp_grammar.specs.Items.{range_of, lots_item, whole_sections_item}
 use Rattle.twp_read.specs.steps.TokenSteps.{run}
 use Rattle.twp_grammar.proofs.TreeFacts.{onto}
@@ -56,21 +56,21 @@ further_steps = many (maybe (one of ⨾ maybe (one the)) ⨾ step)
 grow_further : (v : Tree (maybe (one of ⨾ maybe (one the)) ⨾ step)) (steps : List Step) (at : ℕ)
     (is : List Item) (ts : List Token)
     → run (Some past.Step) (item.Chain steps at ∷ is) (onto (maybe (one of ⨾ maybe (one the)) ⨾ step) v ts)
-    ≡ run (Some past.Step) (item.Chain (steps ++ behind step_of v ∷ []) at ∷ is) ts
+    ≡ run (Some past.Step) (item.Chain (steps ++ after step_of v ∷ []) at ∷ is) ts
 grow_further (inl (_ & inl _) & v) steps at is ts = grow at_the v steps at is ts
 grow_further (inl (_ & inr _) & v) steps at is ts = grow at_of v steps at is ts
 grow_further (inr _ & v) steps at is ts = grow at_step v steps at is ts
 
 pub grow_all : (vs : Tree further_steps) (steps : List Step) (at : ℕ) (is : List Item) (ts : List Token)
     → run (Some past.Step) (item.Chain steps at ∷ is) (onto further_steps vs ts)
-    ≡ run (Some past.Step) (item.Chain (steps ++ map (behind step_of) vs) at ∷ is) ts
+    ≡ run (Some past.Step) (item.Chain (steps ++ map (after step_of) vs) at ∷ is) ts
 grow_all [] steps at is ts =
     ap (λ all_steps. run (Some past.Step) (item.Chain all_steps at ∷ is) ts) (sym (append-nil steps))
 grow_all (v ∷ vs) steps at is ts =
     grow_further v steps at is (onto further_steps vs ts)
-    ∙ grow_all vs (steps ++ behind step_of v ∷ []) at is ts
+    ∙ grow_all vs (steps ++ after step_of v ∷ []) at is ts
     ∙ ap (λ all_steps. run (Some past.Step) (item.Chain all_steps at ∷ is) ts)
-    (append_assoc steps (behind step_of v ∷ []) (map (behind step_of) vs))
+    (append_assoc steps (after step_of v ∷ []) (map (after step_of) vs))
 
 -- the end of an entry: after a number alone, after a range, or after `inclusive`
 pub data EntryEnd : Type 0 where
@@ -84,12 +84,12 @@ pub data Separated : Type 0 where
   at_last_comma : Separated
   at_and : Separated
 
-abbrev pub behind_separator : EntryEnd → Tree separator → Separated
-behind_separator _ (inl (_ & inl _)) = at_and
-behind_separator at_number (inl (_ & inr _)) = at_comma
-behind_separator at_last (inl (_ & inr _)) = at_last_comma
-behind_separator at_inclusive (inl (_ & inr _)) = at_comma
-behind_separator _ (inr _) = at_and
+abbrev pub after_separator : EntryEnd → Tree separator → Separated
+after_separator _ (inl (_ & inl _)) = at_and
+after_separator at_number (inl (_ & inr _)) = at_comma
+after_separator at_last (inl (_ & inr _)) = at_last_comma
+after_separator at_inclusive (inl (_ & inr _)) = at_comma
+after_separator _ (inr _) = at_and
 
 -- lists of sections and lists of lots
 pub data Listed : Type 0 where
@@ -122,7 +122,7 @@ range first last = record { first = first; last = last }
 pub read_separator : (listed : Listed) (end : EntryEnd) (v : Tree separator) (is : List Item)
     (ts : List Token)
     → run (Some (ended listed end)) is (onto separator v ts)
-    ≡ run (Some (separated listed (behind_separator end v))) is ts
+    ≡ run (Some (separated listed (after_separator end v))) is ts
 read_separator of_sections at_number (inl (_ & inl _)) is ts = refl
 read_separator of_sections at_number (inl (_ & inr _)) is ts = refl
 read_separator of_sections at_number (inr _) is ts = refl
@@ -228,9 +228,9 @@ pub read_entries : (listed : Listed) (end : EntryEnd) (vs : Tree further_entries
     (ts : List Token)
     → run (Some (ended listed end)) is (onto further_entries vs ts)
     ≡ run (Some (ended listed (end_of_entries end vs)))
-    (newest_first (map (listed_item listed) (map (behind range_of) vs)) is) ts
+    (newest_first (map (listed_item listed) (map (after range_of) vs)) is) ts
 read_entries listed end [] is ts = refl
 read_entries listed end ((s & v) ∷ vs) is ts =
     read_separator listed end s is (onto entry v (onto further_entries vs ts))
-    ∙ read_entry (listed_entry listed (behind_separator end s)) v is (onto further_entries vs ts)
+    ∙ read_entry (listed_entry listed (after_separator end s)) v is (onto further_entries vs ts)
     ∙ read_entries listed (end_of_entry v) vs (listed_item listed (range_of v) ∷ is) ts

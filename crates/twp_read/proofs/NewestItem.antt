@@ -59,23 +59,23 @@ changes_newest change items n last new long some is made =
     → reverse (set items (n - 1) new) ≡ with_newest change (reverse items) in
     subst P (sym long) (λ some is. changes_last change items last new some is made) some is
 
--- what leads on with the newest item changed, whatever stands before it
-leads_by_last : (text : List ℕ) (at : ℕ) (state : State) (to : ℕ) (behind : State) (items : List Item)
+-- what leads on with the newest item changed, whatever is before it
+leads_by_last : (text : List ℕ) (at : ℕ) (state : State) (to : ℕ) (after : State) (items : List Item)
     (last new : Item)
     → 0 < length items → last ≡ get_or items (length items - 1) last
-    → ((before : List Item) → Leads text at state (last ∷ before) to behind (new ∷ before))
-    → Leads text at state (reverse items) to behind (reverse (set items (length items - 1) new))
-leads_by_last text at state to behind [] last new some is leads = absurd (omega arith)
-leads_by_last text at state to behind (first ∷ more) last new some is leads =
+    → ((before : List Item) → Leads text at state (last ∷ before) to after (new ∷ before))
+    → Leads text at state (reverse items) to after (reverse (set items (length items - 1) new))
+leads_by_last text at state to after [] last new some is leads = absurd (omega arith)
+leads_by_last text at state to after (first ∷ more) last new some is leads =
     let parts : HasLast (first ∷ more) = has_last first more in
     let P : List Item → Type 0 = λ items.
     last ≡ get_or items (length items - 1) last
-    → Leads text at state (reverse items) to behind (reverse (set items (length items - 1) new)) in
+    → Leads text at state (reverse items) to after (reverse (set items (length items - 1) new)) in
     subst P (sym parts.is) (at_last parts.front parts.last) is
   where
     at_last : (front : List Item) (z : Item)
         → last ≡ get_or (front ++ z ∷ []) (length (front ++ z ∷ []) - 1) last
-        → Leads text at state (reverse (front ++ z ∷ [])) to behind
+        → Leads text at state (reverse (front ++ z ∷ [])) to after
         (reverse (set (front ++ z ∷ []) (length (front ++ z ∷ []) - 1) new))
     at_last front z same =
         let long : length (front ++ z ∷ []) - 1 ≡ length front =
@@ -89,16 +89,16 @@ leads_by_last text at state to behind (first ∷ more) last new some is leads =
           sym it,
         ) (leads (reverse front))
 
-pub leads_by_newest : (text : List ℕ) (at : ℕ) (state : State) (to : ℕ) (behind : State) (items : List Item)
+pub leads_by_newest : (text : List ℕ) (at : ℕ) (state : State) (to : ℕ) (after : State) (items : List Item)
     (n : ℕ) (last new : Item)
     → n ≡ length items → 0 < n → last ≡ get_or items (n - 1) last
-    → ((before : List Item) → Leads text at state (last ∷ before) to behind (new ∷ before))
-    → Leads text at state (reverse items) to behind (reverse (set items (n - 1) new))
-leads_by_newest text at state to behind items n last new long some is leads =
+    → ((before : List Item) → Leads text at state (last ∷ before) to after (new ∷ before))
+    → Leads text at state (reverse items) to after (reverse (set items (n - 1) new))
+leads_by_newest text at state to after items n last new long some is leads =
     let P : ℕ → Type 0 = λ n.
     0 < n → last ≡ get_or items (n - 1) last
-    → Leads text at state (reverse items) to behind (reverse (set items (n - 1) new)) in
-    subst P (sym long) (λ some is. leads_by_last text at state to behind items last new some is leads) some is
+    → Leads text at state (reverse items) to after (reverse (set items (n - 1) new)) in
+    subst P (sym long) (λ some is. leads_by_last text at state to after items last new some is leads) some is
 
 pub if_ok : {T E : Type 0} (r : Result T E) (P Q : T → Type 0) → ((x : T) → P x → Q x) → IfOk r P → IfOk r Q
 if_ok (Ok x) P Q f p = f x p

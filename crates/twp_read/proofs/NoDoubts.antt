@@ -17,9 +17,9 @@ use Rattle.twp_read.specs.declared.doubt.DoubtfulPlace.{DoubtfulPlace}
 use Rattle.twp_read.specs.Doubts.{end_of, begins_step, is_of_step, is_number, is_and, is_of, joined_at}
 use Rattle.twp_read.specs.Doubts.{after_steps, begin_with_of, begin_with_part_of, joins_part, shared_at}
 use Rattle.twp_read.specs.Doubts.{is_singular, begin_with_number, begin_with_and_number, joins_number}
-use Rattle.twp_read.specs.Doubts.{begin_several, are_several_behind, are_several, several_at, is_padded}
-use Rattle.twp_read.specs.Doubts.{padded_number, padded_behind, padded_at, doubt_behind, with_place, doubts}
-use Rattle.twp_read.specs.steps.Watching.{begins_list, clouds, word_behind, Unclouded, is_heading}
+use Rattle.twp_read.specs.Doubts.{begin_several, are_several_after, are_several, several_at, is_padded}
+use Rattle.twp_read.specs.Doubts.{padded_number, padded_after, padded_at, doubt_after, with_place, doubts}
+use Rattle.twp_read.specs.steps.Watching.{begins_list, clouds, word_after, Unclouded, is_heading}
 use Rattle.twp_read.specs.steps.Watching.{is_lot_join}
 use Rattle.twp_read.proofs.NoSeveral.{none_if_false, none_of_word, no_sections, no_lots}
 
@@ -29,27 +29,27 @@ NoOf [] = Unit {0}
 NoOf (token ∷ tokens) = (is_of token.kind ≡ false) × NoOf tokens
 
 -- where a kind of token leads
-behind_half : (ands : Bool) (it : ListWord) (end : ℕ) (state : State) (tokens : List Token)
+after_half : (ands : Bool) (it : ListWord) (end : ℕ) (state : State) (tokens : List Token)
     → Unclouded ands it end (next state half) tokens → Unclouded ands it end (Some past.Step) tokens
-behind_half ands it end past.Side tokens u = u
-behind_half ands it end _ tokens u = absurd u
+after_half ands it end past.Side tokens u = u
+after_half ands it end _ tokens u = absurd u
 
-behind_quarter : (ands : Bool) (it : ListWord) (end : ℕ) (state : State) (tokens : List Token)
+after_quarter : (ands : Bool) (it : ListWord) (end : ℕ) (state : State) (tokens : List Token)
     → Unclouded ands it end (next state quarter) tokens → Unclouded ands it end (Some past.Step) tokens
-behind_quarter ands it end past.Corner tokens u = u
-behind_quarter ands it end _ tokens u = absurd u
+after_quarter ands it end past.Corner tokens u = u
+after_quarter ands it end _ tokens u = absurd u
 
-behind_t : (ands : Bool) (it : ListWord) (end : ℕ) (state : State) (tokens : List Token)
+after_t : (ands : Bool) (it : ListWord) (end : ℕ) (state : State) (tokens : List Token)
     → Unclouded ands it end (next state t) tokens → Unclouded ands it end (Some past.Township) tokens
-behind_t ands it end past.Start tokens u = u
-behind_t ands it end _ tokens u = absurd u
+after_t ands it end past.Start tokens u = u
+after_t ands it end _ tokens u = absurd u
 
-behind_r : (ands : Bool) (it : ListWord) (end : ℕ) (state : State) (tokens : List Token)
+after_r : (ands : Bool) (it : ListWord) (end : ℕ) (state : State) (tokens : List Token)
     → Unclouded ands it end (next state r) tokens → Unclouded ands it end (Some past.Range) tokens
-behind_r ands it end past.TownshipSide tokens u = u
-behind_r ands it end past.TownshipSideStop tokens u = u
-behind_r ands it end past.TownshipComma tokens u = u
-behind_r ands it end _ tokens u = absurd u
+after_r ands it end past.TownshipSide tokens u = u
+after_r ands it end past.TownshipSideStop tokens u = u
+after_r ands it end past.TownshipComma tokens u = u
+after_r ands it end _ tokens u = absurd u
 
 -- JOINED
 letters_clear : (ands : Bool) (it : ListWord) (end : ℕ) (token : Token) (kind : Kind)
@@ -94,9 +94,9 @@ none_of_township ands it end [] u = refl
 none_of_township ands it end (token ∷ more) u = by_kind token.kind u.1
   where
     by_kind : (kind : Kind)
-        → Unclouded ands (word_behind kind token.text (next past.Township (class_of kind)) it) (end_of token)
+        → Unclouded ands (word_after kind token.text (next past.Township (class_of kind)) it) (end_of token)
         (next past.Township (class_of kind)) more
-        → padded_behind kind token more ≡ None
+        → padded_after kind token more ≡ None
     by_kind Stop v = none_padded ands _ (end_of token) past.TownshipStop more refl v
     by_kind _ v = none_padded ands it end past.Township (token ∷ more) refl u
 
@@ -106,9 +106,9 @@ none_of_range ands it end [] u = refl
 none_of_range ands it end (token ∷ more) u = by_kind token.kind u.1
   where
     by_kind : (kind : Kind)
-        → Unclouded ands (word_behind kind token.text (next past.Range (class_of kind)) it) (end_of token)
+        → Unclouded ands (word_after kind token.text (next past.Range (class_of kind)) it) (end_of token)
         (next past.Range (class_of kind)) more
-        → padded_behind kind token more ≡ None
+        → padded_after kind token more ≡ None
     by_kind Stop v = none_padded ands _ (end_of token) past.RangeStop more refl v
     by_kind _ v = none_padded ands it end past.Range (token ∷ more) refl u
 
@@ -162,7 +162,7 @@ no_join it end (Some state) [] h u = refl
 no_join it end (Some state) (token ∷ more) h u =
     by_step (is_of_step token.kind) refl
     (λ lead.
-    no_join (word_behind token.kind token.text (next state (class_of token.kind)) it) (end_of token)
+    no_join (word_after token.kind token.text (next state (class_of token.kind)) it) (end_of token)
     (next state (class_of token.kind)) more lead u.1)
   where
     by_step : (b : Bool) → is_of_step token.kind ≡ b
@@ -170,17 +170,17 @@ no_join it end (Some state) (token ∷ more) h u =
         → joins_part (if b then after_steps more else token ∷ more) ≡ false
     by_step true is go_on = go_on (steps_lead state token.kind is)
     by_step false is go_on =
-        no_and it (word_behind token.kind token.text (next state (class_of token.kind)) it) end state token
+        no_and it (word_after token.kind token.text (next state (class_of token.kind)) it) end state token
         more token.kind h u.0 u.1
 
 -- without `of`
-no_of_behind : (tokens : List Token) → NoOf tokens → NoOf (after_steps tokens)
-no_of_behind [] none = tt
-no_of_behind (token ∷ more) none = by_step (is_of_step token.kind) (no_of_behind more none.1)
+no_of_after : (tokens : List Token) → NoOf tokens → NoOf (after_steps tokens)
+no_of_after [] none = tt
+no_of_after (token ∷ more) none = by_step (is_of_step token.kind) (no_of_after more none.1)
   where
     by_step : (b : Bool) → NoOf (after_steps more) → NoOf (if b then after_steps more else token ∷ more)
-    by_step true behind = behind
-    by_step false behind = none
+    by_step true after = after
+    by_step false after = none
 
 no_of_first : (tokens : List Token) → NoOf tokens → begin_with_of tokens ≡ false
 no_of_first [] none = refl
@@ -194,7 +194,7 @@ no_part_of : (tokens : List Token) → NoOf tokens → begin_with_part_of tokens
 no_part_of [] none = refl
 no_part_of (token ∷ more) none =
     and_false (begins_step token.kind) (begin_with_of (after_steps more))
-    (no_of_first (after_steps more) (no_of_behind more none.1))
+    (no_of_first (after_steps more) (no_of_after more none.1))
 
 no_part_joined : (tokens : List Token) → NoOf tokens → joins_part tokens ≡ false
 no_part_joined [] none = refl
@@ -208,7 +208,7 @@ none_shared ands it end (Some state) [] u none = refl
 none_shared true it end (Some state) (letters ∷ more) u none =
     none_if_false (begins_step letters.kind && joins_part (after_steps more)) _
     (and_false (begins_step letters.kind) (joins_part (after_steps more))
-    (no_part_joined (after_steps more) (no_of_behind more (none refl).1)))
+    (no_part_joined (after_steps more) (no_of_after more (none refl).1)))
 none_shared false it end (Some state) (letters ∷ more) u none =
     none_if_false (begins_step letters.kind && joins_part (after_steps more)) _
     (by_letters (begins_step letters.kind) refl)
@@ -216,45 +216,45 @@ none_shared false it end (Some state) (letters ∷ more) u none =
     by_letters : (b : Bool) → begins_step letters.kind ≡ b → (b && joins_part (after_steps more)) ≡ false
     by_letters false is = refl
     by_letters true is =
-        no_join (word_behind letters.kind letters.text (next state (class_of letters.kind)) it)
+        no_join (word_after letters.kind letters.text (next state (class_of letters.kind)) it)
         (end_of letters) (next state (class_of letters.kind)) more (letters_lead state letters.kind is) u.1
 
 -- all of them
-none_behind : (ands : Bool) (it : ListWord) (state : State) (token : Token) (tokens : List Token)
+none_after : (ands : Bool) (it : ListWord) (state : State) (token : Token) (tokens : List Token)
     (kind : Kind)
-    → Unclouded ands (word_behind kind token.text (next state (class_of kind)) it) (end_of token)
+    → Unclouded ands (word_after kind token.text (next state (class_of kind)) it) (end_of token)
     (next state (class_of kind)) tokens
-    → (ands ≡ true → NoOf tokens) → doubt_behind kind token tokens ≡ None
-none_behind ands it state token tokens Half u none =
-    none_joined ands _ token tokens (behind_half ands _ (end_of token) state tokens u)
-none_behind ands it state token tokens Quarter u none =
-    none_joined ands _ token tokens (behind_quarter ands _ (end_of token) state tokens u)
-none_behind ands it state token tokens Sec u none =
+    → (ands ≡ true → NoOf tokens) → doubt_after kind token tokens ≡ None
+none_after ands it state token tokens Half u none =
+    none_joined ands _ token tokens (after_half ands _ (end_of token) state tokens u)
+none_after ands it state token tokens Quarter u none =
+    none_joined ands _ token tokens (after_quarter ands _ (end_of token) state tokens u)
+none_after ands it state token tokens Sec u none =
     none_of_word ands state it token tokens Sec (no_sections ands state it token tokens u)
-none_behind ands it state token tokens Lot u none =
+none_after ands it state token tokens Lot u none =
     none_of_word ands state it token tokens Lot (no_lots ands state it token tokens u)
-none_behind ands it state token tokens T u none =
-    none_of_township ands _ (end_of token) tokens (behind_t ands _ (end_of token) state tokens u)
-none_behind ands it state token tokens R u none =
-    none_of_range ands _ (end_of token) tokens (behind_r ands _ (end_of token) state tokens u)
-none_behind ands it state token tokens (Number value) u none =
+none_after ands it state token tokens T u none =
+    none_of_township ands _ (end_of token) tokens (after_t ands _ (end_of token) state tokens u)
+none_after ands it state token tokens R u none =
+    none_of_range ands _ (end_of token) tokens (after_r ands _ (end_of token) state tokens u)
+none_after ands it state token tokens (Number value) u none =
     none_shared ands _ (end_of token) (next state (class_of (Number value))) tokens u none
-none_behind ands it state token tokens Comma u none =
+none_after ands it state token tokens Comma u none =
     none_shared ands _ (end_of token) (next state (class_of Comma)) tokens u none
-none_behind ands it state token tokens Colon u none =
+none_after ands it state token tokens Colon u none =
     none_shared ands _ (end_of token) (next state (class_of Colon)) tokens u none
-none_behind ands it state token tokens And u none =
+none_after ands it state token tokens And u none =
     none_shared ands _ (end_of token) (next state (class_of And)) tokens u none
-none_behind ands it state token tokens _ u none = refl
+none_after ands it state token tokens _ u none = refl
 
 pub no_doubts : (ands : Bool) (it : ListWord) (end : ℕ) (o : Option State) (tokens : List Token)
     → Unclouded ands it end o tokens → (ands ≡ true → NoOf tokens) → doubts tokens ≡ []
 no_doubts ands it end None tokens u none = absurd u
 no_doubts ands it end (Some state) [] u none = refl
 no_doubts ands it end (Some state) (token ∷ more) u none =
-    let word_more : ListWord = word_behind token.kind token.text (next state (class_of token.kind)) it in
+    let word_more : ListWord = word_after token.kind token.text (next state (class_of token.kind)) it in
     let none_more : ands ≡ true → NoOf more = λ yes. (none yes).1 in
-    let none_here : doubt_behind token.kind token more ≡ None =
-    none_behind ands it state token more token.kind u.1 none_more in
+    let none_here : doubt_after token.kind token more ≡ None =
+    none_after ands it state token more token.kind u.1 none_more in
     ap (λ (o : Option DoubtfulPlace). with_place o (doubts more)) none_here
     ∙ no_doubts ands word_more (end_of token) (next state (class_of token.kind)) more u.1 none_more

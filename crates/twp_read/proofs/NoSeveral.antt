@@ -17,9 +17,9 @@ use Rattle.twp_read.specs.declared.doubt.DoubtfulPlace.{DoubtfulPlace}
 use Rattle.twp_read.specs.Doubts.{end_of, begins_step, is_of_step, is_number, is_and, is_of, joined_at}
 use Rattle.twp_read.specs.Doubts.{after_steps, begin_with_of, begin_with_part_of, joins_part, shared_at}
 use Rattle.twp_read.specs.Doubts.{is_singular, begin_with_number, begin_with_and_number, joins_number}
-use Rattle.twp_read.specs.Doubts.{begin_several, are_several_behind, are_several, several_at, is_padded}
-use Rattle.twp_read.specs.Doubts.{padded_number, padded_behind, padded_at, doubt_behind, with_place, doubts}
-use Rattle.twp_read.specs.steps.Watching.{begins_list, clouds, word_behind, Unclouded, is_heading}
+use Rattle.twp_read.specs.Doubts.{begin_several, are_several_after, are_several, several_at, is_padded}
+use Rattle.twp_read.specs.Doubts.{padded_number, padded_after, padded_at, doubt_after, with_place, doubts}
+use Rattle.twp_read.specs.steps.Watching.{begins_list, clouds, word_after, Unclouded, is_heading}
 use Rattle.twp_read.specs.steps.Watching.{is_lot_join}
 
 pub none_if_false : (b : Bool) (some : DoubtfulPlace) → b ≡ false
@@ -28,25 +28,25 @@ none_if_false false some h = refl
 none_if_false true some h = cc h
 
 -- where the words lead
-behind_sec : (ands : Bool) (it : ListWord) (end : ℕ) (state : State) (tokens : List Token)
+after_sec : (ands : Bool) (it : ListWord) (end : ℕ) (state : State) (tokens : List Token)
     → Unclouded ands it end (next state sec) tokens → Unclouded ands it end (Some past.SectionWord) tokens
-behind_sec ands it end past.Start tokens u = u
-behind_sec ands it end past.RangeSide tokens u = u
-behind_sec ands it end past.RangeSideStop tokens u = u
-behind_sec ands it end past.BeforeGroup tokens u = u
-behind_sec ands it end past.Semicolon tokens u = u
-behind_sec ands it end _ tokens u = absurd u
+after_sec ands it end past.Start tokens u = u
+after_sec ands it end past.RangeSide tokens u = u
+after_sec ands it end past.RangeSideStop tokens u = u
+after_sec ands it end past.BeforeGroup tokens u = u
+after_sec ands it end past.Semicolon tokens u = u
+after_sec ands it end _ tokens u = absurd u
 
-behind_lot : (ands : Bool) (it : ListWord) (end : ℕ) (state : State) (tokens : List Token)
+after_lot : (ands : Bool) (it : ListWord) (end : ℕ) (state : State) (tokens : List Token)
     → Unclouded ands it end (next state lot) tokens → Unclouded ands it end (Some past.Lot) tokens
-behind_lot ands it end past.SectionNumber tokens u = u
-behind_lot ands it end past.SectionComma tokens u = u
-behind_lot ands it end past.LotComma tokens u = u
-behind_lot ands it end past.LotLastComma tokens u = u
-behind_lot ands it end past.LotAnd tokens u = u
-behind_lot ands it end past.BeforePart tokens u = u
-behind_lot ands it end past.PartComma tokens u = u
-behind_lot ands it end _ tokens u = absurd u
+after_lot ands it end past.SectionNumber tokens u = u
+after_lot ands it end past.SectionComma tokens u = u
+after_lot ands it end past.LotComma tokens u = u
+after_lot ands it end past.LotLastComma tokens u = u
+after_lot ands it end past.LotAnd tokens u = u
+after_lot ands it end past.BeforePart tokens u = u
+after_lot ands it end past.PartComma tokens u = u
+after_lot ands it end _ tokens u = absurd u
 
 -- SEVERAL, of sections
 no_second_section : (ands : Bool) (end : ℕ) (tokens : List Token)
@@ -67,7 +67,7 @@ no_list_of_sections : (ands : Bool) (end : ℕ) (join : Token) (more : List Toke
 no_list_of_sections ands end join more u = by_kind join.kind u.0 u.1
   where
     by_kind : (kind : Kind) → clouds ands word.Usual past.SectionNumber end join kind ≡ false
-        → Unclouded ands (word_behind kind join.text (next past.SectionNumber (class_of kind)) word.Usual)
+        → Unclouded ands (word_after kind join.text (next past.SectionNumber (class_of kind)) word.Usual)
         (end_of join) (next past.SectionNumber (class_of kind)) more
         → joins_number kind more ≡ false
     by_kind To h v = cc h
@@ -89,7 +89,7 @@ no_several_sections ands end state (number ∷ []) before u = refl
 no_several_sections ands end state (number ∷ join ∷ more) before u = by_kind number.kind state before u.1
   where
     by_kind : (kind : Kind) (state : State) → before_section state ≡ true
-        → Unclouded ands (word_behind kind number.text (next state (class_of kind)) word.Usual)
+        → Unclouded ands (word_after kind number.text (next state (class_of kind)) word.Usual)
         (end_of number)
         (next state (class_of kind)) (join ∷ more)
         → (is_number kind && joins_number join.kind more) ≡ false
@@ -104,9 +104,9 @@ none_of_section ands end [] u = refl
 none_of_section ands end (token ∷ more) u = by_kind token.kind u.1
   where
     by_kind : (kind : Kind)
-        → Unclouded ands (word_behind kind token.text (next past.SectionWord (class_of kind)) word.Usual)
+        → Unclouded ands (word_after kind token.text (next past.SectionWord (class_of kind)) word.Usual)
         (end_of token) (next past.SectionWord (class_of kind)) more
-        → are_several_behind kind token more ≡ false
+        → are_several_after kind token more ≡ false
     by_kind Stop v = no_several_sections ands (end_of token) past.SectionStop more refl v
     by_kind _ v = no_several_sections ands end past.SectionWord (token ∷ more) refl u
 
@@ -132,7 +132,7 @@ no_second_lot_and ands end [] u = refl
 no_second_lot_and ands end (token ∷ more) u = by_kind token.kind u.0 u.1
   where
     by_kind : (kind : Kind) → clouds ands word.Lot past.LotComma end token kind ≡ false
-        → Unclouded ands (word_behind kind token.text (next past.LotComma (class_of kind)) word.Lot)
+        → Unclouded ands (word_after kind token.text (next past.LotComma (class_of kind)) word.Lot)
         (end_of token) (next past.LotComma (class_of kind)) more
         → (is_number kind || (is_and kind && begin_with_number more)) ≡ false
     by_kind (Number value) h v = cc h
@@ -144,7 +144,7 @@ no_list_of_lots : (ands : Bool) (end : ℕ) (join : Token) (more : List Token)
 no_list_of_lots ands end join more u = by_kind join.kind u.1
   where
     by_kind : (kind : Kind)
-        → Unclouded ands (word_behind kind join.text (next past.LotNumber (class_of kind)) word.Lot)
+        → Unclouded ands (word_after kind join.text (next past.LotNumber (class_of kind)) word.Lot)
         (end_of join) (next past.LotNumber (class_of kind)) more
         → joins_number kind more ≡ false
     by_kind To v = no_second_lot ands (end_of join) past.LotTo more refl v
@@ -159,7 +159,7 @@ no_several_lots ands end (number ∷ []) u = refl
 no_several_lots ands end (number ∷ join ∷ more) u = by_kind number.kind u.1
   where
     by_kind : (kind : Kind)
-        → Unclouded ands (word_behind kind number.text (next past.Lot (class_of kind)) word.Lot)
+        → Unclouded ands (word_after kind number.text (next past.Lot (class_of kind)) word.Lot)
         (end_of number) (next past.Lot (class_of kind)) (join ∷ more)
         → (is_number kind && joins_number join.kind more) ≡ false
     by_kind (Number value) v = no_list_of_lots ands (end_of number) join more v
@@ -171,9 +171,9 @@ none_of_lot ands end [] u = refl
 none_of_lot ands end (token ∷ more) u = by_kind token.kind u.1
   where
     by_kind : (kind : Kind)
-        → Unclouded ands (word_behind kind token.text (next past.Lot (class_of kind)) word.Lot)
+        → Unclouded ands (word_after kind token.text (next past.Lot (class_of kind)) word.Lot)
         (end_of token) (next past.Lot (class_of kind)) more
-        → are_several_behind kind token more ≡ false
+        → are_several_after kind token more ≡ false
     by_kind Stop v = absurd v
     by_kind _ v = no_several_lots ands end (token ∷ more) u
 
@@ -186,17 +186,17 @@ none_of_word ands state it word_token tokens kind several =
     (several (is_singular word_token.text) refl)
 
 pub no_sections : (ands : Bool) (state : State) (it : ListWord) (token : Token) (tokens : List Token)
-    → Unclouded ands (word_behind Sec token.text (next state sec) it) (end_of token) (next state sec) tokens
+    → Unclouded ands (word_after Sec token.text (next state sec) it) (end_of token) (next state sec) tokens
     → (singular : Bool) → is_singular token.text ≡ singular → (singular && are_several tokens) ≡ false
 no_sections ands state it token tokens u false is = refl
 no_sections ands state it token tokens u true is =
     none_of_section ands (end_of token) tokens
-    (behind_sec ands word.Usual (end_of token) state tokens (rw is at u))
+    (after_sec ands word.Usual (end_of token) state tokens (rw is at u))
 
 pub no_lots : (ands : Bool) (state : State) (it : ListWord) (token : Token) (tokens : List Token)
-    → Unclouded ands (word_behind Lot token.text (next state lot) it) (end_of token) (next state lot) tokens
+    → Unclouded ands (word_after Lot token.text (next state lot) it) (end_of token) (next state lot) tokens
     → (singular : Bool) → is_singular token.text ≡ singular → (singular && are_several tokens) ≡ false
 no_lots ands state it token tokens u false is = refl
 no_lots ands state it token tokens u true is =
     none_of_lot ands (end_of token) tokens
-    (behind_lot ands word.Lot (end_of token) state tokens (rw is at u))
+    (after_lot ands word.Lot (end_of token) state tokens (rw is at u))

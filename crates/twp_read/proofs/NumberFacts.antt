@@ -19,8 +19,8 @@ use Rattle.twp_grammar.specs.Grammar.{class_of, comma, number}
 use Rattle.twp_grammar.specs.Machine.{next}
 use Rattle.twp_read.specs.steps.TokenSteps.{take_number, take_token, with_newest}
 use Rattle.twp_read.specs.declared.item_change.Change.TheVariants.{Last}
-use Rattle.twp_read.specs.steps.Usual.{Leads, IsNumberBehind, IsBehindWhite, entry_of, state_behind}
-use Rattle.twp_read.specs.steps.Usual.{last_state_behind, listed_in, listed_behind_and, listed_behind_to}
+use Rattle.twp_read.specs.steps.Usual.{Leads, IsNumberAfter, IsAfterWhite, entry_of, state_after}
+use Rattle.twp_read.specs.steps.Usual.{last_state_after, listed_in, listed_after_and, listed_after_to}
 use Rattle.twp_read.specs.steps.Usual.{may_be_doubtful}
 use Rattle.twp_read.specs.steps.Watching.{is_step, is_usual}
 use Rattle.twp_read.proofs.WatchFacts.{not_step, comma_no_step}
@@ -32,7 +32,7 @@ use Rattle.twp_read.proofs.Leading.{the_comma, mark_leads, leads_token, leads_th
 
 -- what is said of a number that begins at a place, after white space
 pub record BeginsHere (text : List ℕ) (from : ℕ) (it : Numeral) (end : ℕ) : Type 0 where
-  pub leads : IsNumberBehind text from it end
+  pub leads : IsNumberAfter text from it end
   pub further : from < end
   pub within : end ≤ length text
 
@@ -92,18 +92,18 @@ word_ends text from at l here below is =
     }
 
 -- a token that says nothing of the items
-pub word_leads : (text : List ℕ) (from at : ℕ) (l : Lexeme) (kind : Kind) (state behind : State)
+pub word_leads : (text : List ℕ) (from at : ℕ) (l : Lexeme) (kind : Kind) (state after : State)
     → at ≡ from + prefix_len is_white (drop from text) → at < length text → l ≡ cut (drop at text)
-    → l.kind ≡ kind → next state (class_of kind) ≡ Some behind
+    → l.kind ≡ kind → next state (class_of kind) ≡ Some after
     → ((place : ℕ) (items : List Item) → take_token state kind place items ≡ items)
     → ((token : Token) → is_usual state from token kind ≡ true)
-    → (items : List Item) → Leads text from state items (at + l.size) behind items
-word_leads text from at l kind state behind here below is kind_is step kept usual items =
+    → (items : List Item) → Leads text from state items (at + l.size) after items
+word_leads text from at l kind state after here below is kind_is step kept usual items =
     let it : IsCutHere text from (token_of text at l) (at + l.size) = cut_here text from at l here below is in
     let same : take_token state l.kind at items ≡ items =
     ap (λ k. take_token state k at items) kind_is ∙ kept at items in
-    subst (λ (js : List Item). Leads text from state items (at + l.size) behind js) same
-    (leads_token text from state items (token_of text at l) (at + l.size) behind
+    subst (λ (js : List Item). Leads text from state items (at + l.size) after js) same
+    (leads_token text from state items (token_of text at l) (at + l.size) after
     (subst (λ (n : ℕ). StartsWith from (drop from text) (token_of text at l) (drop n text)) it.ends
     it.first.starts)
     it.ends (subst (λ (n : ℕ). n ≤ length text) it.ends it.first.within)
@@ -129,27 +129,27 @@ pub digit_here : (text : List ℕ) (at : ℕ) → is_ascii_digit (slice_index (d
 digit_here text at h = rw (no_white_digit (drop at text) h) (omega arith)
 
 -- a number after white space
-pub number_ahead : (text : List ℕ) (from at : ℕ) (it : Numeral) (end : ℕ) → IsBehindWhite text from at
-    → IsNumberBehind text at it end → IsNumberBehind text from it end
-number_ahead text from at it end white leads state behind items is plain =
-    leads_then text from state items at state items end behind (take_number state it items)
-    (white_leads text from at state items white.0 white.1 (not_step number state behind refl is))
-    (leads state behind items is plain)
+pub number_ahead : (text : List ℕ) (from at : ℕ) (it : Numeral) (end : ℕ) → IsAfterWhite text from at
+    → IsNumberAfter text at it end → IsNumberAfter text from it end
+number_ahead text from at it end white leads state after items is plain =
+    leads_then text from state items at state items end after (take_number state it items)
+    (white_leads text from at state items white.0 white.1 (not_step number state after refl is))
+    (leads state after items is plain)
 
 -- a comma, and the white space after it
-pub comma_leads : (text : List ℕ) (at to : ℕ) (state behind : State) (items : List Item)
-    → drop at text ≡ codes "," ++ drop (at + 1) text → at + 1 ≤ length text → IsBehindWhite text (at + 1) to
-    → next state comma ≡ Some behind → Leads text at state items to behind items
-comma_leads text at to state behind items spelled within white is =
-    leads_then text at state items (at + 1) behind items to behind items
-    (mark_leads text at 44 Comma state behind items the_comma is spelled within)
-    (white_leads text (at + 1) to behind items white.0 white.1 (comma_no_step state behind is))
+pub comma_leads : (text : List ℕ) (at to : ℕ) (state after : State) (items : List Item)
+    → drop at text ≡ codes "," ++ drop (at + 1) text → at + 1 ≤ length text → IsAfterWhite text (at + 1) to
+    → next state comma ≡ Some after → Leads text at state items to after items
+comma_leads text at to state after items spelled within white is =
+    leads_then text at state items (at + 1) after items to after items
+    (mark_leads text at 44 Comma state after items the_comma is spelled within)
+    (white_leads text (at + 1) to after items white.0 white.1 (comma_no_step state after is))
 
 -- how a list continues from a state
 record GoesOn (state : State) (list : Listed) : Type 0 where
   between : State
   comma_is : next state comma ≡ Some between
-  number_is : next between number ≡ Some (state_behind list)
+  number_is : next between number ≡ Some (state_after list)
   taken : (it : Numeral) (items : List Item) → take_number between it items ≡ entry_of list it ∷ items
   plain : (bytes : List ℕ) → may_be_doubtful between bytes ≡ false
 
@@ -208,24 +208,24 @@ goes_on _ _ h = cc h
 pub entry_leads : (text : List ℕ) (at to : ℕ) (state : State) (items : List Item) (list : Listed)
     (it : Numeral) (end : ℕ)
     → listed_in state ≡ Some list
-    → drop at text ≡ codes "," ++ drop (at + 1) text → at + 1 ≤ length text → IsBehindWhite text (at + 1) to
-    → IsNumberBehind text to it end
-    → Leads text at state items end (state_behind list) (entry_of list it ∷ items)
+    → drop at text ≡ codes "," ++ drop (at + 1) text → at + 1 ≤ length text → IsAfterWhite text (at + 1) to
+    → IsNumberAfter text to it end
+    → Leads text at state items end (state_after list) (entry_of list it ∷ items)
 entry_leads text at to state items list it end is spelled within white leads =
     let by : GoesOn state list = goes_on state list is in
-    subst (λ (its : List Item). Leads text at state items end (state_behind list) its) (by.taken it items)
-    (leads_then text at state items to by.between items end (state_behind list)
+    subst (λ (its : List Item). Leads text at state items end (state_after list) its) (by.taken it items)
+    (leads_then text at state items to by.between items end (state_after list)
     (take_number by.between it items)
     (comma_leads text at to state by.between items spelled within white by.comma_is)
-    (leads by.between (state_behind list) items by.number_is (by.plain (drop it.at text))))
+    (leads by.between (state_after list) items by.number_is (by.plain (drop it.at text))))
 
 -- and after an `and`
 record IsEntry (state : State) (list : Listed) : Type 0 where
-  number_is : next state number ≡ Some (state_behind list)
+  number_is : next state number ≡ Some (state_after list)
   taken : (it : Numeral) (items : List Item) → take_number state it items ≡ entry_of list it ∷ items
   plain : (bytes : List ℕ) → may_be_doubtful state bytes ≡ false
 
-is_entry : (state : State) (list : Listed) → listed_behind_and state ≡ Some list → IsEntry state list
+is_entry : (state : State) (list : Listed) → listed_after_and state ≡ Some list → IsEntry state list
 is_entry past.LotAnd listed.Lots h = record { number_is = refl; taken = λ it items. refl; plain = λ _. refl }
 is_entry past.ListAnd listed.Sections h =
     record { number_is = refl; taken = λ it items. refl; plain = λ _. refl }
@@ -233,20 +233,20 @@ is_entry _ _ h = cc h
 
 pub joined_leads : (text : List ℕ) (from : ℕ) (state : State) (items : List Item) (list : Listed)
     (it : Numeral) (end : ℕ)
-    → listed_behind_and state ≡ Some list → IsNumberBehind text from it end
-    → Leads text from state items end (state_behind list) (entry_of list it ∷ items)
+    → listed_after_and state ≡ Some list → IsNumberAfter text from it end
+    → Leads text from state items end (state_after list) (entry_of list it ∷ items)
 joined_leads text from state items list it end is leads =
     let by : IsEntry state list = is_entry state list is in
-    subst (λ (its : List Item). Leads text from state items end (state_behind list) its) (by.taken it items)
-    (leads state (state_behind list) items by.number_is (by.plain (drop it.at text)))
+    subst (λ (its : List Item). Leads text from state items end (state_after list) its) (by.taken it items)
+    (leads state (state_after list) items by.number_is (by.plain (drop it.at text)))
 
 -- and after `to`, as the last of a range
 record IsLast (state : State) (list : Listed) : Type 0 where
-  number_is : next state number ≡ Some (last_state_behind list)
+  number_is : next state number ≡ Some (last_state_after list)
   taken : (it : Numeral) (items : List Item) → take_number state it items ≡ with_newest (Last it) items
   plain : (bytes : List ℕ) → may_be_doubtful state bytes ≡ false
 
-is_last : (state : State) (list : Listed) → listed_behind_to state ≡ Some list → IsLast state list
+is_last : (state : State) (list : Listed) → listed_after_to state ≡ Some list → IsLast state list
 is_last past.LotTo listed.Lots h = record { number_is = refl; taken = λ it items. refl; plain = λ _. refl }
 is_last past.ListTo listed.Sections h =
     record { number_is = refl; taken = λ it items. refl; plain = λ _. refl }
@@ -254,18 +254,18 @@ is_last _ _ h = cc h
 
 pub last_leads : (text : List ℕ) (from : ℕ) (state : State) (items : List Item) (list : Listed) (it : Numeral)
     (end : ℕ)
-    → listed_behind_to state ≡ Some list → IsNumberBehind text from it end
-    → Leads text from state items end (last_state_behind list) (with_newest (Last it) items)
+    → listed_after_to state ≡ Some list → IsNumberAfter text from it end
+    → Leads text from state items end (last_state_after list) (with_newest (Last it) items)
 last_leads text from state items list it end is leads =
     let by : IsLast state list = is_last state list is in
-    subst (λ (its : List Item). Leads text from state items end (last_state_behind list) its)
+    subst (λ (its : List Item). Leads text from state items end (last_state_after list) its)
     (by.taken it items)
-    (leads state (last_state_behind list) items by.number_is (by.plain (drop it.at text)))
+    (leads state (last_state_after list) items by.number_is (by.plain (drop it.at text)))
 
 -- and the list continues there
-pub goes_on_behind : (list : Listed) → listed_in (state_behind list) ≡ Some list
-goes_on_behind listed.Lots = refl
-goes_on_behind listed.Sections = refl
+pub goes_on_after : (list : Listed) → listed_in (state_after list) ≡ Some list
+goes_on_after listed.Lots = refl
+goes_on_after listed.Sections = refl
 
 -- it continues after no step
 pub list_no_step : (state : State) (list : Listed) → listed_in state ≡ Some list → is_step state ≡ false

@@ -7,12 +7,12 @@ use Rattle.twp_grammar.specs.declared.state.State.{State}
 use Rattle.twp_grammar.specs.declared.state.State.TheVariants as past
 use Rattle.twp_grammar.specs.Tokens.{Token}
 use Rattle.twp_grammar.specs.Grammar.{lot, all, Ebnf, ◌⨾◌, many, step, entry, separator, part, parts}
-use Rattle.twp_grammar.specs.Items.{Leaf, token_of, ◌&◌, behind, Tree, step_of, place_of_step, range_of}
+use Rattle.twp_grammar.specs.Items.{Leaf, token_of, ◌&◌, after, Tree, step_of, place_of_step, range_of}
 use Rattle.twp_grammar.specs.Items.{lots_item, part_items, parts_items}
 use Rattle.twp_read.specs.steps.TokenSteps.{before_parts, run}
 use Rattle.twp_grammar.proofs.TreeFacts.{onto}
 use Rattle.twp_read.proofs.ListWalk.{newest_first, newest_first-append, further_steps, grow_all, EntryEnd}
-use Rattle.twp_read.proofs.ListWalk.{Separated, at_comma, at_last_comma, at_and, behind_separator, of_lots}
+use Rattle.twp_read.proofs.ListWalk.{Separated, at_comma, at_last_comma, at_and, after_separator, of_lots}
 use Rattle.twp_read.proofs.ListWalk.{ended, separated, read_separator, first_lot, end_of_entry, read_entry}
 use Rattle.twp_read.proofs.ListWalk.{further_entries, end_of_entries, read_entries}
 
@@ -22,14 +22,14 @@ pub data PartStart : Type 0 where
   section_comma : PartStart
   before : PartStart
   part_comma : PartStart
-  behind_lots : Separated → PartStart
+  after_lots : Separated → PartStart
 
 abbrev part_start : PartStart → State
 part_start section_number = past.SectionNumber
 part_start section_comma = past.SectionComma
 part_start before = past.BeforePart
 part_start part_comma = past.PartComma
-part_start (behind_lots at) = separated of_lots at
+part_start (after_lots at) = separated of_lots at
 
 -- where a part ends
 pub data PartEnd : Type 0 where
@@ -63,15 +63,15 @@ begin_chain before (inr (which & _)) is ts = refl
 begin_chain part_comma (inl (inl side & _)) is ts = refl
 begin_chain part_comma (inl (inr side & _)) is ts = refl
 begin_chain part_comma (inr (which & _)) is ts = refl
-begin_chain (behind_lots at_comma) (inl (inl side & _)) is ts = refl
-begin_chain (behind_lots at_comma) (inl (inr side & _)) is ts = refl
-begin_chain (behind_lots at_comma) (inr (which & _)) is ts = refl
-begin_chain (behind_lots at_last_comma) (inl (inl side & _)) is ts = refl
-begin_chain (behind_lots at_last_comma) (inl (inr side & _)) is ts = refl
-begin_chain (behind_lots at_last_comma) (inr (which & _)) is ts = refl
-begin_chain (behind_lots at_and) (inl (inl side & _)) is ts = refl
-begin_chain (behind_lots at_and) (inl (inr side & _)) is ts = refl
-begin_chain (behind_lots at_and) (inr (which & _)) is ts = refl
+begin_chain (after_lots at_comma) (inl (inl side & _)) is ts = refl
+begin_chain (after_lots at_comma) (inl (inr side & _)) is ts = refl
+begin_chain (after_lots at_comma) (inr (which & _)) is ts = refl
+begin_chain (after_lots at_last_comma) (inl (inl side & _)) is ts = refl
+begin_chain (after_lots at_last_comma) (inl (inr side & _)) is ts = refl
+begin_chain (after_lots at_last_comma) (inr (which & _)) is ts = refl
+begin_chain (after_lots at_and) (inl (inl side & _)) is ts = refl
+begin_chain (after_lots at_and) (inl (inr side & _)) is ts = refl
+begin_chain (after_lots at_and) (inr (which & _)) is ts = refl
 
 begin_lots : (from : PartStart) (word : Leaf lot) (is : List Item) (ts : List Token)
     → run (Some (part_start from)) is (token_of lot word ∷ ts)
@@ -80,9 +80,9 @@ begin_lots section_number word is ts = refl
 begin_lots section_comma word is ts = refl
 begin_lots before word is ts = refl
 begin_lots part_comma word is ts = refl
-begin_lots (behind_lots at_comma) word is ts = refl
-begin_lots (behind_lots at_last_comma) word is ts = refl
-begin_lots (behind_lots at_and) word is ts = refl
+begin_lots (after_lots at_comma) word is ts = refl
+begin_lots (after_lots at_last_comma) word is ts = refl
+begin_lots (after_lots at_and) word is ts = refl
 
 read_all : (from : PartStart) (word : Leaf all) (is : List Item) (ts : List Token)
     → run (Some (part_start from)) is (token_of all word ∷ ts)
@@ -91,9 +91,9 @@ read_all section_number word is ts = refl
 read_all section_comma word is ts = refl
 read_all before word is ts = refl
 read_all part_comma word is ts = refl
-read_all (behind_lots at_comma) word is ts = refl
-read_all (behind_lots at_last_comma) word is ts = refl
-read_all (behind_lots at_and) word is ts = refl
+read_all (after_lots at_comma) word is ts = refl
+read_all (after_lots at_last_comma) word is ts = refl
+read_all (after_lots at_and) word is ts = refl
 
 read_part : (from : PartStart) (v : Tree part) (is : List Item) (ts : List Token)
     → run (Some (part_start from)) is (onto part v ts)
@@ -116,7 +116,7 @@ next_part chain_end (inr _) = before
 next_part all_end (inl (_ & inl _)) = before
 next_part all_end (inl (_ & inr _)) = part_comma
 next_part all_end (inr _) = before
-next_part (lots_end end) v = behind_lots (behind_separator end v)
+next_part (lots_end end) v = after_lots (after_separator end v)
 
 read_part_separator : (end : PartEnd) (v : Tree separator) (is : List Item) (ts : List Token)
     → run (Some (part_end end)) is (onto separator v ts) ≡ run (Some (part_start (next_part end v))) is ts
@@ -142,7 +142,7 @@ already_parted chain_end (inr _) is = refl
 already_parted all_end (inl (_ & inl _)) is = refl
 already_parted all_end (inl (_ & inr _)) is = refl
 already_parted all_end (inr _) is = refl
-already_parted (lots_end end) v is = lots_parted (behind_separator end v) is
+already_parted (lots_end end) v is = lots_parted (after_separator end v) is
 
 abbrev further_parts : Ebnf
 further_parts = many (separator ⨾ part)
@@ -153,7 +153,7 @@ end_of_parts end ((_ & v) ∷ vs) = end_of_parts (end_of_part v) vs
 
 read_further_parts : (end : PartEnd) (vs : Tree further_parts) (is : List Item) (ts : List Token)
     → run (Some (part_end end)) is (onto further_parts vs ts)
-    ≡ run (Some (part_end (end_of_parts end vs))) (newest_first (flat_map (behind part_items) vs) is) ts
+    ≡ run (Some (part_end (end_of_parts end vs))) (newest_first (flat_map (after part_items) vs) is) ts
 read_further_parts end [] is ts = refl
 read_further_parts end ((s & v) ∷ vs) is ts =
     read_part_separator end s is (onto part v (onto further_parts vs ts))
@@ -163,7 +163,7 @@ read_further_parts end ((s & v) ∷ vs) is ts =
     (already_parted end s is)
     ∙ read_further_parts (end_of_part v) vs (newest_first (part_items v) is) ts
     ∙ ap (λ all_items. run (Some (part_end (end_of_parts (end_of_part v) vs))) all_items ts)
-    (sym (newest_first-append (part_items v) (flat_map (behind part_items) vs) is))
+    (sym (newest_first-append (part_items v) (flat_map (after part_items) vs) is))
 
 abbrev pub end_of_all_parts : Tree parts → PartEnd
 end_of_all_parts (first & more) = end_of_parts (end_of_part first) more
@@ -178,5 +178,5 @@ read_parts from (first & more) is ts =
     (newest_first (part_items first) (before_parts (part_start from) is)) ts
     ∙ ap (λ all_items. run (Some (part_end (end_of_parts (end_of_part first) more))) all_items ts)
     (sym
-    (newest_first-append (part_items first) (flat_map (behind part_items) more)
+    (newest_first-append (part_items first) (flat_map (after part_items) more)
     (before_parts (part_start from) is)))

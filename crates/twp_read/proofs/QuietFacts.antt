@@ -9,8 +9,8 @@ use Rattle.twp_grammar.specs.Tokens.{Token}
 use Rattle.twp_read.specs.declared.watch.ListWord.{ListWord}
 use Rattle.twp_read.specs.declared.watch.ListWord.TheVariants as word
 use Rattle.twp_read.specs.declared.watch.Watch.{Watch}
-use Rattle.twp_read.specs.steps.Watching.{is_step, is_quiet, is_pending, word_behind, clouds, joins_parts}
-use Rattle.twp_read.specs.steps.Watching.{watch_behind}
+use Rattle.twp_read.specs.steps.Watching.{is_step, is_quiet, is_pending, word_after, clouds, joins_parts}
+use Rattle.twp_read.specs.steps.Watching.{watch_after}
 
 either : (b : Bool) (it : ListWord) → it ≡ word.Usual → (if b then it else word.Usual) ≡ it
 either true it is = refl
@@ -24,11 +24,11 @@ no : (b : Bool) → not b ≡ true → b ≡ false
 no false h = refl
 no true h = cc h
 
-quiet_word : (it : ListWord) (state : State) (token : Token) (behind : State) (kind : Kind)
-    → is_quiet state kind ≡ true → it ≡ word.Usual → word_behind kind token.text (Some behind) it ≡ it
-quiet_word it state token behind Sec quiet usual = cc quiet
-quiet_word it state token behind Lot quiet usual = cc quiet
-quiet_word it state token behind _ quiet usual = either (is_pending behind) it usual
+quiet_word : (it : ListWord) (state : State) (token : Token) (after : State) (kind : Kind)
+    → is_quiet state kind ≡ true → it ≡ word.Usual → word_after kind token.text (Some after) it ≡ it
+quiet_word it state token after Sec quiet usual = cc quiet
+quiet_word it state token after Lot quiet usual = cc quiet
+quiet_word it state token after _ quiet usual = either (is_pending after) it usual
 
 and_no : (a b : Bool) → a ≡ false → (a && b) ≡ false
 and_no false b h = refl
@@ -53,11 +53,11 @@ same : (w : Watch) (it : ListWord) (parts clouded : Bool) → it ≡ w.word → 
     → record { word = it; joins_parts = parts; is_clouded = clouded } ≡ w
 same w it parts clouded is are clouds_are = rw (is, are, clouds_are) refl
 
-pub quiet_is_same : (w : Watch) (state : State) (end : ℕ) (token : Token) (behind : State)
-    → w.word ≡ word.Usual → is_quiet state token.kind ≡ true → w ≡ watch_behind w state end token behind
-quiet_is_same w state end token behind usual quiet =
+pub quiet_is_same : (w : Watch) (state : State) (end : ℕ) (token : Token) (after : State)
+    → w.word ≡ word.Usual → is_quiet state token.kind ≡ true → w ≡ watch_after w state end token after
+quiet_is_same w state end token after usual quiet =
     sym
-    (same w _ _ _ (quiet_word w.word state token behind token.kind quiet usual)
+    (same w _ _ _ (quiet_word w.word state token after token.kind quiet usual)
     (or_false w.joins_parts (joins_parts state token.kind) (quiet_parts state token.kind quiet))
     (or_false w.is_clouded (clouds true w.word state end token token.kind)
     (quiet_clouds w.word state end token token.kind quiet)))

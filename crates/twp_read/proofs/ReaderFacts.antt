@@ -10,7 +10,7 @@ use Rattle.twp_grammar.specs.declared.state.State.{State}
 use Rattle.twp_grammar.specs.declared.state.State.TheVariants.{Start}
 use Rattle.twp_grammar.specs.Tokens.{Token, StartsWith, HasTokens, is_white}
 use Rattle.twp_grammar.specs.Grammar.{Class, class_of, bad_byte, bad_number}
-use Rattle.twp_grammar.specs.Items.{behind, BeginWithSections}
+use Rattle.twp_grammar.specs.Items.{after, BeginWithSections}
 use Rattle.twp_grammar.specs.Sentences.{IsSentence, HasItems, MayFollow}
 use Rattle.twp_grammar.specs.Machine.{next, is_final}
 use Rattle.twp_read.specs.steps.TokenSteps.{take_token, run}
@@ -35,11 +35,11 @@ use Rattle.twp_read.proofs.Reading.{what_follows, what_is_told}
 pub record Before (text : List ℕ) (at : ℕ) (bytes : List ℕ) (before : List Token) : Type 0 where
   pub joins : (left : List Token) → HasTokens at bytes left → HasTokens 0 text (before ++ left)
 
-pub one_behind : (text : List ℕ) (at : ℕ) (bytes : List ℕ) (before : List Token) (token : Token)
+pub one_after : (text : List ℕ) (at : ℕ) (bytes : List ℕ) (before : List Token) (token : Token)
     (rest : List ℕ)
     → Before text at bytes before → StartsWith at bytes token rest
     → Before text (token.at + length token.text) rest (before ++ token ∷ [])
-one_behind text at bytes before token rest b starts =
+one_after text at bytes before token rest b starts =
     record { joins = λ left has. rw append_assoc (b.joins (token ∷ left) (rest, starts, has)) }
 
 -- what the reader knows
@@ -49,7 +49,7 @@ pub record Front (text : List ℕ) (at : ℕ) (bytes : List ℕ) (state : State)
   pub walked : run (Some Start) [] tokens ≡ ended state its
   pub within : at + length bytes ≤ length text
 
--- where a token stands, and how much is left after it
+-- where a token is, and how much is left after it
 pub record IsWithin (at : ℕ) (bytes : List ℕ) (token : Token) (rest : List ℕ) : Type 0 where
   pub sum : (token.at + length token.text) + length rest ≡ at + length bytes
 
@@ -76,7 +76,7 @@ front_next text at bytes state behind its token at' rest f starts place step =
       tokens = f.tokens ++ token ∷ [];
       before =
           subst (λ n. Before text n rest (f.tokens ++ token ∷ [])) (sym place)
-          (one_behind text at bytes f.tokens token rest f.before starts);
+          (one_after text at bytes f.tokens token rest f.before starts);
       walked =
           run-append (Some Start) [] f.tokens (token ∷ [])
           ∙ ap (λ o. go_on o (token ∷ [])) f.walked
@@ -110,7 +110,7 @@ wrong_here text at bytes state its token rest f starts stuck =
       named_is = λ other more is. what_follows f.tokens other more state its f.walked
           (subst (λ (ts : List Token). IsSentence (ts ++ other ∷ more))
           (take-append_seam f.tokens (token ∷ left.0)) is);
-      told_is = λ class is.
+      reported_is = λ class is.
           subst (λ (ts : List Token). MayFollow ts class) (sym (take-append_seam f.tokens (token ∷ left.0)))
           (what_is_told f.tokens state its f.walked class is);
     }
@@ -134,7 +134,7 @@ wrong_at_end text at bytes state its f white final = record {
   named_is = λ other more is. what_follows f.tokens other more state its f.walked
       (subst (λ (ts : List Token). IsSentence (ts ++ other ∷ more))
       (take_all (length f.tokens) f.tokens (omega arith)) is);
-  told_is = λ class is.
+  reported_is = λ class is.
       subst (λ (ts : List Token). MayFollow ts class)
       (sym (take_all (length f.tokens) f.tokens (omega arith)))
       (what_is_told f.tokens state its f.walked class is);
@@ -239,7 +239,7 @@ search_next text at bytes token at' rest f starts place is =
       tokens = f.tokens ++ token ∷ [];
       before =
           subst (λ n. Before text n rest (f.tokens ++ token ∷ [])) (sym place)
-          (one_behind text at bytes f.tokens token rest f.before starts);
+          (one_after text at bytes f.tokens token rest f.before starts);
       none_bad = one_more_good f.tokens token f.none_bad is;
       within = omega arith;
     }

@@ -21,7 +21,7 @@ use Rattle.twp_grammar.specs.Sentences.{HasItems, IsSentence, IsFront, IsFault, 
 use Rattle.twp_read.specs.Laws.{classes_of, ClassesDecide}
 use Rattle.twp_grammar.specs.Machine.{next, is_final}
 use Rattle.twp_read.specs.steps.TokenSteps.{take_token, run}
-use Rattle.twp_grammar.specs.Expected.{told, named, expected_of, IsNamed}
+use Rattle.twp_grammar.specs.Expected.{reported, named, expected_of, IsNamed}
 use Rattle.twp_grammar.proofs.Derivatives.{same_class, same_class_tells, Derives, derives_none, takes_token}
 use Rattle.twp_grammar.proofs.Table as table
 use Rattle.twp_read.proofs.ListWalk.{newest_first}
@@ -291,7 +291,7 @@ what_follows before token more s its h is = follows (next s (class_of token.kind
 
 -- a sentence has a token of each class that is reported in the state that some tokens lead to
 pub what_is_told : (before : List Token) (s : State) (its : List Item)
-    → run (Some Start) [] before ≡ ended s its → (c : Class) → IsNamed c (told (expected_of s))
+    → run (Some Start) [] before ≡ ended s its → (c : Class) → IsNamed c (reported (expected_of s))
     → MayFollow before c
 what_is_told before s its h c is = follows (next s c) refl (table.told_follows s c is)
   where

@@ -13,7 +13,7 @@ use Rattle.twp_grammar.specs.steps.Cutting.{small_letter}
 use Rattle.twp_grammar.specs.Tokens.{IsToken, IsGoodToken, begins_with, is_white, kind_among, words}
 use Rattle.twp_grammar.specs.Tokens.IsToken.{good}
 use Rattle.twp_grammar.specs.Tokens.IsGoodToken.{a_word, a_half, a_half_sign, a_quarter, a_quarter_sign}
-use Rattle.twp_read.specs.steps.Usual.{StandsAt, IsStepAt, letters_of, fraction_of, BeginWithStep}
+use Rattle.twp_read.specs.steps.Usual.{IsKindAt, IsStepAt, letters_of, fraction_of, BeginWithStep}
 use Rattle.twp_read.proofs.LetterFacts.{by_bit, by_its_bit}
 use Rattle.twp_read.proofs.WordFacts.{IsLetter, is_letter}
 use Rattle.twp_read.proofs.Leading.{made}
@@ -45,8 +45,8 @@ one_letter : (bytes fraction rest : List ℕ) (first : ℕ) (kind : Kind)
     → Some first ≡ small_letter (slice_index bytes 0) → drop 1 bytes ≡ fraction ++ rest
     → begins_with is_ascii_alphabetic (fraction ++ rest) ≡ false → kind_among (first ∷ []) words ≡ kind
     → AreLetters bytes 1 kind
-one_letter [] fraction rest first kind h0 behind ends is = cc h0
-one_letter (x ∷ bytes) fraction rest first kind h0 behind ends is =
+one_letter [] fraction rest first kind h0 after ends is = cc h0
+one_letter (x ∷ bytes) fraction rest first kind h0 after ends is =
     let letter : IsLetter x first = is_letter x first (sym h0) in
     record {
       fits = refl;
@@ -54,7 +54,7 @@ one_letter (x ∷ bytes) fraction rest first kind h0 behind ends is =
       is = good (a_word (record {
         some = omega arith;
         all = AllPass-from_list_all is_ascii_alphabetic (x ∷ []) (rw letter.letter refl);
-        ends = ap (λ b. begins_with is_ascii_alphabetic b) behind ∙ ends;
+        ends = ap (λ b. begins_with is_ascii_alphabetic b) after ∙ ends;
       }) (sym is ∙ ap (λ u. kind_among (u ∷ []) words) (sym letter.value)));
     }
 
@@ -62,9 +62,9 @@ two_letters : (bytes fraction rest : List ℕ) (first second : ℕ) (kind : Kind
     → Some first ≡ small_letter (slice_index bytes 0) → Some second ≡ small_letter (slice_index bytes 1)
     → drop 2 bytes ≡ fraction ++ rest → begins_with is_ascii_alphabetic (fraction ++ rest) ≡ false
     → kind_among (first ∷ second ∷ []) words ≡ kind → AreLetters bytes 2 kind
-two_letters [] fraction rest first second kind h0 h1 behind ends is = cc h0
-two_letters (x ∷ []) fraction rest first second kind h0 h1 behind ends is = cc h1
-two_letters (x ∷ y ∷ bytes) fraction rest first second kind h0 h1 behind ends is =
+two_letters [] fraction rest first second kind h0 h1 after ends is = cc h0
+two_letters (x ∷ []) fraction rest first second kind h0 h1 after ends is = cc h1
+two_letters (x ∷ y ∷ bytes) fraction rest first second kind h0 h1 after ends is =
     let letter : IsLetter x first = is_letter x first (sym h0) in
     let more : IsLetter y second = is_letter y second (sym h1) in
     record {
@@ -73,7 +73,7 @@ two_letters (x ∷ y ∷ bytes) fraction rest first second kind h0 h1 behind end
       is = good (a_word (record {
         some = omega arith;
         all = AllPass-from_list_all is_ascii_alphabetic (x ∷ y ∷ []) (rw (letter.letter, more.letter) refl);
-        ends = ap (λ b. begins_with is_ascii_alphabetic b) behind ∙ ends;
+        ends = ap (λ b. begins_with is_ascii_alphabetic b) after ∙ ends;
       })
           (sym is
           ∙ ap (λ u. kind_among (u ∷ second ∷ []) words) (sym letter.value)
@@ -81,7 +81,7 @@ two_letters (x ∷ y ∷ bytes) fraction rest first second kind h0 h1 behind end
     }
 
 letters_stand : (text : List ℕ) (at size : ℕ) (kind : Kind) → AreLetters (drop at text) size kind
-    → at + size ≤ length text → StandsAt text at kind size
+    → at + size ≤ length text → IsKindAt text at kind size
 letters_stand text at size kind are within =
     let left : drop size (drop at text) ≡ drop (at + size) text = drop-drop size at text in
     record {
@@ -102,7 +102,7 @@ letters_stand text at size kind are within =
 -- a fraction right at a place
 fraction_stands : (text : List ℕ) (at : ℕ) (bytes : List ℕ) (kind : Kind) → IsFraction bytes kind
     → drop at text ≡ bytes ++ drop (at + length bytes) text → at + length bytes ≤ length text
-    → StandsAt text at kind (length bytes)
+    → IsKindAt text at kind (length bytes)
 fraction_stands text at bytes kind fraction spelled within = record {
   token = made kind bytes at;
   starts = record {
@@ -118,7 +118,7 @@ fraction_stands text at bytes kind fraction spelled within = record {
   within = within;
 }
 
--- a half and a quarter that stand after their letters are steps
+-- a half and a quarter that come after their letters are steps
 half_stands : (text : List ℕ) (at first : ℕ) (it : Step) (bytes : List ℕ) (size : ℕ) → IsFraction bytes Half
     → Some first ≡ small_letter (slice_index (drop at text) 0)
     → drop (at + 1) text ≡ bytes ++ drop ((at + 1) + length bytes) text
@@ -133,7 +133,7 @@ half_stands text at first it bytes size written letter spelled within is fractio
       (omega arith);
   fraction_size = length bytes;
   fraction =
-      subst (λ (kind : Kind). StandsAt text (at + 1) kind (length bytes)) (sym fraction)
+      subst (λ (kind : Kind). IsKindAt text (at + 1) kind (length bytes)) (sym fraction)
       (fraction_stands text (at + 1) bytes Half written spelled within);
   size_is = size_is;
   some = omega arith;
@@ -155,7 +155,7 @@ quarter_stands text at first second it bytes size written letter more spelled wi
           (omega arith);
       fraction_size = length bytes;
       fraction =
-          subst (λ (kind : Kind). StandsAt text (at + 2) kind (length bytes)) (sym fraction)
+          subst (λ (kind : Kind). IsKindAt text (at + 2) kind (length bytes)) (sym fraction)
           (fraction_stands text (at + 2) bytes Quarter written spelled within);
       size_is = size_is;
       some = omega arith;
@@ -217,8 +217,8 @@ begin_stands text at it size fits (inl (half, size_is, a, b, c)) =
     (three_at text at 1 49 47 50 (omega arith) a b c) (omega arith) half.letters half.fraction size_is
 begin_stands text at it size fits (inr (inl (quarter, size_is, a, b, c))) =
     let within : 5 ≤ length text - at = rw (sym (length-drop at text)) fits in
-    quarter_stands text at quarter.small quarter.behind it (codes "1/4") size quarter_bytes quarter.letter
-    quarter.letter_behind (three_at text at 2 49 47 52 (omega arith) a b c) (omega arith) quarter.letters
+    quarter_stands text at quarter.small quarter.after it (codes "1/4") size quarter_bytes quarter.letter
+    quarter.letter_after (three_at text at 2 49 47 52 (omega arith) a b c) (omega arith) quarter.letters
     quarter.fraction size_is
 begin_stands text at it size fits (inr (inr (inl (half, size_is, a, b)))) =
     let within : 5 ≤ length text - at = rw (sym (length-drop at text)) fits in
@@ -226,8 +226,8 @@ begin_stands text at it size fits (inr (inr (inl (half, size_is, a, b)))) =
     (two_at text at 1 0xC2 0xBD (omega arith) a b) (omega arith) half.letters half.fraction size_is
 begin_stands text at it size fits (inr (inr (inr (quarter, size_is, a, b)))) =
     let within : 5 ≤ length text - at = rw (sym (length-drop at text)) fits in
-    quarter_stands text at quarter.small quarter.behind it (0xC2 ∷ 0xBC ∷ []) size quarter_sign quarter.letter
-    quarter.letter_behind (two_at text at 2 0xC2 0xBC (omega arith) a b) (omega arith) quarter.letters
+    quarter_stands text at quarter.small quarter.after it (0xC2 ∷ 0xBC ∷ []) size quarter_sign quarter.letter
+    quarter.letter_after (two_at text at 2 0xC2 0xBC (omega arith) a b) (omega arith) quarter.letters
     quarter.fraction size_is
 
 pub step_stands : (text bytes : List ℕ) (at : ℕ) (found : Option UsualStep) → bytes ≡ drop at text
@@ -245,7 +245,7 @@ step_stands text bytes at (Some usual) here fits h =
     → IsStepAt text at usual.step usual.size in
     subst P (sym here) (λ fits h. begin_stands text at usual.step usual.size fits h) fits h
 
--- where a step that stands at a place ends
+-- where a step that is at a place ends
 pub step_within : (text : List ℕ) (at : ℕ) (it : Step) (size : ℕ) → IsStepAt text at it size
     → at + size ≤ length text
 step_within text at it size s =

@@ -18,7 +18,7 @@ use Rattle.twp_grammar.specs.declared.state.State.TheVariants as past
 use Rattle.twp_grammar.specs.Grammar.{class_of, lot}
 use Rattle.twp_grammar.specs.Machine.{next, is_in_chain}
 use Rattle.twp_read.specs.steps.TokenSteps.{take_token, with_newest, before_parts}
-use Rattle.twp_read.specs.steps.Usual.{Leads, StandsAt, IsStepAt, letters_of, fraction_of}
+use Rattle.twp_read.specs.steps.Usual.{Leads, IsKindAt, IsStepAt, letters_of, fraction_of}
 use Rattle.twp_grammar.specs.Tokens.{Token}
 use Rattle.twp_read.specs.steps.Watching.{is_usual}
 use Rattle.twp_read.proofs.Leading.{leads_then, leads_token}
@@ -60,18 +60,18 @@ grows_by past.OfThe (step.Quarter corner) h = grown_by past.Corner refl refl (λ
 grows_by _ it h = cc h
 
 stands_leads : (text : List ℕ) (at : ℕ) (state : State) (its : List Item) (kind : Kind) (size : ℕ)
-    (behind : State) (grown : List Item)
-    → StandsAt text at kind size → next state (class_of kind) ≡ Some behind
+    (after : State) (grown : List Item)
+    → IsKindAt text at kind size → next state (class_of kind) ≡ Some after
     → ((place : ℕ) → take_token state kind place its ≡ grown)
     → ((token : Token) → is_usual state token.at token kind ≡ true)
-    → Leads text at state its (at + size) behind grown
-stands_leads text at state its kind size behind grown s is grows usual =
-    let step_is : next state (class_of s.token.kind) ≡ Some behind =
+    → Leads text at state its (at + size) after grown
+stands_leads text at state its kind size after grown s is grows usual =
+    let step_is : next state (class_of s.token.kind) ≡ Some after =
     ap (λ k. next state (class_of k)) s.kind_is ∙ is in
     let grown_is : take_token state s.token.kind s.token.at its ≡ grown =
     ap (λ k. take_token state k s.token.at its) s.kind_is ∙ grows s.token.at in
-    subst (λ (js : List Item). Leads text at state its (at + size) behind js) grown_is
-    (leads_token text at state its s.token (at + size) behind s.starts s.ends s.within step_is
+    subst (λ (js : List Item). Leads text at state its (at + size) after js) grown_is
+    (leads_token text at state its s.token (at + size) after s.starts s.ends s.within step_is
     (usual_here state at s.token kind s.kind_is s.here (usual s.token)))
 
 -- a chain continues with a step
@@ -187,30 +187,30 @@ part_begins_with past.PartComma (step.Quarter which) h =
     begun_by past.Corner refl refl (λ at its. refl) (λ at its. refl)
 part_begins_with _ it h = cc h
 
--- a token that stands at a place leads on from there
+-- a token that is at a place leads on from there
 token_leads : (text : List ℕ) (at : ℕ) (state : State) (its : List Item) (kind : Kind) (size : ℕ)
-    (behind : State) (grown : List Item) (s : StandsAt text at kind size)
-    → next state (class_of kind) ≡ Some behind → take_token state kind at its ≡ grown
+    (after : State) (grown : List Item) (s : IsKindAt text at kind size)
+    → next state (class_of kind) ≡ Some after → take_token state kind at its ≡ grown
     → ((token : Token) → is_usual state token.at token kind ≡ true)
-    → Leads text at state its (at + size) behind grown
-token_leads text at state its kind size behind grown s is grows usual =
-    let step_is : next state (class_of s.token.kind) ≡ Some behind =
+    → Leads text at state its (at + size) after grown
+token_leads text at state its kind size after grown s is grows usual =
+    let step_is : next state (class_of s.token.kind) ≡ Some after =
     ap (λ k. next state (class_of k)) s.kind_is ∙ is in
     let grown_is : take_token state s.token.kind s.token.at its ≡ grown =
     ap (λ k. take_token state k s.token.at its) s.kind_is
     ∙ ap (λ n. take_token state kind n its) s.here
     ∙ grows in
-    subst (λ (js : List Item). Leads text at state its (at + size) behind js) grown_is
-    (leads_token text at state its s.token (at + size) behind s.starts s.ends s.within step_is
+    subst (λ (js : List Item). Leads text at state its (at + size) after js) grown_is
+    (leads_token text at state its s.token (at + size) after s.starts s.ends s.within step_is
     (usual_here state at s.token kind s.kind_is s.here (usual s.token)))
 
 -- the first step of a part leads on, and then what follows the step
 pub first_leads : (text : List ℕ) (at : ℕ) (state : State) (its : List Item) (it : Step) (size to : ℕ)
-    (behind : State) (grown : List Item)
+    (after : State) (grown : List Item)
     → true ≡ is_some (next state lot) → IsStepAt text at it size
-    → Leads text (at + size) past.Step (Chain (it ∷ []) at ∷ before_parts state its) to behind grown
-    → Leads text at state its to behind grown
-first_leads text at state its it size to behind grown begins s more =
+    → Leads text (at + size) past.Step (Chain (it ∷ []) at ∷ before_parts state its) to after grown
+    → Leads text at state its to after grown
+first_leads text at state its it size to after grown begins s more =
     let by : BeginsWith state it = part_begins_with state it (sym begins) in
     let begun : List Item = Chain (it ∷ []) at ∷ before_parts state its in
     let end : (at + s.letters_size) + s.fraction_size ≡ at + size = rw (s.size_is) (omega arith) in
@@ -225,7 +225,7 @@ first_leads text at state its it size to behind grown begins s more =
     subst (λ (n : ℕ). Leads text at state its n past.Step begun) end
     (leads_then text at state its (at + s.letters_size) by.between begun
     ((at + s.letters_size) + s.fraction_size) past.Step begun letters fraction) in
-    leads_then text at state its (at + size) past.Step begun to behind grown both more
+    leads_then text at state its (at + size) past.Step begun to after grown both more
 
 -- what a test of the bytes at a place says
 pub begins_there : (text : List ℕ) (at : ℕ) (bytes left : List ℕ) (found : Bool) → left ≡ drop at text

@@ -15,7 +15,7 @@ use Rattle.twp_grammar.specs.Tokens.{Token}
 use Rattle.twp_grammar.specs.Grammar.{sec, all, and, t, r, north_south, east_west, number, comma, semicolon}
 use Rattle.twp_grammar.specs.Grammar.{stop, Ebnf, one, ◌⨾◌, many, maybe, through, entry, separator, several}
 use Rattle.twp_grammar.specs.Grammar.{parts, comma_or_colon, group, heading, description}
-use Rattle.twp_grammar.specs.Items.{Leaf, token_of, ◌&◌, behind, Tree, tokens, numeral, end_of, range_of}
+use Rattle.twp_grammar.specs.Items.{Leaf, token_of, ◌&◌, after, Tree, tokens, numeral, end_of, range_of}
 use Rattle.twp_grammar.specs.Items.{ranges_of_several, whole_sections_item, parts_items, group_items}
 use Rattle.twp_grammar.specs.Items.{heading_item, items}
 use Rattle.twp_grammar.specs.Machine.{is_final}
@@ -32,15 +32,15 @@ use Rattle.twp_read.proofs.PartWalk.{lots_end, part_end, end_of_all_parts, read_
 -- a group begins the text, or follows a heading, a semicolon, or `and`
 data GroupStart : Type 0 where
   first_group : GroupStart
-  behind_range : GroupStart
-  behind_range_stop : GroupStart
+  after_range : GroupStart
+  after_range_stop : GroupStart
   next_group : GroupStart
   before_group : GroupStart
 
 abbrev group_start : GroupStart → State
 group_start first_group = past.Start
-group_start behind_range = past.RangeSide
-group_start behind_range_stop = past.RangeSideStop
+group_start after_range = past.RangeSide
+group_start after_range_stop = past.RangeSideStop
 group_start next_group = past.Semicolon
 group_start before_group = past.BeforeGroup
 
@@ -51,10 +51,10 @@ read_section : (from : GroupStart) (word : Leaf sec) (v : Tree (maybe (one stop)
     ≡ run (Some past.SectionNumber) (item.Sections (numeral n) (numeral n) true ∷ is) ts
 read_section first_group word (inl _) n is ts = refl
 read_section first_group word (inr _) n is ts = refl
-read_section behind_range word (inl _) n is ts = refl
-read_section behind_range word (inr _) n is ts = refl
-read_section behind_range_stop word (inl _) n is ts = refl
-read_section behind_range_stop word (inr _) n is ts = refl
+read_section after_range word (inl _) n is ts = refl
+read_section after_range word (inr _) n is ts = refl
+read_section after_range_stop word (inl _) n is ts = refl
+read_section after_range_stop word (inr _) n is ts = refl
 read_section next_group word (inl _) n is ts = refl
 read_section next_group word (inr _) n is ts = refl
 read_section before_group word (inl _) n is ts = refl
@@ -184,8 +184,8 @@ further_groups = many (one semicolon ⨾ maybe (one and) ⨾ group)
 read_next_group : (end : GroupEnd) (v : Tree (one semicolon ⨾ maybe (one and) ⨾ group)) (is : List Item)
     (ts : List Token)
     → run (Some (group_end end)) is (onto (one semicolon ⨾ maybe (one and) ⨾ group) v ts)
-    ≡ run (Some (group_end (end_of_group (behind (behind (λ g. g)) v))))
-    (newest_first (behind (behind group_items) v) is) ts
+    ≡ run (Some (group_end (end_of_group (after (after (λ g. g)) v))))
+    (newest_first (after (after group_items) v) is) ts
 read_next_group end (mark & inl word & v) is ts =
     read_semicolon end mark is (token_of and word ∷ onto group v ts) ∙ read_group before_group v is ts
 read_next_group end (mark & inr _ & v) is ts =
@@ -193,21 +193,21 @@ read_next_group end (mark & inr _ & v) is ts =
 
 abbrev end_of_groups : GroupEnd → Tree further_groups → GroupEnd
 end_of_groups end [] = end
-end_of_groups end (v ∷ vs) = end_of_groups (end_of_group (behind (behind (λ g. g)) v)) vs
+end_of_groups end (v ∷ vs) = end_of_groups (end_of_group (after (after (λ g. g)) v)) vs
 
 read_groups : (end : GroupEnd) (vs : Tree further_groups) (is : List Item) (ts : List Token)
     → run (Some (group_end end)) is (onto further_groups vs ts)
     ≡ run (Some (group_end (end_of_groups end vs)))
-    (newest_first (flat_map (behind (behind group_items)) vs) is) ts
+    (newest_first (flat_map (after (after group_items)) vs) is) ts
 read_groups end [] is ts = refl
 read_groups end (v ∷ vs) is ts =
-    let last : GroupEnd = end_of_group (behind (behind (λ g. g)) v) in
-    let its : List Item = behind (behind group_items) v in
+    let last : GroupEnd = end_of_group (after (after (λ g. g)) v) in
+    let its : List Item = after (after group_items) v in
     read_next_group end v is (onto further_groups vs ts) ∙ read_groups last vs (newest_first its is) ts
     ∙ ap (λ all_items. run (Some (group_end (end_of_groups last vs))) all_items ts)
-    (sym (newest_first-append its (flat_map (behind (behind group_items)) vs) is))
+    (sym (newest_first-append its (flat_map (after (after group_items)) vs) is))
 
--- a sentence ends with a full stop or without
+-- a sentence ends with a period or without
 abbrev end_of_text : GroupEnd → Tree (maybe (one stop)) → State
 end_of_text end (inl _) = past.End
 end_of_text end (inr _) = group_end end
@@ -285,8 +285,8 @@ read_range (inr _) n township at side is ts = refl
 
 abbrev end_of_heading : Tree (maybe (one stop)) → Tree (maybe (one comma)) → GroupStart
 end_of_heading st (inl _) = before_group
-end_of_heading (inl _) (inr _) = behind_range_stop
-end_of_heading (inr _) (inr _) = behind_range
+end_of_heading (inl _) (inr _) = after_range_stop
+end_of_heading (inr _) (inr _) = after_range
 
 read_way : (way : Leaf east_west) (st : Tree (maybe (one stop))) (c : Tree (maybe (one comma)))
     (township n at : ℕ) (side : Leaf north_south) (is : List Item) (ts : List Token)
@@ -298,12 +298,12 @@ read_way way (inl _) (inr _) township n at side is ts = refl
 read_way way (inr _) (inl _) township n at side is ts = refl
 read_way way (inr _) (inr _) township n at side is ts = refl
 
-abbrev start_behind : Tree heading → GroupStart
-start_behind (_ & _ & _ & _ & _ & _ & _ & _ & _ & _ & st & c) = end_of_heading st c
+abbrev start_after : Tree heading → GroupStart
+start_after (_ & _ & _ & _ & _ & _ & _ & _ & _ & _ & st & c) = end_of_heading st c
 
 read_heading : (v : Tree heading) (is : List Item) (ts : List Token)
     → run (Some past.Start) is (onto heading v ts)
-    ≡ run (Some (group_start (start_behind v))) (heading_item v ∷ is) ts
+    ≡ run (Some (group_start (start_after v))) (heading_item v ∷ is) ts
 read_heading (letter & st & n & side & st2 & c & range_letter & st3 & m & way & st4 & c2) is ts =
     read_township letter st n is _
     ∙ read_side side st2 c range_letter n.value letter.at is _
@@ -322,16 +322,16 @@ read_from : (from : GroupStart) (first : Tree group) (more : Tree further_groups
     (onto group first (onto further_groups more (onto (maybe (one stop)) st [])))
     ≡ Some (
       end_of_text (end_of_groups (end_of_group first) more) st,
-      newest_first (group_items first ++ flat_map (behind (behind group_items)) more) is,
+      newest_first (group_items first ++ flat_map (after (after group_items)) more) is,
     )
 read_from from first more st is =
     read_group from first is (onto further_groups more (onto (maybe (one stop)) st []))
     ∙ read_groups (end_of_group first) more (newest_first (group_items first) is)
     (onto (maybe (one stop)) st [])
     ∙ read_end (end_of_groups (end_of_group first) more) st
-    (newest_first (flat_map (behind (behind group_items)) more) (newest_first (group_items first) is))
+    (newest_first (flat_map (after (after group_items)) more) (newest_first (group_items first) is))
     ∙ ap (λ all_items. Some (end_of_text (end_of_groups (end_of_group first) more) st, all_items))
-    (sym (newest_first-append (group_items first) (flat_map (behind (behind group_items)) more) is))
+    (sym (newest_first-append (group_items first) (flat_map (after (after group_items)) more) is))
 
 read_onto : (v : Tree description) → IsRead (onto description v []) (items v)
 read_onto (inl v & first & more & st) = record {
@@ -339,7 +339,7 @@ read_onto (inl v & first & more & st) = record {
   final = ends_finally (end_of_groups (end_of_group first) more) st;
   read =
       read_heading v [] (onto group first (onto further_groups more (onto (maybe (one stop)) st [])))
-      ∙ read_from (start_behind v) first more st (heading_item v ∷ []);
+      ∙ read_from (start_after v) first more st (heading_item v ∷ []);
 }
 read_onto (inr _ & first & more & st) = record {
   end = end_of_text (end_of_groups (end_of_group first) more) st;

@@ -24,12 +24,12 @@ use Rattle.twp_read.specs.steps.Watching.{is_step, is_section, is_heading, is_lo
 use Rattle.twp_read.specs.steps.Watching.{end_from}
 
 -- what a step doesn't continue with begins at no step
-pub not_step : (class : Class) (state behind : State) → next past.Step class ≡ None
-    → next state class ≡ Some behind → is_step state ≡ false
-not_step class past.Step behind none is =
-    let both : ◌≡◌ {A = Option State} None (Some behind) = sym none ∙ is in
+pub not_step : (class : Class) (state after : State) → next past.Step class ≡ None
+    → next state class ≡ Some after → is_step state ≡ false
+not_step class past.Step after none is =
+    let both : ◌≡◌ {A = Option State} None (Some after) = sym none ∙ is in
     cc both
-not_step class _ behind none is = refl
+not_step class _ after none is = refl
 
 abbrev is_step_at : Option State → Bool
 is_step_at None = false
@@ -39,8 +39,8 @@ comma_ends_no_step : (state : State) → is_step_at (next state comma) ≡ false
 comma_ends_no_step past.TownshipSide = refl
 comma_ends_no_step _ = refl
 
-pub comma_no_step : (state behind : State) → next state comma ≡ Some behind → is_step behind ≡ false
-comma_no_step state behind is = sym (ap is_step_at is) ∙ comma_ends_no_step state
+pub comma_no_step : (state after : State) → next state comma ≡ Some after → is_step after ≡ false
+comma_no_step state after is = sym (ap is_step_at is) ∙ comma_ends_no_step state
 
 -- no part begins after a step
 pub part_no_step : (state : State) → is_some (next state lot) ≡ true → is_step state ≡ false
@@ -53,9 +53,9 @@ no_white_after_step state at to step no_step =
     absurd (cc both)
 
 -- one token
-pub usual_token : (at : ℕ) (state behind : State) (token : Token) → is_usual state at token token.kind ≡ true
-    → next state (class_of token.kind) ≡ Some behind → AreUsual at (Some state) (token ∷ [])
-usual_token at state behind token usual is =
+pub usual_token : (at : ℕ) (state after : State) (token : Token) → is_usual state at token token.kind ≡ true
+    → next state (class_of token.kind) ≡ Some after → AreUsual at (Some state) (token ∷ [])
+usual_token at state after token usual is =
     (usual, subst (λ (o : Option State). AreUsual (end_of token) o []) (sym is) tt)
 
 -- where the token before ends matters only after a step
@@ -103,15 +103,15 @@ pub end_from-append : (at : ℕ) (fs gs : List Token) → end_from at (fs ++ gs)
 end_from-append at [] gs = refl
 end_from-append at (token ∷ fs) gs = end_from-append (end_of token) fs gs
 
-pub stays_then : (at mid to : ℕ) (between : State) (some : List Item) (behind : State) (grown : List Item)
+pub stays_then : (at mid to : ℕ) (between : State) (some : List Item) (after : State) (grown : List Item)
     (fs gs : List Token)
-    → (is_step between ≡ true → mid ≡ end_from at fs) → run (Some between) some gs ≡ Some (behind, grown)
-    → (is_step behind ≡ true → to ≡ end_from mid gs) → is_step behind ≡ true → to ≡ end_from at (fs ++ gs)
-stays_then at mid to between some behind grown fs [] first walked last is =
-    let same : between ≡ behind = ap (state_of between) walked in
+    → (is_step between ≡ true → mid ≡ end_from at fs) → run (Some between) some gs ≡ Some (after, grown)
+    → (is_step after ≡ true → to ≡ end_from mid gs) → is_step after ≡ true → to ≡ end_from at (fs ++ gs)
+stays_then at mid to between some after grown fs [] first walked last is =
+    let same : between ≡ after = ap (state_of between) walked in
     let begun : is_step between ≡ true = ap is_step same ∙ is in
     last is ∙ first begun ∙ ap (end_from at) (sym (append-nil fs))
-stays_then at mid to between some behind grown fs (token ∷ gs) first walked last is =
+stays_then at mid to between some after grown fs (token ∷ gs) first walked last is =
     last is ∙ sym (end_from-append at fs (token ∷ gs))
 
 -- a token right where the one before it ends

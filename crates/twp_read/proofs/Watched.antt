@@ -21,7 +21,7 @@ use Rattle.twp_read.specs.steps.TokenSteps.{run, take_token}
 use Rattle.twp_read.specs.declared.reached.Reached.{Reached}
 use Rattle.twp_read.specs.steps.Usual.{Leads, MovesOn}
 use Rattle.twp_read.specs.steps.Watching.{is_step, is_usual, is_pending_at, AreUsual, end_from, clouds}
-use Rattle.twp_read.specs.steps.Watching.{joins_parts, begins_list, word_behind, word_from, watch_behind}
+use Rattle.twp_read.specs.steps.Watching.{joins_parts, begins_list, word_after, word_from, watch_after}
 use Rattle.twp_read.specs.steps.Watching.{Unclouded}
 use Rattle.twp_read.proofs.Reading.{ended}
 use Rattle.twp_read.proofs.ReaderFacts.{Front, Before, front_next, all_tokens}
@@ -47,15 +47,15 @@ unclouded_then : (ands : Bool) (it : ListWord) (end : ℕ) (o : Option State) (i
     → Unclouded ands it end o fs → run o its fs ≡ Some (state, some)
     → Unclouded ands (word_from it o fs) (end_from end fs) (Some state) gs
     → Unclouded ands it end o (fs ++ gs)
-unclouded_then ands it end None its state some fs gs first walked behind_it = absurd first
-unclouded_then ands it end (Some begun) its state some [] gs first walked behind_it =
+unclouded_then ands it end None its state some fs gs first walked after_that = absurd first
+unclouded_then ands it end (Some begun) its state some [] gs first walked after_that =
     let same : begun ≡ state = ap (state_of begun) walked in
-    subst (λ (s : State). Unclouded ands it end (Some s) gs) (sym same) behind_it
-unclouded_then ands it end (Some begun) its state some (token ∷ fs) gs first walked behind_it = (
+    subst (λ (s : State). Unclouded ands it end (Some s) gs) (sym same) after_that
+unclouded_then ands it end (Some begun) its state some (token ∷ fs) gs first walked after_that = (
   first.0,
-  unclouded_then ands (word_behind token.kind token.text (next begun (class_of token.kind)) it) (end_of token)
+  unclouded_then ands (word_after token.kind token.text (next begun (class_of token.kind)) it) (end_of token)
       (next begun (class_of token.kind)) (take_token begun token.kind token.at its) state some fs gs first.1
-      walked behind_it,
+      walked after_that,
 )
 
 word_then : (it : ListWord) (o : Option State) (its : List Item) (state : State) (some : List Item)
@@ -68,7 +68,7 @@ word_then it (Some begun) its state some [] gs walked =
     let same : begun ≡ state = ap (state_of begun) walked in
     ap (λ (s : State). word_from it (Some s) gs) same
 word_then it (Some begun) its state some (token ∷ fs) gs walked =
-    word_then (word_behind token.kind token.text (next begun (class_of token.kind)) it)
+    word_then (word_after token.kind token.text (next begun (class_of token.kind)) it)
     (next begun (class_of token.kind)) (take_token begun token.kind token.at its) state some fs gs walked
 
 -- if `and` after a step is let pass, so is what clouds the text without it
@@ -89,7 +89,7 @@ unclouded_less ands it end None tokens h = h
 unclouded_less ands it end (Some state) [] h = h
 unclouded_less ands it end (Some state) (token ∷ tokens) h = (
   clouds_less ands it state end token token.kind h.0,
-  unclouded_less ands (word_behind token.kind token.text (next state (class_of token.kind)) it) (end_of token)
+  unclouded_less ands (word_after token.kind token.text (next state (class_of token.kind)) it) (end_of token)
       (next state (class_of token.kind)) tokens h.1,
 )
 
@@ -149,11 +149,11 @@ usual_either : (b : Bool) → (if b then word.Usual else word.Usual) ≡ word.Us
 usual_either true = refl
 usual_either false = refl
 
-word_stays : (state : State) (end : ℕ) (token : Token) (kind : Kind) (behind : Option State)
-    → is_usual state end token kind ≡ true → word_behind kind token.text behind word.Usual ≡ word.Usual
-word_stays state end token Sec behind h = rw h refl
-word_stays state end token Lot behind h = rw (yes (is_singular token.text) h) refl
-word_stays state end token kind behind h = usual_either (is_pending_at behind)
+word_stays : (state : State) (end : ℕ) (token : Token) (kind : Kind) (after : Option State)
+    → is_usual state end token kind ≡ true → word_after kind token.text after word.Usual ≡ word.Usual
+word_stays state end token Sec after h = rw h refl
+word_stays state end token Lot after h = rw (yes (is_singular token.text) h) refl
+word_stays state end token kind after h = usual_either (is_pending_at after)
 
 usual_unclouded : (ands : Bool) (end : ℕ) (o : Option State) (tokens : List Token) → AreUsual end o tokens
     → Unclouded ands word.Usual end o tokens
@@ -193,14 +193,14 @@ watched_nothing text watch usual = record {
 
 -- what is taken in its usual spelling
 pub watched_usual : (text : List ℕ) (at : ℕ) (state : State) (its : List Item) (watch : Watch) (to : ℕ)
-    (behind : State) (grown : List Item)
-    → watch.word ≡ word.Usual → Watched text at state its watch → Leads text at state its to behind grown
-    → Watched text to behind grown watch
+    (after : State) (grown : List Item)
+    → watch.word ≡ word.Usual → Watched text at state its watch → Leads text at state its to after grown
+    → Watched text to after grown watch
 unfolding goes_further
-watched_usual text at state its watch to behind grown usual w l =
+watched_usual text at state its watch to after grown usual w l =
     let fs : List Token = w.front.tokens in
-    let further : Front text to (drop to text) behind grown =
-    goes_further text at state its to behind grown w.front l in
+    let further : Front text to (drop to text) after grown =
+    goes_further text at state its to after grown w.front l in
     let here : AreUsual (end_from 0 fs) (Some state) l.tokens =
     moved_usual state at (end_from 0 fs) l.tokens w.place l.usual in
     let still : word_from word.Usual (Some Start) fs ≡ word.Usual = w.word_is ∙ usual in
@@ -217,7 +217,7 @@ watched_usual text at state its watch to behind grown usual w l =
           ∙ usual_word at (Some state) l.tokens l.usual
           ∙ sym usual;
       place = λ step.
-          stays_then 0 at to state its behind grown fs l.tokens w.place l.walked l.stays step;
+          stays_then 0 at to state its after grown fs l.tokens w.place l.walked l.stays step;
     }
 
 pub watched_further : (text : List ℕ) (from : Reached) (its : List Item) (watch : Watch) (grown : List Item)
@@ -239,29 +239,29 @@ word_end : (it : ListWord) (o : Option State) → word_from it o [] ≡ it
 word_end it None = refl
 word_end it (Some state) = refl
 
-one_unclouded : (ands : Bool) (it : ListWord) (end : ℕ) (state behind : State) (token : Token)
-    → clouds ands it state end token token.kind ≡ false → next state (class_of token.kind) ≡ Some behind
+one_unclouded : (ands : Bool) (it : ListWord) (end : ℕ) (state after : State) (token : Token)
+    → clouds ands it state end token token.kind ≡ false → next state (class_of token.kind) ≡ Some after
     → Unclouded ands it end (Some state) (token ∷ [])
-one_unclouded ands it end state behind token h step = (
+one_unclouded ands it end state after token h step = (
   h,
-  subst (λ (o : Option State). Unclouded ands (word_behind token.kind token.text o it) (end_of token) o [])
+  subst (λ (o : Option State). Unclouded ands (word_after token.kind token.text o it) (end_of token) o [])
       (sym step) tt,
 )
 
-pub watched_next : (text : List ℕ) (at : ℕ) (state behind : State) (its : List Item) (watch : Watch)
+pub watched_next : (text : List ℕ) (at : ℕ) (state after : State) (its : List Item) (watch : Watch)
     (token : Token)
     → Watched text at state its watch → StartsWith at (drop at text) token (drop (end_of token) text)
-    → next state (class_of token.kind) ≡ Some behind
-    → Watched text (end_of token) behind (take_token state token.kind token.at its)
-    (watch_behind watch state at token behind)
+    → next state (class_of token.kind) ≡ Some after
+    → Watched text (end_of token) after (take_token state token.kind token.at its)
+    (watch_after watch state at token after)
 unfolding front_next
-watched_next text at state behind its watch token w starts step =
+watched_next text at state after its watch token w starts step =
     let fs : List Token = w.front.tokens in
     let ands : Bool = watch.joins_parts || joins_parts state token.kind in
     let before : ListWord = word_from word.Usual (Some Start) fs in
     record {
       front =
-          front_next text at (drop at text) state behind its token (end_of token) (drop (end_of token) text)
+          front_next text at (drop at text) state after its token (end_of token) (drop (end_of token) text)
           w.front starts refl step;
       clear = λ clouded.
           let parts : (watch.is_clouded ≡ false)
@@ -273,15 +273,15 @@ watched_next text at state behind its watch token w starts step =
           unclouded_then ands word.Usual 0 (Some Start) [] state its fs (token ∷ [])
           (unclouded_or watch.joins_parts (joins_parts state token.kind) word.Usual 0 (Some Start) fs
           (w.clear parts.0)) w.front.walked
-          (one_unclouded ands before (end_from 0 fs) state behind token
+          (one_unclouded ands before (end_from 0 fs) state after token
           (subst (λ (v : ListWord). clouds ands v state (end_from 0 fs) token token.kind ≡ false)
           (sym w.word_is) here) step);
       word_is =
           word_then word.Usual (Some Start) [] state its fs (token ∷ []) w.front.walked
-          ∙ word_end (word_behind token.kind token.text (next state (class_of token.kind)) before)
+          ∙ word_end (word_after token.kind token.text (next state (class_of token.kind)) before)
           (next state (class_of token.kind))
-          ∙ ap (λ (o : Option State). word_behind token.kind token.text o before) step
-          ∙ ap (word_behind token.kind token.text (Some behind)) w.word_is;
+          ∙ ap (λ (o : Option State). word_after token.kind token.text o before) step
+          ∙ ap (word_after token.kind token.text (Some after)) w.word_is;
       place = λ is. sym (end_from-append 0 fs (token ∷ []));
     }
 

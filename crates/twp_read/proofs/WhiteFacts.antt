@@ -131,7 +131,7 @@ other_lanes test (x ∷ xs) =
     (other_lanes test xs)
     ∙ sym (pow-suc 2 (length xs))
 
--- what stands at a place is a space, where it isn't unlike one
+-- what is at a place is a space, where it isn't unlike one
 is_space : (bytes : List ℕ) → 0 < length bytes → not (slice_index bytes 0 == 32) ≡ false
     → begins_with is_white bytes ≡ true
 is_space [] some same = absurd (omega arith)

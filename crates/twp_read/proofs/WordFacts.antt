@@ -189,13 +189,13 @@ long_word_is bytes kind size is long e =
     ap (λ k. lexeme k size) kind_is ∙ sym (word_to bytes size (sym is))
 
 -- where some letters are known, the others are counted
-behind_letters : (bytes : List ℕ) (known : ℕ) → known ≤ prefix_len is_ascii_alphabetic bytes
+after_letters : (bytes : List ℕ) (known : ℕ) → known ≤ prefix_len is_ascii_alphabetic bytes
     → prefix_len is_ascii_alphabetic bytes ≡ known + prefix_len is_ascii_alphabetic (drop known bytes)
-behind_letters [] zero h = refl
-behind_letters (x ∷ xs) zero h = omega arith
-behind_letters [] (suc known) h = absurd (omega arith)
-behind_letters (x ∷ xs) (suc known) h =
-    by_test (is_ascii_alphabetic x) refl h (λ some. behind_letters xs known some)
+after_letters [] zero h = refl
+after_letters (x ∷ xs) zero h = omega arith
+after_letters [] (suc known) h = absurd (omega arith)
+after_letters (x ∷ xs) (suc known) h =
+    by_test (is_ascii_alphabetic x) refl h (λ some. after_letters xs known some)
   where
     by_test : (is : Bool) → is_ascii_alphabetic x ≡ is
         → suc known ≤ cond is (1 + prefix_len is_ascii_alphabetic xs) 0
@@ -213,7 +213,7 @@ behind_letters (x ∷ xs) (suc known) h =
 pub letters_in_text : (text : List ℕ) (at : ℕ) → 3 < prefix_len is_ascii_alphabetic (drop at text)
     → prefix_len is_ascii_alphabetic (drop at text) ≡ 4 + prefix_len is_ascii_alphabetic (drop (at + 4) text)
 letters_in_text text at h =
-    behind_letters (drop at text) 4 (omega arith)
+    after_letters (drop at text) 4 (omega arith)
     ∙ ap (λ b. 4 + prefix_len is_ascii_alphabetic b) (drop-drop 4 at text)
 
 pub letters_within : (text : List ℕ) (at : ℕ) → at < length text

@@ -108,13 +108,13 @@ begin_several (number ∷ []) = false
 begin_several (number ∷ join ∷ more) = is_number number.kind && joins_number join.kind more
 
 -- the same after a period, if there is one
-abbrev pub are_several_behind : Kind → Token → List Token → Bool
-are_several_behind Stop token more = begin_several more
-are_several_behind _ token more = begin_several (token ∷ more)
+abbrev pub are_several_after : Kind → Token → List Token → Bool
+are_several_after Stop token more = begin_several more
+are_several_after _ token more = begin_several (token ∷ more)
 
 abbrev pub are_several : List Token → Bool
 are_several [] = false
-are_several (token ∷ more) = are_several_behind token.kind token more
+are_several (token ∷ more) = are_several_after token.kind token more
 
 -- SEVERAL: the word for a section or a lot in the singular, and several numbers
 abbrev pub several_at : Token → List Token → Option DoubtfulPlace
@@ -133,32 +133,32 @@ padded_number (token ∷ more) =
     if is_number token.kind && is_padded token.text then Some (place doubt.Padded token.at) else None
 
 -- PADDED: after `T` or `R`, and a period, if there is one, a number that begins with a zero
-abbrev pub padded_behind : Kind → Token → List Token → Option DoubtfulPlace
-padded_behind Stop token more = padded_number more
-padded_behind _ token more = padded_number (token ∷ more)
+abbrev pub padded_after : Kind → Token → List Token → Option DoubtfulPlace
+padded_after Stop token more = padded_number more
+padded_after _ token more = padded_number (token ∷ more)
 
 abbrev pub padded_at : List Token → Option DoubtfulPlace
 padded_at [] = None
-padded_at (token ∷ more) = padded_behind token.kind token more
+padded_at (token ∷ more) = padded_after token.kind token more
 
 -- the doubtful place of which this is the first token, or the one before the first: a part follows the number
 -- of a section, a comma, a colon, or `and`
-abbrev pub doubt_behind : Kind → Token → List Token → Option DoubtfulPlace
-doubt_behind Half token more = joined_at token more
-doubt_behind Quarter token more = joined_at token more
-doubt_behind Sec token more = several_at token more
-doubt_behind Lot token more = several_at token more
-doubt_behind T token more = padded_at more
-doubt_behind R token more = padded_at more
-doubt_behind (Number value) token more = shared_at more
-doubt_behind Comma token more = shared_at more
-doubt_behind Colon token more = shared_at more
-doubt_behind And token more = shared_at more
-doubt_behind _ token more = None
+abbrev pub doubt_after : Kind → Token → List Token → Option DoubtfulPlace
+doubt_after Half token more = joined_at token more
+doubt_after Quarter token more = joined_at token more
+doubt_after Sec token more = several_at token more
+doubt_after Lot token more = several_at token more
+doubt_after T token more = padded_at more
+doubt_after R token more = padded_at more
+doubt_after (Number value) token more = shared_at more
+doubt_after Comma token more = shared_at more
+doubt_after Colon token more = shared_at more
+doubt_after And token more = shared_at more
+doubt_after _ token more = None
 
 abbrev pub doubt_at : List Token → Option DoubtfulPlace
 doubt_at [] = None
-doubt_at (token ∷ more) = doubt_behind token.kind token more
+doubt_at (token ∷ more) = doubt_after token.kind token more
 
 -- the places, with one before them, if there is one
 abbrev pub with_place : Option DoubtfulPlace → List DoubtfulPlace → List DoubtfulPlace

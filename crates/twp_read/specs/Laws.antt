@@ -17,7 +17,7 @@ IsStray BadNumber = Unit {0}
 IsStray BadByte = Unit {0}
 IsStray _ = ⊥
 
--- none of these stands in a sentence
+-- none of these is in a sentence
 abbrev pub NoStrayInSentence : Type 0
 NoStrayInSentence =
     (before after : List Token) (token : Token)
@@ -28,7 +28,7 @@ abbrev pub classes_of : List Token → List Class
 classes_of tokens = map (λ token. class_of token.kind) tokens
 
 -- Tokens of the same classes are sentences together, and begin sentences together: which number or
--- which side one is, how it is written and where it stands don't matter.
+-- which side one is, how it is written and where it is don't matter.
 abbrev pub ClassesDecide : Type 0
 ClassesDecide =
     (tokens tokens' : List Token) → classes_of tokens ≡ classes_of tokens'

@@ -1,5 +1,5 @@
 -- What may be wrong with a text, each fault as a statement about all its tokens, which fault is
--- answered, and what it tells of.
+-- answered, and what it reports.
 use Rattle.std.specs.Prelude.{◌≡◌, ◌⊎◌, ℕ, ◌≤◌, ◌<◌, zero, suc, List, [], ◌∷◌, ◌++◌, Option, Some}
 use Rattle.std.specs.Prelude.{None, length, take, ⊤}
 use Rattle.std.specs.Option.{option_map_or}
@@ -11,7 +11,7 @@ use Rattle.twp_read.specs.declared.fault.TextFault.TheVariants as fault
 use Rattle.twp_grammar.specs.Tokens.{Token, HasTokens}
 use Rattle.twp_grammar.specs.Grammar.{Class, class_of}
 use Rattle.twp_grammar.specs.Sentences.{IsSentence, IsFault, MayFollow}
-use Rattle.twp_grammar.specs.Expected.{told, named, IsNamed}
+use Rattle.twp_grammar.specs.Expected.{reported, named, IsNamed}
 use Rattle.twp_grammar.specs.declared.expected.Expected.{Expected}
 pub use Rattle.twp_grammar.specs.Sentences.{TEXT_LIMIT, IsReadAs}
 
@@ -27,7 +27,7 @@ refusal_of (fault.BadNumber at) = Some (refusal 43 at)
 refusal_of (fault.Syntax at expected) = Some (refusal 44 at)
 refusal_of fault.Memory = None
 
--- a token of this kind stands at this place of the text
+-- a token of this kind is at this place of the text
 pub record HasToken (text : List ℕ) (kind : Kind) (at : ℕ) : Type 0 where
   pub before : List Token
   pub token : Token
@@ -50,7 +50,7 @@ pub record GoesWrong (text : List ℕ) (at : ℕ) : Type 0 where
   pub fault : IsFault tokens i
   pub place : at ≡ place_of_token tokens i (length text)
 
--- the fault is there; what one of syntax tells of is `Helps`, below
+-- the fault is there; what one of syntax reports is `Helps`, below
 abbrev pub HasTextFault : List ℕ → TextFault → Type 0
 HasTextFault text fault.TooLarge = TEXT_LIMIT < length text
 HasTextFault text (fault.BadByte at) = HasToken text BadByte at
@@ -81,16 +81,16 @@ pub record IsFirstTextFault (text : List ℕ) (fault : TextFault) : Type 0 where
       → IsFrom (stage_of fault) (place_of fault) other
 
 -- The text goes wrong at this place; whatever token a sentence could have there is named; and of
--- each class that is told of, a sentence could have one there.
+-- each class that is reported, a sentence could have one there.
 pub record NamesWhatFollows (text : List ℕ) (at : ℕ) (expected : Expected) : Type 0 where
   pub wrong : GoesWrong text at
   pub named_is : (token : Token) (more : List Token)
       → IsSentence (take wrong.i wrong.tokens ++ token ∷ more)
       → IsNamed (class_of token.kind) (named expected)
-  pub told_is : (class : Class) → IsNamed class (told expected)
+  pub reported_is : (class : Class) → IsNamed class (reported expected)
       → MayFollow (take wrong.i wrong.tokens) class
 
--- the refusal of syntax names whatever could stand at its place, and what it reports could
+-- the refusal of syntax names whatever could be at its place, and what it reports could
 abbrev pub Helps : List ℕ → TextFault → Type 0
 Helps text (fault.Syntax at expected) = NamesWhatFollows text at expected
 Helps text other = ⊤

@@ -105,14 +105,14 @@ impl Description {
             let Some(token) = first_token(text, reached.at) else {
                 break;
             };
-            let Some(behind) = reached.state.next(token.kind) else {
+            let Some(after) = reached.state.next(token.kind) else {
                 return Err(fault_of(text, reached.at, token.at, reached.state.expected()));
             };
-            watch = watch.behind(reached, &token, behind);
+            watch = watch.after(reached, &token, after);
             items.take(alloc, reached.state, token.kind, token.at as u32)?;
             reached = Reached {
                 at: token.at + token.text.len(),
-                state: behind,
+                state: after,
             };
         }
         if !reached.state.is_final() {
@@ -135,7 +135,7 @@ impl Description {
     }
 }
 
-/// The fault of a text that goes wrong at a place, where something else could stand: its leftmost
+/// The fault of a text that goes wrong at a place, where something else could be: its leftmost
 /// bad token, if it has one. What was taken, up to another place, has no bad token.
 #[cold]
 #[inline(never)]
@@ -156,13 +156,13 @@ fn fault_of(text: &[u8], taken: usize, at: usize, expected: Expected) -> TextFau
     }
 }
 
-/// The leftmost bad token, where none stands before a place.
+/// The leftmost bad token, where none is before a place.
 fn first_bad(text: &[u8], taken: usize) -> Option<TextFault>
     requires good { HasNoneBadBefore text.now taken }
     requires limit { length text.now ≤ TEXT_LIMIT }
     ensures { MatchOption result (HasNoneBad text.now) (IsLeftmostBad text.now) }
 {
-    let mut tokens = Tokens::behind(text, taken);
+    let mut tokens = Tokens::after(text, taken);
     while let Some(token) = tokens.next() {
         if let Some(fault) = fault_of_bad(token.kind, token.at as u32) {
             return Some(fault);
@@ -171,7 +171,7 @@ fn first_bad(text: &[u8], taken: usize) -> Option<TextFault>
     None
 }
 
-/// The fault that a token is wherever it stands.
+/// The fault that a token is wherever it is.
 fn fault_of_bad(kind: Kind, at: u32) -> Option<TextFault>
     ensures { result ≡ fault_of_bad kind at }
 {

@@ -101,7 +101,7 @@ fn joined_at(last: &Token<'_>, more: &[Token<'_>]) -> Option<DoubtfulPlace>
 }
 
 /// Whether a token of so many bytes at a place ends before another place.
-#[tactic(auto, using(crate::proofs::DoubtFacts::is_after, crate::proofs::DoubtFacts::is_at_or_behind, crate::proofs::DoubtFacts::is_too_long))]
+#[tactic(auto, using(crate::proofs::DoubtFacts::is_after, crate::proofs::DoubtFacts::is_at_or_after, crate::proofs::DoubtFacts::is_too_long))]
 fn is_before(at: usize, size: usize, next: usize) -> bool
     ensures { result ≡ nat_lt (at + size) next }
 {

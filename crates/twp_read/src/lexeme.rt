@@ -34,7 +34,7 @@ pub fn lexeme_at(text: &[u8], at: usize) -> Lexeme
     mark(text, at)
 }
 
-/// The byte that stands this many bytes ahead of a place, or 0 past the end.
+/// The byte this many bytes ahead of a place, or 0 past the end.
 #[inline(always)]
 #[tactic(auto, using(crate::proofs::PlaceFacts::byte_ahead, crate::proofs::PlaceFacts::past_end))]
 pub fn byte_at(text: &[u8], at: usize, ahead: usize) -> u8
@@ -46,7 +46,7 @@ pub fn byte_at(text: &[u8], at: usize, ahead: usize) -> u8
     if index < text.len() { text[index] } else { 0 }
 }
 
-/// The letter that stands this many bytes ahead of a place, in lowercase.
+/// The letter this many bytes ahead of a place, in lowercase.
 #[inline(always)]
 #[tactic(auto, using(crate::proofs::LetterFacts::letter_counts))]
 fn letter_at(text: &[u8], at: usize, ahead: usize) -> Option<u8>
@@ -124,7 +124,7 @@ fn long_word(text: &[u8], at: usize) -> Lexeme
     }
 }
 
-/// How many letters stand at a place.
+/// How many letters are at a place.
 #[inline(always)]
 fn count_letters(text: &[u8], at: usize) -> usize
     requires { at ≤ length text.now }
@@ -148,7 +148,7 @@ fn kind_of_long(text: &[u8], at: usize, size: usize) -> Kind
     word::long_word(&bytes_from(text, at)[..size])
 }
 
-/// How many digits stand at a place.
+/// How many digits are at a place.
 #[inline(never)]
 fn count_digits(text: &[u8], at: usize) -> usize
     requires { at ≤ length text.now }

@@ -1,6 +1,6 @@
 //! The reader of descriptions: the bytes are cut into tokens, and the tokens are read as the items
 //! that a sentence of the grammar names; or the place where a text goes wrong is reported, and what
-//! could stand there.
+//! could be there.
 #![tactic(auto)]
 
 mod description;

@@ -3,7 +3,7 @@ ghost use Rattle.twp_grammar.specs.steps.Cutting.{GivesFirst};
 ghost use Rattle.std.specs.Iterator.{at_most};
 
 use crate::lexeme::lexeme_at;
-use crate::white::behind_white;
+use crate::white::after_white;
 use std::marker::Model;
 use twp_grammar::{Lexeme, Token};
 
@@ -13,7 +13,7 @@ pub fn first_token(text: &[u8], from: usize) -> Option<Token<'_>>
     requires { from ≤ length text.now }
     ensures { GivesFirst text.now from result }
 {
-    let at = behind_white(text, from);
+    let at = after_white(text, from);
     if at >= text.len() {
         return None;
     }
@@ -47,15 +47,15 @@ impl<'a> Model for Tokens<'a> {
 impl<'a> Tokens<'a> {
     ghost use Rattle.twp_grammar.specs.Tokens.{Left};
 
-    /// The tokens of a text, which stands at 0.
+    /// The tokens of a text, which is at 0.
     pub fn new(text: &'a [u8]) -> Tokens<'a>
         ensures { result ≡ record { at = 0; bytes = text.now } }
     {
         Tokens { text, at: 0 }
     }
 
-    /// The tokens of a text that stand at a place or after it.
-    pub fn behind(text: &'a [u8], at: usize) -> Tokens<'a>
+    /// The tokens of a text that are at a place or after it.
+    pub fn after(text: &'a [u8], at: usize) -> Tokens<'a>
         requires { at ≤ length text.now }
         ensures { result ≡ record { at = at; bytes = drop at text.now } }
     {

@@ -1,4 +1,4 @@
-//! The quick way beside the reader's loop: what is spelled in the usual way is taken as it stands,
+//! The quick way beside the reader's loop: what is spelled in the usual way is taken as it is,
 //! several tokens together.
 //!
 //! The reader's loop tries it before each token, and continues where it ends. Its one contract is
@@ -19,13 +19,13 @@ mod step;
 
 use crate::items::Items;
 use crate::reached::Reached;
-use crate::usual::part::behind_fraction;
+use crate::usual::part::after_fraction;
 use crate::watch::Watch;
 use std::alloc::{AllocError, Global};
 use twp_grammar::State;
 
 impl Items {
-    /// Takes what stands next as `take_usual` does, unless the loop has to watch each token.
+    /// Takes what comes next as `take_usual` does, unless the loop has to watch each token.
     #[inline(always)]
     pub(crate) fn take_watched(
         &mut self,
@@ -46,7 +46,7 @@ impl Items {
         self.take_usual(alloc, text, from)
     }
 
-    /// Takes what stands next, as long as it is spelled in the usual way: as it stands, and not
+    /// Takes what comes next, as long as it is spelled in the usual way: as it is, and not
     /// token by token. Gives the place that is reached, and the state there.
     #[inline(always)]
     pub(crate) fn take_usual(
@@ -77,7 +77,7 @@ impl Items {
     {
         match from.state {
             State::Start => self.take_heading(text, from.at),
-            _ => Ok(behind_fraction(text, from)),
+            _ => Ok(after_fraction(text, from)),
         }
     }
 }

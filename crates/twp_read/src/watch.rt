@@ -3,8 +3,8 @@
 ghost use Rattle.std.specs.Prelude.{◌≡◌, Some, true, false, IsTrue};
 ghost use Rattle.twp_grammar.specs.Tokens.{seen};
 ghost use Rattle.twp_read.specs.steps.Watching.{is_step, is_section, is_heading, is_lot_join, is_pending};
-ghost use Rattle.twp_read.specs.steps.Watching.{word_behind, clouds, joins_parts, begins_list, is_quiet};
-ghost use Rattle.twp_read.specs.steps.Watching.{watch_behind};
+ghost use Rattle.twp_read.specs.steps.Watching.{word_after, clouds, joins_parts, begins_list, is_quiet};
+ghost use Rattle.twp_read.specs.steps.Watching.{watch_after};
 
 use crate::doubt::Clarity;
 use crate::doubts::{begins_step, is_padded, is_singular};
@@ -55,14 +55,14 @@ impl Watch {
 
     /// What was seen with one more token, which leads to a state.
     #[inline(always)]
-    pub fn behind(self, from: Reached, token: &Token<'_>, behind: State) -> Watch
-        ensures { result ≡ watch_behind self from.state from.at (seen token.now) behind }
+    pub fn after(self, from: Reached, token: &Token<'_>, after: State) -> Watch
+        ensures { result ≡ watch_after self from.state from.at (seen token.now) after }
     {
         if self.is_usual() && is_quiet(from.state, token.kind) {
             return self;
         }
         Watch {
-            word: word_behind(self.word, token, behind),
+            word: word_after(self.word, token, after),
             joins_parts: self.joins_parts || joins_parts(from.state, token.kind),
             is_clouded: self.is_clouded || clouds(self.word, from, token),
         }
@@ -97,15 +97,15 @@ fn is_quiet(state: State, kind: Kind) -> bool
 
 /// The word whose numbers are read one by one, after one more token.
 #[inline(always)]
-fn word_behind(word: ListWord, token: &Token<'_>, behind: State) -> ListWord
-    ensures { result ≡ word_behind token.now.kind token.now.text.now (Some behind) word }
+fn word_after(word: ListWord, token: &Token<'_>, after: State) -> ListWord
+    ensures { result ≡ word_after token.now.kind token.now.text.now (Some after) word }
 {
     match token.kind {
         Kind::Sec if is_singular(token.text) => ListWord::Usual,
         Kind::Sec => ListWord::Sections,
         Kind::Lot if is_singular(token.text) => ListWord::Lot,
         Kind::Lot => ListWord::Usual,
-        _ if is_pending(behind) => word,
+        _ if is_pending(after) => word,
         _ => ListWord::Usual,
     }
 }

@@ -16,7 +16,7 @@ const LANES: usize = 16;
 /// The first place from a place on that has no white space, or the text's length. Usually there is
 /// one space or none.
 #[inline(always)]
-pub(crate) fn behind_white(text: &[u8], from: usize) -> usize
+pub(crate) fn after_white(text: &[u8], from: usize) -> usize
     requires { from ≤ length text.now }
     ensures value { result ≡ from + prefix_len is_white (drop from text.now) }
     ensures range { result ≤ length text.now }
@@ -27,26 +27,26 @@ pub(crate) fn behind_white(text: &[u8], from: usize) -> usize
     if !is_white_at(text, from + 1) {
         return from + 1;
     }
-    behind_much_white(text, from + 1)
+    after_much_white(text, from + 1)
 }
 
 /// The same for white space of any length. Most of it is spaces.
 #[inline(never)]
-fn behind_much_white(text: &[u8], from: usize) -> usize
+fn after_much_white(text: &[u8], from: usize) -> usize
     requires { from ≤ length text.now }
     ensures value { result ≡ from + prefix_len is_white (drop from text.now) }
     ensures range { result ≤ length text.now }
 {
-    let at = behind_spaces(text, from);
+    let at = after_spaces(text, from);
     if !is_white_at(text, at) {
         return at;
     }
-    behind_any_white(text, at)
+    after_any_white(text, at)
 }
 
 /// Passes over spaces, except those near the text's end. What it passes over is white space.
 #[inline(always)]
-fn behind_spaces(text: &[u8], from: usize) -> usize
+fn after_spaces(text: &[u8], from: usize) -> usize
     requires { from ≤ length text.now }
     ensures white { result + prefix_len is_white (drop result text.now)
         ≡ from + prefix_len is_white (drop from text.now) }
@@ -73,7 +73,7 @@ fn lanes_of_others(bytes: u8x64) -> u64
 
 /// The same for white space of any length and kind.
 #[inline(always)]
-fn behind_any_white(text: &[u8], from: usize) -> usize
+fn after_any_white(text: &[u8], from: usize) -> usize
     requires { from ≤ length text.now }
     ensures value { result ≡ from + prefix_len is_white (drop from text.now) }
     ensures range { result ≤ length text.now }
@@ -86,11 +86,11 @@ fn behind_any_white(text: &[u8], from: usize) -> usize
         }
         at += LANES;
     }
-    behind_last_white(text, at)
+    after_last_white(text, at)
 }
 
 /// The same for the last bytes of a text.
-fn behind_last_white(text: &[u8], from: usize) -> usize
+fn after_last_white(text: &[u8], from: usize) -> usize
     requires { from ≤ length text.now }
     ensures value { result ≡ from + prefix_len is_white (drop from text.now) }
     ensures range { result ≤ length text.now }
@@ -112,7 +112,7 @@ fn dark_lanes(bytes: u8x16) -> u64
     (no_space & no_end).to_bitmask()
 }
 
-/// Whether white space stands at a place.
+/// Whether there is white space at a place.
 #[inline(always)]
 fn is_white_at(text: &[u8], at: usize) -> bool
     ensures value { result ≡ begins_with is_white (drop at text.now) }

@@ -25,10 +25,10 @@ use Rattle.twp_grammar.specs.declared.item.Numeral.{Numeral}
 use Rattle.twp_grammar.specs.declared.item.Step.{Step}
 use Rattle.twp_grammar.specs.Tokens.{Token}
 use Rattle.twp_grammar.specs.Grammar.{part, group, description}
-use Rattle.twp_grammar.specs.Items.{Tree, ◌&◌, behind, numeral, part_items, group_items, heading_item, items}
+use Rattle.twp_grammar.specs.Items.{Tree, ◌&◌, after, numeral, part_items, group_items, heading_item, items}
 use Rattle.twp_grammar.specs.Items.{BeginWithSections}
 use Rattle.twp_grammar.specs.Sentences.{HasItems}
-use Rattle.twp_grammar.specs.ItemPlaces.{ItemOfSection, cuts_of, in_item, item_places, section_behind}
+use Rattle.twp_grammar.specs.ItemPlaces.{ItemOfSection, cuts_of, in_item, item_places, section_after}
 use Rattle.twp_grammar.specs.ItemPlaces.{with_sections, parts_of, land_of}
 use Rattle.twp_grammar.specs.OnPlat.{HasLot, LiesOnPlat, AreOnPlat, IsLandOfItems}
 use Rattle.twp_grammar.specs.ItemPlaces.{item_of}
@@ -79,7 +79,7 @@ part_names (inr (inr word)) = first_names _ _ tt
 group_names : (v : Tree group) → HasNaming (group_items v)
 group_names (inl (word & st & only & inl (mark & first & more))) =
     later_names (Sections (numeral only) (numeral only) false) _
-    (left_names (part_items first) (flat_map (behind part_items) more) (part_names first))
+    (left_names (part_items first) (flat_map (after part_items) more) (part_names first))
 group_names (inl (word & st & only & inr _)) = first_names _ _ tt
 group_names (inr (word & st & (first & inl thru & more) & w)) = first_names _ _ tt
 group_names (inr (word & st & (first & inr (s & second) & more) & w)) = first_names _ _ tt
@@ -87,9 +87,9 @@ group_names (inr (word & st & (first & inr (s & second) & more) & w)) = first_na
 sentence_names : (v : Tree description) → HasNaming (items v)
 sentence_names (inl h & first & more & end) =
     later_names (heading_item h) _
-    (left_names (group_items first) (flat_map (behind (behind group_items)) more) (group_names first))
+    (left_names (group_items first) (flat_map (after (after group_items)) more) (group_names first))
 sentence_names (inr _ & first & more & end) =
-    left_names (group_items first) (flat_map (behind (behind group_items)) more) (group_names first)
+    left_names (group_items first) (flat_map (after (after group_items)) more) (group_names first)
 
 -- each item is among the items with their sections
 record HasSection (its : List Item) (section : ℕ) (it : Item) : Type 0 where
@@ -101,7 +101,7 @@ section_of_item [] section it there = absurd there
 section_of_item (first ∷ its) section it (inl is) =
     record { of = section; there = inl (ap (λ i. item_of section i) is) }
 section_of_item (first ∷ its) section it (inr later) =
-    let found = section_of_item its (section_behind section first) it later in
+    let found = section_of_item its (section_after section first) it later in
     record { of = found.of; there = inr found.there }
 
 abbrev EachLies : Designation → List ItemOfSection → Type 0
@@ -115,53 +115,53 @@ each_lies township its on p there =
     (on.each at.0 p at.1)
 
 -- a part comes after sections
-abbrev StandsBehindSections : ItemOfSection → Type 0
-StandsBehindSections p = IsSection p.section ⊎ IsBeforeParts p.item
+abbrev FollowsSections : ItemOfSection → Type 0
+FollowsSections p = IsSection p.section ⊎ IsBeforeParts p.item
 
-begins_behind : (number : ℕ) (north_south : NorthSouth) (range : ℕ) (east_west : EastWest) (at : ℕ)
+begins_after : (number : ℕ) (north_south : NorthSouth) (range : ℕ) (east_west : EastWest) (at : ℕ)
     (its : List Item)
     → BeginWithSections (Heading number north_south range east_west at ∷ its) → BeginWithSections its
-begins_behind number north_south range east_west at [] begin = begin
-begins_behind number north_south range east_west at (Sections first last whole ∷ its) begin = tt
-begins_behind number north_south range east_west at (Heading n ns r ew a ∷ its) begin = absurd begin
-begins_behind number north_south range east_west at (Lots first last ∷ its) begin = absurd begin
-begins_behind number north_south range east_west at (Chain steps a ∷ its) begin = absurd begin
-begins_behind number north_south range east_west at (All a ∷ its) begin = absurd begin
+begins_after number north_south range east_west at [] begin = begin
+begins_after number north_south range east_west at (Sections first last whole ∷ its) begin = tt
+begins_after number north_south range east_west at (Heading n ns r ew a ∷ its) begin = absurd begin
+begins_after number north_south range east_west at (Lots first last ∷ its) begin = absurd begin
+begins_after number north_south range east_west at (Chain steps a ∷ its) begin = absurd begin
+begins_after number north_south range east_west at (All a ∷ its) begin = absurd begin
 
 -- if items lie on the plat, each part comes after sections in the township
-behind_sections : (township : Designation) (its : List Item) (section : ℕ)
+after_sections : (township : Designation) (its : List Item) (section : ℕ)
     → IsSection section ⊎ BeginWithSections its → EachLies township (with_sections section its)
-    → (p : ItemOfSection) → Among p (with_sections section its) → StandsBehindSections p
-behind_sections township [] section known lies p there = absurd there
-behind_sections township (Heading number north_south range east_west at ∷ its) section known lies p (inl is) =
-    subst StandsBehindSections (sym is) (inr tt)
-behind_sections township (Heading number north_south range east_west at ∷ its) section (inl known) lies p
+    → (p : ItemOfSection) → Among p (with_sections section its) → FollowsSections p
+after_sections township [] section known lies p there = absurd there
+after_sections township (Heading number north_south range east_west at ∷ its) section known lies p (inl is) =
+    subst FollowsSections (sym is) (inr tt)
+after_sections township (Heading number north_south range east_west at ∷ its) section (inl known) lies p
     (inr later) =
-    behind_sections township its section (inl known) (λ q there. lies q (inr there)) p later
-behind_sections township (Heading number north_south range east_west at ∷ its) section (inr begin) lies p
+    after_sections township its section (inl known) (λ q there. lies q (inr there)) p later
+after_sections township (Heading number north_south range east_west at ∷ its) section (inr begin) lies p
     (inr later) =
-    behind_sections township its section (inr (begins_behind number north_south range east_west at its begin))
+    after_sections township its section (inr (begins_after number north_south range east_west at its begin))
     (λ q there. lies q (inr there)) p later
-behind_sections township (Sections first last whole ∷ its) section known lies p (inl is) =
-    subst StandsBehindSections (sym is) (inr tt)
-behind_sections township (Sections first last whole ∷ its) section known lies p (inr later) =
+after_sections township (Sections first last whole ∷ its) section known lies p (inl is) =
+    subst FollowsSections (sym is) (inr tt)
+after_sections township (Sections first last whole ∷ its) section known lies p (inr later) =
     let range : IsSection first.value = (lies (item_of section (Sections first last whole)) (inl refl)).0 in
-    behind_sections township its first.value (inl range) (λ q there. lies q (inr there)) p later
-behind_sections township (Lots first last ∷ its) section (inr begin) lies p there = absurd begin
-behind_sections township (Lots first last ∷ its) section (inl known) lies p (inl is) =
-    subst StandsBehindSections (sym is) (inl known)
-behind_sections township (Lots first last ∷ its) section (inl known) lies p (inr later) =
-    behind_sections township its section (inl known) (λ q there. lies q (inr there)) p later
-behind_sections township (Chain steps at ∷ its) section (inr begin) lies p there = absurd begin
-behind_sections township (Chain steps at ∷ its) section (inl known) lies p (inl is) =
-    subst StandsBehindSections (sym is) (inl known)
-behind_sections township (Chain steps at ∷ its) section (inl known) lies p (inr later) =
-    behind_sections township its section (inl known) (λ q there. lies q (inr there)) p later
-behind_sections township (All at ∷ its) section (inr begin) lies p there = absurd begin
-behind_sections township (All at ∷ its) section (inl known) lies p (inl is) =
-    subst StandsBehindSections (sym is) (inl known)
-behind_sections township (All at ∷ its) section (inl known) lies p (inr later) =
-    behind_sections township its section (inl known) (λ q there. lies q (inr there)) p later
+    after_sections township its first.value (inl range) (λ q there. lies q (inr there)) p later
+after_sections township (Lots first last ∷ its) section (inr begin) lies p there = absurd begin
+after_sections township (Lots first last ∷ its) section (inl known) lies p (inl is) =
+    subst FollowsSections (sym is) (inl known)
+after_sections township (Lots first last ∷ its) section (inl known) lies p (inr later) =
+    after_sections township its section (inl known) (λ q there. lies q (inr there)) p later
+after_sections township (Chain steps at ∷ its) section (inr begin) lies p there = absurd begin
+after_sections township (Chain steps at ∷ its) section (inl known) lies p (inl is) =
+    subst FollowsSections (sym is) (inl known)
+after_sections township (Chain steps at ∷ its) section (inl known) lies p (inr later) =
+    after_sections township its section (inl known) (λ q there. lies q (inr there)) p later
+after_sections township (All at ∷ its) section (inr begin) lies p there = absurd begin
+after_sections township (All at ∷ its) section (inl known) lies p (inl is) =
+    subst FollowsSections (sym is) (inl known)
+after_sections township (All at ∷ its) section (inl known) lies p (inr later) =
+    after_sections township its section (inl known) (λ q there. lies q (inr there)) p later
 
 -- a place that an item names
 record NamesPlace (section : ℕ) (it : Item) : Type 0 where
@@ -221,25 +221,25 @@ chain_place section steps at within =
           ∙ rw (same_section section, begins block.columns _ sides.0, begins block.rows _ sides.1) refl;
     }
 
-some_place : (township : Designation) (section : ℕ) (it : Item) → StandsBehindSections (item_of section it)
+some_place : (township : Designation) (section : ℕ) (it : Item) → FollowsSections (item_of section it)
     → LiesOnPlat PLACE_DIGITS township section it → NamesPlaces it → NamesPlace section it
-some_place township section (Heading number north_south range east_west at) behind lies names = absurd names
-some_place township section (Sections first last true) behind lies names =
+some_place township section (Heading number north_south range east_west at) after lies names = absurd names
+some_place township section (Sections first last true) after lies names =
     first_section section first last lies.2
-some_place township section (Sections first last false) behind lies names = absurd names
+some_place township section (Sections first last false) after lies names = absurd names
 some_place township section (Lots first last) (inl range) lies names =
     first_lot section first last range lies.0 (lies.1 first.value (omega arith) lies.0)
 some_place township section (Lots first last) (inr before) lies names = absurd before
-some_place township section (Chain steps at) behind lies names = chain_place section steps at lies.0
-some_place township section (All at) behind lies names =
+some_place township section (Chain steps at) after lies names = chain_place section steps at lies.0
+some_place township section (All at) after lies names =
     record { of = section; column = 0; row = 0; named = rw (same_section section) refl }
 
 -- each part of a sentence comes after sections
-each_behind : (township : Designation) (tokens : List Token) (its : List Item) → HasItems tokens its
+each_after : (township : Designation) (tokens : List Token) (its : List Item) → HasItems tokens its
     → AreOnPlat PLACE_DIGITS township its
-    → (p : ItemOfSection) → Among p (parts_of its) → StandsBehindSections p
-each_behind township tokens its sentence on =
-    behind_sections township its 0
+    → (p : ItemOfSection) → Among p (parts_of its) → FollowsSections p
+each_after township tokens its sentence on =
+    after_sections township its 0
     (inr (subst (λ (js : List Item). BeginWithSections js) sentence.read_off (tree_begins sentence.tree)))
     (each_lies township its on)
 
@@ -259,29 +259,29 @@ names_some_place township tokens its places sentence land =
     let part = item_of stands.of naming.it in
     let place =
     some_place township stands.of naming.it
-    (each_behind township tokens its sentence land.on_plat part stands.there)
+    (each_after township tokens its sentence land.on_plat part stands.there)
     (each_lies township its land.on_plat part stands.there) naming.names in
     not_empty places (land_of PLACE_DIGITS (parts_of its)) place.of place.column place.row land.land_is
     (passed (λ p. item_places PLACE_DIGITS p place.of place.column place.row) (parts_of its) part
     stands.there place.named)
 
 -- the places that a part names are in a section of the township
-in_section : (township : Designation) (p : ItemOfSection) → StandsBehindSections p
+in_section : (township : Designation) (p : ItemOfSection) → FollowsSections p
     → LiesOnPlat PLACE_DIGITS township p.section p.item → (s c r : ℕ)
     → item_places PLACE_DIGITS p s c r ≡ true → IsSection s × IsPlace PLACE_DIGITS c r
-in_section township p behind lies s c r named =
+in_section township p after lies s c r named =
     let parts = and_parts (is_place PLACE_DIGITS c r) (in_item PLACE_DIGITS p.section p.item s c r) named in
-    (of_item p.item behind lies parts.1, inside PLACE_DIGITS c r parts.0)
+    (of_item p.item after lies parts.1, inside PLACE_DIGITS c r parts.0)
   where
     same : (rest : Bool) → IsSection p.section → ((p.section == s) && rest) ≡ true → IsSection s
     same rest range is = subst IsSection (eqb-true p.section s (and_parts (p.section == s) rest is).0) range
 
-    of_item : (it : Item) → StandsBehindSections (item_of p.section it)
+    of_item : (it : Item) → FollowsSections (item_of p.section it)
         → LiesOnPlat PLACE_DIGITS township p.section it → in_item PLACE_DIGITS p.section it s c r ≡ true
         → IsSection s
-    of_item (Heading number north_south range east_west at) behind lies is = cc is
-    of_item (Sections first last false) behind lies is = cc is
-    of_item (Sections first last true) behind lies is =
+    of_item (Heading number north_south range east_west at) after lies is = cc is
+    of_item (Sections first last false) after lies is = cc is
+    of_item (Sections first last true) after lies is =
         let both = and_parts (nat_le first.value s) (nat_le s last.value) is in
         let least = lies.0.0 in
         let most = lies.1.1 in
@@ -304,7 +304,7 @@ is_of_township township tokens its places sentence land = record {
       some_passes (λ p. item_places PLACE_DIGITS p s c r) (parts_of its)
       (sym (ap (λ ps. ps s c r) land.land_is) ∙ held) in
       in_section township found.thing
-      (each_behind township tokens its sentence land.on_plat found.thing found.there)
+      (each_after township tokens its sentence land.on_plat found.thing found.there)
       (each_lies township its land.on_plat found.thing found.there) s c r found.passes;
   whole_lots =
       subst (λ ps. HasWholeLots PLACE_DIGITS ps) (sym land.land_is)

@@ -16,7 +16,7 @@ use Rattle.twp_grammar.specs.declared.item.Item.{Item}
 use Rattle.twp_grammar.specs.declared.item.Item.TheVariants as item
 use Rattle.twp_resolve.specs.declared.place_fault.PlaceFault.{PlaceFault}
 use Rattle.twp_grammar.specs.Items.{BeginWithSections}
-use Rattle.twp_grammar.specs.ItemPlaces.{ItemOfSection, item_places, section_behind, with_sections, parts_of}
+use Rattle.twp_grammar.specs.ItemPlaces.{ItemOfSection, item_places, section_after, with_sections, parts_of}
 use Rattle.twp_grammar.specs.ItemPlaces.{land_of}
 use Rattle.twp_grammar.specs.OnPlat.{LiesOnPlat, IsLandOfItems}
 use Rattle.twp_resolve.specs.PlaceFaults.{HasFault, HasFaultAt, IsFrom, IsFirstPlaceFault}
@@ -47,14 +47,14 @@ taken_none g township items places none = record {
 -- each item has a section
 pub parts_count : (section : ℕ) (items : List Item) → length (with_sections section items) ≡ length items
 parts_count section [] = refl
-parts_count section (it ∷ items) = ap suc (parts_count (section_behind section it) items)
+parts_count section (it ∷ items) = ap suc (parts_count (section_after section it) items)
 
 -- the item at an index, with its section
 pub record IsNext (items : List Item) (index section : ℕ) (it : Item) : Type 0 where
   pub within : index < length (parts_of items)
   pub here : (d : ItemOfSection) → get_or (parts_of items) index d ≡ item_of section it
-  pub behind : drop (index + 1) (parts_of items)
-      ≡ with_sections (section_behind section it) (drop (index + 1) items)
+  pub after : drop (index + 1) (parts_of items)
+      ≡ with_sections (section_after section it) (drop (index + 1) items)
 
 first_of : {X : Type 0} (x y : X) (xs ys : List X) → (x ∷ xs) ≡ (y ∷ ys) → (x ≡ y) × (xs ≡ ys)
 first_of x y xs ys e = (cc e, cc e)
@@ -65,7 +65,7 @@ pub next_is : (items : List Item) (index section : ℕ) (it : Item) → index < 
 next_is items index section it inside at left = record {
   within = within;
   here = λ d. (both d).0;
-  behind = (both (item_of section it)).1;
+  after = (both (item_of section it)).1;
 }
   where
     within : index < length (parts_of items)
@@ -74,12 +74,12 @@ next_is items index section it inside at left = record {
     both : (d : ItemOfSection)
         → (get_or (parts_of items) index d ≡ item_of section it)
         × (drop (index + 1) (parts_of items)
-        ≡ with_sections (section_behind section it) (drop (index + 1) items))
+        ≡ with_sections (section_after section it) (drop (index + 1) items))
     both d =
         let there : drop index items ≡ it ∷ drop (index + 1) items =
         drop_more items index it inside ∙ ap (λ x. x ∷ drop (index + 1) items) at in
         first_of (get_or (parts_of items) index d) (item_of section it) (drop (index + 1) (parts_of items))
-        (with_sections (section_behind section it) (drop (index + 1) items))
+        (with_sections (section_after section it) (drop (index + 1) items))
         (sym (drop_more (parts_of items) index d within) ∙ left ∙ ap (λ xs. with_sections section xs) there)
 
 -- one more item
@@ -87,11 +87,11 @@ pub taken_next : (g : ℕ) (township : Designation) (items : List Item) (index s
     (places new : ℕ → ℕ → ℕ → Bool)
     → index < length items → get_or items index it ≡ it
     → AreTaken g township items index section places → IsTaken g township section it places new
-    → AreTaken g township items (index + 1) (section_behind section it) new
+    → AreTaken g township items (index + 1) (section_after section it) new
 taken_next g township items index section it places new inside at so_far taken =
     let next : IsNext items index section it = next_is items index section it inside at so_far.left in
     record {
-      left = next.behind;
+      left = next.after;
       each = λ i d before within. elim (cases_lt i index) [
         | inl earlier ↦ so_far.each i d earlier within
         | inr here ↦
@@ -256,7 +256,7 @@ pub known_next : (g : ℕ) (township : Designation) (section section' : Option �
     (index : ℕ) (it : Item)
     → index < length items → get_or items index it ≡ it
     → SectionKnown section (drop index items) → LiesOnPlat g township (number_of_section section) it
-    → number_of_section section' ≡ section_behind (number_of_section section) it
+    → number_of_section section' ≡ section_after (number_of_section section) it
     → SectionKnown section' (drop (index + 1) items)
 unfolding SectionKnown
 known_next g township section section' items index it inside at known lies is = elim known [
@@ -265,7 +265,7 @@ known_next g township section section' items index it inside at known lies is = 
 ]
   where
     go : (it : Item) → LiesOnPlat g township (number_of_section section) it → 1 ≤ number_of_section section
-        → number_of_section section' ≡ section_behind (number_of_section section) it
+        → number_of_section section' ≡ section_after (number_of_section section) it
         → 1 ≤ number_of_section section'
     go (item.Heading number north_south range east_west at) lies some is = omega arith
     go (item.Sections first last whole) lies some is = omega (arith, lies.0.0)
@@ -273,23 +273,23 @@ known_next g township section section' items index it inside at known lies is = 
     go (item.Chain steps at) lies some is = omega arith
     go (item.All at) lies some is = omega arith
 
-    behind : (number : ℕ) (north_south : NorthSouth) (range : ℕ) (east_west : EastWest) (at : ℕ)
+    after : (number : ℕ) (north_south : NorthSouth) (range : ℕ) (east_west : EastWest) (at : ℕ)
         (more : List Item)
         → BeginWithSections (item.Heading number north_south range east_west at ∷ more)
         → BeginWithSections more
-    behind number north_south range east_west at (item.Sections first last whole ∷ more) begin = tt
-    behind number north_south range east_west at [] begin = begin
-    behind number north_south range east_west at (item.Heading n ns r ew a ∷ more) begin = absurd begin
-    behind number north_south range east_west at (item.Lots first last ∷ more) begin = absurd begin
-    behind number north_south range east_west at (item.Chain steps a ∷ more) begin = absurd begin
-    behind number north_south range east_west at (item.All a ∷ more) begin = absurd begin
+    after number north_south range east_west at (item.Sections first last whole ∷ more) begin = tt
+    after number north_south range east_west at [] begin = begin
+    after number north_south range east_west at (item.Heading n ns r ew a ∷ more) begin = absurd begin
+    after number north_south range east_west at (item.Lots first last ∷ more) begin = absurd begin
+    after number north_south range east_west at (item.Chain steps a ∷ more) begin = absurd begin
+    after number north_south range east_west at (item.All a ∷ more) begin = absurd begin
 
     rest : (it : Item) (more : List Item) → LiesOnPlat g township (number_of_section section) it
         → BeginWithSections (it ∷ more)
-        → number_of_section section' ≡ section_behind (number_of_section section) it
+        → number_of_section section' ≡ section_after (number_of_section section) it
         → (1 ≤ number_of_section section') ⊎ BeginWithSections more
     rest (item.Heading number north_south range east_west at) more lies begin is =
-        inr (behind number north_south range east_west at more begin)
+        inr (after number north_south range east_west at more begin)
     rest (item.Sections first last whole) more lies begin is = inl (omega (arith, lies.0.0))
     rest (item.Lots first last) more lies begin is = absurd begin
     rest (item.Chain steps at) more lies begin is = absurd begin

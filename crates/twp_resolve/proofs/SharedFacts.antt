@@ -12,7 +12,7 @@ use Rattle.twp_land.specs.Lands.{no_places, intersection, union, SharePlace}
 use Rattle.twp_grammar.specs.declared.item.Item.{Item}
 use Rattle.twp_grammar.specs.declared.item.Item.TheVariants as item
 use Rattle.twp_grammar.specs.ItemPlaces.{ItemOfSection, item_places, item_of, parts_of, land_of}
-use Rattle.twp_grammar.specs.ItemPlaces.{section_behind, with_sections}
+use Rattle.twp_grammar.specs.ItemPlaces.{section_after, with_sections}
 use Rattle.twp_grammar.specs.OnPlat.{AreOnPlat, LiesOnPlat}
 use Rattle.twp_resolve.specs.declared.place_fault.PlaceFault.{PlaceFault}
 use Rattle.twp_resolve.specs.declared.place_fault.PlaceFault.TheVariants as fault
@@ -162,11 +162,11 @@ pub apart_next : (g : ℕ) (township : Designation) (items : List Item) (index s
     → AreApart g items index section later
     → IsTaken g township section it no_places new → named ≡ places_at g items later
     → ¬ SharePlace new named
-    → AreApart g items (index + 1) (section_behind section it) later
+    → AreApart g items (index + 1) (section_after section it) later
 apart_next g township items index section later it new named inside there so_far taken are free =
     let next : IsNext items index section it = next_is items index section it inside there so_far.left in
     record {
-      left = next.behind;
+      left = next.after;
       apart = λ i before. elim (cases_lt i index) [
         | inl earlier ↦ so_far.apart i earlier
         | inr here ↦

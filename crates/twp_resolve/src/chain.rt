@@ -72,7 +72,7 @@ pub fn chain_block(steps: &Steps) -> Option<Block>
         (reached PLACE_DIGITS (cuts_of steps.now)) }
 {
     let first = steps.first();
-    let mut block = block_behind(steps, first.len())?;
+    let mut block = block_after(steps, first.len())?;
     for index in (0..first.len()).rev() {
         block = cut(block, first[index])?;
     }
@@ -121,7 +121,7 @@ fn quarter_of(block: Block, step: Step) -> Option<Block>
 }
 
 /// The block that the steps from an index on reach in a section.
-fn block_behind(steps: &Steps, start: usize) -> Option<Block>
+fn block_after(steps: &Steps, start: usize) -> Option<Block>
     requires { start ≤ length steps.now }
     ensures { MatchOption result (¬ AreWithin PLACE_DIGITS (cuts_of steps.now))
         (IsCutTo PLACE_DIGITS steps.now start) }

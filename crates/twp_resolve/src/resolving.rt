@@ -3,7 +3,7 @@ ghost use Rattle.std.specs.Prelude.{MatchResult};
 ghost use Rattle.twp_grid.specs.Places.{PLACE_DIGITS};
 ghost use Rattle.twp_grid.specs.Townships.{Designation, designation};
 ghost use Rattle.twp_land.specs.WholeLots.{HasWholeLots};
-ghost use Rattle.twp_grammar.specs.ItemPlaces.{section_behind};
+ghost use Rattle.twp_grammar.specs.ItemPlaces.{section_after};
 ghost use Rattle.twp_grammar.specs.OnPlat.{AreOnPlat, IsLandOfItems};
 ghost use Rattle.twp_resolve.specs.PlaceFaults.{IsFirstPlaceFault};
 ghost use Rattle.twp_resolve.specs.steps.ResolvingSteps.{IsTaken, IsItemsFirstFault, IsBeforeParts};
@@ -64,10 +64,10 @@ pub(crate) fn resolve_item<L: Land>(
     township: Township,
 ) -> Result<Option<Section>, PlaceFault>
     requires { IsSome section ⊎ IsBeforeParts item.now }
-    ensures taken { IfOk result (λ behind. IsTaken PLACE_DIGITS township (number_of_section section)
+    ensures taken { IfOk result (λ after. IsTaken PLACE_DIGITS township (number_of_section section)
         item.now (L.places land.old) (L.places land.new)) }
-    ensures behind { IfOk result (λ behind. number_of_section behind
-        ≡ section_behind (number_of_section section) item.now) }
+    ensures after { IfOk result (λ after. number_of_section after
+        ≡ section_after (number_of_section section) item.now) }
     ensures refused { IfErr result (IsItemsFirstFault PLACE_DIGITS township (number_of_section section)
         item.now (L.places land.old)) }
 {

@@ -4,7 +4,7 @@ ghost use Rattle.twp_grammar.specs.declared.item.Item.{Item as NamedItem};
 ghost use Rattle.twp_grid.specs.Places.{PLACE_DIGITS};
 ghost use Rattle.twp_land.specs.Lands.{no_places};
 ghost use Rattle.twp_grammar.specs.Items.{BeginWithSections};
-ghost use Rattle.twp_grammar.specs.ItemPlaces.{section_behind};
+ghost use Rattle.twp_grammar.specs.ItemPlaces.{section_after};
 ghost use Rattle.twp_resolve.specs.SharedLand.{AreRefusedForOverlap, AreFirstSharing};
 ghost use Rattle.twp_resolve.specs.steps.ResolvingSteps.{IsTaken, IsBeforeParts, HasSomeFault};
 ghost use Rattle.twp_resolve.specs.steps.ResolvingSteps.{number_of_section};
@@ -95,7 +95,7 @@ fn refused_item<L: Land>(land: &mut L, items: &[Item], township: Township) -> Op
     for index in 0..items.len() {
         let here = RefusedItem { index, section };
         match resolve_item(land, here.section, &items[index], township) {
-            Ok(behind) => section = behind,
+            Ok(after) => section = after,
             Err(fault) => return here.if_overlap(fault),
         }
     }
@@ -140,13 +140,13 @@ fn place_item<L: Land>(
     requires { IsSome section ⊎ IsBeforeParts item.now }
     ensures { MatchOption result
         (HasSomeFault PLACE_DIGITS township (number_of_section section) item.now)
-        (λ behind. IsTaken PLACE_DIGITS township (number_of_section section) item.now no_places
+        (λ after. IsTaken PLACE_DIGITS township (number_of_section section) item.now no_places
         (L.places land.new)
-        × (number_of_section behind ≡ section_behind (number_of_section section) item.now)) }
+        × (number_of_section after ≡ section_after (number_of_section section) item.now)) }
 {
     land.clear();
-    let Ok(behind) = resolve_item(land, section, item, township) else {
+    let Ok(after) = resolve_item(land, section, item, township) else {
         return None;
     };
-    Some(behind)
+    Some(after)
 }

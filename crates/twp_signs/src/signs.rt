@@ -207,7 +207,7 @@ fn bounds(text: &[u8], place: usize) -> (usize, usize) {
     (start, place.saturating_add(NEAR).min(text.len()))
 }
 
-/// Whether white space is at a place of a text.
+/// Whether there is white space at a place of a text.
 fn is_white(text: &[u8], at: usize) -> bool {
     match text.get(at) {
         Some(byte) => byte.is_ascii_whitespace(),

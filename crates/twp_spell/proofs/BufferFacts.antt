@@ -12,19 +12,19 @@ use Rattle.twp_spell.proofs.PathFacts.{take_front, take_less}
 use borrow.Rule.Slice.PartMut.{put_mid}
 
 -- a step is written after the bytes so far
-pub put_behind : (bytes front step old : List ℕ) (len n wide : ℕ) → take len bytes ≡ old → len ≤ length bytes
+pub put_after : (bytes front step old : List ℕ) (len n wide : ℕ) → take len bytes ≡ old → len ≤ length bytes
     → front ≡ step → length step ≡ n
     → take (len + n) (put_mid len wide bytes front) ≡ old ++ step
-put_behind bytes front step old len n wide old_is within front_is long =
+put_after bytes front step old len n wide old_is within front_is long =
     let same : length front ≡ n = ap length front_is ∙ long in
     take-put_mid len wide bytes front (len + n) (omega (arith, same)) within
     ∙ ap (λ l. l ++ front) old_is ∙ ap (λ l. old ++ l) front_is
 
 -- so is a path, only part of which counts
-pub path_behind : (bytes text path old : List ℕ) (len count wide end : ℕ) → take len bytes ≡ old
+pub path_after : (bytes text path old : List ℕ) (len count wide end : ℕ) → take len bytes ≡ old
     → len ≤ length bytes → take count text ≡ path → count ≤ length text → end ≡ len + count
     → take end (put_mid len wide bytes text) ≡ old ++ path
-path_behind bytes text path old len count wide end old_is within path_is few end_is =
+path_after bytes text path old len count wide end old_is within path_is few end_is =
     sym (take_less end (len + length text) (put_mid len wide bytes text) (omega (arith, few, end_is)))
     ∙ ap (λ l. take end l) (take-put_mid len wide bytes text (len + length text) refl within)
     ∙ take_front end count (take len bytes) text

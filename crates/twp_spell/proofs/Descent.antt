@@ -6,7 +6,7 @@ use Rattle.twp_grid.specs.declared.block.Side.TheVariants.{N, S, E, W}
 use Rattle.twp_grid.specs.declared.block.Corner.{Corner}
 use Rattle.twp_grid.specs.declared.block.Corner.TheVariants.{NE, NW, SW, SE}
 use Rattle.twp_spell.specs.WrittenParts.{Part, IsInPart, IsFull, IsOnSide, quarter_named, turn_of_quarter}
-use Rattle.twp_spell.specs.WrittenParts.{address, StandsAhead}
+use Rattle.twp_spell.specs.WrittenParts.{address, ComesBefore}
 use Rattle.twp_spell.specs.WrittenParts.Part.{square, half_of_square}
 use Rattle.twp_spell.specs.steps.Spelling.{square_quarters, IsUnder, quarter_on, BeginsIn}
 use Rattle.twp_spell.proofs.SquareFacts.{square_within, square_fits, half_fits}
@@ -233,7 +233,7 @@ pub quarters_ahead : (g : ℕ) (held : ℕ → ℕ → Bool) (parent : List Corn
     (part next : Part)
     → length parent < g → turn_of_quarter corner < turn_of_quarter other
     → IsFull g held part → IsFull g held next → BeginsIn parent corner part → BeginsIn parent other next
-    → StandsAhead g part next
+    → ComesBefore g part next
 quarters_ahead g held parent corner other part next fits less full full' begins begins' =
     let first = begins_at g held parent corner part fits full begins in
     let second = begins_at g held parent other next fits full' begins' in

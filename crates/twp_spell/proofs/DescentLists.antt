@@ -6,7 +6,7 @@ use Rattle.twp_grid.specs.declared.block.Side.{Side}
 use Rattle.twp_grid.specs.declared.block.Corner.{Corner}
 use Rattle.twp_grid.specs.declared.block.Corner.TheVariants.{NE, NW, SW, SE}
 use Rattle.twp_spell.specs.WrittenParts.{Part, IsInPart, IsFull, IsChosenHalf, IsOnSide, IsWritten}
-use Rattle.twp_spell.specs.WrittenParts.{turn_of_quarter, StandsAhead, AreWrittenParts}
+use Rattle.twp_spell.specs.WrittenParts.{turn_of_quarter, ComesBefore, AreWrittenParts}
 use Rattle.twp_spell.specs.WrittenParts.Part.{square, half_of_square}
 use Rattle.twp_spell.specs.steps.Spelling.{square_quarters, IsUnder, quarter_on, BeginsIn, AreOfSquare}
 use Rattle.twp_spell.specs.steps.Spelling.{AreOfQuarter}
@@ -31,7 +31,7 @@ InQuarter g held parent corner part = IsWritten g held part × BeginsIn parent c
 pub of_section : (g : ℕ) (held : ℕ → ℕ → Bool) (parts : List Part) → AreOfSquare g held [] parts
     → AreWrittenParts g held parts
 of_section g held parts are =
-    listed_as (InSquare g held []) (IsWritten g held) (StandsAhead g) parts (λ part is. is.0)
+    listed_as (InSquare g held []) (IsWritten g held) (ComesBefore g) parts (λ part is. is.0)
     (λ part written. (written, under_whole (square_quarters part))) are
 
 -- a place of a written part of a square
@@ -50,7 +50,7 @@ pub of_written : (g : ℕ) (held : ℕ → ℕ → Bool) (quarters : List Corner
     → AreOfSquare g held quarters (square quarters ∷ [])
 unfolding square_quarters
 of_written g held quarters written =
-    listed_one (InSquare g held quarters) (StandsAhead g) (square quarters) (written, under_itself quarters)
+    listed_one (InSquare g held quarters) (ComesBefore g) (square quarters) (written, under_itself quarters)
     only
   where
     only : (part : Part) → InSquare g held quarters part → part ≡ square quarters
@@ -68,7 +68,7 @@ of_written g held quarters written =
 pub of_empty : (g : ℕ) (held : ℕ → ℕ → Bool) (quarters : List Corner) → length quarters ≤ g
     → ((column row : ℕ) → IsInPart g (square quarters) column row → ¬ (held column row ≡ true))
     → AreOfSquare g held quarters []
-of_empty g held quarters fits none = listed_none (InSquare g held quarters) (StandsAhead g) (λ part is.
+of_empty g held quarters fits none = listed_none (InSquare g held quarters) (ComesBefore g) (λ part is.
     let place = a_place g held quarters part is in
     let there = place.0 in
     none there.column there.row
@@ -102,7 +102,7 @@ pub of_first : (g : ℕ) (held : ℕ → ℕ → Bool) (parent : List Corner) (s
     → IsChosenHalf g held parent side → quarter_on side ≡ corner
     → AreOfQuarter g held parent corner (half_of_square side parent ∷ [])
 of_first g held parent side corner chosen is =
-    listed_one (InQuarter g held parent corner) (StandsAhead g) (half_of_square side parent)
+    listed_one (InQuarter g held parent corner) (ComesBefore g) (half_of_square side parent)
     (chosen, inr (side, refl, is)) only
   where
     only : (part : Part) → InQuarter g held parent corner part → part ≡ half_of_square side parent
@@ -121,7 +121,7 @@ pub of_second : (g : ℕ) (held : ℕ → ℕ → Bool) (parent : List Corner) (
     → IsChosenHalf g held parent side → IsOnSide side corner → ¬ (quarter_on side ≡ corner)
     → AreOfQuarter g held parent corner []
 of_second g held parent side corner chosen on not_first =
-    listed_none (InQuarter g held parent corner) (StandsAhead g) (λ part in_it. elim in_it.1 [
+    listed_none (InQuarter g held parent corner) (ComesBefore g) (λ part in_it. elim in_it.1 [
       | inl under ↦ none_on_side g held parent side corner part chosen on (in_it.0, under)
       | inr half ↦
           let other : IsChosenHalf g held parent half.0 = subst (λ p. IsWritten g held p) half.1 in_it.0 in
@@ -134,7 +134,7 @@ pub of_quarter : (g : ℕ) (held : ℕ → ℕ → Bool) (parent : List Corner) 
     → ((side : Side) → IsChosenHalf g held parent side → ¬ IsOnSide side corner)
     → AreOfSquare g held (corner ∷ parent) parts → AreOfQuarter g held parent corner parts
 of_quarter g held parent corner parts off are =
-    listed_as (InSquare g held (corner ∷ parent)) (InQuarter g held parent corner) (StandsAhead g) parts
+    listed_as (InSquare g held (corner ∷ parent)) (InQuarter g held parent corner) (ComesBefore g) parts
     (λ part is. (is.0, inl is.1)) from are
   where
     from : (part : Part) → InQuarter g held parent corner part → InSquare g held (corner ∷ parent) part
@@ -153,27 +153,27 @@ pub of_quarters : (g : ℕ) (held : ℕ → ℕ → Bool) (quarters : List Corne
     → AreOfSquare g held quarters (((ne ++ nw) ++ sw) ++ se)
 unfolding square_quarters
 of_quarters g held quarters ne nw sw se fits short are_ne are_nw are_sw are_se =
-    listed_as (λ p. ((In NE p ⊎ In NW p) ⊎ In SW p) ⊎ In SE p) (InSquare g held quarters) (StandsAhead g)
+    listed_as (λ p. ((In NE p ⊎ In NW p) ⊎ In SW p) ⊎ In SE p) (InSquare g held quarters) (ComesBefore g)
     (((ne ++ nw) ++ sw) ++ se) to from
-    (listed_both (λ p. (In NE p ⊎ In NW p) ⊎ In SW p) (In SE) (StandsAhead g) ((ne ++ nw) ++ sw) se
-    (listed_both (λ p. In NE p ⊎ In NW p) (In SW) (StandsAhead g) (ne ++ nw) sw
-    (listed_both (In NE) (In NW) (StandsAhead g) ne nw are_ne are_nw (ahead NE NW (omega arith)))
+    (listed_both (λ p. (In NE p ⊎ In NW p) ⊎ In SW p) (In SE) (ComesBefore g) ((ne ++ nw) ++ sw) se
+    (listed_both (λ p. In NE p ⊎ In NW p) (In SW) (ComesBefore g) (ne ++ nw) sw
+    (listed_both (In NE) (In NW) (ComesBefore g) ne nw are_ne are_nw (ahead NE NW (omega arith)))
     are_sw before_sw) are_se before_se)
   where
     In : Corner → Part → Type 0
     In corner part = InQuarter g held quarters corner part
 
     ahead : (corner other : Corner) → turn_of_quarter corner < turn_of_quarter other → (x y : Part)
-        → In corner x → In other y → StandsAhead g x y
+        → In corner x → In other y → ComesBefore g x y
     ahead corner other less x y is is' =
         quarters_ahead g held quarters corner other x y fits less (full_part g held x is.0)
         (full_part g held y is'.0) is.1 is'.1
 
-    before_sw : (x y : Part) → In NE x ⊎ In NW x → In SW y → StandsAhead g x y
+    before_sw : (x y : Part) → In NE x ⊎ In NW x → In SW y → ComesBefore g x y
     before_sw x y (inl is) is' = ahead NE SW (omega arith) x y is is'
     before_sw x y (inr is) is' = ahead NW SW (omega arith) x y is is'
 
-    before_se : (x y : Part) → (In NE x ⊎ In NW x) ⊎ In SW x → In SE y → StandsAhead g x y
+    before_se : (x y : Part) → (In NE x ⊎ In NW x) ⊎ In SW x → In SE y → ComesBefore g x y
     before_se x y (inl (inl is)) is' = ahead NE SE (omega arith) x y is is'
     before_se x y (inl (inr is)) is' = ahead NW SE (omega arith) x y is is'
     before_se x y (inr is) is' = ahead SW SE (omega arith) x y is is'

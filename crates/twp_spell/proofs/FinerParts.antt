@@ -10,7 +10,7 @@ use Rattle.twp_grid.specs.Places.{IsPlace}
 use Rattle.twp_land.specs.FinerLands.{cut_in_four}
 use Rattle.twp_grammar.specs.ItemPlaces.{cuts_of, in_chain}
 use Rattle.twp_spell.specs.WrittenParts.{Part, steps_of_part, IsInPart, IsFull, IsChosenHalf, IsWritten}
-use Rattle.twp_spell.specs.WrittenParts.{quarter_named, address, StandsAhead, AreWrittenParts}
+use Rattle.twp_spell.specs.WrittenParts.{quarter_named, address, ComesBefore, AreWrittenParts}
 use Rattle.twp_spell.specs.WrittenParts.Part.{square, half_of_square}
 use Rattle.twp_grammar.proofs.Membership.{Among, among_contains}
 use Rattle.twp_grammar.proofs.FinerItems.{chain_coarser, within_greater}
@@ -186,7 +186,7 @@ written_coarser g held (square (corner ∷ parent)) written =
 
 -- the order of parts
 ahead_finer : (g : ℕ) (part other : Part) → AreWithin g (cuts_of (steps_of_part part))
-    → AreWithin g (cuts_of (steps_of_part other)) → StandsAhead g part other → StandsAhead (suc g) part other
+    → AreWithin g (cuts_of (steps_of_part other)) → ComesBefore g part other → ComesBefore (suc g) part other
 ahead_finer g part other within within' ahead = record {
   column = 2 * ahead.column;
   row = 2 * ahead.row;
@@ -208,7 +208,7 @@ parts_finer g held parts are = record {
     λ there. written_finer g held part ((are.listed part).1 there),
   );
   ordered =
-      other_pairs (StandsAhead g) (StandsAhead (suc g)) parts are.ordered (λ part other there there' ahead.
+      other_pairs (ComesBefore g) (ComesBefore (suc g)) parts are.ordered (λ part other there there' ahead.
       ahead_finer g part other (within part there) (within other there') ahead);
 }
   where

@@ -53,11 +53,11 @@ pairs_order {T = T} before (first ∷ list) pairs = (
 
 -- if two lists begin with the same thing, the second contains all things of the first: that thing
 -- does not come again in the first, so the things that follow it there follow it in the second
-behind_both : {T : Type 0} (before : T → T → Type 0) → ((x y : T) → before x y → before y x → ⊥) → (x y : T)
+after_both : {T : Type 0} (before : T → T → Type 0) → ((x y : T) → before x y → before y x → ⊥) → (x y : T)
     → x ≡ y → (list more : List T)
     → ((z : T) → Among z list → before x z) → ((z : T) → Among z (x ∷ list) → Among z (y ∷ more)) → (z : T)
     → Among z list → Among z more
-behind_both before apart x y same list more ahead to z there = elim (to z (inr there)) [
+after_both before apart x y same list more ahead to z there = elim (to z (inr there)) [
   | inl is ↦
       let self : before x z = ahead z there in
       let at : z ≡ x = is ∙ sym same in
@@ -86,8 +86,8 @@ same_list before apart [] (first ∷ more) order order' to from = absurd (from f
 same_list before apart (x ∷ list) (y ∷ more) order order' to from =
     let same = one_first before apart x y list more order.0 order'.0 (to x (inl refl)) (from y (inl refl)) in
     ap (λ l. x ∷ l) (same_list before apart list more order.1 order'.1
-    (behind_both before apart x y same list more order.0 to)
-    (behind_both before apart y x (sym same) more list order'.0 from))
+    (after_both before apart x y same list more order.0 to)
+    (after_both before apart y x (sym same) more list order'.0 from))
     ∙ ap (λ z. z ∷ more) same
 
 -- two lists of all things with a property are equal

@@ -2,7 +2,7 @@
 use Rattle.std.proofs.Common.{◌≡◌, ◌↔◌, ℕ, Bool, true, List, sym, subst}
 use Rattle.std.specs.List.{Contains, AllPairs}
 use Rattle.twp_grid.specs.Places.{IsPlace}
-use Rattle.twp_spell.specs.WrittenParts.{Part, IsInPart, IsWritten, StandsAhead, AreWrittenParts}
+use Rattle.twp_spell.specs.WrittenParts.{Part, IsInPart, IsWritten, ComesBefore, AreWrittenParts}
 use Rattle.twp_grammar.proofs.Membership.{Among, among_contains}
 use Rattle.twp_spell.proofs.Listings.{other_pairs}
 use Rattle.twp_spell.proofs.WrittenFacts.{one_part, written_held, has_part}
@@ -19,13 +19,13 @@ pub apart : (g : ℕ) (held : ℕ → ℕ → Bool) (parts : List Part) → AreW
     → AllPairs (λ part other. (column row : ℕ) → IsInPart g part column row → ¬ IsInPart g other column row)
     parts
 apart g held parts are =
-    other_pairs (StandsAhead g)
+    other_pairs (ComesBefore g)
     (λ part other. (column row : ℕ) → IsInPart g part column row → ¬ IsInPart g other column row) parts
     are.ordered
     (λ part other there there' ahead column row inside inside'.
     let same =
     one_part g held column row part other (written part there) (written other there') inside inside' in
-    let itself : StandsAhead g part part = subst (λ p. StandsAhead g part p) (sym same) ahead in
+    let itself : ComesBefore g part part = subst (λ p. ComesBefore g part p) (sym same) ahead in
     ahead_once g part part itself itself)
   where
     written : (part : Part) → Among part parts → IsWritten g held part

@@ -9,7 +9,7 @@ use Rattle.twp_grid.specs.declared.block.Corner.{Corner}
 use Rattle.twp_grid.specs.declared.block.Corner.TheVariants.{NE, NW, SW, SE}
 use Rattle.twp_grammar.specs.ItemPlaces.{in_chain}
 use Rattle.twp_spell.specs.WrittenParts.{Part, steps_of_part, IsInPart, IsFull, preference, IsChosenHalf}
-use Rattle.twp_spell.specs.WrittenParts.{IsOnSide, IsWritten, address, StandsAhead, AreWrittenParts}
+use Rattle.twp_spell.specs.WrittenParts.{IsOnSide, IsWritten, address, ComesBefore, AreWrittenParts}
 use Rattle.twp_spell.specs.WrittenParts.Part.{square, half_of_square}
 use Rattle.twp_spell.specs.steps.Spelling.{quarter_on}
 use Rattle.twp_grammar.proofs.Membership.{Among, among_left, among_right}
@@ -22,21 +22,21 @@ use Rattle.twp_spell.proofs.FullParts.{search_places, is_full, chosen_half, one_
 use Rattle.twp_spell.proofs.WrittenFacts.{one_part}
 
 -- the order is strict
-pub ahead_once : (g : ℕ) (part other : Part) → StandsAhead g part other → StandsAhead g other part → ⊥
-ahead_once g part other ahead behind =
-    let less = ahead.lower behind.column behind.row behind.inside in
-    let more = behind.lower ahead.column ahead.row ahead.inside in
+pub ahead_once : (g : ℕ) (part other : Part) → ComesBefore g part other → ComesBefore g other part → ⊥
+ahead_once g part other ahead after =
+    let less = ahead.lower after.column after.row after.inside in
+    let more = after.lower ahead.column ahead.row ahead.inside in
     absurd (omega arith)
 
-pub ahead_through : (g : ℕ) (part middle last : Part) → StandsAhead g part middle → StandsAhead g middle last
-    → StandsAhead g part last
-ahead_through g part middle last ahead behind = record {
+pub ahead_through : (g : ℕ) (part middle last : Part) → ComesBefore g part middle → ComesBefore g middle last
+    → ComesBefore g part last
+ahead_through g part middle last ahead after = record {
   column = ahead.column;
   row = ahead.row;
   inside = ahead.inside;
   lower = λ column' row' inside.
-      let less = ahead.lower behind.column behind.row behind.inside in
-      let more = behind.lower column' row' inside in
+      let less = ahead.lower after.column after.row after.inside in
+      let more = after.lower column' row' inside in
       omega arith;
 }
 
@@ -125,7 +125,7 @@ least_of g held part written =
 
 -- of two written parts, one comes first
 ahead_of : (g : ℕ) (part other : Part) (first : Least g part) (second : Least g other)
-    → address g first.column first.row < address g second.column second.row → StandsAhead g part other
+    → address g first.column first.row < address g second.column second.row → ComesBefore g part other
 ahead_of g part other first second less = record {
   column = first.column;
   row = first.row;
@@ -133,7 +133,7 @@ ahead_of g part other first second less = record {
   lower = λ column' row' inside. let more = second.least column' row' inside in omega arith;
 }
 
-compared : (g : ℕ) (held : ℕ → ℕ → Bool) → AreCompared (IsWritten g held) (StandsAhead g)
+compared : (g : ℕ) (held : ℕ → ℕ → Bool) → AreCompared (IsWritten g held) (ComesBefore g)
 compared g held part other written written' =
     let first = least_of g held part written in
     let second = least_of g held other written' in
@@ -254,9 +254,9 @@ a_square g quarters few =
     (halves N g ++ (halves S g ++ (halves E g ++ halves W g)))
     (among_map (λ q. square q) quarters (corner_lists g) (all_corner_lists g quarters few))
 
-behind_squares : (g : ℕ) (part : Part) → Among part (halves N g ++ (halves S g ++ (halves E g ++ halves W g)))
+after_squares : (g : ℕ) (part : Part) → Among part (halves N g ++ (halves S g ++ (halves E g ++ halves W g)))
     → Among part (all_parts g)
-behind_squares g part there =
+after_squares g part there =
     among_right part (map (λ q. square q) (corner_lists g))
     (halves N g ++ (halves S g ++ (halves E g ++ halves W g))) there
 
@@ -267,18 +267,18 @@ a_half g side quarters few =
 
 some_half : (g : ℕ) (side : Side) (quarters : List Corner) → length quarters ≤ g
     → Among (half_of_square side quarters) (all_parts g)
-some_half g N quarters few = behind_squares g (half_of_square N quarters)
+some_half g N quarters few = after_squares g (half_of_square N quarters)
     (among_left (half_of_square N quarters) (halves N g) (halves S g ++ (halves E g ++ halves W g))
     (a_half g N quarters few))
-some_half g S quarters few = behind_squares g (half_of_square S quarters)
+some_half g S quarters few = after_squares g (half_of_square S quarters)
     (among_right (half_of_square S quarters) (halves N g) (halves S g ++ (halves E g ++ halves W g))
     (among_left (half_of_square S quarters) (halves S g) (halves E g ++ halves W g)
     (a_half g S quarters few)))
-some_half g E quarters few = behind_squares g (half_of_square E quarters)
+some_half g E quarters few = after_squares g (half_of_square E quarters)
     (among_right (half_of_square E quarters) (halves N g) (halves S g ++ (halves E g ++ halves W g))
     (among_right (half_of_square E quarters) (halves S g) (halves E g ++ halves W g)
     (among_left (half_of_square E quarters) (halves E g) (halves W g) (a_half g E quarters few))))
-some_half g W quarters few = behind_squares g (half_of_square W quarters)
+some_half g W quarters few = after_squares g (half_of_square W quarters)
     (among_right (half_of_square W quarters) (halves N g) (halves S g ++ (halves E g ++ halves W g))
     (among_right (half_of_square W quarters) (halves S g) (halves E g ++ halves W g)
     (among_right (half_of_square W quarters) (halves E g) (halves W g) (a_half g W quarters few))))
@@ -291,11 +291,11 @@ is_some_part g held (half_of_square side quarters) full =
 -- there is a list of written parts
 pub has_parts : (g : ℕ) (held : ℕ → ℕ → Bool) → (parts : List Part) × AreWrittenParts g held parts
 has_parts g held =
-    has_listing (IsWritten g held) (StandsAhead g) (ahead_through g) (compared g held) (is_written g held)
+    has_listing (IsWritten g held) (ComesBefore g) (ahead_through g) (compared g held) (is_written g held)
     (all_parts g)
     (λ part written. is_some_part g held part (full_part g held part written))
 
 pub one_parts : (g : ℕ) (held : ℕ → ℕ → Bool) (parts more : List Part) → AreWrittenParts g held parts
     → AreWrittenParts g held more → parts ≡ more
 one_parts g held parts more are are' =
-    one_listing (IsWritten g held) (StandsAhead g) (ahead_once g) parts more are are'
+    one_listing (IsWritten g held) (ComesBefore g) (ahead_once g) parts more are are'

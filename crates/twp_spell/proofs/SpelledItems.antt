@@ -11,7 +11,7 @@ use Rattle.twp_grammar.specs.declared.item.Step.{Step}
 use Rattle.twp_grammar.specs.declared.item.Step.TheVariants.{Half, Quarter}
 use Rattle.twp_grammar.specs.Grammar.{◌⨾◌, one, many, semicolon, heading, step, entry, separator, part, group}
 use Rattle.twp_grammar.specs.Grammar.{description}
-use Rattle.twp_grammar.specs.Items.{behind, step_of, range_of, lots_item, part_items, group_items, items}
+use Rattle.twp_grammar.specs.Items.{after, step_of, range_of, lots_item, part_items, group_items, items}
 use Rattle.twp_spell.proofs.Lexemes.{mark, placed, end_at}
 use Rattle.twp_spell.proofs.SpelledTokens.{ListEntry, all_entry, lot_entry, part_entry, SectionLine}
 use Rattle.twp_spell.proofs.SpelledTokens.{step_draft, further_step_grammar, further_step, further_number}
@@ -70,14 +70,14 @@ step_is (Quarter SW) at front = refl
 step_is (Quarter SE) at front = refl
 
 steps_are : (ss : List Step) (at : ℕ)
-    → map (behind step_of) (placed (many further_step_grammar) at (map further_step ss)) ≡ ss
+    → map (after step_of) (placed (many further_step_grammar) at (map further_step ss)) ≡ ss
 steps_are [] at = refl
 steps_are (s ∷ ss) at =
     cons_both (step_is s at []) (steps_are ss (end_at further_step_grammar at (further_step s)))
 
 numbers_are : (ns : List ℕ) (at : ℕ)
     → map unplaced
-    (map lots_item (map (behind range_of) (placed (many (separator ⨾ entry)) at (map further_number ns))))
+    (map lots_item (map (after range_of) (placed (many (separator ⨾ entry)) at (map further_number ns))))
     ≡ map one_lot ns
 numbers_are [] at = refl
 numbers_are (n ∷ ns) at =
@@ -92,7 +92,7 @@ entry_is (part_entry s ss) at =
     (cons_both (step_is s at (32 ∷ [])) (steps_are ss (end_at step at (step_draft (32 ∷ []) s))))
 
 entries_are : (es : List ListEntry) (at : ℕ)
-    → map unplaced (flat_map (behind part_items) (placed (many (separator ⨾ part)) at (map further_entry es)))
+    → map unplaced (flat_map (after part_items) (placed (many (separator ⨾ part)) at (map further_entry es)))
     ≡ flat_map entry_items es
 entries_are [] at = refl
 entries_are (e ∷ es) at =
@@ -106,7 +106,7 @@ line_is line at =
 
 lines_are : (lines : List SectionLine) (at : ℕ)
     → map unplaced
-    (flat_map (behind (behind group_items)) (placed (many further_line_grammar) at (map further_line lines)))
+    (flat_map (after (after group_items)) (placed (many further_line_grammar) at (map further_line lines)))
     ≡ flat_map line_items lines
 lines_are [] at = refl
 lines_are (line ∷ lines) at =
@@ -115,7 +115,7 @@ lines_are (line ∷ lines) at =
     placed (many further_line_grammar) (end_at further_line_grammar at (further_line line))
     (map further_line lines) in
     map_both unplaced (group_items (placed group start (line_draft line)))
-    (flat_map (behind (behind group_items)) others) (line_is line start)
+    (flat_map (after (after group_items)) others) (line_is line start)
     (lines_are lines (end_at further_line_grammar at (further_line line)))
 
 -- the items are these, except for their places in the text
@@ -124,8 +124,8 @@ pub items_are : (township : Designation) (first : SectionLine) (more : List Sect
     ≡ land_items township (first ∷ more)
 items_are township first more =
     let start = end_at heading 0 (heading_draft township) in
-    let behind_first = end_at group start (line_draft first) in
-    let others = placed (many further_line_grammar) behind_first (map further_line more) in
+    let after_the_first = end_at group start (line_draft first) in
+    let others = placed (many further_line_grammar) after_the_first (map further_line more) in
     ap (λ its. Heading township.number township.north_south township.range township.east_west 0 ∷ its)
     (map_both unplaced (group_items (placed group start (line_draft first)))
-    (flat_map (behind (behind group_items)) others) (line_is first start) (lines_are more behind_first))
+    (flat_map (after (after group_items)) others) (line_is first start) (lines_are more after_the_first))

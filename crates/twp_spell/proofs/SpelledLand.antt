@@ -90,7 +90,7 @@ of_lines (line ∷ lines) earlier p (inl is) = of_section earlier line (inl refl
 of_lines (line ∷ lines) earlier p (inr later) =
     elim (among_either p (list_parts line) (lines_parts line.section lines) later) [
       | inl here ↦ of_list line (inl refl) here
-      | inr behind ↦ of_more line lines p (of_lines lines line.section p behind)
+      | inr after ↦ of_more line lines p (of_lines lines line.section p after)
     ]
 
 among_lines : (lines : List SectionLine) (earlier : ℕ) (line : SectionLine) (p : ItemOfSection)

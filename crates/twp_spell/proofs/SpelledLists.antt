@@ -16,7 +16,7 @@ use Rattle.twp_grammar.specs.ItemPlaces.{ItemOfSection, is_lot_from, in_chain, i
 use Rattle.twp_grammar.specs.OnPlat.{LiesOnPlat, HoldsOfLot}
 use Rattle.twp_grammar.specs.ItemPlaces.{item_of}
 use Rattle.twp_spell.specs.Listing.{AreListed}
-use Rattle.twp_spell.specs.WrittenParts.{Part, steps_of_part, IsInPart, IsWritten, StandsAhead}
+use Rattle.twp_spell.specs.WrittenParts.{Part, steps_of_part, IsInPart, IsWritten, ComesBefore}
 use Rattle.twp_spell.specs.WrittenParts.{AreWrittenParts}
 use Rattle.twp_land.specs.WholeLots.{off_lots}
 use Rattle.twp_spell.specs.CanonicalText.{HoldsEach, IsLotHeld}
@@ -211,8 +211,8 @@ apart g places section lots parts lists =
     (order_weaker ◌<◌ (λ x y. AreApart g (lot_part section x) (lot_part section y)) lots lots_apart
     (pairs_order ◌<◌ lots lists.lots_are.ordered)))
     (order_map (aliquot_part section) (AreApart g) parts
-    (order_weaker (StandsAhead g) (λ x y. AreApart g (aliquot_part section x) (aliquot_part section y))
-    parts parts_apart (pairs_order (StandsAhead g) parts lists.parts_are.ordered)))
+    (order_weaker (ComesBefore g) (λ x y. AreApart g (aliquot_part section x) (aliquot_part section y))
+    parts parts_apart (pairs_order (ComesBefore g) parts lists.parts_are.ordered)))
     across
   where
     lots_apart : (x y : ℕ) → Among x lots → Among y lots → x < y
@@ -223,7 +223,7 @@ apart g places section lots parts lists =
         let same : x ≡ y = some_is x y (sym first.of_lot ∙ second.of_lot) in
         absurd (omega arith)
 
-    parts_apart : (x y : Part) → Among x parts → Among y parts → StandsAhead g x y
+    parts_apart : (x y : Part) → Among x parts → Among y parts → ComesBefore g x y
         → AreApart g (aliquot_part section x) (aliquot_part section y)
     parts_apart x y there there' ahead share =
         let first = in_aliquot g section x share.section share.column share.row share.in_first in
@@ -232,7 +232,7 @@ apart g places section lots parts lists =
         (part_written g places section lots parts lists x there)
         (part_written g places section lots parts lists y there') first.inside second.inside in
         ahead_once g x y ahead
-        (subst (λ z. StandsAhead g y z) (sym same) (subst (λ z. StandsAhead g z y) same ahead))
+        (subst (λ z. ComesBefore g y z) (sym same) (subst (λ z. ComesBefore g z y) same ahead))
 
     across : (p q : ItemOfSection) → Among p (map (lot_part section) lots)
         → Among q (map (aliquot_part section) parts) → AreApart g p q

@@ -8,7 +8,7 @@ use Rattle.std.proofs.Math.ListN.{get_or}
 use Rattle.twp_grid.specs.Townships.{Designation}
 use Rattle.twp_grammar.specs.declared.item.Item.{Item}
 use Rattle.twp_grammar.specs.declared.item.Item.TheVariants.{Heading, Sections, Lots, Chain, All}
-use Rattle.twp_grammar.specs.ItemPlaces.{ItemOfSection, item_places, section_behind, with_sections, parts_of}
+use Rattle.twp_grammar.specs.ItemPlaces.{ItemOfSection, item_places, section_after, with_sections, parts_of}
 use Rattle.twp_grammar.specs.ItemPlaces.{land_of}
 use Rattle.twp_land.specs.Lands.{SharePlace}
 use Rattle.twp_grammar.specs.OnPlat.{LiesOnPlat, AreOnPlat}
@@ -71,7 +71,7 @@ pub record AreFine (g : ℕ) (township : Designation) (parts : List ItemOfSectio
 abbrev unplaced_part : ItemOfSection → ItemOfSection
 unplaced_part p = item_of p.section (unplaced p.item)
 
-same_section : (section : ℕ) (it : Item) → section_behind section (unplaced it) ≡ section_behind section it
+same_section : (section : ℕ) (it : Item) → section_after section (unplaced it) ≡ section_after section it
 same_section section (Heading n side range way at) = refl
 same_section section (Sections first last whole) = refl
 same_section section (Lots first last) = refl
@@ -84,7 +84,7 @@ unplaced_parts [] section = refl
 unplaced_parts (it ∷ items) section =
     ap (λ ps. item_of section (unplaced it) ∷ ps)
     (ap (λ s. with_sections s (map unplaced items)) (same_section section it)
-    ∙ unplaced_parts items (section_behind section it))
+    ∙ unplaced_parts items (section_after section it))
 
 places_at : (g section : ℕ) (it : Item) (s c r : ℕ)
     → item_places g (item_of section (unplaced it)) s c r ≡ item_places g (item_of section it) s c r

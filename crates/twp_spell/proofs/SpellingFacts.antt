@@ -161,10 +161,10 @@ some_entry g section held lots parts some lots_are parts_are none =
         (hold_all g (off_lots g section held) parts parts_are some.column some.row some.place).0 off in
         contains_among found.0 [] (subst (λ l. Contains l found.0) (no_entry lots parts none).1 found.1)
 
-entries_behind : (entries : List (List ℕ)) → ¬ (entries ≡ [])
+entries_after : (entries : List (List ℕ)) → ¬ (entries ≡ [])
     → entries_text entries ≡ codes ", " ++ with_commas entries
-entries_behind [] some = absurd (some refl)
-entries_behind (first ∷ entries) some = refl
+entries_after [] some = absurd (some refl)
+entries_after (first ∷ entries) some = refl
 
 -- a section that the land does not contain wholly
 pub parts_done : (g : ℕ) (places : ℕ → ℕ → ℕ → Bool) (section : ℕ) (old mid named lotted new : List ℕ)
@@ -180,8 +180,8 @@ parts_done g places section old mid named lotted new short some is is' has_lots 
     flat_map-append (λ entry. codes ", " ++ entry) (lots_entry has_lots.lots) (map part_text has_parts.parts)
     ∙ ap (λ t. entries_text (lots_entry has_lots.lots) ++ t)
     (flat_map-map (λ entry. codes ", " ++ entry) part_text has_parts.parts) in
-    let behind =
-    entries_behind entries
+    let after =
+    entries_after entries
     (some_entry g section (places section) has_lots.lots has_parts.parts some has_lots.are has_parts.are) in
     record {
       line = name ++ codes ", " ++ with_commas entries;
@@ -198,7 +198,7 @@ parts_done g places section old mid named lotted new short some is is' has_lots 
           (is' ∙ ap (λ t. t ++ decimal section) is ∙ append_assoc old (codes "sec. ") (decimal section)))
           ∙ append_assoc (old ++ name) (entries_text (lots_entry has_lots.lots)) (parts_text has_parts.parts)
           ∙ append_assoc old name (entries_text (lots_entry has_lots.lots) ++ parts_text has_parts.parts)
-          ∙ ap (λ t. old ++ (name ++ t)) (sym texts ∙ behind)
+          ∙ ap (λ t. old ++ (name ++ t)) (sym texts ∙ after)
           ∙ ap (λ t. old ++ t) (sym (append_assoc name (codes ", ") (with_commas entries)));
     }
 
@@ -218,12 +218,12 @@ line_more : (township : Designation) (lines : List (List ℕ)) (line old mid new
     → old ≡ lines_begun township lines → (old ≡ [] → mid ≡ heading_line township)
     → (¬ (old ≡ []) → mid ≡ old ++ (codes ";" ++ line_end)) → new ≡ mid ++ line
     → new ≡ lines_begun township (lines ++ line ∷ [])
-line_more township [] line old mid new begun first behind is =
+line_more township [] line old mid new begun first after is =
     is ∙ ap (λ t. t ++ line) (first begun) ∙ ap (λ t. heading_line township ++ t) (sym (append-nil line))
-line_more township (top ∷ lines) line old mid new begun first behind is =
+line_more township (top ∷ lines) line old mid new begun first after is =
     let sep = codes ";" ++ line_end in
     let texts = join_by (λ y. y) sep (top ∷ lines) in
-    is ∙ ap (λ t. t ++ line) (behind (begun_more township top lines old begun) ∙ ap (λ t. t ++ sep) begun)
+    is ∙ ap (λ t. t ++ line) (after (begun_more township top lines old begun) ∙ ap (λ t. t ++ sep) begun)
     ∙ append_assoc (heading_line township ++ texts) sep line
     ∙ append_assoc (heading_line township) texts (sep ++ line)
     ∙ ap (λ t. heading_line township ++ t) (flat_map_more (λ y. sep ++ y) top lines line)
@@ -264,13 +264,13 @@ pub begun_next : (g : ℕ) (township : Designation) (places : ℕ → ℕ → �
     → HoldsSome g (places number) → (old ≡ [] → mid ≡ heading_line township)
     → (¬ (old ≡ []) → mid ≡ old ++ (codes ";" ++ line_end))
     → HasSection g places number mid new → AreBegun g township places (number + 1) new
-begun_next g township places number old mid new begun range some first behind last = record {
+begun_next g township places number old mid new begun range some first after last = record {
   sections = begun.sections ++ number ∷ [];
   lines = begun.lines ++ last.line ∷ [];
   sections_are = below_more (IsSectionOfLand g places) number begun.sections begun.sections_are (range, some);
   lines_are =
       zip_more (IsSectionText g places) begun.sections begun.lines number last.line begun.lines_are last.is;
-  text_is = line_more township begun.lines last.line old mid new begun.text_is first behind last.text_is;
+  text_is = line_more township begun.lines last.line old mid new begun.text_is first after last.text_is;
 }
 
 lines_end : (township : Designation) (lines : List (List ℕ)) (old new : List ℕ)

@@ -94,7 +94,7 @@ address (suc g) column row =
     4 * address g (column / 2) (row / 2) + turn_of_quarter (quarter_named (column % 2) (row % 2))
 
 -- a part comes before another: some place of it has a lower address than each place of the other
-pub record StandsAhead (g : ℕ) (part other : Part) : Type 0 where
+pub record ComesBefore (g : ℕ) (part other : Part) : Type 0 where
   pub column : ℕ
   pub row : ℕ
   pub inside : IsInPart g part column row
@@ -103,4 +103,4 @@ pub record StandsAhead (g : ℕ) (part other : Part) : Type 0 where
 
 -- the written parts of the land, in the order of their lowest addresses
 abbrev pub AreWrittenParts : ℕ → (ℕ → ℕ → Bool) → List Part → Type 0
-AreWrittenParts g held parts = AreListed (IsWritten g held) (StandsAhead g) parts
+AreWrittenParts g held parts = AreListed (IsWritten g held) (ComesBefore g) parts

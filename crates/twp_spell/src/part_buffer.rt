@@ -65,10 +65,10 @@ impl PartBuffer {
         ensures text { self.new ≡ self.old ++ ((codes ", " ++ step_text (Quarter corner)) ++ path.now) }
         ensures most { length self.new ≤ length self.old + PART_MOST }
     {
-        let behind = self.len + QUARTER_BYTES;
-        self.bytes[self.len..behind].copy_from_slice(quarter_step(corner));
-        self.bytes[behind..behind + PATH_BYTES].copy_from_slice(path.bytes());
-        self.len = behind + path.len();
+        let after = self.len + QUARTER_BYTES;
+        self.bytes[self.len..after].copy_from_slice(quarter_step(corner));
+        self.bytes[after..after + PATH_BYTES].copy_from_slice(path.bytes());
+        self.len = after + path.len();
     }
 
     /// Adds a half of the square that a path reaches.
@@ -78,10 +78,10 @@ impl PartBuffer {
         ensures text { self.new ≡ self.old ++ ((codes ", " ++ step_text (Half side)) ++ path.now) }
         ensures most { length self.new ≤ length self.old + PART_MOST }
     {
-        let behind = self.len + HALF_BYTES;
-        self.bytes[self.len..behind].copy_from_slice(half_step(side));
-        self.bytes[behind..behind + PATH_BYTES].copy_from_slice(path.bytes());
-        self.len = behind + path.len();
+        let after = self.len + HALF_BYTES;
+        self.bytes[self.len..after].copy_from_slice(half_step(side));
+        self.bytes[after..after + PATH_BYTES].copy_from_slice(path.bytes());
+        self.len = after + path.len();
     }
 
     /// Adds a quarter of a quarter of the square that a path reaches.
@@ -93,11 +93,11 @@ impl PartBuffer {
         ensures most { length self.new ≤ length self.old + PART_MOST }
     {
         let middle = self.len + QUARTER_BYTES;
-        let behind = middle + PATH_QUARTER_BYTES;
+        let after = middle + PATH_QUARTER_BYTES;
         self.bytes[self.len..middle].copy_from_slice(quarter_step(corner));
-        self.bytes[middle..behind].copy_from_slice(quarter_text(outer));
-        self.bytes[behind..behind + PATH_BYTES].copy_from_slice(path.bytes());
-        self.len = behind + path.len();
+        self.bytes[middle..after].copy_from_slice(quarter_text(outer));
+        self.bytes[after..after + PATH_BYTES].copy_from_slice(path.bytes());
+        self.len = after + path.len();
     }
 
     /// Appends the parts to a text.

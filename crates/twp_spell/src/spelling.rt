@@ -53,7 +53,7 @@ fn write_if_held<L: Land>(
 fn write_lead(township: Township, text: &mut Vec<u8>) -> Result<(), AllocError>
     ensures first { text.old.items ≡ []
         → OnOk result (text.new.items ≡ heading_line township) }
-    ensures behind { ¬ (text.old.items ≡ [])
+    ensures after { ¬ (text.old.items ≡ [])
         → OnOk result (text.new.items ≡ text.old.items ++ (codes ";" ++ line_end)) }
 {
     if text.is_empty() {

@@ -29,7 +29,7 @@ end_of_left left = left.at + length left.bytes
 abbrev pub end_of_token : Piece → ℕ
 end_of_token token = token.at + length token.text.now
 
--- the first of some tokens was taken, and those behind it are left; or there was none
+-- the first of some tokens was taken, and those after it are left; or there was none
 abbrev pub GivesFirstOf : List Token → Option Piece → Left → Type 0
 GivesFirstOf tokens None after = tokens ≡ []
 GivesFirstOf tokens (Some token) after =
@@ -45,15 +45,15 @@ abbrev pub is_the : Kind → Bool
 is_the The = true
 is_the _ = false
 
--- what stands behind `the`, or all
-abbrev pub behind_the : List Token → List Token
-behind_the [] = []
-behind_the (token ∷ more) = if is_the token.kind then more else token ∷ more
+-- what comes after `the`, or all
+abbrev pub after_the : List Token → List Token
+after_the [] = []
+after_the (token ∷ more) = if is_the token.kind then more else token ∷ more
 
--- what stands behind `of` or `of the`, or all
-abbrev pub behind_of : List Token → List Token
-behind_of [] = []
-behind_of (token ∷ more) = if is_of token.kind then behind_the more else token ∷ more
+-- what comes after `of` or `of the`, or all
+abbrev pub after_of_word : List Token → List Token
+after_of_word [] = []
+after_of_word (token ∷ more) = if is_of token.kind then after_the more else token ∷ more
 
 -- two tokens are a half or a quarter
 abbrev pub is_step : Kind → Kind → Bool
@@ -62,25 +62,25 @@ is_step (EastWest side) Half = true
 is_step (Corner corner) Quarter = true
 is_step _ _ = false
 
--- what stands behind a half or a quarter, which begins with a token of this kind
-abbrev pub behind_second : Kind → List Token → Option (List Token)
-behind_second first [] = None
-behind_second first (token ∷ more) = if is_step first token.kind then Some more else None
+-- what comes after a half or a quarter, which begins with a token of this kind
+abbrev pub after_second : Kind → List Token → Option (List Token)
+after_second first [] = None
+after_second first (token ∷ more) = if is_step first token.kind then Some more else None
 
--- what stands behind a half or a quarter
-abbrev pub behind_step : List Token → Option (List Token)
-behind_step [] = None
-behind_step (token ∷ more) = behind_second token.kind more
+-- what comes after a half or a quarter
+abbrev pub after_chain_step : List Token → Option (List Token)
+after_chain_step [] = None
+after_chain_step (token ∷ more) = after_second token.kind more
 
--- what stands behind a further half or quarter
-abbrev pub behind_link : List Token → Option (List Token)
-behind_link tokens = behind_step (behind_of tokens)
+-- what comes after a further half or quarter
+abbrev pub after_link : List Token → Option (List Token)
+after_link tokens = after_chain_step (after_of_word tokens)
 
 -- a further half or quarter: 1/2 NE, of NE1/4, of the NE1/4
 abbrev pub link : Ebnf
 link = maybe (one of ⨾ maybe (one the)) ⨾ step
 
--- the first token makes a half or a quarter; it ends here, and the tokens behind it are left
+-- the first token makes a half or a quarter; it ends here, and the tokens after it are left
 pub record IsSecond (first : Kind) (list : List Token) (end : ℕ) (after : Left) : Type 0 where
   pub second : Token
   pub rest : List Token
@@ -91,10 +91,10 @@ pub record IsSecond (first : Kind) (list : List Token) (end : ℕ) (after : Left
 
 -- such a token was taken, or there was none
 abbrev pub TakesSecond : Kind → List Token → Option ℕ → Left → Type 0
-TakesSecond first list None after = behind_second first list ≡ None
+TakesSecond first list None after = after_second first list ≡ None
 TakesSecond first list (Some end) after = IsSecond first list end after
 
--- the tokens begin with a further half or quarter; it ends here, and those behind it are left
+-- the tokens begin with a further half or quarter; it ends here, and those after it are left
 pub record IsLink (list : List Token) (end : ℕ) (after : Left) : Type 0 where
   pub tree : Tree link
   pub rest : List Token
@@ -104,7 +104,7 @@ pub record IsLink (list : List Token) (end : ℕ) (after : Left) : Type 0 where
 
 -- a further half or quarter was taken, or there was none
 abbrev pub TakesLink : List Token → Option ℕ → Left → Type 0
-TakesLink list None after = behind_link list ≡ None
+TakesLink list None after = after_link list ≡ None
 TakesLink list (Some end) after = IsLink list end after
 
 -- the tokens of further halves and quarters
@@ -117,7 +117,7 @@ pub record EndsLinks (list : List Token) (start end : ℕ) : Type 0 where
   pub rest : List Token
   pub list_is : list ≡ tokens_of_links links ++ rest
   pub end_is : end_of start (tokens_of_links links) ≡ end
-  pub none : behind_link rest ≡ None
+  pub none : after_link rest ≡ None
 
 -- what is underlined of these tokens ends here
 pub record EndsPart (list : List Token) (end : ℕ) : Type 0 where

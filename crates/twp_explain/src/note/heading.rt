@@ -66,7 +66,7 @@ fn part_at(bytes: &[u8], at: usize) -> Part<'_> {
         whole: None,
         letter: "",
     };
-    let mut tokens = Tokens::behind(bytes, at.min(bytes.len()));
+    let mut tokens = Tokens::after(bytes, at.min(bytes.len()));
     while let Some(token) = tokens.next() {
         match token.kind {
             Kind::Number(value) => {

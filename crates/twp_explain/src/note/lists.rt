@@ -98,7 +98,7 @@ fn is_one(list: &[u8]) -> bool {
 
 /// Whether the first number from a place on begins a range.
 fn is_range(bytes: &[u8], at: usize) -> bool {
-    let mut tokens = Tokens::behind(bytes, at.min(bytes.len()));
+    let mut tokens = Tokens::after(bytes, at.min(bytes.len()));
     tokens.next();
     match tokens.next() {
         Some(join) => join.kind == Kind::To,

@@ -45,7 +45,7 @@ fn write_several(
     out: &mut String,
 ) -> Result<(), AllocError> {
     let at = doubtful.at.min(doubtful.bytes.len());
-    let mut tokens = Tokens::behind(doubtful.bytes, at);
+    let mut tokens = Tokens::after(doubtful.bytes, at);
     match tokens.next() {
         Some(word) if word.kind == Kind::Lot => write_lots(alloc, doubtful, out),
         _ => write_sections(alloc, doubtful, out),

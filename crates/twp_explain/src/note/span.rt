@@ -60,7 +60,7 @@ pub fn end_of_place(bytes: &[u8], place: DoubtfulPlace) -> usize {
 pub fn end_of_row(bytes: &[u8], at: usize, row: Row) -> usize {
     let at = at.min(bytes.len());
     let mut end = at;
-    let mut tokens = Tokens::behind(bytes, at);
+    let mut tokens = Tokens::after(bytes, at);
     while let Some(token) = tokens.next() {
         if !row.contains(token.kind) {
             return end;
@@ -74,7 +74,7 @@ pub fn end_of_row(bytes: &[u8], at: usize, row: Row) -> usize {
 pub fn end_of_list(bytes: &[u8], at: usize) -> usize {
     let at = at.min(bytes.len());
     let mut end = at;
-    let mut tokens = Tokens::behind(bytes, at);
+    let mut tokens = Tokens::after(bytes, at);
     while let Some(token) = tokens.next() {
         if !is_of_list(token.kind) {
             return end;
@@ -107,7 +107,7 @@ pub fn start_of_part(bytes: &[u8], at: usize) -> usize {
 pub fn after_word(bytes: &[u8], at: usize) -> usize {
     let at = at.min(bytes.len());
     let mut end = at;
-    let mut tokens = Tokens::behind(bytes, at);
+    let mut tokens = Tokens::after(bytes, at);
     while let Some(token) = tokens.next() {
         if !matches!(token.kind, Kind::Sec | Kind::Lot | Kind::Stop) {
             return end;
@@ -137,7 +137,7 @@ pub fn section_at(bytes: &[u8], at: usize) -> Option<u16> {
 
 /// The first number from a place on.
 pub fn number_from(bytes: &[u8], at: usize) -> Option<u16> {
-    let mut tokens = Tokens::behind(bytes, at.min(bytes.len()));
+    let mut tokens = Tokens::after(bytes, at.min(bytes.len()));
     while let Some(token) = tokens.next() {
         if let Kind::Number(number) = token.kind {
             return Some(number);
@@ -150,7 +150,7 @@ pub fn number_from(bytes: &[u8], at: usize) -> Option<u16> {
 pub fn second_number(bytes: &[u8], at: usize) -> usize {
     let at = at.min(bytes.len());
     let mut numbers: u32 = 0;
-    let mut tokens = Tokens::behind(bytes, at);
+    let mut tokens = Tokens::after(bytes, at);
     while let Some(token) = tokens.next() {
         if let Kind::Number(_) = token.kind {
             numbers = numbers.saturating_add(1);
@@ -165,7 +165,7 @@ pub fn second_number(bytes: &[u8], at: usize) -> usize {
 /// The place of the first token of a kind from a place on, or the end.
 pub fn place_of(bytes: &[u8], at: usize, kind: Kind) -> usize {
     let at = at.min(bytes.len());
-    let mut tokens = Tokens::behind(bytes, at);
+    let mut tokens = Tokens::after(bytes, at);
     while let Some(token) = tokens.next() {
         if token.kind == kind {
             return token.at.min(bytes.len());

@@ -1,4 +1,4 @@
-//! Which item of a description stands at a place, and of which section it tells.
+//! Which item of a description is at a place, and which section it is about.
 ghost use Rattle.std.specs.Prelude.{◌≡◌, ◌↔◌, IsTrue};
 ghost use Rattle.twp_resolve.specs.PlaceFaults.{start_of};
 ghost use Rattle.twp_explain.specs.Underlined.{IsItemSpan};
@@ -43,7 +43,7 @@ pub(crate) fn item_span(text: &[u8], item: &Item) -> Span
 }
 
 /// The section of what follows an item. None where its number is no section's.
-pub(crate) fn section_behind(section: Option<Section>, item: &Item) -> Option<Section> {
+pub(crate) fn section_after(section: Option<Section>, item: &Item) -> Option<Section> {
     let Item::Sections { first, .. } = *item else {
         return section;
     };
@@ -67,7 +67,7 @@ fn range_of(item: &Item) -> Option<(Numeral, Numeral)> {
     }
 }
 
-/// The number that stands at a place.
+/// The number at a place.
 pub(crate) fn number_at(items: &[Item], at: u32) -> u16 {
     for item in items {
         let Some((first, last)) = range_of(item) else {
@@ -83,7 +83,7 @@ pub(crate) fn number_at(items: &[Item], at: u32) -> u16 {
     0
 }
 
-/// The first and the last number of the range whose last number stands at a place.
+/// The first and the last number of the range whose last number is at a place.
 pub(crate) fn range_to(items: &[Item], at: u32) -> (u16, u16) {
     for item in items {
         let Some((first, last)) = range_of(item) else {
@@ -105,7 +105,7 @@ pub(crate) fn section_of_number(items: &[Item], at: u32) -> Option<Section> {
                 return section;
             }
         }
-        section = section_behind(section, item);
+        section = section_after(section, item);
     }
     section
 }

@@ -120,17 +120,17 @@ fn write_lots(lots: &[u8], out: &mut String) -> Result<(), AllocError> {
     Ok(())
 }
 
-/// Of the text of a section's land, the list of its parts: what stands between the first comma's
-/// space and the full stop.
+/// Of the text of a section's land, the list of its parts: what comes between the first comma's
+/// space and the period.
 fn list_of_section(text: &[u8]) -> &[u8] {
-    let lines = behind_first(text, b'\n');
-    let list = behind_first(lines, b',');
+    let lines = after_the_first(text, b'\n');
+    let list = after_the_first(lines, b',');
     let end = list.len().saturating_sub(b".\n".len());
     list[..end].trim_ascii_start()
 }
 
-/// What stands behind the first such byte.
-fn behind_first(text: &[u8], byte: u8) -> &[u8] {
+/// What comes after the first such byte.
+fn after_the_first(text: &[u8], byte: u8) -> &[u8] {
     match text.iter().position(|other| *other == byte) {
         Some(index) => &text[index + 1..],
         None => &text[text.len()..],
@@ -140,7 +140,7 @@ fn behind_first(text: &[u8], byte: u8) -> &[u8] {
 /// Appends the land of a canonical text on one line, without its heading. Of a long text the first sections,
 /// lots, and parts are shown, and how many more there are.
 pub fn write_land(text: &[u8], out: &mut String) -> Result<(), AllocError> {
-    let land = behind_first(text, b'\n').trim_ascii_end();
+    let land = after_the_first(text, b'\n').trim_ascii_end();
     if land.len() <= LAND_MOST {
         return write_on_one_line(land, out);
     }

@@ -58,13 +58,13 @@ cut_digits bytes =
 
 -- a byte that is neither a letter nor a digit, and the one after it
 unfoldable pub cut_mark : ℕ → ℕ → Lexeme
-cut_mark byte behind =
+cut_mark byte after =
     if byte == 44 then lexeme Comma 1
     else if byte == 46 then lexeme Stop 1
     else if byte == 59 then lexeme Semicolon 1
     else if byte == 58 then lexeme Colon 1
-    else if (byte == 194) && (behind == 189) then lexeme Half 2
-    else if (byte == 194) && (behind == 188) then lexeme Quarter 2
+    else if (byte == 194) && (after == 189) then lexeme Half 2
+    else if (byte == 194) && (after == 188) then lexeme Quarter 2
     else lexeme BadByte 1
 
 -- the first token of bytes

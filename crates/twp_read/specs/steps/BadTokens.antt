@@ -6,7 +6,7 @@ use Rattle.twp_grammar.specs.Tokens.{Token, HasTokens}
 use Rattle.twp_read.specs.declared.fault.TextFault.{TextFault}
 use Rattle.twp_read.specs.declared.fault.TextFault.TheVariants as fault
 
--- the fault that a token of this kind is wherever it stands
+-- the fault that a token of this kind is wherever it is
 abbrev pub fault_of_bad : Kind → ℕ → Option TextFault
 fault_of_bad BadByte at = Some (fault.BadByte at)
 fault_of_bad BadNumber at = Some (fault.BadNumber at)

@@ -105,7 +105,7 @@ take_token state kind.Colon at items = before_parts state items
 take_token state kind.All at items = take_all state at items
 take_token state _ at items = items
 
--- where the machine stands after the tokens, and the items with the newest first; None where it
+-- where the machine comes after the tokens, and the items with the newest first; None where it
 -- can't take one
 abbrev pub run : Option State → List Item → List Token → Option (State × List Item)
 run None items tokens = None

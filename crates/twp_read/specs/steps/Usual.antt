@@ -34,13 +34,13 @@ pub use Rattle.twp_read.specs.Doubts.{end_of}
 -- The tokens of a text between two places lead the machine from a state and items to others. None of them is
 -- left to the reader's loop, and no white space follows the last one if it ends a step.
 pub record Leads (text : List ℕ) (at : ℕ) (state : State) (items : List Item)
-    (to : ℕ) (behind : State) (grown : List Item) : Type 0 where
+    (to : ℕ) (after : State) (grown : List Item) : Type 0 where
   pub tokens : List Token
   pub cut : (left : List Token) → HasTokens to (drop to text) left
       → HasTokens at (drop at text) (tokens ++ left)
-  pub walked : run (Some state) items tokens ≡ Some (behind, grown)
+  pub walked : run (Some state) items tokens ≡ Some (after, grown)
   pub usual : AreUsual at (Some state) tokens
-  pub stays : is_step behind ≡ true → to ≡ end_from at tokens
+  pub stays : is_step after ≡ true → to ≡ end_from at tokens
   pub forward : at ≤ to
   pub within : to ≤ length text
 
@@ -63,7 +63,7 @@ fraction_of (step.Half side) = Half
 fraction_of (step.Quarter corner) = Quarter
 
 -- at a place of a text stands a token of this kind, of this many bytes
-pub record StandsAt (text : List ℕ) (at : ℕ) (kind : Kind) (size : ℕ) : Type 0 where
+pub record IsKindAt (text : List ℕ) (at : ℕ) (kind : Kind) (size : ℕ) : Type 0 where
   pub token : Token
   pub starts : StartsWith at (drop at text) token (drop (at + size) text)
   pub kind_is : token.kind ≡ kind
@@ -74,9 +74,9 @@ pub record StandsAt (text : List ℕ) (at : ℕ) (kind : Kind) (size : ℕ) : Ty
 -- at a place of a text stand the letters of a step, and its fraction right after them
 pub record IsStepAt (text : List ℕ) (at : ℕ) (step : Step) (size : ℕ) : Type 0 where
   pub letters_size : ℕ
-  pub letters : StandsAt text at (letters_of step) letters_size
+  pub letters : IsKindAt text at (letters_of step) letters_size
   pub fraction_size : ℕ
-  pub fraction : StandsAt text (at + letters_size) (fraction_of step) fraction_size
+  pub fraction : IsKindAt text (at + letters_size) (fraction_of step) fraction_size
   pub size_is : size ≡ letters_size + fraction_size
   pub some : 0 < size
 
@@ -91,9 +91,9 @@ pub record AreHalf (first : ℕ) (it : Step) : Type 0 where
 pub record AreQuarter (first second : ℕ) (it : Step) : Type 0 where
   pub small : ℕ
   pub letter : Some small ≡ small_letter first
-  pub behind : ℕ
-  pub letter_behind : Some behind ≡ small_letter second
-  pub letters : kind_among (small ∷ behind ∷ []) words ≡ letters_of it
+  pub after : ℕ
+  pub letter_after : Some after ≡ small_letter second
+  pub letters : kind_among (small ∷ after ∷ []) words ≡ letters_of it
   pub fraction : fraction_of it ≡ Quarter
 
 -- five bytes begin with a step: with the letter of a half and 1/2 or its sign, or with those of a
@@ -118,15 +118,15 @@ abbrev pub joins_doubtfully : State → Bool
 joins_doubtfully state = is_step state || is_section state
 
 -- a number is the next token of a text from a place on, and ends at another, unless it may be doubtful
-abbrev pub IsNumberBehind : List ℕ → ℕ → Numeral → ℕ → Type 0
-IsNumberBehind text from it end =
-    (state behind : State) (items : List Item) → next state number ≡ Some behind
+abbrev pub IsNumberAfter : List ℕ → ℕ → Numeral → ℕ → Type 0
+IsNumberAfter text from it end =
+    (state after : State) (items : List Item) → next state number ≡ Some after
     → may_be_doubtful state (drop it.at text) ≡ false
-    → Leads text from state items end behind (take_number state it items)
+    → Leads text from state items end after (take_number state it items)
 
 -- all the white space from a place on ends at another
-abbrev pub IsBehindWhite : List ℕ → ℕ → ℕ → Type 0
-IsBehindWhite text from at = (at ≡ from + prefix_len is_white (drop from text)) × (at ≤ length text)
+abbrev pub IsAfterWhite : List ℕ → ℕ → ℕ → Type 0
+IsAfterWhite text from at = (at ≡ from + prefix_len is_white (drop from text)) × (at ≤ length text)
 
 -- the item of a number in a list
 abbrev pub entry_of : Listed → Numeral → Item
@@ -134,14 +134,14 @@ entry_of listed.Lots it = Lots it it
 entry_of listed.Sections it = Sections it it true
 
 -- the state after a number in a list
-abbrev pub state_behind : Listed → State
-state_behind listed.Lots = past.LotNumber
-state_behind listed.Sections = past.ListNumber
+abbrev pub state_after : Listed → State
+state_after listed.Lots = past.LotNumber
+state_after listed.Sections = past.ListNumber
 
 -- the state after the last number of a range in a list
-abbrev pub last_state_behind : Listed → State
-last_state_behind listed.Lots = past.LotLast
-last_state_behind listed.Sections = past.ListLast
+abbrev pub last_state_after : Listed → State
+last_state_after listed.Lots = past.LotLast
+last_state_after listed.Sections = past.ListLast
 
 -- what a list is of that continues in a state with a comma and a number
 abbrev pub listed_in : State → Option Listed
@@ -153,19 +153,19 @@ listed_in past.ListLast = Some listed.Sections
 listed_in past.ListInclusive = Some listed.Sections
 listed_in _ = None
 
--- what a list is of whose next number stands after `and`
-abbrev pub listed_behind_and : State → Option Listed
-listed_behind_and past.LotAnd = Some listed.Lots
-listed_behind_and past.ListAnd = Some listed.Sections
-listed_behind_and _ = None
+-- what a list is of whose next number comes after `and`
+abbrev pub listed_after_and : State → Option Listed
+listed_after_and past.LotAnd = Some listed.Lots
+listed_after_and past.ListAnd = Some listed.Sections
+listed_after_and _ = None
 
--- what a list is of that has a range whose last number stands after `to`
-abbrev pub listed_behind_to : State → Option Listed
-listed_behind_to past.LotTo = Some listed.Lots
-listed_behind_to past.ListTo = Some listed.Sections
-listed_behind_to _ = None
+-- what a list is of that has a range whose last number comes after `to`
+abbrev pub listed_after_to : State → Option Listed
+listed_after_to past.LotTo = Some listed.Lots
+listed_after_to past.ListTo = Some listed.Sections
+listed_after_to _ = None
 
--- no bad token stands in a text before this place, after which its other tokens stand
+-- no bad token is in a text before this place, after which its other tokens stand
 pub record HasNoneBadBefore (text : List ℕ) (at : ℕ) : Type 0 where
   pub tokens : List Token
   pub joins : (left : List Token) → HasTokens at (drop at text) left → HasTokens 0 text (tokens ++ left)

@@ -62,10 +62,10 @@ is_lone word.Lot = true
 is_lone _ = false
 
 -- the word whose numbers are read one by one, after one more token, which leads to this state
-abbrev pub word_behind : Kind → List ℕ → Option State → ListWord → ListWord
-word_behind Sec text behind it = if is_singular text then word.Usual else word.Sections
-word_behind Lot text behind it = if is_singular text then word.Lot else word.Usual
-word_behind _ text behind it = if is_pending_at behind then it else word.Usual
+abbrev pub word_after : Kind → List ℕ → Option State → ListWord → ListWord
+word_after Sec text after it = if is_singular text then word.Usual else word.Sections
+word_after Lot text after it = if is_singular text then word.Lot else word.Usual
+word_after _ text after it = if is_pending_at after then it else word.Usual
 
 -- another number makes a list of sections, after a word that isn't plural
 abbrev pub begins_list : ListWord → State → Bool
@@ -102,9 +102,9 @@ is_quiet state (Corner which) = not (is_step state)
 is_quiet state _ = true
 
 -- what was seen with one more token
-abbrev pub watch_behind : Watch → State → ℕ → Token → State → Watch
-watch_behind it state end token behind = record {
-  word = word_behind token.kind token.text (Some behind) it.word;
+abbrev pub watch_after : Watch → State → ℕ → Token → State → Watch
+watch_after it state end token after = record {
+  word = word_after token.kind token.text (Some after) it.word;
   joins_parts = it.joins_parts || joins_parts state token.kind;
   is_clouded = it.is_clouded || clouds true it.word state end token token.kind;
 }
@@ -115,7 +115,7 @@ Unclouded ands it end None tokens = ⊥
 Unclouded ands it end (Some state) [] = ⊤
 Unclouded ands it end (Some state) (token ∷ tokens) =
     (clouds ands it state end token token.kind ≡ false)
-    × Unclouded ands (word_behind token.kind token.text (next state (class_of token.kind)) it) (end_of token)
+    × Unclouded ands (word_after token.kind token.text (next state (class_of token.kind)) it) (end_of token)
     (next state (class_of token.kind)) tokens
 
 -- a token that isn't left to the reader's loop
@@ -142,5 +142,5 @@ abbrev pub word_from : ListWord → Option State → List Token → ListWord
 word_from it None tokens = it
 word_from it (Some state) [] = it
 word_from it (Some state) (token ∷ tokens) =
-    word_from (word_behind token.kind token.text (next state (class_of token.kind)) it)
+    word_from (word_after token.kind token.text (next state (class_of token.kind)) it)
     (next state (class_of token.kind)) tokens

@@ -6,13 +6,13 @@ ghost use Rattle.twp_grammar.specs.Machine.{is_in_chain};
 ghost use Rattle.twp_read.specs.steps.Usual.{Leads};
 
 use crate::reached::Reached;
-use crate::usual::part::{behind_comma, behind_of_the};
+use crate::usual::part::{after_comma, after_of_the};
 use crate::usual::step::step_at;
 use std::alloc::AllocError;
 use twp_grammar::{Item, State, Steps};
 
 /// Takes the steps that a chain continues with, as long as each is spelled in the usual way: those
-/// that stand right after one another, and those after `of the`. Takes the comma after them, too.
+/// that come right after one another, and those after `of the`. Takes the comma after them, too.
 #[inline(always)]
 pub fn take_more_steps(item: &mut Item, text: &[u8], from: Reached) -> Result<Reached, AllocError>
     requires place { from.at ≤ length text.now }
@@ -24,15 +24,15 @@ pub fn take_more_steps(item: &mut Item, text: &[u8], from: Reached) -> Result<Re
     if let Item::Chain { steps, .. } = item {
         let adjoining = take_adjoining(steps, text, from)?;
         // Most parts end here, and no `of the` has to be looked for.
-        if let Some(behind) = behind_comma(text, adjoining) {
-            return Ok(behind);
+        if let Some(after) = after_comma(text, adjoining) {
+            return Ok(after);
         }
         return take_steps_of(steps, text, adjoining);
     }
     Ok(from)
 }
 
-/// Takes the steps after `of the`, and those that stand right after them, and the comma.
+/// Takes the steps after `of the`, and those that come right after them, and the comma.
 #[inline(always)]
 fn take_steps_of(steps: &mut Steps, text: &[u8], from: Reached) -> Result<Reached, AllocError>
     requires place { from.at ≤ length text.now }
@@ -48,13 +48,13 @@ fn take_steps_of(steps: &mut Steps, text: &[u8], from: Reached) -> Result<Reache
             return Ok(row);
         }
         reached = take_adjoining(steps, text, row)?;
-        if let Some(behind) = behind_comma(text, reached) {
-            return Ok(behind);
+        if let Some(after) = after_comma(text, reached) {
+            return Ok(after);
         }
     }
 }
 
-/// Takes steps as long as each stands right after `of the`. No step is looked for right behind them
+/// Takes steps as long as each comes right after `of the`. No step is looked for right after them
 /// until there is no further `of the`.
 #[inline(always)]
 fn take_row_of(steps: &mut Steps, text: &[u8], from: Reached) -> Result<Reached, AllocError>
@@ -68,20 +68,20 @@ fn take_row_of(steps: &mut Steps, text: &[u8], from: Reached) -> Result<Reached,
         to.at to.state (Chain steps.new place ∷ items)) }
 {
     let mut reached = from;
-    while let Some(behind) = behind_of_the(text, reached) {
-        let Some(usual) = step_at(text, behind.at) else {
-            return Ok(behind);
+    while let Some(after) = after_of_the(text, reached) {
+        let Some(usual) = step_at(text, after.at) else {
+            return Ok(after);
         };
         steps.push(usual.step)?;
         reached = Reached {
-            at: behind.at + usual.size,
+            at: after.at + usual.size,
             state: State::Step,
         };
     }
     Ok(reached)
 }
 
-/// Takes the steps that stand right after one another.
+/// Takes the steps that come right after one another.
 #[inline(always)]
 fn take_adjoining(steps: &mut Steps, text: &[u8], from: Reached) -> Result<Reached, AllocError>
     requires place { from.at ≤ length text.now }

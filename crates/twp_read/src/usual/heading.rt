@@ -3,7 +3,7 @@ ghost use Rattle.std.specs.Prelude.{◌≡◌, ◌≤◌, ◌∷◌, ◌+◌, Li
 ghost use Rattle.twp_grammar.specs.declared.item.Item.{Item as TakenItem};
 ghost use Rattle.twp_read.specs.declared.item_change.Change.TheVariants.{TownshipSide, RangeSide};
 ghost use Rattle.twp_read.specs.steps.TokenSteps.{with_newest};
-ghost use Rattle.twp_read.specs.steps.Usual.{Leads, IsNumberBehind, begins_with_zero};
+ghost use Rattle.twp_read.specs.steps.Usual.{Leads, IsNumberAfter, begins_with_zero};
 ghost use Rattle.twp_grammar.specs.Sentences.{TEXT_LIMIT};
 
 use crate::items::Items;
@@ -63,7 +63,7 @@ impl Items {
     }
 }
 
-/// The heading that stands at a place, if it is spelled in the usual way.
+/// The heading at a place, if it is spelled in the usual way.
 #[inline(always)]
 fn heading_of(text: &[u8], at: usize) -> Option<UsualHeading>
     requires place { at ≤ length text.now }
@@ -94,7 +94,7 @@ fn heading_of(text: &[u8], at: usize) -> Option<UsualHeading>
 fn plain_number(text: &[u8], at: usize) -> Option<UsualNumber>
     requires place { at ≤ length text.now }
     requires limit { length text.now ≤ TEXT_LIMIT }
-    ensures number { IfSome result (λ it. IsNumberBehind text.now at it.numeral it.end) }
+    ensures number { IfSome result (λ it. IsNumberAfter text.now at it.numeral it.end) }
     ensures plain { IfSome result (λ it. begins_with_zero (drop it.numeral.at text.now) ≡ false) }
     ensures within { IfSome result (λ it. it.end ≤ length text.now) }
 {

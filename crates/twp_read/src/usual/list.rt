@@ -3,9 +3,9 @@ ghost use Rattle.std.specs.Prelude.{◌≡◌, ◌≤◌, ◌<◌, ◌+◌, ◌+
 ghost use Rattle.std.specs.Prelude.{IfOk, IfSome, IsTrue};
 ghost use Rattle.twp_grammar.specs.Tokens.{is_white};
 ghost use Rattle.twp_grammar.specs.declared.item.Item.{Item as TakenItem};
-ghost use Rattle.twp_read.specs.steps.Usual.{IsNumberBehind, IsBehindWhite, Leads, entry_of};
-ghost use Rattle.twp_read.specs.steps.Usual.{state_behind, last_state_behind, listed_in};
-ghost use Rattle.twp_read.specs.steps.Usual.{listed_behind_and, listed_behind_to};
+ghost use Rattle.twp_read.specs.steps.Usual.{IsNumberAfter, IsAfterWhite, Leads, entry_of};
+ghost use Rattle.twp_read.specs.steps.Usual.{state_after, last_state_after, listed_in};
+ghost use Rattle.twp_read.specs.steps.Usual.{listed_after_and, listed_after_to};
 ghost use Rattle.twp_read.specs.steps.Usual.{joins_doubtfully};
 ghost use Rattle.twp_read.specs.steps.Watching.{is_step};
 ghost use Rattle.twp_grammar.specs.Sentences.{TEXT_LIMIT};
@@ -15,7 +15,7 @@ use crate::items::Items;
 use crate::lexeme::{byte_at, digits, lexeme_at};
 use crate::reached::Reached;
 use crate::usual::bytes::goes_on;
-use crate::white::behind_white;
+use crate::white::after_white;
 use std::alloc::AllocError;
 use twp_grammar::{Item, Kind, Numeral, State};
 
@@ -49,10 +49,10 @@ impl Listed {
         }
     }
 
-    /// What a list is of whose next number stands after `and`.
+    /// What a list is of whose next number comes after `and`.
     #[inline(always)]
-    pub fn behind_and(state: State) -> Option<Listed>
-        ensures { result ≡ listed_behind_and state }
+    pub fn after_and(state: State) -> Option<Listed>
+        ensures { result ≡ listed_after_and state }
     {
         match state {
             State::LotAnd => Some(Listed::Lots),
@@ -61,10 +61,10 @@ impl Listed {
         }
     }
 
-    /// What a list is of that has a range whose last number stands after `to`.
+    /// What a list is of that has a range whose last number comes after `to`.
     #[inline(always)]
-    pub fn behind_to(state: State) -> Option<Listed>
-        ensures { result ≡ listed_behind_to state }
+    pub fn after_to(state: State) -> Option<Listed>
+        ensures { result ≡ listed_after_to state }
     {
         match state {
             State::LotTo => Some(Listed::Lots),
@@ -76,7 +76,7 @@ impl Listed {
     /// The state after the last number of a range.
     #[inline(always)]
     pub fn last_state(self) -> State
-        ensures { result ≡ last_state_behind self }
+        ensures { result ≡ last_state_after self }
     {
         match self {
             Listed::Lots => State::LotLast,
@@ -105,7 +105,7 @@ impl Listed {
     /// The state after one of its numbers.
     #[inline(always)]
     pub fn state(self) -> State
-        ensures { result ≡ state_behind self }
+        ensures { result ≡ state_after self }
     {
         match self {
             Listed::Lots => State::LotNumber,
@@ -116,22 +116,22 @@ impl Listed {
 
 /// The number that is the next token of a text from a place on.
 #[inline(always)]
-pub fn number_behind(text: &[u8], from: usize) -> Option<UsualNumber>
+pub fn number_after(text: &[u8], from: usize) -> Option<UsualNumber>
     requires place { from ≤ length text.now }
     requires limit { length text.now ≤ TEXT_LIMIT }
-    ensures number { IfSome result (λ it. IsNumberBehind text.now from it.numeral it.end) }
+    ensures number { IfSome result (λ it. IsNumberAfter text.now from it.numeral it.end) }
     ensures within { IfSome result (λ it. it.end ≤ length text.now) }
     ensures forward { IfSome result (λ it. from < it.end) }
 {
-    number_at(text, behind_white(text, from))
+    number_at(text, after_white(text, from))
 }
 
-/// The number that stands right at a place.
+/// The number right at a place.
 #[inline(always)]
 pub fn number_at(text: &[u8], at: usize) -> Option<UsualNumber>
     requires place { at ≤ length text.now }
     requires limit { length text.now ≤ TEXT_LIMIT }
-    ensures number { IfSome result (λ it. IsNumberBehind text.now at it.numeral it.end) }
+    ensures number { IfSome result (λ it. IsNumberAfter text.now at it.numeral it.end) }
     ensures here { IfSome result (λ it. it.numeral.at ≡ at) }
     ensures within { IfSome result (λ it. it.end ≤ length text.now) }
     ensures forward { IfSome result (λ it. at < it.end) }
@@ -162,17 +162,17 @@ pub fn ahead(text: &[u8], from: Reached) -> Reached
     ensures same { result.state ≡ from.state }
 {
     Reached {
-        at: behind_white(text, from.at),
+        at: after_white(text, from.at),
         state: from.state,
     }
 }
 
 /// Passes over a comma and the white space after it, where a comma may follow the tokens so far.
 #[inline(always)]
-pub fn behind_list_comma(text: &[u8], comma: Reached, next: usize) -> Reached
+pub fn after_list_comma(text: &[u8], comma: Reached, next: usize) -> Reached
     requires spelled { drop comma.at text.now ≡ codes "," ++ drop (comma.at + 1) text.now }
     requires within { comma.at + 1 ≤ length text.now }
-    requires next { IsBehindWhite text.now (comma.at + 1) next }
+    requires next { IsAfterWhite text.now (comma.at + 1) next }
     ensures { (items : List TakenItem)
         → Leads text.now comma.at comma.state items result.at result.state items }
 {
@@ -184,7 +184,7 @@ pub fn behind_list_comma(text: &[u8], comma: Reached, next: usize) -> Reached
 
 /// Passes over the comma after the number of a section, and the white space after it.
 #[inline(always)]
-fn behind_section_comma(text: &[u8], from: Reached) -> Reached
+fn after_section_comma(text: &[u8], from: Reached) -> Reached
     requires { from.at ≤ length text.now }
     ensures { (items : List TakenItem)
         → Leads text.now from.at from.state items result.at result.state items }
@@ -195,13 +195,13 @@ fn behind_section_comma(text: &[u8], from: Reached) -> Reached
     if !goes_on(text, from.at, b",") {
         return from;
     }
-    behind_list_comma(text, from, behind_white(text, from.at + COMMA))
+    after_list_comma(text, from, after_white(text, from.at + COMMA))
 }
 
-/// The place after `and`, or after `to` or a word for it, in either case, if one stands right there
+/// The place after `and`, or after `to` or a word for it, in either case, if one is right there
 /// and may follow the tokens so far.
 #[inline(always)]
-pub fn behind_joining_word(text: &[u8], from: Reached) -> Option<Reached>
+pub fn after_joining_word(text: &[u8], from: Reached) -> Option<Reached>
     requires { from.at ≤ length text.now }
     ensures leads { IfSome result (λ word. (items : List TakenItem)
         → Leads text.now from.at from.state items word.at word.state items) }
@@ -257,10 +257,10 @@ impl Items {
             (λ to. Leads text.now from.at from.state self.old to.at to.state self.new) }
     {
         if Listed::in_state(from.state).is_none() {
-            return Ok(behind_section_comma(text, from));
+            return Ok(after_section_comma(text, from));
         }
         let mut reached = self.take_numbers(text, from)?;
-        'words: while let Some(word) = behind_joining_word(text, reached) {
+        'words: while let Some(word) = after_joining_word(text, reached) {
             let joined = self.take_joined(text, word)?;
             reached = self.take_numbers(text, joined)?;
         }
@@ -281,21 +281,21 @@ impl Items {
         };
         let mut reached = ahead(text, from);
         'numbers: while goes_on(text, reached.at, b",") {
-            let next = behind_white(text, reached.at + COMMA);
+            let next = after_white(text, reached.at + COMMA);
             let Some(number) = number_at(text, next) else {
-                return Ok(behind_list_comma(text, reached, next));
+                return Ok(after_list_comma(text, reached, next));
             };
             self.push(list.entry(number.numeral))?;
-            let behind = Reached {
+            let after = Reached {
                 at: number.end,
                 state: list.state(),
             };
-            reached = ahead(text, behind);
+            reached = ahead(text, after);
         }
         Ok(reached)
     }
 
-    /// Takes the number after a word that joins it to a list, if one stands there.
+    /// Takes the number after a word that joins it to a list, if one is there.
     #[inline(always)]
     fn take_joined(&mut self, text: &[u8], word: Reached) -> Result<Reached, AllocError>
         requires place { word.at ≤ length text.now }
@@ -303,17 +303,17 @@ impl Items {
         ensures { IfOk result
             (λ to. Leads text.now word.at word.state self.old to.at to.state self.new) }
     {
-        let Some(number) = number_behind(text, word.at) else {
+        let Some(number) = number_after(text, word.at) else {
             return Ok(word);
         };
-        if let Some(list) = Listed::behind_and(word.state) {
+        if let Some(list) = Listed::after_and(word.state) {
             self.push(list.entry(number.numeral))?;
             return Ok(Reached {
                 at: number.end,
                 state: list.state(),
             });
         }
-        let Some(list) = Listed::behind_to(word.state) else {
+        let Some(list) = Listed::after_to(word.state) else {
             return Ok(word);
         };
         self.change(Change::Last(number.numeral))?;

@@ -1,4 +1,4 @@
-//! Parts in their usual spelling: their steps, and what stands between them.
+//! Parts in their usual spelling: their steps, and what comes between them.
 ghost use Rattle.std.specs.Prelude.{◌≡◌, ◌≤◌, ◌<◌, ◌∷◌, ◌+◌, [], true, List, length, IfOk, IfSome};
 ghost use Rattle.twp_grammar.specs.declared.item.Item.{Item as TakenItem};
 ghost use Rattle.twp_grammar.specs.Machine.{is_in_chain};
@@ -10,7 +10,7 @@ use crate::reached::Reached;
 use crate::usual::bytes::goes_on;
 use crate::usual::chain::take_more_steps;
 use crate::usual::step::{UsualStep, step_at};
-use crate::white::behind_white;
+use crate::white::after_white;
 use std::alloc::{AllocError, Global};
 use twp_grammar::State;
 
@@ -30,7 +30,7 @@ const COMMA_SPACE: usize = 2;
 const AND: usize = 4;
 
 impl Items {
-    /// Takes what stands next of a chain, and the parts after it, as long as each step is spelled
+    /// Takes what comes next of a chain, and the parts after it, as long as each step is spelled
     /// in the usual way.
     #[inline(always)]
     pub(crate) fn take_parts(
@@ -50,8 +50,8 @@ impl Items {
             if let Some(first) = step_at(text, reached.at) {
                 self.before_parts(reached.state)?;
                 reached = self.take_chain(alloc, text, reached.at, first)?;
-            } else if let Some(behind) = behind_and(text, reached) {
-                reached = behind;
+            } else if let Some(after) = after_and(text, reached) {
+                reached = after;
             } else {
                 break;
             }
@@ -90,28 +90,28 @@ impl Items {
             (TakenItem.Chain (first.step ∷ []) at ∷ self.old) to.at to.state self.new) }
     {
         self.push_chain(alloc, first.step, at as u32)?;
-        self.take_more(text, behind_step(at + first.size))
+        self.take_more(text, after_chain_step(at + first.size))
     }
 }
 
 /// Passes over the half or the quarter that usually follows the letters of a step. It says nothing
 /// more of the items; what is spelled in another way is left as it is.
 #[inline(always)]
-pub fn behind_fraction(text: &[u8], from: Reached) -> Reached
+pub fn after_fraction(text: &[u8], from: Reached) -> Reached
     requires { from.at ≤ length text.now }
     ensures { (items : List TakenItem)
         → Leads text.now from.at from.state items result.at result.state items }
 {
     match from.state {
-        State::Side if goes_on(text, from.at, b"1/2") => behind_step(from.at + FRACTION),
-        State::Corner if goes_on(text, from.at, b"1/4") => behind_step(from.at + FRACTION),
+        State::Side if goes_on(text, from.at, b"1/2") => after_chain_step(from.at + FRACTION),
+        State::Corner if goes_on(text, from.at, b"1/4") => after_chain_step(from.at + FRACTION),
         _ => from,
     }
 }
 
 /// The place after a step.
 #[inline(always)]
-pub fn behind_step(at: usize) -> Reached
+pub fn after_chain_step(at: usize) -> Reached
     ensures { result ≡ record { at = at; state = State.Step } }
 {
     Reached {
@@ -122,12 +122,12 @@ pub fn behind_step(at: usize) -> Reached
 
 /// The place after `of the`, if exactly these bytes follow a step.
 #[inline(always)]
-pub fn behind_of_the(text: &[u8], end: Reached) -> Option<Reached>
+pub fn after_of_the(text: &[u8], end: Reached) -> Option<Reached>
     requires { end.at ≤ length text.now }
-    ensures leads { IfSome result (λ behind. (items : List TakenItem)
-        → Leads text.now end.at end.state items behind.at behind.state items) }
-    ensures chain { IfSome result (λ behind. is_in_chain behind.state ≡ true) }
-    ensures forward { IfSome result (λ behind. end.at < behind.at) }
+    ensures leads { IfSome result (λ after. (items : List TakenItem)
+        → Leads text.now end.at end.state items after.at after.state items) }
+    ensures chain { IfSome result (λ after. is_in_chain after.state ≡ true) }
+    ensures forward { IfSome result (λ after. end.at < after.at) }
 {
     match end.state {
         State::Step if goes_on(text, end.at, b" of the ") => Some(Reached {
@@ -149,18 +149,18 @@ pub fn ahead_of_part(text: &[u8], from: Reached) -> Reached
         return from;
     }
     Reached {
-        at: behind_white(text, from.at),
+        at: after_white(text, from.at),
         state: from.state,
     }
 }
 
-/// The place after the comma that follows a part, and after the space behind the comma, or the end of
+/// The place after the comma that follows a part, and after the space after the comma, or the end of
 /// the line.
 #[inline(always)]
-pub fn behind_comma(text: &[u8], end: Reached) -> Option<Reached>
+pub fn after_comma(text: &[u8], end: Reached) -> Option<Reached>
     requires { end.at ≤ length text.now }
-    ensures { IfSome result (λ behind. (items : List TakenItem)
-        → Leads text.now end.at end.state items behind.at behind.state items) }
+    ensures { IfSome result (λ after. (items : List TakenItem)
+        → Leads text.now end.at end.state items after.at after.state items) }
 {
     match end.state {
         State::Step if goes_on(text, end.at, b", ") => Some(Reached {
@@ -168,7 +168,7 @@ pub fn behind_comma(text: &[u8], end: Reached) -> Option<Reached>
             state: State::PartComma,
         }),
         State::Step if goes_on(text, end.at, b",") => Some(Reached {
-            at: behind_white(text, end.at + COMMA),
+            at: after_white(text, end.at + COMMA),
             state: State::PartComma,
         }),
         _ => None,
@@ -177,11 +177,11 @@ pub fn behind_comma(text: &[u8], end: Reached) -> Option<Reached>
 
 /// The place after `and`, if exactly these bytes follow the comma of a part.
 #[inline(always)]
-pub fn behind_and(text: &[u8], comma: Reached) -> Option<Reached>
+pub fn after_and(text: &[u8], comma: Reached) -> Option<Reached>
     requires { comma.at ≤ length text.now }
-    ensures leads { IfSome result (λ behind. (items : List TakenItem)
-        → Leads text.now comma.at comma.state items behind.at behind.state items) }
-    ensures forward { IfSome result (λ behind. comma.at < behind.at) }
+    ensures leads { IfSome result (λ after. (items : List TakenItem)
+        → Leads text.now comma.at comma.state items after.at after.state items) }
+    ensures forward { IfSome result (λ after. comma.at < after.at) }
 {
     match comma.state {
         State::PartComma if goes_on(text, comma.at, b"and ") => Some(Reached {

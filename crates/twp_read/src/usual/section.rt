@@ -10,8 +10,8 @@ ghost use Rattle.twp_read.specs.steps.Usual.{Leads};
 use crate::items::Items;
 use crate::reached::Reached;
 use crate::usual::bytes::goes_on;
-use crate::usual::list::{Listed, number_behind};
-use crate::white::behind_white;
+use crate::usual::list::{Listed, number_after};
+use crate::white::after_white;
 use std::alloc::AllocError;
 use twp_grammar::{Item, State};
 
@@ -39,10 +39,10 @@ impl Items {
         ensures { IfOk result
             (λ to. Leads text.now from.at from.state self.old to.at to.state self.new) }
     {
-        let Some(word) = behind_sec(text, from) else {
+        let Some(word) = after_sec(text, from) else {
             return Ok(from);
         };
-        let Some(number) = number_behind(text, word.at) else {
+        let Some(number) = number_after(text, word.at) else {
             return Ok(from);
         };
         self.push(Item::Sections {
@@ -71,10 +71,10 @@ impl Items {
         ensures { IfOk result
             (λ to. Leads text.now from.at from.state self.old to.at to.state self.new) }
     {
-        let Some(word) = behind_lots(text, from) else {
+        let Some(word) = after_lots(text, from) else {
             return Ok(from);
         };
-        let Some(number) = number_behind(text, word) else {
+        let Some(number) = number_after(text, word) else {
             return Ok(from);
         };
         self.before_parts(from.state)?;
@@ -88,7 +88,7 @@ impl Items {
 
 /// The place after the word that a section begins with, if it is spelled as `sec. ` or `Section `.
 #[inline(always)]
-fn behind_sec(text: &[u8], from: Reached) -> Option<Reached>
+fn after_sec(text: &[u8], from: Reached) -> Option<Reached>
     requires { from.at ≤ length text.now }
     ensures leads { IfSome result (λ word. (items : List TakenItem)
         → Leads text.now from.at from.state items word.at word.state items) }
@@ -97,7 +97,7 @@ fn behind_sec(text: &[u8], from: Reached) -> Option<Reached>
     if !from.state.begins_sections() {
         return None;
     }
-    let at = behind_white(text, from.at);
+    let at = after_white(text, from.at);
     if goes_on(text, at, b"Section ") {
         return Some(Reached {
             at: at + SECTION,
@@ -113,10 +113,10 @@ fn behind_sec(text: &[u8], from: Reached) -> Option<Reached>
     None
 }
 
-/// The place after the word that several lots begin with, if it stands there as `lots `, or after
+/// The place after the word that several lots begin with, if it is there as `lots `, or after
 /// the number of a section as `, lots `.
 #[inline(always)]
-fn behind_lots(text: &[u8], from: Reached) -> Option<usize>
+fn after_lots(text: &[u8], from: Reached) -> Option<usize>
     requires { from.at ≤ length text.now }
     ensures leads { IfSome result (λ word. (items : List TakenItem)
         → Leads text.now from.at from.state items word State.Lot

@@ -27,7 +27,7 @@ pub struct UsualStep {
     pub size: usize,
 }
 
-/// The step that stands at a place, if its fraction stands right after its letters, as `1/2`, `1/4`
+/// The step at a place, if its fraction comes right after its letters, as `1/2`, `1/4`
 /// or one sign.
 #[inline(always)]
 pub fn step_at(text: &[u8], at: usize) -> Option<UsualStep>
@@ -115,13 +115,13 @@ fn side_of(small: u8) -> Option<Side>
 
 /// The corner that two lowercase letters stand for.
 #[inline(always)]
-fn corner_of(small: u8, behind: u8) -> Option<Corner>
+fn corner_of(small: u8, after: u8) -> Option<Corner>
     ensures kind { IfSome result
-        (λ corner. kind_among (small ∷ behind ∷ []) words ≡ letters_of (Step.Quarter corner)) }
+        (λ corner. kind_among (small ∷ after ∷ []) words ≡ letters_of (Step.Quarter corner)) }
     ensures letter { IfSome result (λ _. is_ascii_lowercase small ≡ true) }
-    ensures letter_behind { IfSome result (λ _. is_ascii_lowercase behind ≡ true) }
+    ensures letter_after { IfSome result (λ _. is_ascii_lowercase after ≡ true) }
 {
-    match behind {
+    match after {
         b'e' if small == b'n' => Some(Corner::NE),
         b'w' if small == b'n' => Some(Corner::NW),
         b'w' if small == b's' => Some(Corner::SW),

@@ -16,7 +16,7 @@ use Rattle.twp_spell.specs.declared.full_quarters.FullQuarters.{FullQuarters}
 use Rattle.twp_grammar.specs.ItemPlaces.{cuts_of}
 use Rattle.twp_spell.specs.Listing.{AreListed}
 use Rattle.twp_spell.specs.WrittenParts.{Part, steps_of_part, IsFull, IsChosenHalf, IsOnSide}
-use Rattle.twp_spell.specs.WrittenParts.{IsWritten, StandsAhead}
+use Rattle.twp_spell.specs.WrittenParts.{IsWritten, ComesBefore}
 use Rattle.twp_spell.specs.WrittenParts.Part.{square, half_of_square}
 use Rattle.twp_spell.specs.CanonicalText.{step_text, part_text}
 
@@ -47,12 +47,12 @@ BeginsIn parent corner part = IsUnder (corner ∷ parent) (square_quarters part)
 abbrev pub AreOfSquare : ℕ → (ℕ → ℕ → Bool) → List Corner → List Part → Type 0
 AreOfSquare g held quarters parts =
     AreListed (λ part. IsWritten g held part × IsUnder quarters (square_quarters part))
-    (StandsAhead g) parts
+    (ComesBefore g) parts
 
 -- the written parts of a square that begin in one of its quarters
 abbrev pub AreOfQuarter : ℕ → (ℕ → ℕ → Bool) → List Corner → Corner → List Part → Type 0
 AreOfQuarter g held parent corner parts =
-    AreListed (λ part. IsWritten g held part × BeginsIn parent corner part) (StandsAhead g) parts
+    AreListed (λ part. IsWritten g held part × BeginsIn parent corner part) (ComesBefore g) parts
 
 -- the block contains exactly the part's places
 pub record IsBlockOf (g : ℕ) (part : Part) (block : Rectangle) : Type 0 where

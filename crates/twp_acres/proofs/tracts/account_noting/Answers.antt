@@ -4,27 +4,27 @@ use Rattle.std.proofs.lemmas.Result.{err_from_is_err_and}
 use Rattle.twp_acres.specs.steps.TractTaking.{AreTractsRefused}
 use Rattle.twp_notes.specs.Records.{records_left}
 use Rattle.twp_acres.proofs.TallyFacts.{no_tally, accepted}
-use Rattle.twp_acres.proofs.FirstTractFaults.{behind_of, first_refused}
+use Rattle.twp_acres.proofs.FirstTractFaults.{after_of_word, first_refused}
 use Rattle.twp_acres.proofs.tracts.account_noting.Goals as goal
 
 pub returns-in_err-take_tracts-clause-fault : goal.returns-in_err-take_tracts-clause-fault
 returns-in_err-take_tracts-clause-fault c =
     let one = rw c.if-not-branch.false at c.in_ok-read.ensures in
-    let behind = behind_of c.args.bytes.now _ _ (sym c.new.ensures.all ∙ one.0) in
-    let heading_is = behind.first ∙ c.is_heading.ensures.0 c.if-not-is_heading.false in
+    let after = after_of_word c.args.bytes.now _ _ (sym c.new.ensures.all ∙ one.0) in
+    let heading_is = after.first ∙ c.is_heading.ensures.0 c.if-not-is_heading.false in
     let gone =
     err_from_is_err_and c.from_residual-in_err-take_tracts.result
     c.from_residual-in_err-take_tracts.ensures.1 in
     rw (gone.1, gone.2) (first_refused c.args.plat.now.township c.args.bytes.now c.requires heading_is _
     (subst (λ rows. AreTractsRefused c.args.plat.now.township rows c.in_err-take_tracts.field-0.0)
-    (sym behind.behind) c.in_err-take_tracts.ensures.fault))
+    (sym after.after) c.in_err-take_tracts.ensures.fault))
 
 pub returns-clause-account : goal.returns-clause-account
 returns-clause-account c =
     let one = rw c.if-not-branch.false at c.in_ok-read.ensures in
-    let behind = behind_of c.args.bytes.now _ _ (sym c.new.ensures.all ∙ one.0) in
-    let heading_is = behind.first ∙ c.is_heading.ensures.0 c.if-not-is_heading.false in
-    accepted c.args.plat.now c.args.bytes.now _ _ _ c.requires heading_is behind.behind
+    let after = after_of_word c.args.bytes.now _ _ (sym c.new.ensures.all ∙ one.0) in
+    let heading_is = after.first ∙ c.is_heading.ensures.0 c.if-not-is_heading.false in
+    accepted c.args.plat.now c.args.bytes.now _ _ _ c.requires heading_is after.after
     c.in_ok-take_tracts.ensures.few c.in_ok-take_tracts.ensures.taken
     (c.in_ok-write.ensures _ _ c.in_ok-take_tracts.ensures.taken.totals_are)
 

@@ -1,5 +1,5 @@
--- The first doubtful place is noted of what has an area; the refusal that is explained is the description's own;
--- or memory ran out.
+-- The first doubtful place is noted of what has an area; the refusal that is explained is the description's
+-- own; or memory ran out.
 use Rattle.std.proofs.Common.{IfOk, subst, ap, inl}
 use Rattle.twp_calls.specs.Calls.{refused_for, no_memory, on_plat}
 use Rattle.twp_acres.specs.Answers.{IsNoDescription}
@@ -8,7 +8,7 @@ use Rattle.twp_explain.specs.ShownNotes.{IsNoteOf}
 use Rattle.twp_calls.proofs.CallFacts.{held_by}
 use Rattle.twp_calls.proofs.NoteFacts.{noted_on, shown_note, not_accepted}
 use Rattle.twp_calls.proofs.PlaceFacts.{refused_where}
-use Rattle.twp_explain.specs.ToldPlaces.{IsToldWhereRefused}
+use Rattle.twp_explain.specs.ExplainedPlaces.{IsExplainedWhereRefused}
 use Rattle.twp_calls.proofs.explaining.township_explain_description.Goals as goal
 
 pub returns-in-Ok-clause-answer : goal.returns-in-Ok-clause-answer
@@ -43,16 +43,16 @@ returns-in-Ok-Some-clause-answer c =
     on_plat c.in-Some.plat c.in-Some.ensures
     (refused_for (refused_where c.in-Some.plat.township c.args.description.now c.args.text.now
     c.put_explanation.new.text c.given-file.result c.in-Err-Refused.field-0 c.in-Err-Refused.refusal
-    c.in-Ok-Some.told
+    c.in-Ok-Some.explained
     c.of_refusal-refused.result c.put_explanation.result c.in-Err-Refused.field-0-is c.in-Err-Refused.ensures
     c.given-file.ensures.bytes c.given-file.ensures.first_line
-    (subst (λ township. IsNoDescription township c.given-file.result.bytes.now c.in-Ok-Some.told.refusal)
+    (subst (λ township. IsNoDescription township c.given-file.result.bytes.now c.in-Ok-Some.explained.refusal)
     c.township.ensures
-    (held_by (λ told. IsNoDescription c.township.result c.given-file.result.bytes.now told.refusal)
-    c.in-Ok-Some.field-0 c.in-Ok-Some.told c.in-Ok-Some.field-0-is c.in-Ok-Some.ensures.refusal))
-    (held_by (IsToldWhereRefused c.given-file.result) c.in-Ok-Some.field-0 c.in-Ok-Some.told
+    (held_by (λ explained. IsNoDescription c.township.result c.given-file.result.bytes.now explained.refusal)
+    c.in-Ok-Some.field-0 c.in-Ok-Some.explained c.in-Ok-Some.field-0-is c.in-Ok-Some.ensures.refusal))
+    (held_by (IsExplainedWhereRefused c.given-file.result) c.in-Ok-Some.field-0 c.in-Ok-Some.explained
     c.in-Ok-Some.field-0-is c.in-Ok-Some.ensures.spot)
-    c.of_refusal-refused.ensures c.put_explanation.ensures.told))
+    c.of_refusal-refused.ensures c.put_explanation.ensures.explained))
 
 pub returns-in-Ok-None-clause-answer : goal.returns-in-Ok-None-clause-answer
 returns-in-Ok-None-clause-answer c =
@@ -70,15 +70,17 @@ returns-in-Ok-Some-clause-shows c = λ is. record {
     bytes_are = c.given-file.ensures.bytes;
     first_line_is = c.given-file.ensures.first_line;
   };
-  explanation = c.in-Ok-Some.told;
+  explanation = c.in-Ok-Some.explained;
   shows =
-      held_by (ShowsIn c.given-file.result) c.in-Ok-Some.field-0 c.in-Ok-Some.told c.in-Ok-Some.field-0-is
+      held_by (ShowsIn c.given-file.result) c.in-Ok-Some.field-0 c.in-Ok-Some.explained
+      c.in-Ok-Some.field-0-is
       c.in-Ok-Some.ensures.shows;
   refused = c.of_refusal-refused.result;
-  told_is = c.put_explanation.ensures.told;
+  explained_is = c.put_explanation.ensures.explained;
 }
 
 pub returns-in-Ok-Some-clause-notes : goal.returns-in-Ok-Some-clause-notes
 returns-in-Ok-Some-clause-notes c = λ accepts. absurd
     (not_accepted c.of_refusal-refused.result _ _ _ _ _ c.put_explanation.result
-    (inl (ap (λ told. told.verdict) c.of_refusal-refused.ensures)) c.put_explanation.ensures.told accepts)
+    (inl (ap (λ explained. explained.verdict) c.of_refusal-refused.ensures))
+    c.put_explanation.ensures.explained accepts)

@@ -39,19 +39,21 @@ returns-in-Ok-Some-clause-answer c =
     c.of_fault-refused.result c.put_explanation.result c.in-Err.fault _
     (sym c.refusal.ensures ∙ c.in-Some-refusal.is) c.in-Err.ensures.fault c.of_fault-refused.ensures
     (record {
-      explanation = c.in-Ok-Some.told.explanation;
+      explanation = c.in-Ok-Some.explained.explanation;
       is_such = record {
-        fault = c.in-Ok-Some.told.fault;
+        fault = c.in-Ok-Some.explained.fault;
         first =
-            subst (λ bytes. IsFirstTractFault c.in-Some.plat.township bytes c.in-Ok-Some.told.fault)
+            subst (λ bytes. IsFirstTractFault c.in-Some.plat.township bytes c.in-Ok-Some.explained.fault)
             c.given-file.ensures.bytes
-            (held_by (λ told. IsFirstTractFault c.in-Some.plat.township c.given-file.result.bytes.now told.fault)
-            c.in-Ok-Some.field-0 c.in-Ok-Some.told c.in-Ok-Some.field-0-is c.in-Ok-Some.ensures.first);
+            (held_by (λ explained.
+            IsFirstTractFault c.in-Some.plat.township c.given-file.result.bytes.now explained.fault)
+            c.in-Ok-Some.field-0 c.in-Ok-Some.explained c.in-Ok-Some.field-0-is c.in-Ok-Some.ensures.first);
         refusal_is =
-            held_by (λ told. refusal_of told.fault ≡ Some told.explanation.refusal) c.in-Ok-Some.field-0
-            c.in-Ok-Some.told c.in-Ok-Some.field-0-is c.in-Ok-Some.ensures.refusal;
+            held_by (λ explained. refusal_of explained.fault ≡ Some explained.explanation.refusal)
+            c.in-Ok-Some.field-0
+            c.in-Ok-Some.explained c.in-Ok-Some.field-0-is c.in-Ok-Some.ensures.refusal;
       };
-      told_is = c.put_explanation.ensures.told;
+      explained_is = c.put_explanation.ensures.explained;
     }))
 
 pub returns-in-Ok-Some-clause-kept : goal.returns-in-Ok-Some-clause-kept
@@ -76,13 +78,14 @@ returns-in-Ok-Some-clause-shows c = λ is. record {
     bytes_are = c.given-file.ensures.bytes;
     first_line_is = c.given-file.ensures.first_line;
   };
-  explanation = c.in-Ok-Some.told.explanation;
+  explanation = c.in-Ok-Some.explained.explanation;
   shows =
-      held_by (λ told. ShowsIn c.given-file.result told.explanation) c.in-Ok-Some.field-0 c.in-Ok-Some.told
+      held_by (λ explained. ShowsIn c.given-file.result explained.explanation) c.in-Ok-Some.field-0
+      c.in-Ok-Some.explained
       c.in-Ok-Some.field-0-is
       c.in-Ok-Some.ensures.shows;
   refused = c.of_fault-refused.result;
-  told_is = c.put_explanation.ensures.told;
+  explained_is = c.put_explanation.ensures.explained;
 }
 
 pub returns-in-Ok-Some-clause-notes : goal.returns-in-Ok-Some-clause-notes
@@ -90,4 +93,4 @@ returns-in-Ok-Some-clause-notes c = λ accepts. absurd
     (not_accepted c.of_fault-refused.result _ _ _ _ _ c.put_explanation.result
     (refused_verdict c.of_fault-refused.result c.in-Err.fault _
     (sym c.refusal.ensures ∙ c.in-Some-refusal.is) c.of_fault-refused.ensures)
-    c.put_explanation.ensures.told accepts)
+    c.put_explanation.ensures.explained accepts)

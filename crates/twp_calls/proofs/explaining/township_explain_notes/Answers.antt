@@ -2,7 +2,7 @@
 use Rattle.std.proofs.Common.{subst}
 use Rattle.twp_acres.specs.Answers.{IsNoPlat}
 use Rattle.twp_calls.specs.Calls.{refused_for}
-use Rattle.twp_calls.specs.Explanations.{IsTold}
+use Rattle.twp_calls.specs.Explanations.{PutsExplanation}
 use Rattle.twp_explain.specs.ShownMessages.{ShowsIn}
 use Rattle.twp_calls.proofs.CallFacts.{refused_in, held_by}
 use Rattle.twp_calls.proofs.explaining.township_explain_notes.Goals as goal
@@ -15,16 +15,17 @@ returns-in-Ok-Some-clause-answer c =
           refused_in c.args.notes.now c.in-Err-Refused.field-0 c.in-Err-Refused.refusal
           c.in-Err-Refused.field-0-is c.in-Err-Refused.ensures;
       explained = record {
-        explanation = c.in-Ok-Some.told;
+        explanation = c.in-Ok-Some.explained;
         is_such =
-            subst (λ bytes. IsNoPlat bytes c.in-Ok-Some.told.refusal) c.given.ensures.bytes
-            (held_by (λ told. IsNoPlat c.given.result.bytes.now told.refusal) c.in-Ok-Some.field-0
-            c.in-Ok-Some.told c.in-Ok-Some.field-0-is c.in-Ok-Some.ensures.refusal);
-        told_is =
+            subst (λ bytes. IsNoPlat bytes c.in-Ok-Some.explained.refusal) c.given.ensures.bytes
+            (held_by (λ explained. IsNoPlat c.given.result.bytes.now explained.refusal) c.in-Ok-Some.field-0
+            c.in-Ok-Some.explained c.in-Ok-Some.field-0-is c.in-Ok-Some.ensures.refusal);
+        explained_is =
             subst
-            (λ told.
-            IsTold told c.in-Ok-Some.told c.args.text.now c.put_explanation.new.text c.put_explanation.result)
-            c.of_refusal-refused.ensures c.put_explanation.ensures.told;
+            (λ explained.
+            PutsExplanation explained c.in-Ok-Some.explained c.args.text.now c.put_explanation.new.text
+            c.put_explanation.result)
+            c.of_refusal-refused.ensures c.put_explanation.ensures.explained;
       };
     })
 
@@ -36,10 +37,10 @@ returns-in-Ok-Some-clause-shows c = λ is. record {
     bytes_are = c.given.ensures.bytes;
     first_line_is = c.given.ensures.first_line;
   };
-  explanation = c.in-Ok-Some.told;
+  explanation = c.in-Ok-Some.explained;
   shows =
-      held_by (ShowsIn c.given.result) c.in-Ok-Some.field-0 c.in-Ok-Some.told c.in-Ok-Some.field-0-is
+      held_by (ShowsIn c.given.result) c.in-Ok-Some.field-0 c.in-Ok-Some.explained c.in-Ok-Some.field-0-is
       c.in-Ok-Some.ensures.shows;
   refused = c.of_refusal-refused.result;
-  told_is = c.put_explanation.ensures.told;
+  explained_is = c.put_explanation.ensures.explained;
 }

@@ -1,20 +1,20 @@
--- Nothing is told of land on the plat of the notes, or where the refusal is another.
+-- Nothing is explained of land on the plat of the notes, or where the refusal is another.
 use Rattle.std.proofs.Common.{ap, subst}
 use Rattle.twp_acres.specs.Answers.{IsNoDescription}
 use Rattle.twp_explain.specs.Findings.{IfFound}
 use Rattle.twp_explain.specs.Refusals.{DescribeLand}
 use Rattle.twp_explain.proofs.FindingFacts.{land_is_none, none_of_land, of_land, of_description}
-use Rattle.twp_explain.specs.ToldPlaces.{IsToldWhereRefused}
+use Rattle.twp_explain.specs.ExplainedPlaces.{IsExplainedWhereRefused}
 use Rattle.twp_explain.proofs.MessageFacts.{shows_notes, shows_text}
 use Rattle.twp_explain.proofs.ShownFacts.{platted_tells_none, tells_where}
 use Rattle.twp_explain.proofs.explaining.explain_land.Goals as goal
 
 pub returns-in-Err-clause-none : goal.returns-in-Err-clause-none
 returns-in-Err-clause-none c =
-    none_of_land c.tell.result c.args.notes.now.bytes.now c.args.description.now.bytes.now c.in-Err.stop
+    none_of_land c.explain.result c.args.notes.now.bytes.now c.args.description.now.bytes.now c.in-Err.stop
     c.args.verdict
     (of_land c.args.notes.now.bytes.now c.args.description.now.bytes.now c.in-Err.stop c.in-Err.ensures.found)
-    c.tell.ensures.none
+    c.explain.ensures.none
 
 pub returns-in-Ok-describe-clause-none : goal.returns-in-Ok-describe-clause-none
 returns-in-Ok-describe-clause-none c = λ none.
@@ -25,36 +25,36 @@ returns-in-Ok-describe-clause-none c = λ none.
 
 pub returns-in-Err-describe-clause-none : goal.returns-in-Err-describe-clause-none
 returns-in-Err-describe-clause-none c =
-    none_of_land c.tell-in-Err-describe.result c.args.notes.now.bytes.now c.args.description.now.bytes.now
+    none_of_land c.explain-in-Err-describe.result c.args.notes.now.bytes.now c.args.description.now.bytes.now
     c.in-Err-describe.stop c.args.verdict
     (of_description c.args.notes.now.bytes.now c.args.description.now.bytes.now c.in-Ok.plat
     c.in-Err-describe.stop c.in-Ok.ensures.plat
     (subst
     (λ township. IfFound c.in-Err-describe.stop (IsNoDescription township c.args.description.now.bytes.now))
     c.township.ensures c.in-Err-describe.ensures.found))
-    c.tell-in-Err-describe.ensures.none
+    c.explain-in-Err-describe.ensures.none
 
 pub returns-in-Err-clause-spot : goal.returns-in-Err-clause-spot
 returns-in-Err-clause-spot c =
-    platted_tells_none c.tell.result c.args.notes.now.bytes.now c.in-Err.stop
-    (IsToldWhereRefused c.args.description.now) c.in-Err.ensures.found c.tell.ensures.found
+    platted_tells_none c.explain.result c.args.notes.now.bytes.now c.in-Err.stop
+    (IsExplainedWhereRefused c.args.description.now) c.in-Err.ensures.found c.explain.ensures.found
 
 pub returns-in-Err-describe-clause-spot : goal.returns-in-Err-describe-clause-spot
 returns-in-Err-describe-clause-spot c = λ makes.
-    tells_where c.tell-in-Err-describe.result c.args.description.now c.in-Err-describe.stop
+    tells_where c.explain-in-Err-describe.result c.args.description.now c.in-Err-describe.stop
     (c.in-Err-describe.ensures.shown (record {
       whole = c.of_file-origin.ensures.whole;
       same = ap (λ file. file.bytes.now) c.of_file-origin.ensures.file;
     }))
-    c.tell-in-Err-describe.ensures.found c.tell-in-Err-describe.ensures.spot
+    c.explain-in-Err-describe.ensures.found c.explain-in-Err-describe.ensures.spot
 
 pub returns-in-Err-clause-shows : goal.returns-in-Err-clause-shows
 returns-in-Err-clause-shows c =
-    shows_notes c.tell.result c.args.notes.now c.args.description.now c.in-Err.stop c.in-Err.ensures.found
-    c.tell.ensures.found c.tell.ensures.shows
+    shows_notes c.explain.result c.args.notes.now c.args.description.now c.in-Err.stop c.in-Err.ensures.found
+    c.explain.ensures.found c.explain.ensures.shows
 
 pub returns-in-Err-describe-clause-shows : goal.returns-in-Err-describe-clause-shows
 returns-in-Err-describe-clause-shows c =
-    shows_text c.tell-in-Err-describe.result c.args.notes.now c.args.description.now
+    shows_text c.explain-in-Err-describe.result c.args.notes.now c.args.description.now
     (c.in-Ok.plat, c.in-Ok.ensures.plat)
-    c.tell-in-Err-describe.ensures.shows
+    c.explain-in-Err-describe.ensures.shows

@@ -1,4 +1,4 @@
--- Nothing is told of notes that make a plat, or that have another refusal.
+-- Nothing is explained of notes that make a plat, or that have another refusal.
 use Rattle.twp_explain.proofs.FindingFacts.{platted_is_none, none_of_notes}
 use Rattle.twp_explain.proofs.explaining.explain_plat.Goals as goal
 
@@ -8,5 +8,5 @@ returns-in-Ok-clause-none c = λ none.
 
 pub returns-in-Err-clause-none : goal.returns-in-Err-clause-none
 returns-in-Err-clause-none c =
-    none_of_notes c.tell.result c.args.notes.now.bytes.now c.in-Err.stop c.args.verdict
-    c.in-Err.ensures.found c.tell.ensures.none
+    none_of_notes c.explain.result c.args.notes.now.bytes.now c.in-Err.stop c.args.verdict
+    c.in-Err.ensures.found c.explain.ensures.none

@@ -1,4 +1,4 @@
--- The fault that is told is the list's first; where there is none, the list has an account.
+-- The fault that is explained is the list's first; where there is none, the list has an account.
 use Rattle.std.proofs.Common.{IfSome, subst}
 use Rattle.twp_acres.specs.TractFaults.{IsFirstTractFault}
 use Rattle.twp_explain.proofs.on_plat.explain_tracts.Goals as goal

@@ -13,13 +13,13 @@ returns-clause-place c of_text = record {
 
 pub returns-clause-end : goal.returns-clause-end
 returns-clause-end c of_text = record {
-  end = c.in_ok-told.told.end;
-  of_fault = c.in_ok-told.ensures;
+  end = c.in_ok-explained.explained.end;
+  of_fault = c.in_ok-explained.ensures;
   ends = record {
     shown = _;
     is_part = refl;
     ends =
-        subst (λ bytes. c.in_file-2.result ≡ min c.in_ok-told.told.end (length bytes)) of_text.same
+        subst (λ bytes. c.in_file-2.result ≡ min c.in_ok-explained.explained.end (length bytes)) of_text.same
         (c.in_file-2.ensures.whole of_text.whole);
   };
 }

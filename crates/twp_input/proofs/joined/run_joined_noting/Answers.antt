@@ -23,7 +23,7 @@ returns-clause-ran g c =
     let read = c.in_ok-bytes.ensures.bytes in
     let bytes = c.as_slice.ensures.value ∙ read.2 in
     let notes =
-    c.new.ensures ∙ c.split_at_line_feed.ensures.behind ∙ ap (after_first (λ byte. byte == 10)) bytes in
+    c.new.ensures ∙ c.split_at_line_feed.ensures.after ∙ ap (after_first (λ byte. byte == 10)) bytes in
     let description =
     c.new-2.ensures ∙ c.split_at_line_feed.ensures.before ∙ ap (before_first (λ byte. byte == 10)) bytes in
     record {

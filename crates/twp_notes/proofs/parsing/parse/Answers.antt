@@ -5,7 +5,7 @@ use Rattle.csv.specs.Records.{fields_of}
 use Rattle.twp_notes.specs.Records.{records_of, records_left}
 use Rattle.twp_notes.specs.steps.LineFaults.{IsRefusedAfter}
 use Rattle.twp_notes.proofs.RecordFacts.{few_records}
-use Rattle.twp_notes.proofs.RecordPlaces.{behind_of}
+use Rattle.twp_notes.proofs.RecordPlaces.{after_of_word}
 use Rattle.twp_notes.proofs.FirstFaults.{answer_refused, missing_is_first, notes_of_table}
 use Rattle.twp_notes.proofs.parsing.parse.Goals as goal
 
@@ -13,12 +13,12 @@ pub take_lines-requires-clause-few : goal.take_lines-requires-clause-few
 take_lines-requires-clause-few c =
     let one = rw c.if-not-branch.false at c.in_ok-read.ensures in
     let two = rw c.if-not-branch-2.false at c.in_ok-read-2.ensures in
-    let behind =
-    behind_of c.args.bytes.now _ _ _ _ _ c.in-Some.township c.requires c.new.ensures.all one.0
+    let after =
+    after_of_word c.args.bytes.now _ _ _ _ _ c.in-Some.township c.requires c.new.ensures.all one.0
     two.0 (c.is_heading.ensures.0 c.if-not-is_heading.false) c.in-Some.ensures.0 in
     let all : length (records_of c.args.bytes.now)
     ≡ length (fields_of c.read.new.row ∷ fields_of c.read-2.new.row ∷ records_left c.read-2.new.self) =
-    ap length behind.split in
+    ap length after.split in
     let few : length (records_of c.args.bytes.now) ≤ length c.args.bytes.now + 1 =
     few_records c.args.bytes.now in
     let size : length c.args.bytes.now ≤ 65536 = c.requires in
@@ -28,13 +28,13 @@ pub returns-in_err-table-clause-answer : goal.returns-in_err-table-clause-answer
 returns-in_err-table-clause-answer c =
     let one = rw c.if-not-branch.false at c.in_ok-read.ensures in
     let two = rw c.if-not-branch-2.false at c.in_ok-read-2.ensures in
-    let behind =
-    behind_of c.args.bytes.now _ _ _ _ _ c.in-Some.township c.requires c.new.ensures.all one.0
+    let after =
+    after_of_word c.args.bytes.now _ _ _ _ _ c.in-Some.township c.requires c.new.ensures.all one.0
     two.0 (c.is_heading.ensures.0 c.if-not-is_heading.false) c.in-Some.ensures.0 in
     let gone =
     err_from_is_err_and c.from_residual-in_err-table.result c.from_residual-in_err-table.ensures.1 in
     rw (gone.1, gone.2)
-    (answer_refused c.args.bytes.now _ c.in_err-table.field-0.0 behind c.in_err-table.ensures.fault)
+    (answer_refused c.args.bytes.now _ c.in_err-table.field-0.0 after c.in_err-table.ensures.fault)
 
 pub returns-in_err-table-clause-no_read : goal.returns-in_err-table-clause-no_read
 returns-in_err-table-clause-no_read c =
@@ -48,17 +48,17 @@ pub returns-in-Ok-clause-answer : goal.returns-in-Ok-clause-answer
 returns-in-Ok-clause-answer c =
     let one = rw c.if-not-branch.false at c.in_ok-read.ensures in
     let two = rw c.if-not-branch-2.false at c.in_ok-read-2.ensures in
-    let behind =
-    behind_of c.args.bytes.now _ _ _ _ _ c.in-Some.township c.requires c.new.ensures.all one.0
+    let after =
+    after_of_word c.args.bytes.now _ _ _ _ _ c.in-Some.township c.requires c.new.ensures.all one.0
     two.0 (c.is_heading.ensures.0 c.if-not-is_heading.false) c.in-Some.ensures.0 in
     rw c.new-in-Ok.ensures
-    (notes_of_table c.args.bytes.now _ _ _ behind c.in_ok-table.ensures.taken c.in-Ok.ensures.lines)
+    (notes_of_table c.args.bytes.now _ _ _ after c.in_ok-table.ensures.taken c.in-Ok.ensures.lines)
 
 pub returns-clause-answer : goal.returns-clause-answer
 returns-clause-answer c =
     let one = rw c.if-not-branch.false at c.in_ok-read.ensures in
     let two = rw c.if-not-branch-2.false at c.in_ok-read-2.ensures in
-    let behind =
-    behind_of c.args.bytes.now _ _ _ _ _ c.in-Some.township c.requires c.new.ensures.all one.0
+    let after =
+    after_of_word c.args.bytes.now _ _ _ _ _ c.in-Some.township c.requires c.new.ensures.all one.0
     two.0 (c.is_heading.ensures.0 c.if-not-is_heading.false) c.in-Some.ensures.0 in
-    missing_is_first c.args.bytes.now _ _ _ behind c.in_ok-table.ensures.taken c.in-Err.ensures.missing
+    missing_is_first c.args.bytes.now _ _ _ after c.in_ok-table.ensures.taken c.in-Err.ensures.missing

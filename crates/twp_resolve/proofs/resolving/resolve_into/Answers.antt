@@ -61,12 +61,12 @@ loop-item-preserved g c =
     (g.L.Land.places c.resolve_item.new.land)
     c.loop-item-test.true (sym c.item-item.is) so_far.taken c.in_ok-section.ensures.taken in
     record {
-      taken = rw c.in_ok-section.ensures.behind taken;
+      taken = rw c.in_ok-section.ensures.after taken;
       known =
           known_next PLACE_DIGITS c.args.township c.loop-item.section c.in_ok-section.section
           c.items-items.result.now c.loop-item.item-index c.item-item.result
           c.loop-item-test.true (sym c.item-item.is) so_far.known c.in_ok-section.ensures.taken.lies
-          c.in_ok-section.ensures.behind;
+          c.in_ok-section.ensures.after;
     }
 
 pub returns-clause-land : goal.returns-clause-land

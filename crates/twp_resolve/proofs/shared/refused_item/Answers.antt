@@ -43,12 +43,12 @@ loop-index-preserved g c =
     (g.L.Land.places c.resolve_item.new.land)
     c.loop-index-test.true (sym c.index-items-index.is) so_far.taken c.in-Ok.ensures.taken in
     record {
-      taken = rw c.in-Ok.ensures.behind taken;
+      taken = rw c.in-Ok.ensures.after taken;
       known =
-          known_next PLACE_DIGITS c.args.township c.loop-index.section c.in-Ok.behind
+          known_next PLACE_DIGITS c.args.township c.loop-index.section c.in-Ok.after
           c.args.items.now c.loop-index.index c.index-items-index.result
           c.loop-index-test.true (sym c.index-items-index.is) so_far.known c.in-Ok.ensures.taken.lies
-          c.in-Ok.ensures.behind;
+          c.in-Ok.ensures.after;
     }
 
 pub returns-clause-refused : goal.returns-clause-refused

@@ -29,4 +29,4 @@ returns g c = λ begun.
     (AreBegun PLACE_DIGITS c.args.township places (c.args.section + 1) new) (c.write_section.ensures some)
     (begun_next PLACE_DIGITS c.args.township places c.args.section c.args.text.now.items
     c.write_lead.new.text.items new begun range some
-    c.in_ok-write_lead.ensures.first c.in_ok-write_lead.ensures.behind)
+    c.in_ok-write_lead.ensures.first c.in_ok-write_lead.ensures.after)

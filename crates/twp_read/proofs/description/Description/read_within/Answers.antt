@@ -6,7 +6,7 @@ use Rattle.twp_read.specs.declared.watch.Watch.{Watch}
 use Rattle.twp_grammar.specs.declared.state.State.{State}
 use Rattle.twp_grammar.specs.declared.state.State.TheVariants.{Start}
 use Rattle.twp_read.specs.steps.TokenSteps.{take_token}
-use Rattle.twp_read.specs.steps.Watching.{watch_behind}
+use Rattle.twp_read.specs.steps.Watching.{watch_after}
 use Rattle.twp_grammar.specs.Tokens.{seen}
 use Rattle.twp_grammar.specs.Sentences.{IsReadAs}
 use Rattle.twp_read.proofs.Watched.{Watched, watched_nothing, watched_further, watched_next, is_clear}
@@ -62,14 +62,14 @@ tokens-preserved c =
     watched_further text c.tokens.reached c.tokens.items c.tokens.watch its reached c.tokens.invariant
     c.in_ok-reached.ensures.moves in
     let end : ℕ = c.in-Some.token.at + length c.in-Some.token.text.now in
-    let behind : State = c.in-Some-next.behind in
+    let after : State = c.in-Some-next.after in
     let taken : List Item = take_token reached.state c.in-Some.token.kind c.in-Some.token.at its in
-    let watch : Watch = watch_behind c.tokens.watch reached.state reached.at (seen c.in-Some.token) behind in
-    let behind_token : Watched text end behind taken watch =
-    watched_next text reached.at reached.state behind its c.tokens.watch (seen c.in-Some.token) here
+    let watch : Watch = watch_after c.tokens.watch reached.state reached.at (seen c.in-Some.token) after in
+    let after_token : Watched text end after taken watch =
+    watched_next text reached.at reached.state after its c.tokens.watch (seen c.in-Some.token) here
     c.in-Some.ensures.starts (sym c.in-Some-next.ensures) in
-    subst (λ (w : Watch). Watched text end behind c.take.new.self w) (sym c.behind-watch.ensures)
-    (subst (λ (is : List Item). Watched text end behind is watch) (sym c.in_ok-take.ensures) behind_token)
+    subst (λ (w : Watch). Watched text end after c.take.new.self w) (sym c.after-watch.ensures)
+    (subst (λ (is : List Item). Watched text end after is watch) (sym c.in_ok-take.ensures) after_token)
 
 pub tokens-smaller : goal.tokens-smaller
 tokens-smaller c =

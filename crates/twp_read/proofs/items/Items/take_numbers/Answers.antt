@@ -6,24 +6,24 @@ use Rattle.twp_grammar.specs.declared.item.Item.{Item}
 use Rattle.twp_read.specs.declared.reached.Reached.{Reached}
 use Rattle.twp_read.specs.steps.Usual.{Leads}
 use Rattle.twp_read.proofs.Leading.{leads_then}
-use Rattle.twp_read.proofs.NumberFacts.{entry_leads, goes_on_behind}
+use Rattle.twp_read.proofs.NumberFacts.{entry_leads, goes_on_after}
 use Rattle.twp_read.proofs.items.Items.take_numbers.Goals as goal
 
 pub returns-in_default-number_at : goal.returns-in_default-number_at
 returns-in_default-number_at c =
     let from : Reached = c.args.from in
     let reached : Reached = c.numbers.reached in
-    let behind : Reached = c.behind_list_comma.result in
+    let after : Reached = c.after_list_comma.result in
     leads_then c.args.text.now from.at from.state c.args.self.now reached.at reached.state c.numbers.self
-    behind.at behind.state c.numbers.self c.numbers.invariant.led (c.behind_list_comma.ensures c.numbers.self)
+    after.at after.state c.numbers.self c.numbers.invariant.led (c.after_list_comma.ensures c.numbers.self)
 
 pub numbers-smaller : goal.numbers-smaller
 numbers-smaller c =
     let text : List ℕ = c.args.text.now in
-    let next : c.behind_white-next.result
+    let next : c.after_white-next.result
     ≡ (c.numbers.reached.at + 1) + prefix_len is_white (drop (c.numbers.reached.at + 1) text) =
-    c.behind_white-next.ensures.value in
-    let further : c.behind_white-next.result < c.in-Some-number_at.number.end =
+    c.after_white-next.ensures.value in
+    let further : c.after_white-next.result < c.in-Some-number_at.number.end =
     c.in-Some-number_at.ensures.forward in
     let
     led : Leads text c.in-Some-number_at.number.end c.state.result c.push.new.self
@@ -45,10 +45,10 @@ numbers-preserved c =
     let ahead : Reached = c.ahead-reached-in-numbers.result in
     let entry : Leads text reached.at reached.state so_far number.end c.state.result grown =
     rw (c.state.ensures, c.in_ok-push.ensures, c.entry.ensures)
-    (entry_leads text reached.at c.behind_white-next.result reached.state so_far c.in-Some.list number.numeral
+    (entry_leads text reached.at c.after_white-next.result reached.state so_far c.in-Some.list number.numeral
     number.end
     c.numbers.invariant.goes_on (c.numbers-test.ensures.spelled refl) (c.numbers-test.ensures.within refl)
-    (c.behind_white-next.ensures.value, c.behind_white-next.ensures.range)
+    (c.after_white-next.ensures.value, c.after_white-next.ensures.range)
     c.in-Some-number_at.ensures.number) in
     record {
       led =
@@ -58,5 +58,5 @@ numbers-preserved c =
           (leads_then text reached.at reached.state so_far number.end c.state.result grown ahead.at
           ahead.state grown
           entry (c.ahead-reached-in-numbers.ensures.leads grown));
-      goes_on = rw (c.ahead-reached-in-numbers.ensures.same, c.state.ensures) (goes_on_behind c.in-Some.list);
+      goes_on = rw (c.ahead-reached-in-numbers.ensures.same, c.state.ensures) (goes_on_after c.in-Some.list);
     }

@@ -39,16 +39,16 @@ pub loop-alloc-preserved : goal.loop-alloc-preserved
 loop-alloc-preserved c =
     let from : Reached = c.args.from in
     let reached : Reached = c.loop-alloc.reached in
-    let behind : Reached = c.in-Some-behind_and.behind in
+    let after : Reached = c.in-Some-after_and.after in
     let items : List Item = c.loop-alloc.self in
-    leads_then c.args.text.now from.at from.state c.args.self.now reached.at reached.state items behind.at
-    behind.state items
-    c.loop-alloc.invariant (c.in-Some-behind_and.ensures.leads items)
+    leads_then c.args.text.now from.at from.state c.args.self.now reached.at reached.state items after.at
+    after.state items
+    c.loop-alloc.invariant (c.in-Some-after_and.ensures.leads items)
 
 pub loop-alloc-smaller : goal.loop-alloc-smaller
 loop-alloc-smaller c =
-    let further : c.loop-alloc.reached.at < c.in-Some-behind_and.behind.at =
-    c.in-Some-behind_and.ensures.forward in
-    let within : c.in-Some-behind_and.behind.at ≤ length c.args.text.now =
-    (c.in-Some-behind_and.ensures.leads []).within in
+    let further : c.loop-alloc.reached.at < c.in-Some-after_and.after.at =
+    c.in-Some-after_and.ensures.forward in
+    let within : c.in-Some-after_and.after.at ≤ length c.args.text.now =
+    (c.in-Some-after_and.ensures.leads []).within in
     omega arith

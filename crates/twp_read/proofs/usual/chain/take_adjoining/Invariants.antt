@@ -5,7 +5,7 @@ use Rattle.twp_grammar.specs.Machine.{is_in_chain}
 use Rattle.twp_read.specs.steps.Usual.{Leads}
 use Rattle.twp_read.proofs.usual.chain.take_adjoining.Given as goal
 
--- the steps so far led here, wherever their chain begins and whatever stands before it
+-- the steps so far led here, wherever their chain begins and whatever is before it
 abbrev pub invariant-loop-usual : goal.invariant-loop-usual
 invariant-loop-usual l =
     (l.reached.at ≤ length l.text)

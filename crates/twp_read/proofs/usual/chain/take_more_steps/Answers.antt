@@ -10,7 +10,7 @@ pub returns-in-Some : goal.returns-in-Some
 returns-in-Some c =
     let from : Reached = c.args.from in
     let adjoining : Reached = c.in_ok-adjoining.adjoining in
-    let to : Reached = c.in-Some.behind in
+    let to : Reached = c.in-Some.after in
     let steps : Item = Chain c.take_adjoining.new.steps c.in-Chain.at in
     rw c.in-Chain.is (λ items.
     leads_then c.args.text.now from.at from.state (Chain c.in-Chain.steps c.in-Chain.at ∷ items) adjoining.at

@@ -20,36 +20,36 @@ returns-in_default-step_at-clause-within c = (c.in-Some.ensures.leads []).within
 pub returns-in_default-step_at-clause-leads : goal.returns-in_default-step_at-clause-leads
 returns-in_default-step_at-clause-leads c place items =
     let from : Reached = c.args.from in
-    let reached : Reached = c.loop-behind.reached in
-    let behind : Reached = c.in-Some.behind in
-    let some : List Item = Chain c.loop-behind.steps place ∷ items in
+    let reached : Reached = c.loop-after.reached in
+    let after : Reached = c.in-Some.after in
+    let some : List Item = Chain c.loop-after.steps place ∷ items in
     leads_then c.args.text.now from.at from.state (Chain c.args.steps.now place ∷ items) reached.at
-    reached.state some behind.at behind.state some (c.loop-behind.invariant.3 place items)
+    reached.state some after.at after.state some (c.loop-after.invariant.3 place items)
     (c.in-Some.ensures.leads some)
 
-pub loop-behind-preserved : goal.loop-behind-preserved
-loop-behind-preserved c =
+pub loop-after-preserved : goal.loop-after-preserved
+loop-after-preserved c =
     let text : List ℕ = c.args.text.now in
     let from : Reached = c.args.from in
-    let reached : Reached = c.loop-behind.reached in
-    let behind : Reached = c.in-Some.behind in
+    let reached : Reached = c.loop-after.reached in
+    let after : Reached = c.in-Some.after in
     let usual : UsualStep = c.in-Some-step_at.usual in
-    let within : behind.at + usual.size ≤ length text =
-    step_within text behind.at usual.step usual.size c.in-Some-step_at.ensures in
-    let forward : from.at ≤ reached.at = c.loop-behind.invariant.1 in
-    let further : reached.at < behind.at = c.in-Some.ensures.forward in (
+    let within : after.at + usual.size ≤ length text =
+    step_within text after.at usual.step usual.size c.in-Some-step_at.ensures in
+    let forward : from.at ≤ reached.at = c.loop-after.invariant.1 in
+    let further : reached.at < after.at = c.in-Some.ensures.forward in (
       within,
       omega arith,
       refl,
       λ place items.
           let begun : List Item = Chain c.args.steps.now place ∷ items in
-          let some : List Item = Chain c.loop-behind.steps place ∷ items in
+          let some : List Item = Chain c.loop-after.steps place ∷ items in
           subst (λ (steps : List Step).
-          Leads text from.at from.state begun (behind.at + usual.size) past.Step (Chain steps place ∷ items))
+          Leads text from.at from.state begun (after.at + usual.size) past.Step (Chain steps place ∷ items))
           (sym c.in_ok-push.ensures.added)
-          (step_leads text from.at from.state begun behind.at behind.state some usual.step usual.size
+          (step_leads text from.at from.state begun after.at after.state some usual.step usual.size
           c.in-Some.ensures.chain
-          (leads_then text from.at from.state begun reached.at reached.state some behind.at behind.state some
-          (c.loop-behind.invariant.3 place items) (c.in-Some.ensures.leads some))
+          (leads_then text from.at from.state begun reached.at reached.state some after.at after.state some
+          (c.loop-after.invariant.3 place items) (c.in-Some.ensures.leads some))
           c.in-Some-step_at.ensures),
     )

@@ -5,9 +5,9 @@ use Rattle.twp_grammar.specs.Machine.{is_in_chain}
 use Rattle.twp_read.specs.steps.Usual.{Leads}
 use Rattle.twp_read.proofs.usual.chain.take_row_of.Given as goal
 
--- the steps so far led here, wherever their chain begins and whatever stands before it
-abbrev pub invariant-loop-behind : goal.invariant-loop-behind
-invariant-loop-behind l =
+-- the steps so far led here, wherever their chain begins and whatever is before it
+abbrev pub invariant-loop-after : goal.invariant-loop-after
+invariant-loop-after l =
     (l.reached.at ≤ length l.text)
     × (l.fn.from.at ≤ l.reached.at)
     × (is_in_chain l.reached.state ≡ true)
@@ -15,5 +15,5 @@ invariant-loop-behind l =
     → Leads l.text l.fn.from.at l.fn.from.state (Chain l.fn.steps place ∷ items)
     l.reached.at l.reached.state (Chain l.steps place ∷ items))
 
-abbrev pub decreases-loop-behind : goal.decreases-loop-behind
-decreases-loop-behind l = length l.text - l.reached.at
+abbrev pub decreases-loop-after : goal.decreases-loop-after
+decreases-loop-after l = length l.text - l.reached.at

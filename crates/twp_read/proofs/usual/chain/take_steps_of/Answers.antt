@@ -21,10 +21,10 @@ returns-in-Some c place items =
     let reached : Reached = c.rows.reached in
     let row : Reached = c.in_ok-row.row in
     let to : Reached = c.in_ok-reached.reached in
-    let behind : Reached = c.in-Some.behind in
+    let after : Reached = c.in-Some.after in
     let begun : List Item = Chain c.args.steps.now place ∷ items in
     let grown : List Item = Chain c.take_adjoining.new.steps place ∷ items in
-    leads_then c.args.text.now from.at from.state begun to.at to.state grown behind.at behind.state grown
+    leads_then c.args.text.now from.at from.state begun to.at to.state grown after.at after.state grown
     (leads_then c.args.text.now from.at from.state begun reached.at reached.state
     (Chain c.rows.steps place ∷ items) to.at to.state grown (c.rows.invariant.3 place items)
     (leads_then c.args.text.now reached.at reached.state (Chain c.rows.steps place ∷ items) row.at

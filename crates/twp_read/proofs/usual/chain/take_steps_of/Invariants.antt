@@ -5,7 +5,7 @@ use Rattle.twp_grammar.specs.Machine.{is_in_chain}
 use Rattle.twp_read.specs.steps.Usual.{Leads}
 use Rattle.twp_read.proofs.usual.chain.take_steps_of.Given as goal
 
--- the steps so far led here, wherever their chain begins and whatever stands before it
+-- the steps so far led here, wherever their chain begins and whatever is before it
 abbrev pub invariant-rows : goal.invariant-rows
 invariant-rows l =
     (l.reached.at ≤ length l.text)

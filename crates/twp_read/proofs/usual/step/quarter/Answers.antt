@@ -8,10 +8,10 @@ returns c = (
     small = bit_or c.args.first 32;
     letter =
         small_by_bit c.args.first (bit_or c.args.first 32) c.ranges.first.fits refl c.in-Some.ensures.letter;
-    behind = bit_or c.args.second 32;
-    letter_behind =
+    after = bit_or c.args.second 32;
+    letter_after =
         small_by_bit c.args.second (bit_or c.args.second 32) c.ranges.second.fits refl
-        c.in-Some.ensures.letter_behind;
+        c.in-Some.ensures.letter_after;
     letters = c.in-Some.ensures.kind;
     fraction = refl;
   },

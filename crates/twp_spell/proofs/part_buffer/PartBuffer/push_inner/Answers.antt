@@ -3,7 +3,7 @@ use Rattle.std.proofs.Common.{◌+◌, ◌++◌, refl, codes, ◌∙◌, arith, 
 use Rattle.twp_spell.specs.CanonicalText.{step_text}
 use Rattle.twp_grammar.specs.declared.item.Step.TheVariants.{Quarter}
 use Rattle.twp_spell.proofs.PathFacts.{long_quarter}
-use Rattle.twp_spell.proofs.BufferFacts.{put_behind, path_behind, known_length, long_quarter_step}
+use Rattle.twp_spell.proofs.BufferFacts.{put_after, path_after, known_length, long_quarter_step}
 use Rattle.twp_spell.proofs.part_buffer.PartBuffer.push_inner.Goals as goal
 use borrow.Rule.Slice.PartMut.{same_len_mid}
 
@@ -20,14 +20,14 @@ returns-clause-text c =
     known_length c.self.inside.bytes c.args.self.now c.self.inside.len c.self.view_is
     (omega (arith, c.self.told, c.self.invariant)) in
     let first =
-    put_behind c.self.inside.bytes c.copy_from_slice.new.self step c.args.self.now c.self.inside.len 7 _
+    put_after c.self.inside.bytes c.copy_from_slice.new.self step c.args.self.now c.self.inside.len 7 _
     c.self.view_is (omega (arith, c.self.told, c.self.invariant))
     (c.copy_from_slice.ensures.after ∙ c.quarter_step.ensures) (long_quarter_step c.args.corner) in
     let second =
-    put_behind _ c.copy_from_slice-2.new.self outer (c.args.self.now ++ step) (c.self.inside.len + 7) 5 _
+    put_after _ c.copy_from_slice-2.new.self outer (c.args.self.now ++ step) (c.self.inside.len + 7) 5 _
     first (omega (arith, room, c.self.told, known, c.requires))
     (c.copy_from_slice-2.ensures.after ∙ c.quarter_text.ensures) (long_quarter c.args.outer) in
-    path_behind _ c.copy_from_slice-3.new.self c.args.path.now ((c.args.self.now ++ step) ++ outer)
+    path_after _ c.copy_from_slice-3.new.self c.args.path.now ((c.args.self.now ++ step) ++ outer)
     (c.self.inside.len + 7 + 5) c.len.result _ _ second
     (omega (arith, room, room', c.self.told, known, c.requires))
     (rw (c.len.ensures.value, c.copy_from_slice-3.ensures.after) c.bytes.ensures)

@@ -1,9 +1,0 @@
--- The explanation of a refusal.
-use Rattle.std.specs.Prelude.{◌≡◌}
-use Rattle.twp_acres.specs.declared.verdict.Verdict.{Verdict}
-use Rattle.twp_acres.specs.declared.verdict.Verdict.TheVariants.{Refused}
-use Rattle.twp_explain.specs.declared.explanation.Explanation.{Explanation}
-
--- the refusal that is explained is that of the verdict
-abbrev pub IsToldOf : Verdict → Explanation → Type 0
-IsToldOf verdict explanation = verdict ≡ Refused explanation.refusal
