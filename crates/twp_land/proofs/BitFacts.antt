@@ -10,7 +10,7 @@ use Rattle.std.specs.Simd.Lanes.{fold_l, sum_l}
 use Rattle.std.proofs.lemmas.Nat.{pow-add, pow_pos, le_or_l, le_or_r, ones_le_self}
 use Rattle.std.proofs.lemmas.Nat.Bits.{bit_at_lowest, bit_at-suc, bit_at-zero, bit_at_mask_inside}
 use Rattle.std.proofs.lemmas.Nat.Bits.{bit_at_mask_below, bit_at_mask_above}
-use Rattle.std.proofs.lemmas.Bool.{cases_eq, cases_Bool, cases_lt, eqb-true}
+use Rattle.std.proofs.lemmas.Bool.{cases_eq, cases_Bool, cases_lt}
 use Rattle.std.proofs.lemmas.Bool.Decides.{nat_tests}
 use Rattle.std.proofs.Math.Nat.{two-pow-succ, mod-eq_of_lt, mul_comm, mul-sub}
 use Rattle.std.proofs.Math.Pow.{pow_mono}

@@ -8,7 +8,8 @@ use Rattle.std.proofs.lemmas.Bool.Decides.{nat_tests}
 use Rattle.twp_grid.specs.Winding.{SECTION_COUNT, IsSection}
 use Rattle.twp_land.specs.Lands.{union, LieWithin}
 use Rattle.twp_land.specs.Storage.{held_by_section, held_by_either}
-use Rattle.twp_land.proofs.LandFacts.{exchanged, held_after, kept_at}
+use Rattle.twp_land.specs.steps.Exchanges.{exchanged}
+use Rattle.twp_land.proofs.LandFacts.{held_after, kept_at}
 
 -- the places in either set up to a section, and after it those of the first
 abbrev pub joined_to : ℕ → (ℕ → ℕ → ℕ → Bool) → (ℕ → ℕ → ℕ → Bool) → ℕ → ℕ → ℕ → Bool

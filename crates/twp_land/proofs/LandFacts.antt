@@ -1,5 +1,5 @@
 -- Sets of places that are stored by section.
-use Rattle.std.proofs.Common.{get_or, sym, ◌∙◌, if◌then◌else◌, ◌≡◌, ◌≢◌, ◌==◌, ℕ, zero, suc, ◌-◌, ◌<◌, ◌≤◌}
+use Rattle.std.proofs.Common.{get_or, sym, ◌∙◌, ◌≡◌, ◌≢◌, ◌==◌, ℕ, zero, suc, ◌-◌, ◌<◌, ◌≤◌}
 use Rattle.std.proofs.Common.{◌+◌, ◌&&◌, ◌||◌, Bool, true, false, List, [], ◌∷◌, length, Some, ap}
 use Rattle.std.proofs.Common.{refl, inl, inr, arith, replicate}
 use Rattle.std.proofs.Math.Path.{fun_ext}
@@ -14,11 +14,7 @@ use Rattle.twp_land.specs.Lands.{no_places, union, difference, block_places, Sha
 use Rattle.twp_land.specs.Lands.{LieWithin}
 use Rattle.twp_land.specs.Storage.{is_section, held_by_section, with_block, without_block, nothing_held}
 use Rattle.twp_land.specs.Storage.{ShareHeld, SameHeld}
-
--- the set with the part in one section replaced
-abbrev pub exchanged : (ℕ → ℕ → ℕ → Bool) → ℕ → (ℕ → ℕ → Bool) → ℕ → ℕ → ℕ → Bool
-exchanged places section held other column row =
-    if section == other then held column row else places other column row
+use Rattle.twp_land.specs.steps.Exchanges.{exchanged}
 
 number_is : (section : ℕ) → IsSection section → is_section section ≡ true
 number_is section range = grind (arith, nat_tests)

@@ -1,9 +1,10 @@
 -- The range of sections within which a set of places lies.
-use Rattle.std.proofs.Common.{sym, subst, ◌∙◌, ◌≡◌, ◌==◌, ℕ, ◌<◌, ◌≤◌, Bool, ap, inl, inr, arith}
+use Rattle.std.proofs.Common.{sym, subst, ◌∙◌, ◌≡◌, ◌==◌, ℕ, ◌<◌, ◌≤◌, Bool, false, ap, inl, inr, arith}
 use Rattle.std.proofs.Math.Path.{fun_ext}
-use Rattle.std.proofs.lemmas.Bool.{cases_Bool, eqb-true, and_parts}
+use Rattle.std.proofs.lemmas.Bool.{cases_Bool, cases_eq, eqb-true, ne_eqb, and_parts}
 use Rattle.twp_grid.specs.Spans.{Rectangle}
 use Rattle.twp_land.specs.Lands.{no_places, union, difference, block_places, LieWithin}
+use Rattle.twp_land.specs.steps.Exchanges.{exchanged}
 
 -- an empty set lies within any range
 pub nothing_within : (places : ℕ → ℕ → ℕ → Bool) (first last : ℕ) → places ≡ no_places
@@ -63,3 +64,17 @@ pub removed_within : (places now less : ℕ → ℕ → ℕ → Bool) (first las
 removed_within places now less first last is before section column row held =
     before section column row
     (and_parts (places section column row) _ (sym (ap (λ p. p section column row) is) ∙ held)).0
+
+-- the part in one section is replaced, and the range is widened for it
+pub exchanged_within : (places : ℕ → ℕ → ℕ → Bool) (section : ℕ) (held : ℕ → ℕ → Bool)
+    (first last first' last' : ℕ)
+    → first' ≤ first → last ≤ last' → first' ≤ section → section ≤ last' → LieWithin places first last
+    → LieWithin (exchanged places section held) first' last'
+exchanged_within places section held first last first' last' down up below above before other column row is =
+    elim (cases_eq section other) [
+      | inl same ↦ (omega (arith, below, same), omega (arith, above, same))
+      | inr apart ↦
+          let test : (section == other) ≡ false = ne_eqb section other apart in
+          let lies = before other column row (rw test at is) in
+          (omega (arith, lies.0, down), omega (arith, lies.1, up))
+    ]

@@ -1,6 +1,6 @@
 -- A section's places, stored in lanes of bits.
 use Rattle.std.proofs.Common.{◌≡◌, ◌↔◌, IsTrue, ◌≢◌, ◌==◌, ℕ, zero, suc, ◌+◌, ◌*◌, ◌%◌, ◌^◌, ◌<◌, ◌≤◌, ◌||◌}
-use Rattle.std.proofs.Common.{◌⊎◌, Bool, true, false, not, List, [], ◌∷◌, length, get_or, nat_lt, ap, refl}
+use Rattle.std.proofs.Common.{◌⊎◌, Bool, true, false, not, List, length, get_or, nat_lt, ap, refl}
 use Rattle.std.proofs.Common.{sym, ◌∙◌, inl, inr, arith, replicate, min, max, map, Fits, w32}
 use Rattle.std.proofs.Math.Path.{fun_ext}
 use Rattle.std.proofs.Math.Nat.{min-zero}
@@ -8,7 +8,7 @@ use Rattle.std.specs.Int.{bit_at}
 use Rattle.std.specs.Int.Bits.{bit_and, bit_or, bit_xor}
 use Rattle.std.specs.Int.RustNames.{count_ones}
 use Rattle.std.specs.Simd.Lanes.{zip2, fold_l, sum_l, put_chunk, Each1, Steps}
-use Rattle.std.proofs.lemmas.Simd.{get_or-zip2, length-zip2, put_chunk_whole, Each1-from_get_or, Each1-weaker}
+use Rattle.std.proofs.lemmas.Simd.{get_or-zip2, length-zip2, put_chunk_whole, Each1-from_get_or}
 use Rattle.std.proofs.lemmas.Simd.{fold-sum, sum_bound, sum_fits}
 use Rattle.std.proofs.lemmas.List.{get_or-map, length-map}
 use Rattle.std.proofs.lemmas.Nat.{and_le_r}

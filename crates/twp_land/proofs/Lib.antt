@@ -14,3 +14,8 @@ pub mod RowFacts
 pub mod LowLaneFacts
 pub mod SameFacts
 pub mod FinerLands
+pub mod TakenFacts
+pub mod TakenLands
+pub mod RowLands
+pub mod CombinedLots
+pub mod CompareFacts

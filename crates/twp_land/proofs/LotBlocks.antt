@@ -1,5 +1,5 @@
 -- Blocks that share a place, and the blocks of lots.
-use Rattle.std.proofs.Common.{◌≡◌, ◌==◌, ◌*◌, ◌||◌, not, ℕ, ◌+◌, ◌<◌, ◌≤◌, ◌⊎◌, true, Some, ◌∙◌, arith, ◌/◌}
+use Rattle.std.proofs.Common.{◌≡◌, ◌==◌, ◌*◌, ◌||◌, not, ℕ, ◌+◌, ◌<◌, ◌≤◌, true, Some, ◌∙◌, arith, ◌/◌}
 use Rattle.std.proofs.Common.{◌%◌, ◌↔◌, Bool}
 use Rattle.std.proofs.Common.{Option, None, refl, sym, ap, inl, inr, nat_le, nat_lt, is_some, IsSome, IsTrue}
 use Rattle.std.proofs.lemmas.Bool.Decides.{nat_tests}

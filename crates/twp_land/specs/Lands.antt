@@ -50,6 +50,11 @@ pub record SharePlace (places more : ℕ → ℕ → ℕ → Bool) : Type 0 wher
   pub in_first : places section column row ≡ true
   pub in_second : more section column row ≡ true
 
+-- each place of the second set is in the first
+abbrev pub ContainsAll : (ℕ → ℕ → ℕ → Bool) → (ℕ → ℕ → ℕ → Bool) → Type 0
+ContainsAll places more = (section column row : ℕ)
+    → more section column row ≡ true → places section column row ≡ true
+
 -- the same places are in both sets
 abbrev pub SamePlaces : (ℕ → ℕ → ℕ → Bool) → (ℕ → ℕ → ℕ → Bool) → Type 0
 SamePlaces places more =

@@ -41,6 +41,10 @@ abbrev pub held_by_lane : List ℕ → ℕ → ℕ → Bool
 held_by_lane lanes column row =
     is_place PLACE_DIGITS column row && (bit_at (slice_index_or lanes row 0) column == 1)
 
+-- the set that is stored as lanes of bits for each section, by number
+abbrev pub land_of_rows : List (List ℕ) → ℕ → ℕ → ℕ → Bool
+land_of_rows rows = held_by_section held_by_lane rows
+
 -- a place of one section is in both sets
 pub record ShareHeld (held more : ℕ → ℕ → Bool) : Type 0 where
   pub column : ℕ
@@ -59,3 +63,11 @@ held_by_either held more column row = held column row || more column row
 -- the places that are in both of two sets in one section
 abbrev pub held_by_both : (ℕ → ℕ → Bool) → (ℕ → ℕ → Bool) → ℕ → ℕ → Bool
 held_by_both held more column row = held column row && more column row
+
+-- the places of one section in the first set that are not in the second
+abbrev pub held_without : (ℕ → ℕ → Bool) → (ℕ → ℕ → Bool) → ℕ → ℕ → Bool
+held_without held less column row = held column row && not (less column row)
+
+-- each place of one section in the second set is in the first
+abbrev pub ContainsHeld : (ℕ → ℕ → Bool) → (ℕ → ℕ → Bool) → Type 0
+ContainsHeld held more = (column row : ℕ) → more column row ≡ true → held column row ≡ true

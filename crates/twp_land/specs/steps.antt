@@ -2,3 +2,4 @@ pub mod Within
 pub mod RowTests
 pub mod BitLanes
 pub mod Crossing
+pub mod Exchanges

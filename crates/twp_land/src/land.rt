@@ -3,6 +3,7 @@ ghost use Rattle.twp_grid.specs.Winding.{IsSection};
 ghost use Rattle.twp_grid.specs.Places.{PLACE_DIGITS, places_across, IsPlace};
 ghost use Rattle.twp_land.specs.Lands.{no_places, union, difference, intersection, block_places};
 ghost use Rattle.twp_land.specs.Lands.{count_held, Meets, HoldsAll, SharePlace, SamePlaces, LieWithin};
+ghost use Rattle.twp_land.specs.Lands.{ContainsAll};
 
 use twp_grid::{Block, SECTIONS, Section};
 
@@ -64,6 +65,10 @@ pub trait Land: Drop {
     fn same(&self, other: &Self) -> bool
         ensures { IsTrue result ↔ SamePlaces (places self.now) (places other.now) };
 
+    /// Whether the set contains every place of another.
+    fn holds_land(&self, other: &Self) -> bool
+        ensures { IsTrue result ↔ ContainsAll (places self.now) (places other.now) };
+
     /// Whether the sets share a place.
     fn meets_land(&self, other: &Self) -> bool
         ensures { IsTrue result ↔ SharePlace (places self.now) (places other.now) };
@@ -71,6 +76,10 @@ pub trait Land: Drop {
     /// Adds the places of another set.
     fn add_land(&mut self, other: &Self)
         ensures { places self.new ≡ union (places self.old) (places other.now) };
+
+    /// Removes the places of another set.
+    fn take_away(&mut self, other: &Self)
+        ensures { places self.new ≡ difference (places self.old) (places other.now) };
 
     /// Keeps only the places that another set also contains.
     fn keep_common(&mut self, other: &Self)

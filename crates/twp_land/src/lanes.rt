@@ -1,6 +1,7 @@
 ghost use Rattle.std.specs.Prelude.{◌≡◌, ◌+◌, ◌-◌};
 ghost use Rattle.twp_grid.specs.Places.{PLACE_DIGITS};
 ghost use Rattle.twp_grid.specs.Spans.{IsDyadic};
+ghost use Rattle.twp_land.specs.Storage.{held_by_lane};
 
 use crate::bits::{Lane, block_lanes, column_bits, vector};
 use crate::plot::Plot;
@@ -35,6 +36,24 @@ fn end_rows(block: Block) -> (usize, usize)
 {
     let first = usize::from(block.row());
     (first, first + usize::from(block.height()) - 1)
+}
+
+impl LaneRows {
+    /// The set whose places are the one bits of the lanes.
+    #[inline(always)]
+    pub(crate) fn of_lanes(lanes: &[Lane; PLACES_ACROSS]) -> LaneRows
+        ensures { ⟦<LaneRows as Plot>⟧.held result ≡ held_by_lane lanes.now }
+    {
+        LaneRows { lanes: *lanes }
+    }
+
+    /// The lanes, with a one bit for each place.
+    #[inline(always)]
+    pub(crate) fn lanes(&self) -> [Lane; PLACES_ACROSS]
+        ensures { held_by_lane result ≡ ⟦<LaneRows as Plot>⟧.held self.now }
+    {
+        self.lanes
+    }
 }
 
 impl Plot for LaneRows {
@@ -105,6 +124,11 @@ impl Plot for LaneRows {
     }
 
     #[inline]
+    fn holds_plot(&self, other: &Self) -> bool {
+        (!vector(&self.lanes) & vector(&other.lanes)).reduce_or() == 0
+    }
+
+    #[inline]
     fn meets_plot(&self, other: &Self) -> bool {
         (vector(&self.lanes) & vector(&other.lanes)).reduce_or() != 0
     }
@@ -112,6 +136,12 @@ impl Plot for LaneRows {
     #[inline]
     fn add_plot(&mut self, other: &Self) {
         let held = vector(&self.lanes) | vector(&other.lanes);
+        held.copy_to_slice(&mut self.lanes);
+    }
+
+    #[inline]
+    fn take_away_plot(&mut self, other: &Self) {
+        let held = vector(&self.lanes) & !vector(&other.lanes);
         held.copy_to_slice(&mut self.lanes);
     }
 

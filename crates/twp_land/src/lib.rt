@@ -3,8 +3,11 @@
 #![tactic(auto)]
 
 mod bits;
+mod comparing;
 mod land;
+mod land_rows;
 mod lanes;
+pub mod laws;
 mod lot_places;
 mod lots;
 mod plot;
@@ -14,7 +17,9 @@ mod rows;
 mod sections;
 mod window;
 
+pub use comparing::{Comparison, compare};
 pub use land::Land;
+pub use land_rows::LandRows;
 pub use lanes::{LaneRows, Lanes};
 pub use lot_places::holds_of_lot;
 pub use lots::lots_whole;

@@ -2,7 +2,8 @@ ghost use Rattle.std.specs.Prelude.{◌≡◌, ◌<◌, ◌↔◌, ℕ, Bool, tr
 ghost use Rattle.twp_grid.specs.Places.{PLACE_DIGITS, places_across, IsPlace};
 ghost use Rattle.twp_land.specs.Lands.{Meets, HoldsAll, count_held};
 ghost use Rattle.twp_land.specs.Storage.{nothing_held, with_block, without_block, held_by_either};
-ghost use Rattle.twp_land.specs.Storage.{held_by_both, ShareHeld, SameHeld};
+ghost use Rattle.twp_land.specs.Storage.{held_by_both, held_without, ShareHeld, SameHeld};
+ghost use Rattle.twp_land.specs.Storage.{ContainsHeld};
 
 use twp_grid::Block;
 
@@ -45,6 +46,10 @@ pub trait Plot: Copy + Drop {
     fn same_plot(&self, other: &Self) -> bool
         ensures { IsTrue result ↔ SameHeld (held self.now) (held other.now) };
 
+    /// Whether the set contains every place of another.
+    fn holds_plot(&self, other: &Self) -> bool
+        ensures { IsTrue result ↔ ContainsHeld (held self.now) (held other.now) };
+
     /// Whether the sets share a place.
     fn meets_plot(&self, other: &Self) -> bool
         ensures { IsTrue result ↔ ShareHeld (held self.now) (held other.now) };
@@ -52,6 +57,10 @@ pub trait Plot: Copy + Drop {
     /// Adds the places of another set.
     fn add_plot(&mut self, other: &Self)
         ensures { held self.new ≡ held_by_either (held self.old) (held other.now) };
+
+    /// Removes the places of another set.
+    fn take_away_plot(&mut self, other: &Self)
+        ensures { held self.new ≡ held_without (held self.old) (held other.now) };
 
     /// Keeps only the places that another set also contains.
     fn keep_common_plot(&mut self, other: &Self)

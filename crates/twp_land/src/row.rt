@@ -3,6 +3,7 @@ ghost use Rattle.twp_grid.specs.Places.{PLACE_DIGITS, places_across};
 ghost use Rattle.twp_land.specs.steps.RowTests.{SomeHeld, EachHeld, count_in_row, IsFilled};
 ghost use Rattle.twp_land.specs.steps.RowTests.{IsCleared};
 ghost use Rattle.twp_land.specs.steps.RowTests.{AreAlike, ShareInRow, IsJoined, IsCommon};
+ghost use Rattle.twp_land.specs.steps.RowTests.{HasAllOf, IsTaken};
 
 use twp_grid::PLACES_ACROSS;
 
@@ -86,6 +87,18 @@ pub(crate) fn alike(row: &Row, other: &Row) -> bool
     true
 }
 
+/// Whether the row contains every place of another.
+pub(crate) fn contains(row: &Row, other: &Row) -> bool
+    ensures { IsTrue result ↔ HasAllOf row.now other.now }
+{
+    for column in 0..PLACES_ACROSS {
+        if other[column] && !row[column] {
+            return false;
+        }
+    }
+    true
+}
+
 /// Whether the rows share a place.
 pub(crate) fn share(row: &Row, other: &Row) -> bool
     ensures { IsTrue result ↔ ShareInRow row.now other.now }
@@ -107,6 +120,17 @@ pub(crate) fn joined(row: &Row, other: &Row) -> Row
         joined[column] = row[column] || other[column];
     }
     joined
+}
+
+/// The row without the places of another.
+pub(crate) fn taken(row: &Row, other: &Row) -> Row
+    ensures { IsTaken row.now other.now result }
+{
+    let mut taken = *row;
+    for column in 0..PLACES_ACROSS {
+        taken[column] = row[column] && !other[column];
+    }
+    taken
 }
 
 /// The row with only the places that another also contains.

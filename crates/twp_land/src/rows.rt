@@ -2,7 +2,8 @@ ghost use Rattle.twp_land.specs.Storage.{held_by_row};
 
 use crate::plot::Plot;
 use crate::row::{
-    Row, alike, cleared, common, count_held, each_held, filled, joined, share, some_held,
+    Row, alike, cleared, common, contains, count_held, each_held, filled, joined, share, some_held,
+    taken,
 };
 use crate::sections::Sections;
 use crate::window::Window;
@@ -94,6 +95,15 @@ impl Plot for Rows {
         true
     }
 
+    fn holds_plot(&self, other: &Self) -> bool {
+        for row in 0..PLACES_ACROSS {
+            if !contains(&self.rows[row], &other.rows[row]) {
+                return false;
+            }
+        }
+        true
+    }
+
     fn meets_plot(&self, other: &Self) -> bool {
         for row in 0..PLACES_ACROSS {
             if share(&self.rows[row], &other.rows[row]) {
@@ -106,6 +116,12 @@ impl Plot for Rows {
     fn add_plot(&mut self, other: &Self) {
         for row in 0..PLACES_ACROSS {
             self.rows[row] = joined(&self.rows[row], &other.rows[row]);
+        }
+    }
+
+    fn take_away_plot(&mut self, other: &Self) {
+        for row in 0..PLACES_ACROSS {
+            self.rows[row] = taken(&self.rows[row], &other.rows[row]);
         }
     }
 

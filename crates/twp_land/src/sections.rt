@@ -2,6 +2,7 @@ ghost use Rattle.std.specs.Prelude.{◌≡◌, ◌+◌, ◌≤◌};
 ghost use Rattle.twp_grid.specs.Winding.{SECTION_COUNT};
 ghost use Rattle.twp_land.specs.Lands.{LieWithin};
 ghost use Rattle.twp_land.specs.Storage.{held_by_section};
+ghost use Rattle.twp_land.specs.steps.Exchanges.{exchanged};
 
 use crate::land::Land;
 use crate::plot::Plot;
@@ -29,10 +30,21 @@ pub struct Sections<P: Plot> {
 
 impl<P: Plot> Sections<P> {
     /// The set of a section's places.
-    fn plot(&self, section: Section) -> &P
+    pub(crate) fn plot(&self, section: Section) -> &P
         ensures { held_by_section P.held self.now.plots section ≡ P.held result.now }
     {
         &self.plots[usize::from(section.number() - 1)]
+    }
+
+    /// Replaces the set of a section's places.
+    #[inline(always)]
+    pub(crate) fn put(&mut self, section: Section, plot: P)
+        ensures { held_by_section P.held self.new.plots
+            ≡ exchanged (held_by_section P.held self.old.plots) section (P.held plot) }
+    {
+        let at = usize::from(section.number() - 1);
+        self.plots[at] = plot;
+        self.reach.widen(at, at + 1);
     }
 }
 
@@ -102,6 +114,15 @@ impl<P: Plot> Land for Sections<P> {
         true
     }
 
+    fn holds_land(&self, other: &Self) -> bool {
+        for index in other.reach.first..other.reach.end {
+            if !self.plots[index].holds_plot(&other.plots[index]) {
+                return false;
+            }
+        }
+        true
+    }
+
     fn meets_land(&self, other: &Self) -> bool {
         for index in self.reach.first.max(other.reach.first)..self.reach.end.min(other.reach.end) {
             if self.plots[index].meets_plot(&other.plots[index]) {
@@ -115,6 +136,12 @@ impl<P: Plot> Land for Sections<P> {
         self.reach.widen(other.reach.first, other.reach.end);
         for index in other.reach.first..other.reach.end {
             self.plots[index].add_plot(&other.plots[index]);
+        }
+    }
+
+    fn take_away(&mut self, other: &Self) {
+        for index in other.reach.first..other.reach.end {
+            self.plots[index].take_away_plot(&other.plots[index]);
         }
     }
 

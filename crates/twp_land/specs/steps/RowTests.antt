@@ -69,3 +69,14 @@ IsCommon row other common = (column : ℕ) → column < places_across PLACE_DIGI
 abbrev pub AreAlike : List Bool → List Bool → Type 0
 AreAlike row other = (column : ℕ) → column < places_across PLACE_DIGITS
     → slice_index_or row column false ≡ slice_index_or other column false
+
+-- each test is true exactly if it is true in the first row and not in the second
+abbrev pub IsTaken : List Bool → List Bool → List Bool → Type 0
+IsTaken row other taken = (column : ℕ) → column < places_across PLACE_DIGITS
+    → slice_index_or taken column false
+    ≡ (slice_index_or row column false && not (slice_index_or other column false))
+
+-- each test that is true in the second row is true in the first
+abbrev pub HasAllOf : List Bool → List Bool → Type 0
+HasAllOf row other = (column : ℕ) → column < places_across PLACE_DIGITS
+    → slice_index_or other column false ≡ true → slice_index_or row column false ≡ true

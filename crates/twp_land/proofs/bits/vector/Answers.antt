@@ -1,4 +1,4 @@
-use Rattle.std.proofs.Common.{arith, sym}
+use Rattle.std.proofs.Common.{arith}
 use Rattle.std.proofs.lemmas.List.{take_all}
 use Rattle.twp_grid.specs.Places.{PLACE_DIGITS, places_across}
 use Rattle.twp_land.proofs.bits.vector.Goals as goal

@@ -1,4 +1,4 @@
-use Rattle.std.proofs.Common.{◌∙◌, arith}
+use Rattle.std.proofs.Common.{arith}
 use Rattle.twp_land.proofs.BlockFacts.{dyadic_in_section}
 use Rattle.twp_land.proofs.LaneFacts.{count_in_lanes, sums_fit}
 use Rattle.twp_land.proofs.lanes.LaneRowsPlot.count.Goals as goal
