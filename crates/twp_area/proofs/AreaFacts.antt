@@ -97,7 +97,7 @@ sum-next account plat places number section units more first is so_far added pie
     both u m s s' sum e e' is = omega arith
 
 -- the sum over more sections, none of whose places is in the set
-sum-without : (pieces : ℕ → ℕ → ℕ → ℕ) (places : ℕ → ℕ → ℕ → Bool) (count more : ℕ)
+pub sum-without : (pieces : ℕ → ℕ → ℕ → ℕ) (places : ℕ → ℕ → ℕ → Bool) (count more : ℕ)
     → ((section : ℕ) → count < section → section ≤ count + more
     → ¬ Meets (places section) (whole_block PLACE_DIGITS))
     → sections_sum pieces places (count + more) ≡ sections_sum pieces places count

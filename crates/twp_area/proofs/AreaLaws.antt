@@ -61,7 +61,7 @@ township-both g f f' =
     (λ before. total_over (whole_block g) (f' (before + 1)))
 
 -- a set has only one sum, whichever pieces are given
-one_sum : (g : ℕ) → POSITIONS_ACROSS ≤ places_across g
+pub one_sum : (g : ℕ) → POSITIONS_ACROSS ≤ places_across g
     → (plat : TownshipPlat) (places : ℕ → ℕ → ℕ → Bool) (pieces pieces' : ℕ → ℕ → ℕ → ℕ)
     → ArePieces plat pieces → ArePieces plat pieces'
     → township_sum g pieces places ≡ township_sum g pieces' places

@@ -9,3 +9,4 @@ pub mod AreaFacts
 pub mod FigureFacts
 pub mod PlatLaws
 pub mod FinerAreas
+pub mod CombinedAreas

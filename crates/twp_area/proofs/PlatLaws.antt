@@ -63,7 +63,7 @@ found_alike : (found : Option ℕ) (f f' : ℕ → ℕ)
 found_alike None f f' same = refl
 found_alike (Some number) f f' same = same number refl
 
-table-ext : (f f' : Lot → ℕ)
+pub table-ext : (f f' : Lot → ℕ)
     → ((section column row number : ℕ) → IsSection section
     → lot_at_position section column row ≡ Some number
     → f (lot section number column row) ≡ f' (lot section number column row))
@@ -94,7 +94,7 @@ printed_alike g plat places figures figures' are are' =
     ∙ sym (filtered (holds_lot g places) (printed_units figures') lots)
 
 -- if places have a nominal share, positions have places
-shared : (g share : ℕ) → places_of_position g * share ≡ 400000000 → POSITIONS_ACROSS ≤ places_across g
+pub shared : (g share : ℕ) → places_of_position g * share ≡ 400000000 → POSITIONS_ACROSS ≤ places_across g
 shared g share is = go (places_across g) refl
   where
     go : (across : ℕ) → places_across g ≡ across → POSITIONS_ACROSS ≤ across
@@ -108,7 +108,7 @@ shared g share is = go (places_across g) refl
         nothing : (p share : ℕ) → p ≡ 0 → p * p * share ≡ 0
         nothing p share none = rw none (omega arith)
 
-one_share : (n share share' : ℕ) → 0 < n → n * share ≡ 400000000 → n * share' ≡ 400000000 → share ≡ share'
+pub one_share : (n share share' : ℕ) → 0 < n → n * share ≡ 400000000 → n * share' ≡ 400000000 → share ≡ share'
 one_share n share share' some is is' = cancelled share share' n some (omega arith)
 
 pub one_plat_area : OnePlatArea

@@ -4,7 +4,7 @@ use Rattle.twp_measure.specs.Areas.{Fraction}
 use Rattle.twp_grid.specs.Lots.{POSITIONS_ACROSS}
 use Rattle.twp_grid.specs.Winding.{IsSection}
 use Rattle.twp_grid.specs.Places.{PLACE_DIGITS, places_across, is_place}
-use Rattle.twp_land.specs.Lands.{union}
+use Rattle.twp_land.specs.Lands.{union, intersection, difference}
 use Rattle.twp_land.specs.Storage.{is_section}
 use Rattle.twp_plat.specs.Plats.{TownshipPlat}
 use Rattle.twp_plat.specs.PlatAreas.{IsSectionArea, IsTownshipArea}
@@ -37,6 +37,25 @@ DisjointAreasAdd = (g : ℕ) → POSITIONS_ACROSS ≤ places_across g → (plat 
     → IsLandArea g plat places area → IsLandArea g plat more other
     → IsLandArea g plat (union places more)
     (record { units = area.units + other.units; over = area.over })
+
+-- The area of the union of two sets and that of their intersection add up to the areas of the two,
+-- if all are whole numbers of units. On one plat, all areas have the same denominator.
+abbrev pub UnionAndIntersectionAdd : Type 0
+UnionAndIntersectionAdd = (g : ℕ) → POSITIONS_ACROSS ≤ places_across g → (plat : TownshipPlat)
+    (places more : ℕ → ℕ → ℕ → Bool) (first second either both : Fraction)
+    → IsLandArea g plat places first → IsLandArea g plat more second
+    → IsLandArea g plat (union places more) either
+    → IsLandArea g plat (intersection places more) both
+    → either.units + both.units ≡ first.units + second.units
+
+-- the area of what the first of two sets has alone and that of their intersection add up to the
+-- area of the first
+abbrev pub DifferenceAndIntersectionAdd : Type 0
+DifferenceAndIntersectionAdd = (g : ℕ) → POSITIONS_ACROSS ≤ places_across g
+    → (plat : TownshipPlat) (places more : ℕ → ℕ → ℕ → Bool) (first rest both : Fraction)
+    → IsLandArea g plat places first → IsLandArea g plat (difference places more) rest
+    → IsLandArea g plat (intersection places more) both
+    → rest.units + both.units ≡ first.units
 
 -- all places of a section
 abbrev pub section_places : ℕ → ℕ → ℕ → ℕ → ℕ → Bool

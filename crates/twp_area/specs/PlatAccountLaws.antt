@@ -1,7 +1,7 @@
 -- Laws over plat areas.
 use Rattle.std.specs.Prelude.{◌≡◌, ℕ, ◌+◌, ◌*◌, ◌/◌, ◌≤◌, Bool, length}
 use Rattle.twp_measure.specs.Areas.{Fraction, HUNDREDTH_OF_AN_ACRE}
-use Rattle.twp_land.specs.Lands.{union}
+use Rattle.twp_land.specs.Lands.{union, intersection, difference}
 use Rattle.twp_land.specs.WholeLots.{HasWholeLots}
 use Rattle.twp_plat.specs.Plats.{TownshipPlat, IsPlat}
 use Rattle.twp_area.specs.LandAreas.{IsLandArea}
@@ -21,6 +21,25 @@ DisjointPlatAreasAdd = (g : ℕ) (plat : TownshipPlat) (places more : ℕ → �
     → IsPlatArea g plat places area → IsPlatArea g plat more other
     → IsPlatArea g plat (union places more)
     (record { units = area.units + other.units; over = area.over })
+
+-- the plat area of the union of two sets with whole lots and that of their intersection add up to
+-- the plat areas of the two
+abbrev pub PlatUnionAndIntersectionAdd : Type 0
+PlatUnionAndIntersectionAdd = (g : ℕ) (plat : TownshipPlat) (places more : ℕ → ℕ → ℕ → Bool)
+    (first second either both : Fraction) → HasWholeLots g places → HasWholeLots g more
+    → IsPlatArea g plat places first → IsPlatArea g plat more second
+    → IsPlatArea g plat (union places more) either
+    → IsPlatArea g plat (intersection places more) both
+    → either.units + both.units ≡ first.units + second.units
+
+-- the plat area of what the first of two such sets has alone and that of their intersection add up
+-- to the plat area of the first
+abbrev pub PlatDifferenceAndIntersectionAdd : Type 0
+PlatDifferenceAndIntersectionAdd = (g : ℕ) (plat : TownshipPlat) (places more : ℕ → ℕ → ℕ → Bool)
+    (first rest both : Fraction) → HasWholeLots g places → HasWholeLots g more
+    → IsPlatArea g plat places first → IsPlatArea g plat (difference places more) rest
+    → IsPlatArea g plat (intersection places more) both
+    → rest.units + both.units ≡ first.units
 
 -- half a hundredth of an acre, in units
 abbrev pub HALF_A_HUNDREDTH : ℕ

@@ -1,8 +1,11 @@
 //! Laws of areas that follow from their definitions. Each law is a contract, and its function does
 //! nothing.
 ghost use Rattle.twp_area.specs.Laws.{OneLandArea, DisjointSumsAdd, DisjointAreasAdd};
+ghost use Rattle.twp_area.specs.Laws.{UnionAndIntersectionAdd, DifferenceAndIntersectionAdd};
 ghost use Rattle.twp_area.specs.Laws.{SectionAreaIsOfLand, TownshipAreaIsOfLand};
 ghost use Rattle.twp_area.specs.PlatAccountLaws.{OnePlatArea, DisjointPlatAreasAdd};
+ghost use Rattle.twp_area.specs.PlatAccountLaws.{PlatUnionAndIntersectionAdd};
+ghost use Rattle.twp_area.specs.PlatAccountLaws.{PlatDifferenceAndIntersectionAdd};
 ghost use Rattle.twp_area.specs.PlatAccountLaws.{PlatAreaIsNear};
 
 /// A set of places has only one area on a plat.
@@ -23,6 +26,17 @@ pub fn disjoint_sums_add()
 #[tactic(auto, using(crate::proofs::AreaLaws::disjoint_areas_add))]
 pub fn disjoint_areas_add()
     ensures { DisjointAreasAdd }
+{}
+
+/// The area of two sets of places together and the area that they share add up to their areas.
+pub fn union_and_intersection_add()
+    ensures { UnionAndIntersectionAdd }
+{}
+
+/// The area that one set of places has without another and the area that they share add up to the
+/// area of the first.
+pub fn difference_and_intersection_add()
+    ensures { DifferenceAndIntersectionAdd }
 {}
 
 /// A section's area on the plat is the area of all its places.
@@ -46,6 +60,18 @@ pub fn one_plat_area()
 /// contain each lot wholly or not at all.
 pub fn disjoint_plat_areas_add()
     ensures { DisjointPlatAreasAdd }
+{}
+
+/// The plat area of two sets of places together and the plat area that they share add up to their
+/// plat areas, if both contain each lot wholly or not at all.
+pub fn plat_union_and_intersection_add()
+    ensures { PlatUnionAndIntersectionAdd }
+{}
+
+/// The plat area that one such set of places has without another and the plat area that they share
+/// add up to the plat area of the first.
+pub fn plat_difference_and_intersection_add()
+    ensures { PlatDifferenceAndIntersectionAdd }
 {}
 
 /// If a set of places contains each lot wholly or not at all, its exact area and its plat area
