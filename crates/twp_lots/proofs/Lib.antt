@@ -1,0 +1,4 @@
+pub mod IndexFacts
+pub mod SumFacts
+pub mod LotLaws
+pub mod LackingFacts

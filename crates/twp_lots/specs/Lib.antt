@@ -1,0 +1,4 @@
+pub mod LotTables
+pub mod LotAreas
+pub mod Laws
+pub mod steps

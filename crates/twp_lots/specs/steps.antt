@@ -1,0 +1,2 @@
+pub mod SectionUnits
+pub mod LackingSteps
