@@ -37,7 +37,7 @@ def compare() -> Compared:
             for least, most in re.findall(form, text):
                 compared += 1
                 if (thousandths_of(least), thousandths_of(most)) not in allowed:
-                    differences.append(f"{path}: not the limits of a half mile, or of a closing quarter: {least} {most}")
+                    differences.append(f"{path}: not a limit of a half mile, or of a closing quarter: {least} {most}")
     return compared, differences
 
 
