@@ -1,11 +1,8 @@
 #!/bin/sh
 # Tests ./township, or the program that is named, as people use it, and the documents and the installation that go with
 # it; twp_growth is taken from its crate, or is named second. The last line counts all tests: 'N passed, 0 failed'.
-set -u
-root=$(readlink -f "$(dirname "$0")/..")
-. "$root/tests/lib.sh"
-program=$(readlink -f "${1:-./township}")
-calls=$(readlink -f "${2:-$root/crates/twp_growth/out/twp_growth}")
+. "$(dirname "$0")/lib.sh"
+name_programs "$@"
 tests=$root/tests/program
 begin rows sh "$tests/rows.sh" "$program" "$calls"
 begin streams sh "$tests/streams.sh" "$program"

@@ -1,15 +1,34 @@
-# What the shell scripts of the tests share: a folder that is removed at the end, counting, comparing, and running other
-# tests. A script begins with
+# What the shell scripts of the tests share: their places, a folder that is removed at the end, counting, comparing, and
+# running other tests. A script in a folder of tests/ begins with
 #
-#     set -u
-#     root=$(readlink -f "$(dirname "$0")/../..")
-#     . "$root/tests/lib.sh"
+#     . "$(dirname "$0")/../lib.sh"
 #
-# and ends with `ended`, whose last line is 'N passed, M failed'. A test whose tool is missing is skipped, by `skip`.
+# and, if it runs the program, with `test_program "$@"`. It ends with `ended`, whose last line is 'N passed, M failed'. A
+# test whose tool is missing is skipped, by `skip`.
+set -u
+
+# The top of the repository: a folder above the script.
+root=$(readlink -f "$(dirname "$0")")
+until [ -f "$root/tests/lib.sh" ] || [ -z "$root" ]; do root=${root%/*}; done
+
 passed=0
 failed=0
 work=$(mktemp -d)
 trap 'rm -rf "$work"' EXIT
+
+# The programs to test: ./township, or the first word; and twp_growth of its crate, or the second word.
+name_programs() {
+    program=$(readlink -f "${1:-./township}")
+    calls=$(readlink -f "${2:-$root/crates/twp_growth/out/twp_growth}")
+}
+
+# The same, in the script's folder. A faulty program must not fill the disk or run forever.
+test_program() {
+    name_programs "$@"
+    ulimit -f 4000
+    ulimit -t 20
+    cd "$work" || exit 1
+}
 
 # Counts a test, or one that failed: what it tests, and files to show.
 pass() { passed=$((passed + 1)); }

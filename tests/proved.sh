@@ -2,9 +2,7 @@
 # Tests what `rt ci` has just proved: the program and the documents by e2e.sh, beside them the library, and then the
 # packages. The last line counts all tests: 'N passed, 0 failed'.
 # Skipped tests are named and counted before it; if CI is set, a skipped test is a failure.
-set -u
-root=$(readlink -f "$(dirname "$0")/..")
-. "$root/tests/lib.sh"
+. "$(dirname "$0")/lib.sh"
 cd "$root" || exit 1
 {
     begin quick sh tests/quick.sh

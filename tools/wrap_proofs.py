@@ -3,20 +3,20 @@
 
     python3 tools/wrap_proofs.py [--check] [--width N] [FILE or FOLDER ..]
 
-A folder stands for each .antt file below it that is not in an out/ folder; with no argument, crates/ is
-meant. With --check nothing is written: each line that is too long is named, and each file of more than 400
-lines; the status is 1 if there are any. The width is 110 columns where none is given.
+A folder means all .antt files below it that are not in an out/ folder; the default is crates/. With --check
+nothing is written: each line that is too long is named, and each file of more than 400 lines; the status is 1
+if there are any. The default width is 110 columns.
 
 A line that fits is left as it is. A longer one is taken apart into the shape of its term, and broken first
 where that shape is: after `in` and `=`, before `→` and the operators, between arguments. The indentation is
 that of `rt fmt`: an item (a declaration, a clause, a field, a case) goes on four columns further in, however
-deep its brackets are, and the parts of a record, of a tuple, and of an `elim`, once broken, stand on lines of
+deep its brackets are, and the parts of a record, of a tuple, and of an `elim`, once broken, are on lines of
 their own. A second run changes nothing.
 
-What changes is white space alone, except in two ways that mean the same. A long `use` list becomes several
-`use` lines of one module. And a broken record, tuple or `elim` gets the marks that `rt fmt` gives it: `;` or
-`,` behind the last part, `|` before the first case. Before a file is written, its tokens are compared with
-those that it had.
+Only white space changes, except in two ways that keep the meaning. A long `use` list becomes several `use`
+lines of one module. And a broken record, tuple or `elim` gets the marks that `rt fmt` gives it: `;` or `,`
+after the last part, `|` before the first case. Before a file is written, its tokens are compared with those
+that it had.
 """
 
 import argparse
@@ -157,9 +157,9 @@ def parts_at(nodes: List[Node], separator: str) -> List[List[Node]]:
 class Document:
     """A text that can be broken.
 
-    `flat` is the text on one line. `head` is the width of what stands before the block that the text ends
-    with, or before the body of the `λ` that it ends with: so much is enough for the text to begin on a line.
-    `room` is how much may stand behind it.
+    `flat` is the text on one line. `head` is the width of the text before the block that it ends with, or
+    before the body of the `λ` that it ends with: with that much room, the text can begin on a line. `room` is
+    the width of what may come after it.
     """
 
     flat: str = ""
@@ -571,8 +571,7 @@ class Printer:
     def begins_here(self, document: Document, column: int, is_begun: bool = False) -> bool:
         """Whether the document begins on this line, and continues in the block or body that it ends with.
 
-        It does where the line has room for what stands before that, and where no line of its own has room
-        for the whole.
+        It does if the line has room for what comes before that, and no line of its own has room for the whole.
         """
         if not is_begun and self.fits_alone(document, column):
             return False

@@ -2,16 +2,11 @@
 # Compares the documents with ./township, or the program that is named: their commands, their
 # examples of refusals and of descriptions, the indexes, names, and counts that they give, and docs/TRUST.md.
 # All of it is read from the documents. The last line is 'N passed, 0 failed'.
-set -u
-ulimit -f 2000
-ulimit -t 20
-root=$(readlink -f "$(dirname "$0")/../..")
-. "$root/tests/lib.sh"
-program=$(readlink -f "${1:-./township}")
+. "$(dirname "$0")/../lib.sh"
+test_program "$@"
 docs=$root/docs
 even=$root/samples/b0.csv
 uneven=$root/samples/b1.csv
-cd "$work" || exit 1
 
 # Runs the program with these words: `found` is its output, its status, and its standard error, except for the
 # explanation of a refusal, which must be there.

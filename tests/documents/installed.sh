@@ -2,13 +2,8 @@
 # Installs ./township, or the program that is named, into a folder of its own, and checks the result: the
 # files, that nothing is proved or built for it, and that the completions of the shells complete what they should.
 # The last line is 'N passed, 0 failed'.
-set -u
-ulimit -f 2000
-ulimit -t 20
-root=$(readlink -f "$(dirname "$0")/../..")
-. "$root/tests/lib.sh"
-program=$(readlink -f "${1:-./township}")
-cd "$work" || exit 1
+. "$(dirname "$0")/../lib.sh"
+test_program "$@"
 
 # Take no options from a make that calls this script.
 unset MAKEFLAGS MFLAGS MAKELEVEL

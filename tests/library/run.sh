@@ -6,9 +6,7 @@
 # is skipped, and named in a line 'skipped: NAME'; tools/needs.sh lists the packages to install. The last line is
 # 'N passed, 0 failed'. With the word `proved`, the library is built from the crates that `rt ci` has just proved, and
 # the program is the one that it built.
-set -u
-root=$(readlink -f "$(dirname "$0")/../..")
-. "$root/tests/lib.sh"
+. "$(dirname "$0")/../lib.sh"
 cd "$root" || exit 1
 proved=${1:-}
 program=township

@@ -3,9 +3,7 @@
 # nothing, that making them again gives the same bytes, and that they work on a machine without the proof kit. The
 # program and the library must be built. A test whose tool is missing is skipped, and named in a line 'skipped: NAME';
 # tools/needs.sh lists the packages to install. The last line is 'N passed, M failed'.
-set -u
-root=$(readlink -f "$(dirname "$0")/../..")
-. "$root/tests/lib.sh"
+. "$(dirname "$0")/../lib.sh"
 cd "$root" || exit 1
 dist=$work/dist
 

@@ -1,8 +1,7 @@
 # What the tests on a machine without the proof kit share. Each test is read after this file, by a shell in an image,
 # with the packages in /given/dist and the sources in /given/source. Its last line is 'N passed, M failed'.
-set -u
+. /given/source/tests/lib.sh
 root=/given/source
-. "$root/tests/lib.sh"
 samples=$root/samples
 DEBIAN_FRONTEND=noninteractive
 export DEBIAN_FRONTEND

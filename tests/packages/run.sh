@@ -4,10 +4,8 @@
 # here, a line 'left out: ..' says so. The last line is 'N passed, M failed'.
 #
 #     sh tests/packages/run.sh dist
-set -u
+. "$(dirname "$0")/../lib.sh"
 dist=$(readlink -f "$1")
-root=$(readlink -f "$(dirname "$0")/../..")
-. "$root/tests/lib.sh"
 here=$root/tests/packages
 
 leave_out() {

@@ -8,13 +8,8 @@
 #
 # `sh tests/program/damaged.sh PROGRAM records` prints the program's answers as records for tests/library/c/cases.c, which
 # compares them with the library's answers for the same bytes; tests/library/run.sh calls both.
-set -u
-ulimit -f 4000
-ulimit -t 20
-root=$(readlink -f "$(dirname "$0")/../..")
-. "$root/tests/lib.sh"
-program=$(readlink -f "${1:-./township}")
-cd "$work" || exit 1
+. "$(dirname "$0")/../lib.sh"
+test_program "$@"
 count=1000
 LC_ALL=C
 export LC_ALL

@@ -6,14 +6,9 @@
 # the program's input, or for the explanation, the answer and the status are the same, and the explanation is
 # complete or omitted. The first run in which there is nothing to refuse gives the right answer. The last line
 # is 'N passed, 0 failed'.
-set -u
-ulimit -f 2000
-ulimit -t 20
-root=$(readlink -f "$(dirname "$0")/../..")
-. "$root/tests/lib.sh"
-program=$(readlink -f "${1:-./township}")
-calls=$(readlink -f "${2:-$root/crates/twp_growth/out/twp_growth}")
-cd "$work" || exit 1
+. "$(dirname "$0")/../lib.sh"
+test_program "$@"
+. "$root/tests/program/inputs.sh"
 
 compiler=${CC:-cc}
 if ! command -v "$compiler" > lost; then
@@ -22,13 +17,10 @@ if ! command -v "$compiler" > lost; then
 fi
 "$compiler" -O1 -shared -fPIC -o refuse_growth.so "$root/tests/program/refuse_growth.c" || exit 1
 
-# The notes of two townships: in the first, all lines are 40 and 80 chains.
-cp "$root/samples/b0.csv" n.csv
-cp "$root/samples/b1.csv" uneven.csv
-cp "$root/samples/tracts.csv" t.csv
-printf 'sec. 14.' > d.txt
-printf 'sec. 14, SE1/4, NE1/4, NW1/4.' > parts
-printf 'sec. 5, lot 1.\n' | cat - uneven.csv > joined
+accepted_input
+refused_input
+# A township whose lines are all 40 and 80 chains.
+cp "$root/samples/b0.csv" even.csv
 input=/dev/null
 
 # How a run must end that was refused memory: the program, and a call, whose output must be `wanted_refused`.
@@ -146,7 +138,7 @@ refuse_call 'Notes::read' '' "answered
 $notes
 " read-notes n.csv
 refuse_call 'Description::read' '' 'answered
-1
+2
 ' read-description d.txt
 # A chain of twelve steps, ten of which have room in its item, each a half of a half: the sixth makes it too small.
 printf 'sec. 14, N1/2N1/2N1/2N1/2N1/2N1/2N1/2N1/2N1/2N1/2N1/2N1/2.' > chain
@@ -154,10 +146,8 @@ refuse_call 'Description::read' '' 'answered
 2
 ' read-description chain
 
-normal='T. 2 N., R. 3 W.,
-sec. 14, N1/2, SE1/4.'
 refuse_call 'spell' '' "answered
-$normal
+$canonical
 " spell parts
 # The northern row of places is written as the north halves of sixteen squares of four places, and these as their
 # quarters, from the east.
@@ -171,10 +161,6 @@ refuse_call 'spell' '' "answered
 T. 2 N., R. 3 W.,
 sec. 14, $parts_of_row.
 " spell row
-account='tract A: 39.18 acres
-tract B: 39.03 acres
-total: 78.20 acres
-remaining: 22959.37 acres'
 printf 'sec. 7, lots 1 to 4, inclusive.' > lots
 # The lines of sections 6, 7, and 8 in the plat, its last line, and the number of its lines, 37.
 plat='sec. 6: lot 1 40.90, lot 2 41.10, lot 3 41.31, lot 4 39.95, lot 5 38.70, lot 6 38.90, lot 7 39.10, total 639.97
@@ -183,33 +169,29 @@ sec. 8: total 640.00
 township total 23037.57'
 lines='6,8p;37p;$='
 refuse_program 'plat' 1 "$plat
-37" plat uneven.csv
+37" plat n.csv
 lines=p
-refuse_program 'acres' 2 '640.00 acres' acres n.csv d.txt
-refuse_program 'acres by the plat' 2 '156.42 acres' acres --account plat uneven.csv lots
-refuse_program 'normal' 2 "$normal" normal n.csv parts
+refuse_program 'acres' 2 '40.45 acres' acres n.csv d.txt
+refuse_program 'acres by the plat' 2 '156.42 acres' acres --account plat n.csv lots
+refuse_program 'normal' 2 "$canonical" normal n.csv parts
 refuse_program 'normal of lots' 2 'T. 2 N., R. 3 W.,
-sec. 7, lots 1, 2, 3, 4.' normal uneven.csv lots
-refuse_program 'report' 2 "$account" report uneven.csv t.csv
+sec. 7, lots 1, 2, 3, 4.' normal n.csv lots
+refuse_program 'report' 2 "$account" report n.csv t.csv
 # Twenty tracts, a section each of 640 acres: 12,800 of 23,040.
 awk 'BEGIN { print "name,description"; for (n = 1; n <= 20; n++) printf "%s,sec. %s.\n", n, n }' > twenty
 refuse_program 'report of twenty tracts' 2 "$(awk 'BEGIN { for (n = 1; n <= 20; n++) printf "tract %s: 640.00 acres\n", n }')
 total: 12800.00 acres
-remaining: 10240.00 acres" report n.csv twenty
+remaining: 10240.00 acres" report even.csv twenty
 # A copy begins with room for 131,072 bytes, and grows for more.
 (cat t.csv; head -c 200000 /dev/zero | tr '\0' '\n') > long.csv
-refuse_program 'report of a long list' 3 "$account" report uneven.csv long.csv
+refuse_program 'report of a long list' 3 "$account" report n.csv long.csv
 input=joined
 refuse_program 'joined input' 1 '40.45 acres'
 
 # Refused input: notes, a plat, descriptions, lists, and joined input.
 input=/dev/null
-sed '/^W,6,7,/d' n.csv > lacking.csv
-sed '/^W,6,7,/s/80.00/85.01/' n.csv > long-line.csv
-printf 'sec. 14, NE1/4 and N1/2.' > overlap
+sed '/^W,6,7,/s/80.00/85.01/' even.csv > long-line.csv
 printf 'sec. 14,' > short
-printf 'name,description\nA,"sec. 14, NE1/4 and N1/2."\n' > refused-tract.csv
-printf 'name,description\nA,"sec. 14, NE1/4."\nB,"sec. 14, N1/2."\n' > shared-land.csv
 refuse_refusal 'missing notes' 1 'refused 11 at 53' plat lacking.csv
 refuse_refusal 'a long line' 2 'refused 23 at 53' acres long-line.csv d.txt
 refuse_refusal 'a short text' 2 'refused 44 at 8' normal n.csv short

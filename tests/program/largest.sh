@@ -3,14 +3,9 @@
 # or one tract larger: field notes, descriptions, canonical texts, lists of tracts, names of tracts; and on input of
 # many lengths, none of which may run out of memory. Compares the answer and the status of each run, and how far it
 # reads. The last line is 'N passed, 0 failed'.
-set -u
-ulimit -f 4000
-ulimit -t 20
-root=$(readlink -f "$(dirname "$0")/../..")
-. "$root/tests/lib.sh"
-program=$(readlink -f "${1:-./township}")
+. "$(dirname "$0")/../lib.sh"
+test_program "$@"
 even=$root/samples/b0.csv
-cd "$work" || exit 1
 
 # Runs the program with these words; it must end with this status, and its answer must be that in the file `wanted`.
 ends() {

@@ -6,22 +6,15 @@
 # The last line is 'N passed, 0 failed'.
 #
 # The environment is on the stack too: `env -i PATH="$PATH" sh tests/program/limits.sh` tests the program without one.
-set -u
-ulimit -f 2000
-ulimit -t 20
-root=$(readlink -f "$(dirname "$0")/../..")
-. "$root/tests/lib.sh"
-program=$(readlink -f "${1:-./township}")
-cd "$work" || exit 1
+. "$(dirname "$0")/../lib.sh"
+test_program "$@"
+. "$root/tests/program/inputs.sh"
 # In KiB.
 page=4
 stack=96
 
-cp "$root/samples/b1.csv" n.csv
-cp "$root/samples/tracts.csv" t.csv
-printf 'sec. 5, lot 1.' > d.txt
-printf 'sec. 14, SE1/4, NE1/4, NW1/4.' > parts
-printf 'sec. 5, lot 1.\n' | cat - n.csv > joined
+accepted_input
+refused_input
 input=/dev/null
 lines=p
 
@@ -96,21 +89,13 @@ limit_of() {
 }
 
 limit 'acres' '40.45 acres' acres n.csv d.txt
-limit 'normal' 'T. 2 N., R. 3 W.,
-sec. 14, N1/2, SE1/4.' normal n.csv parts
-limit 'report' 'tract A: 39.18 acres
-tract B: 39.03 acres
-total: 78.20 acres
-remaining: 22959.37 acres' report n.csv t.csv
+limit 'normal' "$canonical" normal n.csv parts
+limit 'report' "$account" report n.csv t.csv
 # The last of the plat's 37 lines, and their number.
 lines='37p;$='
 limit 'plat' 'township total 23037.57
 37' plat n.csv
 lines=p
-sed '/^W,6,7,/d' n.csv > lacking.csv
-printf 'sec. 14, NE1/4 and N1/2.' > overlap
-printf 'name,description\nA,"sec. 14, NE1/4 and N1/2."\n' > refused-tract.csv
-printf 'name,description\nA,"sec. 14, NE1/4."\nB,"sec. 14, N1/2."\n' > shared-land.csv
 limit_refused 'plat' 'refused 11 at 53' plat lacking.csv
 limit_refused 'acres' 'refused 67 at 19' acres n.csv overlap
 limit_refused 'normal' 'refused 67 at 19' normal n.csv overlap

@@ -1,13 +1,10 @@
 #!/bin/sh
 # Runs the rows of tests/program/rows, and the tests that are written in Python beside them, on ./township or the program
 # that is named, and on twp_growth or the program that is named second. Further words go to pytest, such as `-k acres`.
-set -u
+. "$(dirname "$0")/../lib.sh"
+name_programs "$@"
 # A faulty program must not fill the disk.
 ulimit -f 4000
-root=$(readlink -f "$(dirname "$0")/../..")
-. "$root/tests/lib.sh"
-program=$(readlink -f "${1:-./township}")
-calls=$(readlink -f "${2:-$root/crates/twp_growth/out/twp_growth}")
 [ $# -lt 2 ] || shift
 [ $# = 0 ] || shift
 

@@ -2,14 +2,9 @@
 # Runs ./township, or the program that is named, where a row can't say how: on devices, on pipes whose writer is slow or
 # endless, with closed streams, with output that can't be written, and on files that are opened in turn. Compares the
 # status, standard output, and standard error. The last line is 'N passed, 0 failed'.
-set -u
-# A faulty program must not fill the disk or run forever.
-ulimit -f 4000
-ulimit -t 20
-root=$(readlink -f "$(dirname "$0")/../..")
-. "$root/tests/lib.sh"
-program=$(readlink -f "${1:-./township}")
-cd "$work" || exit 1
+. "$(dirname "$0")/../lib.sh"
+test_program "$@"
+. "$root/tests/program/inputs.sh"
 
 # Compares the last run: what it tests, its status, and its standard output and standard error, each
 # without its last line feed.
@@ -41,20 +36,9 @@ text() { [ -z "$1" ] || printf '%s\n' "$1"; }
 # Runs the program with these words, and keeps its output.
 run() { "$program" "$@" > out 2> err; }
 
-cp "$root/samples/b1.csv" n.csv
-cp "$root/samples/tracts.csv" t.csv
-printf 'sec. 5, lot 1.' > d.txt
-printf 'sec. 14, SE1/4, NE1/4, NW1/4.' > parts
-printf 'sec. 5, lot 1.\n' | cat - n.csv > joined
+accepted_input
 : > empty
 mkdir folder
-# Lots 1 and 4 of section 7 have 39.175 and 39.025 acres, and the township has 23,037.56775..
-account='tract A: 39.18 acres
-tract B: 39.03 acres
-total: 78.20 acres
-remaining: 22959.37 acres'
-canonical='T. 2 N., R. 3 W.,
-sec. 14, N1/2, SE1/4.'
 
 # Paths, devices, and another name of the program.
 run acres ./n.csv "$work/d.txt"; ends 'names with slashes' $? 0 '40.45 acres' ''

@@ -4,17 +4,21 @@
     python3 tools/repeated
 
 - The structs and the constants of include/township.h, with those of the library and of the bindings.
-- The limits of the definitions, with those of the code, of the header, and of sentences.
+- The functions of include/township.h, with the lists and the tests that have to name each of them.
+- The limits of the definitions, with those of the code, of the header, and of sentences; and likewise the lengths that
+  half miles may have.
 - The numbers of refusals in docs/REFUSALS.md, with the ranges of numbers that sentences give.
 
-Each difference is named; the status is 1 if there are any. tools/signatures.py compares the functions of the header,
-and tools/header_names.py the names of refusals and the versions.
+Each difference is named; the status is 1 if there are any. tools/signatures.py compares the parameters of
+functions, and tools/header_names.py the names of refusals and the versions.
 """
 
 import sys
 from typing import List
 
+import calls
 import constants
+import lengths
 import limits
 import ranges
 import structs
@@ -22,7 +26,7 @@ import structs
 
 def main() -> int:
     differences: List[str] = []
-    for module in (structs, constants, limits, ranges):
+    for module in (structs, constants, calls, limits, lengths, ranges):
         compared, found = module.compare()
         differences += found
         print(f"{compared} {module.WHAT}")

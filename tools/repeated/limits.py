@@ -3,7 +3,7 @@
 import re
 from typing import Dict, List, NamedTuple, Set
 
-from reading import CALLS, HEADER, PYTHON, ROOT, Compared, number_of, text_of
+from reading import HEADER, PYTHON, ROOT, Compared, number_of, text_of
 
 WHAT = "limits in the code, the header, and sentences"
 
@@ -60,19 +60,40 @@ SENTENCES = (
 NO_SENTENCES = {"docs/BENCHMARKS.md", "docs/PERFORMANCE.md", "docs/TRUST.md"}
 
 
+#: What is read of standard input: a description, a line feed, and one byte more than notes may have.
+JOINED = {
+    "crates/twp_input/src/joined.rt": r"const MOST_BYTES: usize = ",
+    "tests/library/c/case_records.py": r"^JOINED_MOST = ",
+    "bindings/python/tests/test_cases.py": r"^JOINED_MOST = ",
+}
+
+
 def compare() -> Compared:
     values = {limit.name: defined(limit) for limit in LIMITS}
+    joined = values["TEXT_LIMIT"] + 1 + values["NOTES_MOST"] + 1
+    compared, differences = compare_constants(values, joined)
+    in_sentences, further = compare_sentences(values, joined)
+    return compared + in_sentences, differences + further
+
+
+def compare_constants(values: Dict[str, int], joined: int) -> Compared:
+    repeated = [(limit.name, values[limit.name], limit.repeated) for limit in LIMITS]
+    repeated.append(("JOINED_MOST", joined, JOINED))
     compared = 0
     differences: List[str] = []
-    for limit in LIMITS:
-        for place, form in limit.repeated.items():
+    for name, value, places in repeated:
+        for place, form in places.items():
             compared += 1
             found = [number_of(number) for number in re.findall(form + r"([\d_]+)", text_of(place), re.M)]
-            if found != [values[limit.name]]:
-                differences.append(f"{place}: {limit.name} is {values[limit.name]}, and here it is {found}")
-    sizes = {values["NOTES_MOST"], values["TEXT_LIMIT"], values["TRACTS_LIMIT"]}
-    # On standard input, a description and notes with a line feed between them, and one byte more.
-    sizes.add(values["TEXT_LIMIT"] + values["NOTES_MOST"] + 2)
+            if found != [value]:
+                differences.append(f"{place}: {name} is {value}, and here it is {found}")
+    return compared, differences
+
+
+def compare_sentences(values: Dict[str, int], joined: int) -> Compared:
+    sizes = {values["NOTES_MOST"], values["TEXT_LIMIT"], values["TRACTS_LIMIT"], joined}
+    compared = 0
+    differences: List[str] = []
     for path in files_of_sentences():
         text = " ".join(text_of(path).split())
         for form, allowed in (

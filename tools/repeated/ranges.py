@@ -55,7 +55,7 @@ def stages_of(text: str) -> Dict[str, List[int]]:
         row = re.match(r"\| (\d+) \| [A-Z][A-Za-z]* \|", line)
         if row:
             stages.setdefault(heading, []).append(int(row.group(1)))
-    return stages
+    return {heading: sorted(numbers) for heading, numbers in stages.items()}
 
 
 def allowed_ranges(stages: Dict[str, List[int]]) -> Set[Tuple[int, int]]:

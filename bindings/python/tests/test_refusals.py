@@ -6,35 +6,23 @@ import unittest
 from pathlib import Path
 
 import township
+from documented import examples
 from samples import NOTES, TRACTS, RefusalCase, even, uneven
 
 
 class OfDescriptions(RefusalCase):
-    # As in docs/REFUSALS.md.
-    REFUSED = (
-        (41, 65536, " " * 65537),
-        (42, 8, "secs. 14-15."),
-        (43, 5, "sec. 10000."),
-        (44, 8, "sec. 14,"),
-        (61, 0, "T. 2 N., R. 3 E., sec. 14."),
-        (62, 5, "sec. 37."),
-        (63, 11, "secs. 9 to 4."),
-        (64, 12, "sec. 5, lot 5."),
-        (65, 9, "sec. 14, N1/2NE1/4NE1/4NE1/4NE1/4NE1/4."),
-        (66, 8, "sec. 5, N1/2."),
-        (67, 19, "sec. 14, NE1/4 and N1/2."),
-    )
+    REFUSED = examples("The text of a description", "The land that a description names")
 
     def test_numbers_and_places(self):
         for call in (uneven().acres, uneven().area, uneven().normal):
-            for number, at, description in self.REFUSED:
-                with self.subTest(call=call.__name__, number=number):
+            for number, at, description, _ in self.REFUSED:
+                with self.subTest(call=call.__name__, description=description[:80]):
                     refused = self.refused(call, description)
                     self.assertEqual((refused.number, refused.at, refused.inner), (number, at, None))
 
     def test_by_the_plat(self):
-        for number, at, description in self.REFUSED:
-            with self.subTest(number=number):
+        for number, at, description, _ in self.REFUSED:
+            with self.subTest(description=description[:80]):
                 refused = self.refused(uneven().acres, description, account="plat")
                 self.assertEqual((refused.number, refused.at), (number, at))
 
@@ -77,6 +65,12 @@ class OfDescriptions(RefusalCase):
 
 
 class OfNotes(RefusalCase):
+    def test_numbers_and_places(self):
+        for number, at, notes, _ in examples("Field notes", "The plat"):
+            with self.subTest(number=number, at=at):
+                refused = self.refused(township.Plat.read, notes)
+                self.assertEqual((refused.number, refused.at, refused.inner), (number, at, None))
+
     def test_line_that_is_missing(self):
         lines = [line for line in NOTES.splitlines(True) if not line.startswith(b"W,6,7,")]
         refused = self.refused(township.Plat.read, b"".join(lines))
@@ -105,6 +99,12 @@ class OfNotes(RefusalCase):
 
 
 class OfLists(RefusalCase):
+    def test_numbers_and_places(self):
+        for number, at, tracts, inner in examples("A list of tracts"):
+            with self.subTest(number=number, at=at):
+                refused = self.refused(uneven().report_csv, tracts)
+                self.assertEqual((refused.number, refused.at, refused.inner), (number, at, inner))
+
     def test_tract_with_its_own_refusal(self):
         refused = self.refused(uneven().report, [("A", "sec. 14, NE1/4 and N1/2.")])
         self.assertEqual((refused.number, refused.at, refused.inner), (83, 2, (67, 19)))

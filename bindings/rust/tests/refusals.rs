@@ -1,29 +1,20 @@
 //! Refusals: their numbers, places, and explanations.
 
+mod documented;
 mod samples;
 
+use documented::examples;
 use samples::{even, uneven, NOTES, TRACTS};
 use std::error::Error;
 use township::{Account, Plat, Refusal, Refused};
 
-/// Refused descriptions with their numbers and places, as in `docs/REFUSALS.md`.
-fn refused_descriptions() -> Vec<(u32, u32, String)> {
-    let too_long = " ".repeat(65_537);
-    let rows = [
-        (41, 65_536, too_long.as_str()),
-        (42, 8, "secs. 14-15."),
-        (43, 5, "sec. 10000."),
-        (44, 8, "sec. 14,"),
-        (61, 0, "T. 2 N., R. 3 E., sec. 14."),
-        (62, 5, "sec. 37."),
-        (63, 11, "secs. 9 to 4."),
-        (64, 12, "sec. 5, lot 5."),
-        (65, 9, "sec. 14, N1/2NE1/4NE1/4NE1/4NE1/4NE1/4."),
-        (66, 8, "sec. 5, N1/2."),
-        (67, 19, "sec. 14, NE1/4 and N1/2."),
-    ];
-    rows.map(|(number, at, description)| (number, at, description.to_owned()))
-        .into()
+/// A refusal, and the one of a tract's description.
+fn refusal_of(refused: &Refused) -> (Refusal, Option<Refusal>) {
+    let refusal = Refusal {
+        number: refused.number,
+        at: refused.at,
+    };
+    (refusal, refused.inner)
 }
 
 /// The number and the place of a refusal that contains no other.
@@ -35,19 +26,40 @@ fn number_and_place(refused: &Refused) -> (u32, u32) {
 #[test]
 fn numbers_and_places_of_descriptions() {
     let plat = uneven();
-    for (number, at, description) in refused_descriptions() {
+    let stages = [
+        "The text of a description",
+        "The land that a description names",
+    ];
+    for example in examples(&stages) {
+        let description = &example.given;
         let refusals = [
-            plat.acres(&description).unwrap_err(),
-            plat.acres_by(&description, Account::Plat).unwrap_err(),
-            plat.area(&description).unwrap_err(),
-            plat.area_by(&description, Account::Plat).unwrap_err(),
-            plat.normal(&description).unwrap_err(),
-            plat.notes(&description).unwrap_err(),
+            plat.acres(description).unwrap_err(),
+            plat.acres_by(description, Account::Plat).unwrap_err(),
+            plat.area(description).unwrap_err(),
+            plat.area_by(description, Account::Plat).unwrap_err(),
+            plat.normal(description).unwrap_err(),
+            plat.notes(description).unwrap_err(),
         ];
         for refused in &refusals {
-            assert_eq!(number_and_place(refused), (number, at));
+            assert_eq!(refusal_of(refused), (example.refusal, None));
             assert_eq!(refused, &refusals[0]);
         }
+    }
+}
+
+#[test]
+fn numbers_and_places_of_notes() {
+    for example in examples(&["Field notes", "The plat"]) {
+        let refused = Plat::read(&example.given).unwrap_err();
+        assert_eq!(refusal_of(&refused), (example.refusal, None));
+    }
+}
+
+#[test]
+fn numbers_and_places_of_lists() {
+    for example in examples(&["A list of tracts"]) {
+        let refused = uneven().report(&example.given).unwrap_err();
+        assert_eq!(refusal_of(&refused), (example.refusal, example.inner));
     }
 }
 

@@ -1,0 +1,46 @@
+"""The calls of the library: the lists and tests that have to name each of them."""
+
+import re
+from typing import List, Set
+
+from reading import HEADER, PYTHON, Compared, text_of
+
+WHAT = "names of calls in lists and tests"
+
+#: Where each call is named, as in C.
+NAMED = (
+    "crates/twp_calls/src/lib.rt",
+    "packaging/libtownship.map",
+    "tests/library/c/township_test.c",
+    "tests/library/c/threads.c",
+    "tests/library/c/growth_test.c",
+    "tools/reading_list/subjects.py",
+)
+
+#: Calls that take no memory, which none can be refused.
+WITHOUT_MEMORY = {"tests/library/c/growth_test.c": {"township_version"}}
+
+
+def compare() -> Compared:
+    calls = re.findall(r"^township_answer (township_\w+)\(", text_of(HEADER), re.M)
+    compared = 0
+    differences: List[str] = []
+    for place in NAMED:
+        named = words_of(place)
+        for call in calls:
+            if call in WITHOUT_MEMORY.get(place, ()):
+                continue
+            compared += 1
+            if call not in named:
+                differences.append(f"{place}: {call} is not named")
+    # The tests of the Python package have a list of its functions, by their names there.
+    tested = words_of("bindings/python/tests/test_library.py")
+    for name in re.findall(r'^(\w+) = _call\("township_\w+"', text_of(f"{PYTHON}/_library.py"), re.M):
+        compared += 1
+        if name not in tested:
+            differences.append(f"bindings/python/tests/test_library.py: {name} is not named")
+    return compared, differences
+
+
+def words_of(path: str) -> Set[str]:
+    return set(re.findall(r"\w+", text_of(path)))
