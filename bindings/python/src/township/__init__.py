@@ -20,6 +20,7 @@ from ._account import Account
 from ._figures import Report, Section, Tract
 from ._plat import Plat
 from ._refused import Refusal, Refused, failure_of
+from ._rounding import rounded
 from ._township import EastWest, NorthSouth, Township
 from ._version import __version__
 
@@ -35,6 +36,7 @@ __all__ = [
     "Township",
     "Tract",
     "__version__",
+    "rounded",
     "version",
 ]
 
