@@ -5,9 +5,9 @@ from typing import Any, List, Sequence
 
 from .._account import Account
 from .._refused import Refused
+from .cells import text_of
 from .plats import Plats
 from .records import Record
-from .workbook import text_of
 
 
 class Answers:

@@ -6,10 +6,10 @@ from typing import Any, NamedTuple, Optional, Protocol, Sequence, Union
 
 from .._plat import Plat
 from .._text import shown
+from .cells import text_of
 from .folder import NO_MERIDIAN, Folder, Notes, Townships, meridian_key
 from .spelling import NotTownship, township_spelled
 from .stopped import Stopped
-from .workbook import text_of
 
 #: A plat, or the reason that there is none.
 Found = Union[Plat, str]

@@ -5,7 +5,8 @@ import csv
 from typing import Any, Optional, Protocol, Sequence, TextIO
 
 from .stopped import writing
-from .workbook import WorkbookSink, is_workbook
+from .workbook import is_workbook
+from .workbook_sink import WorkbookSink
 
 _CRLF = "\r\n"
 

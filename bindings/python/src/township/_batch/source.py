@@ -7,13 +7,14 @@ from contextlib import contextmanager
 from typing import Callable, Iterator, List, NamedTuple, Optional
 
 from .._text import shown
+from .cells import text_of
 from .columns import column_in
 from .decoding import Counted, decoded
 from .options import STANDARD_INPUT, Options
 from .records import Record, records_of
 from .separators import headed
 from .stopped import reading
-from .workbook import is_workbook, text_of, workbook_rows
+from .workbook import is_workbook, workbook_rows
 
 #: The file descriptor of standard input.
 _INPUT = 0
