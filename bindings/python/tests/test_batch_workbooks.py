@@ -145,6 +145,17 @@ class Lists(WorkbookCase):
                 self.assertRegex(run.stderr, wanted)
 
 
+class OtherFormats(BatchCase):
+    def test_files_that_are_not_lists(self):
+        for head in (b"PK\x03\x04\x14\0", b"\xd0\xcf\x11\xe0\xa1\xb1\x1a\xe1", b"%PDF-1.7\n"):
+            for name, given in (("list.ods", b""), ("-", head)):
+                with self.subTest(head=head, name=name):
+                    listed = "-" if name == "-" else self.put(head, name)
+                    run = self.run_words("batch", NOTES, listed, input=given)
+                    self.assertEqual((run.returncode, run.stdout), (3, b""))
+                    self.assertRegex(run.stderr, rb"\Atownship: [^\n]*: this is not CSV; save the list as [^\n]*\n\Z")
+
+
 @unittest.skipUnless(find_spec("openpyxl"), "openpyxl isn't installed")
 class Answers(WorkbookCase):
     def test_text_too_long_for_a_cell(self):

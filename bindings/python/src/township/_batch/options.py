@@ -6,7 +6,7 @@ from typing import NamedTuple, Optional
 from .._account import Account
 
 #: The argument that means standard input.
-STANDARD_INPUT = "-"
+STANDARD = "-"
 
 
 class Options(NamedTuple):

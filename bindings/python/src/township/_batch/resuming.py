@@ -29,7 +29,7 @@ class Earlier:
         csv.field_size_limit(FIELD_MOST)
         try:
             with reading(self._name):
-                with open(self._name, encoding="utf-8", errors="surrogateescape", newline="") as file:
+                with open(self._name, encoding="utf-8-sig", errors="surrogateescape", newline="") as file:
                     yield from csv.reader(file, delimiter=self._separator, strict=True)
         except csv.Error:
             raise Stopped(f"township: {shown(self._name)}: this is not the output of a batch") from None

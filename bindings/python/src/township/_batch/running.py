@@ -88,7 +88,7 @@ def _answer(source: Source, answers: Answers, options: Options, interrupts: Inte
         for record, added in earlier.skipped(records, len(source.heading)):
             answers.count_earlier(record, added)
         begun = earlier.begun
-    sink = sink_for(options.output, source.separator, append=begun)
+    sink = sink_for(options.output, source.separator, source.mark, append=begun)
     bar = bar_of(source.size)
     try:
         if not begun:

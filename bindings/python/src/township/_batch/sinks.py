@@ -26,17 +26,20 @@ class Sink(Protocol):
         ...
 
 
-def sink_for(name: Optional[str], separator: str, append: bool = False) -> Sink:
-    """Return the sink for a file, or for standard output if there is no name."""
+def sink_for(name: Optional[str], separator: str, mark: str = "", append: bool = False) -> Sink:
+    """Return the sink for a file, or for standard output if there is no name.
+
+    A new CSV file begins with the byte order mark, if there is one.
+    """
     if name is not None and is_workbook(name):
         return WorkbookSink(name)
-    return CsvSink(name, separator, append)
+    return CsvSink(name, separator, mark, append)
 
 
 class CsvSink:
     """Writes records as UTF-8, preserving other bytes of the list. Each record ends with a line feed."""
 
-    def __init__(self, name: Optional[str], separator: str, append: bool = False) -> None:
+    def __init__(self, name: Optional[str], separator: str, mark: str = "", append: bool = False) -> None:
         self._name = name or ""
         with writing(self._name):
             self._file: TextIO = open(
@@ -47,6 +50,8 @@ class CsvSink:
                 newline="",
                 closefd=name is not None,
             )
+            if not append:
+                self._file.write(mark)
         lines = _LineFeeds(self._file)
         self._write = csv.writer(lines, delimiter=separator, lineterminator=_CRLF).writerow
 
