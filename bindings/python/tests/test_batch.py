@@ -227,6 +227,7 @@ class Failures(BatchCase):
                       ("batch", NOTES, "x", "--account", "printed"), ("batch", "--plats", "x"),
                       ("batch", NOTES, "x", "--plats", "y"), ("batch", NOTES, "x", "--resume"),
                       ("batch", NOTES, "x", "--resume", "--output", "y.xlsx"),
+                      ("batch", NOTES, "x", "--resume", "--output", "-"),
                       ("batch", NOTES, "x", "--encoding", "latin")):
             with self.subTest(words=words):
                 run = self.run_words(*words)

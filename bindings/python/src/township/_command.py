@@ -9,6 +9,7 @@ from . import version
 from ._account import ACCOUNTS
 from ._batch import Options, Status, Stopped, run_batch
 from ._batch.decoding import ENCODINGS
+from ._batch.options import STANDARD
 from ._batch.workbook import is_workbook
 
 _USAGE = """python -m township batch [options] NOTES LIST
@@ -67,8 +68,9 @@ def _options_in(words: Sequence[str]) -> Options:
     if len(asked.files) != wanted:
         wrong = "with --plats, name only the list" if asked.plats else "name the field notes and the list"
         batch.error(wrong)
-    if asked.resume and (asked.output is None or is_workbook(asked.output)):
-        batch.error("--resume needs an --output that is not a workbook")
+    output = None if asked.output == STANDARD else asked.output
+    if asked.resume and (output is None or is_workbook(output)):
+        batch.error("--resume needs an --output file that is not a workbook")
     *notes, listed = asked.files
     return Options(
         list=listed,
@@ -80,7 +82,7 @@ def _options_in(words: Sequence[str]) -> Options:
         meridian=asked.meridian,
         prefix=asked.prefix,
         encoding=asked.encoding,
-        output=asked.output,
+        output=output,
         resume=asked.resume,
     )
 

@@ -25,7 +25,8 @@ class Answers:
     def count_earlier(self, record: Record, added: Sequence[str]) -> None:
         """Count a record that was answered before."""
         # The first meridian of a list matters for the records after it.
-        self._plats.plat_of(record.fields)
+        if not record.fault:
+            self._plats.plat_of(record.fields)
         if added[:1] != [""]:
             self.accepted += 1
         else:

@@ -5,7 +5,7 @@ from typing import NamedTuple, Optional
 
 from .._account import Account
 
-#: The argument that means standard input.
+#: The argument that means standard input or, for the output, standard output.
 STANDARD = "-"
 
 

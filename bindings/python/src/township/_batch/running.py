@@ -3,7 +3,7 @@ from __future__ import annotations
 
 import os
 import sys
-from typing import List, Optional
+from typing import List, Optional, Sequence
 
 from .._text import shown
 from .answers import Answers
@@ -24,8 +24,8 @@ def run_batch(options: Options) -> Status:
 
     If it is interrupted, the answers so far are written.
     """
-    _check_output(options)
     notes = _Notes(options)
+    _check_output(options.output, [options.list, *notes.files])
     with source_of(options) as source:
         answers = Answers(notes.plats_for(source, options), source.column, options.account)
         try:
@@ -44,8 +44,14 @@ class _Notes:
     """The field notes that the command line names: a file, or a folder."""
 
     def __init__(self, options: Options) -> None:
+        self._name = options.notes
         self._plat = plat_in(options.notes) if options.notes is not None else None
         self._folder = Folder(options.plats) if options.plats is not None else None
+
+    @property
+    def files(self) -> List[str]:
+        """The files of field notes."""
+        return self._folder.files if self._folder else list(filter(None, [self._name]))
 
     @property
     def refused(self) -> List[str]:
@@ -69,13 +75,12 @@ def _meridian_in(source: Source, options: Options) -> Optional[int]:
     return column_in(source.heading, options.meridian, "--meridian", source.place)
 
 
-def _check_output(options: Options) -> None:
+def _check_output(output: Optional[str], inputs: Sequence[str]) -> None:
     """Stop if the output would overwrite an input."""
-    if options.output is None or not os.path.exists(options.output):
+    if output is None or not os.path.exists(output):
         return
-    for name in (options.list, options.notes):
-        if name is not None and os.path.exists(name) and os.path.samefile(name, options.output):
-            raise Stopped(f"township: {shown(options.output)}: the output must not be one of the inputs")
+    if any(os.path.exists(name) and os.path.samefile(name, output) for name in inputs):
+        raise Stopped(f"township: {shown(output)}: the output must not be one of the inputs")
 
 
 def _answer(source: Source, answers: Answers, options: Options, interrupts: Interrupts) -> None:
@@ -85,8 +90,7 @@ def _answer(source: Source, answers: Answers, options: Options, interrupts: Inte
     begun = False
     if options.resume and options.output is not None:
         earlier = Earlier(options.output, heading, source.separator)
-        for record, added in earlier.skipped(records, len(source.heading)):
-            answers.count_earlier(record, added)
+        earlier.skip(records, answers, len(source.heading))
         begun = earlier.begun
     sink = sink_for(options.output, source.separator, source.mark, append=begun)
     bar = bar_of(source.size)
