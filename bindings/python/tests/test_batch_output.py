@@ -8,7 +8,7 @@ import threading
 import unittest
 from importlib.util import find_spec
 
-from batches import ADDED, EVEN_NOTES, HEADING, NOTES, BatchCase, command, records
+from batches import ADDED, EVEN_NOTES, HEADING, NOTES, BatchCase, command, feed, records
 
 LIST = "id,description\n" + "".join(f'{k},"sec. {k % 36 + 1};\nsec. 14."\n' for k in range(300))
 
@@ -176,7 +176,7 @@ class Interrupted(BatchCase):
         # The list never ends, so the batch is always running.
         made = self.folder / "answers.csv"
         process = self.start("--output", made)
-        feeding = threading.Thread(target=self.feed, args=(process.stdin,))
+        feeding = threading.Thread(target=feed, args=(process.stdin,))
         feeding.start()
         while not made.exists() or made.stat().st_size < 100_000:
             self.assertIsNone(process.poll())
@@ -191,24 +191,9 @@ class Interrupted(BatchCase):
         process.stderr.close()
         process.stdout.close()
 
-    @staticmethod
-    def feed(pipe):
-        """Writes a list that never ends, until nobody reads it."""
-        try:
-            pipe.write(b"id,description\n")
-            while True:
-                pipe.write(b"7,sec. 14.\n" * 1000)
-        except BrokenPipeError:
-            pass
-        finally:
-            try:
-                pipe.close()
-            except BrokenPipeError:
-                pass
-
     def test_closed_pipe(self):
         process = self.start()
-        feeding = threading.Thread(target=self.feed, args=(process.stdin,))
+        feeding = threading.Thread(target=feed, args=(process.stdin,))
         feeding.start()
         self.assertTrue(process.stdout.read(100).startswith(b"id,description,acres"))
         process.stdout.close()

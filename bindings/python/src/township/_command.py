@@ -12,6 +12,9 @@ from ._batch.decoding import ENCODINGS
 from ._batch.options import STANDARD
 from ._batch.workbook import is_workbook
 
+#: The most processes that can be asked for.
+_JOBS_MOST = 1024
+
 _USAGE = """python -m township batch [options] NOTES LIST
        python -m township batch [options] --plats FOLDER LIST"""
 
@@ -84,7 +87,15 @@ def _options_in(words: Sequence[str]) -> Options:
         encoding=asked.encoding,
         output=output,
         resume=asked.resume,
+        jobs=asked.jobs,
     )
+
+
+def _count(word: str) -> int:
+    """Return a number of processes."""
+    if not (word.isdecimal() and 1 <= int(word) <= _JOBS_MOST):
+        raise argparse.ArgumentTypeError(f"`{word}` is not a number of processes, 1 to {_JOBS_MOST:,}")
+    return int(word)
 
 
 def _parsers() -> Tuple[argparse.ArgumentParser, argparse.ArgumentParser]:
@@ -158,6 +169,13 @@ def _add_outputs(batch: argparse.ArgumentParser) -> None:
     )
     batch.add_argument(
         "--resume", action="store_true", help="go on where the output of an interrupted batch ends"
+    )
+    batch.add_argument(
+        "--jobs",
+        metavar="N",
+        type=_count,
+        default=1,
+        help="answer in N processes, for a long list (default: 1; a workbook is written by one)",
     )
     batch.add_argument(
         "--prefix", metavar="TEXT", default="", help="begin the name of each added column with this text"

@@ -32,3 +32,5 @@ class Options(NamedTuple):
     output: Optional[str] = None
     #: Whether to go on where the output ends.
     resume: bool = False
+    #: The number of processes that answer records.
+    jobs: int = 1

@@ -3,7 +3,8 @@ from __future__ import annotations
 
 import os
 import sys
-from typing import List, Optional, Sequence
+from contextlib import nullcontext
+from typing import TYPE_CHECKING, ContextManager, List, Optional, Sequence
 
 from .._text import shown
 from .answers import Answers
@@ -14,9 +15,12 @@ from .options import Options
 from .plats import FolderPlats, Key, OnePlat, Plats
 from .progress import bar_of, watched
 from .resuming import Earlier
-from .sinks import sink_for
+from .sinks import CsvSink, sink_for
 from .source import Source, source_of
 from .stopped import Status, Stopped
+
+if TYPE_CHECKING:
+    from .workers import Workers
 
 
 def run_batch(options: Options) -> Status:
@@ -37,7 +41,7 @@ def run_batch(options: Options) -> Status:
     _say(notes.refused + _remarks(answers, options, interrupted))
     if interrupted:
         return Status.INTERRUPTED
-    return Status.REFUSED if answers.refused or notes.refused else Status.ACCEPTED
+    return Status.REFUSED if answers.counts.refused or notes.refused else Status.ACCEPTED
 
 
 class _Notes:
@@ -92,32 +96,49 @@ def _answer(source: Source, answers: Answers, options: Options, interrupts: Inte
         earlier = Earlier(options.output, heading, source.separator)
         earlier.skip(records, answers, len(source.heading))
         begun = earlier.begun
-    sink = sink_for(options.output, source.separator, source.mark, append=begun)
-    bar = bar_of(source.size)
-    try:
-        if not begun:
-            sink.write(heading)
-        for record in watched(records, bar, source.position if source.size else None):
-            sink.write(record.fields + answers.added_to(record))
-    finally:
-        bar.close()
-        sink.close()
+    # They are forked before the output is opened, so that they have no part of it to write.
+    with _workers(options.jobs, answers, source.separator) as workers:
+        sink = sink_for(options.output, source.separator, source.mark, append=begun)
+        bar = bar_of(source.size)
+        try:
+            if not begun:
+                sink.write(heading)
+            records = watched(records, bar, source.position if source.size else None)
+            if workers is not None and isinstance(sink, CsvSink):
+                workers.write_answers(records, answers, sink)
+            else:
+                for record in records:
+                    sink.write(record.fields + answers.added_to(record))
+        finally:
+            bar.close()
+            sink.close()
+
+
+def _workers(jobs: int, answers: Answers, separator: str) -> ContextManager[Optional[Workers]]:
+    """Return the processes that answer records in place of this one, if there are any."""
+    if jobs == 1:
+        return nullcontext()
+    # Importing what starts processes takes time.
+    from .workers import Workers
+
+    return Workers(jobs, answers, separator)
 
 
 def _remarks(answers: Answers, options: Options, interrupted: bool) -> List[str]:
     """Return what there is to say at the end."""
     remarks = []
-    if answers.undecoded and options.encoding == "utf-8":
-        verb = "is" if answers.undecoded == 1 else "are"
+    counts = answers.counts
+    if counts.undecoded and options.encoding == "utf-8":
+        verb = "is" if counts.undecoded == 1 else "are"
         remarks.append(
-            f"township: {answers.undecoded} of the descriptions {verb} not UTF-8; if the list is in "
+            f"township: {counts.undecoded} of the descriptions {verb} not UTF-8; if the list is in "
             "Windows-1252, add --encoding windows-1252"
         )
-    count = answers.accepted + answers.refused
+    count = counts.accepted + counts.refused
     if interrupted:
         remarks.append(f"township: interrupted after {count} records")
     elif sys.stderr.isatty():
-        remarks.append(f"township: {count} records: {answers.accepted} accepted, {answers.refused} not")
+        remarks.append(f"township: {count} records: {counts.accepted} accepted, {counts.refused} not")
     return remarks
 
 

@@ -2,7 +2,8 @@
 from __future__ import annotations
 
 import csv
-from typing import Any, Optional, Protocol, Sequence, TextIO
+import io
+from typing import Any, Iterable, Optional, Protocol, Sequence, TextIO
 
 from .stopped import writing
 from .workbook import is_workbook
@@ -52,8 +53,7 @@ class CsvSink:
             )
             if not append:
                 self._file.write(mark)
-        lines = _LineFeeds(self._file)
-        self._write = csv.writer(lines, delimiter=separator, lineterminator=_CRLF).writerow
+        self._write = _writer_to(self._file, separator).writerow
 
     def write(self, fields: Sequence[Any]) -> None:
         """Write a record."""
@@ -63,10 +63,26 @@ class CsvSink:
             with writing(self._name):
                 raise error
 
+    def write_text(self, text: str) -> None:
+        """Write records that are CSV already."""
+        with writing(self._name):
+            self._file.write(text)
+
     def close(self) -> None:
         """Write everything that has not been written yet."""
         with writing(self._name):
             self._file.close()
+
+
+def csv_text(rows: Iterable[Sequence[Any]], separator: str) -> str:
+    """Return records as a CSV file has them."""
+    text = io.StringIO(newline="")
+    _writer_to(text, separator).writerows(rows)
+    return text.getvalue()
+
+
+def _writer_to(file: TextIO, separator: str) -> Any:
+    return csv.writer(_LineFeeds(file), delimiter=separator, lineterminator=_CRLF)
 
 
 class _LineFeeds:
