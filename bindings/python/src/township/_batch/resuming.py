@@ -46,7 +46,7 @@ class Earlier:
             raise Stopped(f"township: {shown(self._name)}: this is not the output of a batch") from None
 
     def _check_heading(self, heading: List[str]) -> bool:
-        """Return whether there is a whole heading. Stop if it is another list's, also as far as it was written."""
+        """Return whether there is a whole heading. Stop if it, or what there is of it, is another list's."""
         found = next(self._rows, None)
         if found == heading:
             return True
@@ -57,7 +57,7 @@ class Earlier:
         raise Stopped(f"township: {shown(self._name)}:1: the heading is not that of this list's answers")
 
     def skip(self, records: Iterator[Record], answers: Answers, width: int) -> None:
-        """Skip the records of the list, with this number of fields, that were answered before, and count them.
+        """Skip the records of the list that were answered before, each with `width` fields, and count them.
 
         Stop if the output is not one of this list, or if one of the first records has another answer now.
         """
@@ -72,7 +72,8 @@ class Earlier:
         self._cut_unfinished()
 
     def _stopped(self, fault: str) -> Stopped:
-        return Stopped(f"township: {shown(self._name)}: {fault}; without --resume, the output is written anew")
+        again = "without --resume, the output is written anew"
+        return Stopped(f"township: {shown(self._name)}: {fault}; {again}")
 
     def _cut_unfinished(self) -> None:
         """Cut off a record at the end of the file that was not written whole."""

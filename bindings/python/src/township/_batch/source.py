@@ -51,8 +51,8 @@ def source_of(options: Options) -> Iterator[Source]:
         counted = Counted(file)
     if is_another_format(counted):
         raise Stopped(
-            f"township: {shown(name)}: this is not CSV; save the list as CSV, or as a workbook whose name ends "
-            "in .xlsx"
+            f"township: {shown(name)}: this is not CSV; save the list as CSV, or as a workbook whose name "
+            "ends in .xlsx"
         )
     with decoded(counted, options.encoding) as text:
         with reading(name):

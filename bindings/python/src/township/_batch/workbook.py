@@ -88,7 +88,7 @@ def _reading_workbook(name: str, fault: str) -> Iterator[None]:
 
 
 def _sheet_of(book: Any) -> Any:
-    """Return the sheet that is shown when a workbook is opened. If it is a chart, return the first of cells."""
+    """Return the sheet that is shown when a workbook is opened or, if that is a chart, the first of cells."""
     sheets = book.worksheets
     return book.active if book.active in sheets else next(iter(sheets), None)
 

@@ -36,8 +36,8 @@ class WorkbookSink:
         """Write a record, each number as a number."""
         if self._rows == ROWS_MOST:
             raise Stopped(
-                f"township: {shown(self._name)}: a workbook has at most {ROWS_MOST:,} rows; write the answers "
-                "to a CSV file"
+                f"township: {shown(self._name)}: a workbook has at most {ROWS_MOST:,} rows; write the "
+                "answers to a CSV file"
             )
         self._rows += 1
         cells = [self._cell_of(field) for field in fields]
@@ -46,7 +46,7 @@ class WorkbookSink:
 
     @contextmanager
     def _making(self) -> Iterator[None]:
-        """Report any failure in the block to write the sheet, which is in a temporary file until it is saved."""
+        """Report any failure in the block to write the sheet, which is in a temporary file until the end."""
         try:
             yield
         except MemoryError:

@@ -22,7 +22,7 @@ _NO_FAULT = (0, "")
 
 
 class Chunk(NamedTuple):
-    """Records that one process answers. Their parts are sent in much less time than the records themselves."""
+    """Records that one process answers. Sending their parts takes much less time than sending the records."""
 
     #: The fields of each record.
     rows: List[List[Any]]
@@ -90,8 +90,8 @@ class Workers:
     def answers_to(self, chunks: Iterator[Chunk]) -> Iterator[Answered]:
         """Yield the answers to chunks, as many at a time as there are processes.
 
-        If there is no next chunk because of an interrupt or a failure, that is raised after the answers to the
-        chunks before it.
+        If there is no next chunk because of an interrupt or a failure, that is raised after the answers to
+        the chunks before it.
         """
         free = deque(self._here)
         busy: Deque[Connection] = deque()
