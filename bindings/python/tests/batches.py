@@ -32,6 +32,21 @@ def records(data):
     return list(csv.reader(io.StringIO(data.decode("utf-8", "surrogateescape"), newline="")))
 
 
+def feed(pipe):
+    """Writes a list that never ends, until nobody reads it."""
+    try:
+        pipe.write(b"id,description\n")
+        while True:
+            pipe.write(b"7,sec. 14.\n" * 1000)
+    except BrokenPipeError:
+        pass
+    finally:
+        try:
+            pipe.close()
+        except BrokenPipeError:
+            pass
+
+
 class BatchCase(unittest.TestCase):
     """A test of the real command, in a folder of its own."""
 

@@ -99,6 +99,27 @@ class Faults(BatchCase):
         self.assertEqual(rows[0], (["7", ""], "", "line 2 has 1 field, but the heading has 2"))
         self.assertEqual(rows[1], (["8", "sec. 14."], "640.00", ""))
 
+    def test_empty_fields_that_excel_leaves_out(self):
+        # It does so in blocks of 16 rows, if all fields of a column at the end are empty there.
+        rows = self.batch('id,description,by,remark\n7,"sec. 14, N1/2",x,y\n8,sec. 15.,x\n9,"sec. 16;\nsec. 17."\n', status=0)
+        self.assertEqual([row[:5] for row in rows[1:]], [
+            ["7", "sec. 14, N1/2", "x", "y", "320.00"],
+            ["8", "sec. 15.", "x", "", "640.00"],
+            ["9", "sec. 16;\nsec. 17.", "", "", "1280.00"],
+        ])
+
+    def test_rows_without_text_are_skipped(self):
+        # Excel writes its empty rows so.
+        rows = self.batch("id,description\n,\n7,sec. 14.\n,\n\n,,,\n8,sec. 15.\n,\n", status=0)
+        self.assertEqual([row[:3] for row in rows[1:]], [["7", "sec. 14.", "640.00"], ["8", "sec. 15.", "640.00"]])
+        self.assertEqual(self.batch('id,description\n7,\n," "\n', status=1)[1][3], "44")
+
+    def test_description_that_may_go_on_in_the_next_line(self):
+        rows = self.batch("id,description,by,remark\n7,sec. 14\nNE1/4,x,y\n8,sec. 15.,x,y\n", status=1)
+        said = "line 2 has 2 fields, but the heading has 4; put the description in quotation marks if it is whole"
+        self.assertEqual(rows[1], ["7", "sec. 14", "", "", "", "", "", said, ""])
+        self.assertEqual([row[4] for row in rows[1:]], ["", "", "640.00"])
+
     def test_text_after_a_closing_quotation_mark(self):
         rows = self.faults('id,description\n7,"sec. 14."x\n8,sec. 14.\n')
         self.assertEqual(rows[0], (["", '7,"sec. 14."x'], "", "the quotation marks of line 2 are not well formed"))
@@ -140,6 +161,11 @@ class Columns(BatchCase):
         said = self.stopped("land,county\nsec. 14.,Lane\n")
         self.assertIn("list.csv:1: the heading has no column `description`; name the column with --column", said)
         self.assertIn("The heading is: `land`, `county`", said)
+
+    def test_heading_is_shown_as_a_terminal_can(self):
+        said = self.stopped("\x1b[31mred\a,\u202eland,é," + "x" * 41 + "," + "y" * 40 + "\nsec. 14.\n")
+        shown = ("\\x1b[31mred\\x07", "\\u202eland", "é", "x" * 40 + "..", "y" * 40)
+        self.assertTrue(said.endswith("The heading is: " + ", ".join(f"`{name}`" for name in shown) + "\n"), said)
 
     def test_column_that_is_not_the_only_one(self):
         said = self.stopped("description,description\na,b\n")
@@ -201,6 +227,7 @@ class Failures(BatchCase):
                       ("batch", NOTES, "x", "--account", "printed"), ("batch", "--plats", "x"),
                       ("batch", NOTES, "x", "--plats", "y"), ("batch", NOTES, "x", "--resume"),
                       ("batch", NOTES, "x", "--resume", "--output", "y.xlsx"),
+                      ("batch", NOTES, "x", "--resume", "--output", "-"),
                       ("batch", NOTES, "x", "--encoding", "latin")):
             with self.subTest(words=words):
                 run = self.run_words(*words)

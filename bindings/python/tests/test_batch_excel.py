@@ -39,6 +39,12 @@ SEPARATORS = {
 }
 
 
+#: The files that begin with a byte order mark, as the answers then do.
+WITH_MARK = ("csv-semicolons.csv", "csv-utf-8.csv", "sep-semicolon.csv", "unicode-big-endian.txt", "unicode-text.txt")
+
+MARK = b"\xef\xbb\xbf"
+
+
 def is_in_windows_1252(name):
     """Whether a file has no mark, and is not UTF-8."""
     return "1252" in name or name == "text-tabs.txt"
@@ -54,7 +60,8 @@ class Habits(BatchCase):
                 flag = ("--encoding", "windows-1252") if is_in_windows_1252(name) else ()
                 run = self.run_words("batch", NOTES, EXCEL / name, *flag)
                 self.assertEqual((run.returncode, run.stderr), (1, b""))
-                text = io.StringIO(run.stdout.decode(), newline="")
+                self.assertEqual(run.stdout.startswith(MARK), name in WITH_MARK)
+                text = io.StringIO(run.stdout.removeprefix(MARK).decode(), newline="")
                 self.assertEqual(list(csv.reader(text, delimiter=separator)), ANSWERED)
 
     def test_each_file_on_standard_input(self):
@@ -64,11 +71,31 @@ class Habits(BatchCase):
 
     def test_a_mark_wins_over_the_flag(self):
         run = self.run_words("batch", NOTES, EXCEL / "csv-utf-8.csv", "--encoding", "windows-1252")
-        self.assertEqual(records(run.stdout), ANSWERED)
+        self.assertEqual(records(run.stdout.removeprefix(MARK)), ANSWERED)
 
     def test_mark_line_ends_and_empty_lines(self):
-        rows = self.batch(b"\xef\xbb\xbfdescription\r\n\r\nsec. 14.\r\n", status=0)
-        self.assertEqual([row[:2] for row in rows], [["description", "acres"], ["sec. 14.", "640.00"]])
+        rows = self.batch(MARK + b"description\r\n\r\nsec. 14.\r\n", status=0)
+        self.assertEqual([row[:2] for row in rows], [["\ufeffdescription", "acres"], ["sec. 14.", "640.00"]])
+
+    def test_answers_can_be_answered_again(self):
+        # As a list from Excel that was answered is opened and saved there, and answered again.
+        for name in WITH_MARK:
+            made, again = self.folder / "answers.csv", self.folder / "again.csv"
+            self.run_words("batch", NOTES, EXCEL / name, "--output", made)
+            run = self.run_words("batch", NOTES, made, "--prefix", "second_", "--output", again)
+            self.assertEqual((run.returncode, run.stderr), (1, b""))
+            self.assertTrue(again.read_bytes().startswith(MARK + b"id"))
+
+    def test_mark_of_a_resumed_output(self):
+        made = self.folder / "answers.csv"
+        words = ("batch", NOTES, EXCEL / "csv-utf-8.csv", "--output", made)
+        self.run_words(*words)
+        whole = made.read_bytes()
+        for end in (0, 2, 3, 5, whole.index(b"\n") + 1, len(whole) - 1, len(whole)):
+            with self.subTest(end=end):
+                made.write_bytes(whole[:end])
+                self.assertEqual(self.run_words(*words, "--resume").returncode, 1)
+                self.assertEqual(made.read_bytes(), whole)
 
     def test_short_lists(self):
         for data in (b"", b"\xef\xbb\xbf", b"\xff\xfe", b"a", b"a\0", b"\xef\xbb"):

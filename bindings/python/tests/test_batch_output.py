@@ -8,7 +8,7 @@ import threading
 import unittest
 from importlib.util import find_spec
 
-from batches import ADDED, HEADING, NOTES, BatchCase, command, records
+from batches import ADDED, EVEN_NOTES, HEADING, NOTES, BatchCase, command, feed, records
 
 LIST = "id,description\n" + "".join(f'{k},"sec. {k % 36 + 1};\nsec. 14."\n' for k in range(300))
 
@@ -19,6 +19,13 @@ class Output(BatchCase):
         run = self.run_words("batch", NOTES, self.put("description\nsec. 14.\n"), "--output", made)
         self.assertEqual((run.returncode, run.stdout, run.stderr), (0, b"", b""))
         self.assertEqual(records(made.read_bytes())[1], ["sec. 14.", "640.00", "", "", "", HEADING + "sec. 14, all."])
+
+    def test_to_standard_output(self):
+        listed = self.put("description\nsec. 14.\n")
+        wanted = self.run_words("batch", NOTES, listed).stdout
+        run = self.run_command("batch", NOTES, listed, "--output", "-", cwd=self.folder)
+        self.assertEqual((run.returncode, run.stdout), (0, wanted))
+        self.assertFalse((self.folder / "-").exists())
 
     def test_earlier_output_is_replaced(self):
         made = self.put("much longer\n" * 100, "answers.csv")
@@ -96,11 +103,31 @@ class Resumed(BatchCase):
             self.assertIn(said, run.stderr)
             self.assertEqual(made.read_bytes(), before)
 
+    def test_output_by_other_options_or_notes(self):
+        data = 'description\nsec. 14.\n"sec. 7, lots 1 to 4."\n'
+        made = self.put(self.whole(data), "answers.csv")
+        before = made.read_bytes()
+        for notes, words in ((NOTES, ("--account", "plat")), (EVEN_NOTES, ())):
+            run = self.run_words("batch", notes, self.put(data), "--output", made, "--resume", *words)
+            self.assertEqual((run.returncode, made.read_bytes()), (3, before))
+            self.assertIn(b"answers.csv: record 3 was answered with other options or field notes", run.stderr)
+
     def test_output_of_no_batch(self):
-        made = self.put('"a"b\n"c"d\n', "answers.csv")
-        run = self.resume(made, "description\nsec. 14.\n")
-        self.assertEqual((run.returncode, made.read_bytes()), (3, b'"a"b\n"c"d\n'))
-        self.assertIn(b"answers.csv: this is not the output of a batch", run.stderr)
+        # Nothing is cut off from another file, and nothing is added to it.
+        heading = "description,acres,refusal,at,sentence,canonical\n"
+        for data, said in (
+            ('"a"b\n"c"d\n', "answers.csv: this is not the output of a batch"),
+            ("a letter\nwithout a line feed", "answers.csv:1: the heading is not that"),
+            ("one line", "answers.csv:1: the heading is not that"),
+            ("description,acres,refusals", "answers.csv:1: the heading is not that"),
+            (heading[:-1] + ",more", "answers.csv:1: the heading is not that"),
+            (heading + "sec. 15.,640.00,,,,x\nsec. 1", "answers.csv: record 2 is not an answer to this list"),
+        ):
+            with self.subTest(data=data):
+                made = self.put(data, "answers.csv")
+                run = self.resume(made, "description\nsec. 14.\n")
+                self.assertEqual((run.returncode, made.read_bytes()), (3, data.encode()))
+                self.assertIn(said, run.stderr.decode())
 
     def test_long_fields(self):
         data = "description\n" + " " * 200_000 + "\n"
@@ -149,7 +176,7 @@ class Interrupted(BatchCase):
         # The list never ends, so the batch is always running.
         made = self.folder / "answers.csv"
         process = self.start("--output", made)
-        feeding = threading.Thread(target=self.feed, args=(process.stdin,))
+        feeding = threading.Thread(target=feed, args=(process.stdin,))
         feeding.start()
         while not made.exists() or made.stat().st_size < 100_000:
             self.assertIsNone(process.poll())
@@ -164,24 +191,9 @@ class Interrupted(BatchCase):
         process.stderr.close()
         process.stdout.close()
 
-    @staticmethod
-    def feed(pipe):
-        """Writes a list that never ends, until nobody reads it."""
-        try:
-            pipe.write(b"id,description\n")
-            while True:
-                pipe.write(b"7,sec. 14.\n" * 1000)
-        except BrokenPipeError:
-            pass
-        finally:
-            try:
-                pipe.close()
-            except BrokenPipeError:
-                pass
-
     def test_closed_pipe(self):
         process = self.start()
-        feeding = threading.Thread(target=self.feed, args=(process.stdin,))
+        feeding = threading.Thread(target=feed, args=(process.stdin,))
         feeding.start()
         self.assertTrue(process.stdout.read(100).startswith(b"id,description,acres"))
         process.stdout.close()

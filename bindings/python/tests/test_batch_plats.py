@@ -82,6 +82,14 @@ class Folders(BatchCase):
         self.assertEqual(records(run.stdout)[1][2], "640.00")
         self.assertTrue(run.stderr.startswith(f"township: {bad}:1: ".encode()), run.stderr)
 
+    def test_field_notes_are_never_overwritten(self):
+        listed = self.put("township,description\nT2N R3W,sec. 14.\n")
+        notes = self.folder / "plats" / "b1.csv"
+        before = notes.read_bytes()
+        run = self.run_words("batch", "--plats", self.folder / "plats", listed, "--output", notes)
+        self.assertEqual((run.returncode, notes.read_bytes()), (3, before))
+        self.assertIn(b"the output must not be one of the inputs", run.stderr)
+
     def test_two_files_for_one_township(self):
         self.put_notes("plats/again.csv")
         data = "township,description\nT2N R3W,sec. 14.\n"

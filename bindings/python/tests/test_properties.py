@@ -4,6 +4,7 @@ import unittest
 from decimal import ROUND_HALF_UP, Decimal
 from fractions import Fraction
 
+import township
 from samples import uneven
 
 HALVES = ("N1/2", "S1/2", "E1/2", "W1/2")
@@ -49,6 +50,7 @@ class Lands(unittest.TestCase):
                 description = "; ".join(items)
                 area = uneven().area(description, account)
                 self.assertEqual(uneven().acres(description, account), rounded(area))
+                self.assertEqual(township.rounded(area), rounded(area))
 
     def test_areas_add_up(self):
         for items in self.lands:
@@ -81,3 +83,7 @@ class Lands(unittest.TestCase):
         for hundredths in ("0.005", "0.0049", "39.175", "39.025"):
             exact = Decimal(hundredths)
             self.assertEqual(rounded(Fraction(exact)), exact.quantize(Decimal("0.01"), ROUND_HALF_UP))
+            self.assertEqual(township.rounded(Fraction(exact)), rounded(Fraction(exact)))
+
+    def test_rounding_of_whole_acres(self):
+        self.assertEqual([str(township.rounded(acres)) for acres in (0, 640, Fraction(1))], ["0.00", "640.00", "1.00"])

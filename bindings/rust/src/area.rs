@@ -1,5 +1,6 @@
 //! Exact areas.
 
+use crate::acres::Acres;
 use crate::ffi::Fraction;
 use crate::parse::{number, ParseError};
 use std::cmp::Ordering;
@@ -25,6 +26,7 @@ const UNITS_IN_ACRE: u128 = 10_000_000;
 /// assert_eq!(area.to_string(), "809/20");
 /// assert!(plat.area("sec. 5, lot 2.")? > area);
 /// assert_eq!(area + area, plat.area("sec. 5, lot 1.")? + "809/20".parse().unwrap());
+/// assert_eq!((area + area).rounded().to_string(), "80.90");
 /// # Ok::<(), township::Refused>(())
 /// ```
 #[derive(Clone, Copy, Debug, PartialEq, Eq, Hash)]
@@ -48,6 +50,21 @@ impl Area {
     /// Returns the denominator, which is at least 1 and has no factor in common with the numerator.
     pub const fn denominator(self) -> u128 {
         self.denominator
+    }
+
+    /// Returns the area rounded once to hundredths of an acre, half up, as
+    /// [`Plat::acres`](crate::Plat::acres) rounds it. Panics if the figure or a number on the way to
+    /// it does not fit, which no area of land in a township comes near.
+    ///
+    /// ```
+    /// # use township::Area;
+    /// let total: Area = ["1/200", "1/400"].map(|area| area.parse::<Area>().unwrap()).iter().sum();
+    /// assert_eq!(total.rounded().to_string(), "0.01");
+    /// ```
+    pub fn rounded(self) -> Acres {
+        self.hundredths()
+            .map(Acres::from_hundredths)
+            .expect("an area is too large to be rounded")
     }
 
     /// Converts an area written by the library. Its units are less than 10 to the 24th, and their
@@ -75,6 +92,22 @@ impl Area {
         let parts = self.numerator.checked_mul(other.denominator / common)?;
         let others = other.numerator.checked_mul(self.denominator / common)?;
         Some(Area::reduced(parts.checked_add(others)?, denominator))
+    }
+
+    /// Returns the hundredths of an acre, rounded half up, if the numbers have at most 128 bits.
+    fn hundredths(self) -> Option<u64> {
+        let (whole, rest) = (
+            self.numerator / self.denominator,
+            self.numerator % self.denominator,
+        );
+        // Half up: the whole part of a number that is greater by a half.
+        let twice = rest.checked_mul(200)?.checked_add(self.denominator)?;
+        let rounded = twice / self.denominator.checked_mul(2)?;
+        whole
+            .checked_mul(100)?
+            .checked_add(rounded)?
+            .try_into()
+            .ok()
     }
 
     /// Parses a text such as `809/20` or `640`. The fraction need not be in lowest terms.
@@ -251,6 +284,31 @@ mod tests {
         assert_eq!(total, Area::reduced(1, 3));
         let large = Area::reduced(u128::MAX, 7);
         assert_eq!(large + Area::ZERO, large);
+    }
+
+    #[test]
+    fn rounded_half_up() {
+        for (numerator, denominator, hundredths) in [
+            (0, 1, 0),
+            (1, 200, 1),
+            (1, 201, 0),
+            (3, 200, 2),
+            (1567, 40, 3918),
+            (809, 20, 4045),
+            (999, 1000, 100),
+            (640, 1, 64_000),
+            (u128::from(u64::MAX), 100, u64::MAX),
+            (1, 1 << 120, 0),
+        ] {
+            let area = Area::reduced(numerator, denominator);
+            assert_eq!(area.rounded(), Acres::from_hundredths(hundredths), "{area}");
+        }
+    }
+
+    #[test]
+    #[should_panic(expected = "an area is too large to be rounded")]
+    fn rounded_too_large() {
+        Area::reduced(u128::from(u64::MAX), 1).rounded();
     }
 
     #[test]

@@ -9,7 +9,7 @@ use std::str::FromStr;
 const MOST: u8 = 99;
 
 /// The side of the base line on which a township lies. It is displayed as one letter.
-#[derive(Clone, Copy, Debug, PartialEq, Eq, Hash)]
+#[derive(Clone, Copy, Debug, PartialEq, Eq, PartialOrd, Ord, Hash)]
 pub enum NorthSouth {
     /// North of the base line: `N`.
     North,
@@ -18,7 +18,7 @@ pub enum NorthSouth {
 }
 
 /// The side of the principal meridian on which a range lies. It is displayed as one letter.
-#[derive(Clone, Copy, Debug, PartialEq, Eq, Hash)]
+#[derive(Clone, Copy, Debug, PartialEq, Eq, PartialOrd, Ord, Hash)]
 pub enum EastWest {
     /// East of the principal meridian: `E`.
     East,
@@ -27,7 +27,8 @@ pub enum EastWest {
 }
 
 /// A township's designation, without its principal meridian. It is displayed as in the heading of a
-/// description, and parsed from such a text.
+/// description, and parsed from such a text. Townships are ordered by their number and its side, then
+/// by their range and its side.
 ///
 /// ```
 /// use township::{EastWest, NorthSouth, Township};
@@ -36,7 +37,7 @@ pub enum EastWest {
 /// assert_eq!(township.to_string(), "T. 2 N., R. 3 W.");
 /// assert_eq!("T. 2 N., R. 3 W.".parse(), Ok(township));
 /// ```
-#[derive(Clone, Copy, Debug, PartialEq, Eq, Hash)]
+#[derive(Clone, Copy, Debug, PartialEq, Eq, PartialOrd, Ord, Hash)]
 pub struct Township {
     number: u8,
     north_south: NorthSouth,

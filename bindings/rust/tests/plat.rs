@@ -177,6 +177,7 @@ fn acres_are_the_area_rounded() {
             let area = plat.area_by(&land, account).unwrap();
             let acres = plat.acres_by(&land, account).unwrap();
             assert_eq!(acres.hundredths(), rounded(area), "{land}");
+            assert_eq!(acres, area.rounded(), "{land}");
         }
     }
 }

@@ -21,6 +21,7 @@ from ._figures import Report, Section, Tract
 from ._note import Note
 from ._plat import Plat
 from ._refused import Refusal, Refused, failure_of
+from ._rounding import rounded
 from ._township import EastWest, NorthSouth, Township
 from ._version import __version__
 
@@ -37,6 +38,7 @@ __all__ = [
     "Township",
     "Tract",
     "__version__",
+    "rounded",
     "version",
 ]
 

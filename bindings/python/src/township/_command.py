@@ -9,7 +9,11 @@ from . import version
 from ._account import ACCOUNTS
 from ._batch import Options, Status, Stopped, run_batch
 from ._batch.decoding import ENCODINGS
+from ._batch.options import STANDARD
 from ._batch.workbook import is_workbook
+
+#: The most processes that can be asked for.
+_JOBS_MOST = 1024
 
 _USAGE = """python -m township batch [options] NOTES LIST
        python -m township batch [options] --plats FOLDER LIST"""
@@ -67,8 +71,9 @@ def _options_in(words: Sequence[str]) -> Options:
     if len(asked.files) != wanted:
         wrong = "with --plats, name only the list" if asked.plats else "name the field notes and the list"
         batch.error(wrong)
-    if asked.resume and (asked.output is None or is_workbook(asked.output)):
-        batch.error("--resume needs an --output that is not a workbook")
+    output = None if asked.output == STANDARD else asked.output
+    if asked.resume and (output is None or is_workbook(output)):
+        batch.error("--resume needs an --output file that is not a workbook")
     *notes, listed = asked.files
     return Options(
         list=listed,
@@ -80,9 +85,17 @@ def _options_in(words: Sequence[str]) -> Options:
         meridian=asked.meridian,
         prefix=asked.prefix,
         encoding=asked.encoding,
-        output=asked.output,
+        output=output,
         resume=asked.resume,
+        jobs=asked.jobs,
     )
+
+
+def _count(word: str) -> int:
+    """Return a number of processes."""
+    if not (word.isdecimal() and 1 <= int(word) <= _JOBS_MOST):
+        raise argparse.ArgumentTypeError(f"`{word}` is not a number of processes, 1 to {_JOBS_MOST:,}")
+    return int(word)
 
 
 def _parsers() -> Tuple[argparse.ArgumentParser, argparse.ArgumentParser]:
@@ -156,6 +169,13 @@ def _add_outputs(batch: argparse.ArgumentParser) -> None:
     )
     batch.add_argument(
         "--resume", action="store_true", help="go on where the output of an interrupted batch ends"
+    )
+    batch.add_argument(
+        "--jobs",
+        metavar="N",
+        type=_count,
+        default=1,
+        help="answer in N processes, for a long list (default: 1; a workbook is written by one)",
     )
     batch.add_argument(
         "--prefix", metavar="TEXT", default="", help="begin the name of each added column with this text"

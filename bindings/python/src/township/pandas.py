@@ -17,7 +17,8 @@ conversion.
 """
 from __future__ import annotations
 
-from typing import Any, Iterator, List, NamedTuple, Optional, Tuple, Union
+from decimal import Decimal
+from typing import Any, Callable, Dict, Iterable, Iterator, List, Optional, Tuple, Union
 
 import pandas
 
@@ -29,17 +30,8 @@ from ._text import Text
 #: One plat for the whole column, or a series that gives the plat of each row.
 Plats = Union[Plat, "pandas.Series[Any]"]
 
-
-class Answer(NamedTuple):
-    """The answer to one description of a column. All fields are `None` if the description is missing."""
-
-    acres: Optional[float]
-    refusal: Optional[int]
-    at: Optional[int]
-    sentence: Optional[str]
-
-
-_MISSING = Answer(None, None, None, None)
+#: The answer to one description of a column: `None` if the description is missing.
+Answer = Union[Decimal, Refused, None]
 
 
 @pandas.api.extensions.register_series_accessor("township")
@@ -60,7 +52,7 @@ class Descriptions:
         >>> frame["description"].township.acres(plat).sum()
         201.45
         """
-        acres = [answer.acres for answer in self._answers(plat, account)]
+        acres = list(map(_acres_in, self._answers(plat, account)))
         return pandas.Series(acres, self._column.index, dtype="float64", name="acres")
 
     def answers(self, plat: Plats, account: Account = "exact") -> "pandas.DataFrame":
@@ -74,9 +66,11 @@ class Descriptions:
         {67: 1}
         """
         answers = list(self._answers(plat, account))
-        columns = {name: [getattr(answer, name) for answer in answers] for name in _TYPES}
         index = self._column.index
-        made = {name: pandas.Series(columns[name], index, dtype=_TYPES[name]) for name in _TYPES}
+        made = {
+            name: pandas.Series(list(map(field, answers)), index, dtype=dtype)
+            for name, (dtype, field) in _FIELDS.items()
+        }
         return pandas.DataFrame(made, index=index)
 
     def normal(self, plat: Plats) -> "pandas.Series[Any]":
@@ -91,15 +85,11 @@ class Descriptions:
 
     def _answers(self, plat: Plats, account: Account) -> Iterator[Answer]:
         """Yield the answer to each row."""
+        if isinstance(plat, Plat):
+            yield from _answers_on(plat, map(_present, self._column), account)
+            return
         for one, description in self._rows(plat):
-            if one is None or description is None:
-                yield _MISSING
-                continue
-            [answer] = one.acres_of([description], account)
-            if isinstance(answer, Refused):
-                yield Answer(None, answer.number, answer.at, answer.sentence)
-            else:
-                yield Answer(float(answer), None, None, None)
+            yield from _answers_on(one, [description], account)
 
     def _rows(self, plat: Plats) -> "Iterator[Tuple[Optional[Plat], Optional[Text]]]":
         """Yield the plat and the description of each row, `None` where one is missing."""
@@ -116,8 +106,33 @@ class Descriptions:
         return [_present(one) for one in plat]
 
 
-#: The column types of `answers`.
-_TYPES = {"acres": "float64", "refusal": "Int64", "at": "Int64", "sentence": "string"}
+def _answers_on(
+    plat: Optional[Plat], descriptions: Iterable[Optional[Text]], account: Account
+) -> Iterator[Answer]:
+    """Yield the answer to each description on a plat. If the plat is missing, so are all answers."""
+    listed = list(descriptions)
+    present = [] if plat is None else [each for each in listed if each is not None]
+    answers = plat.acres_of(present, account) if plat is not None else iter(())
+    for description in listed:
+        yield None if plat is None or description is None else next(answers)
+
+
+def _acres_in(answer: Answer) -> Optional[float]:
+    return float(answer) if isinstance(answer, Decimal) else None
+
+
+def _refused_by(name: str) -> Callable[[Answer], Any]:
+    """Return a function that gives the attribute with this name of a refusal, and `None` of other answers."""
+    return lambda answer: getattr(answer, name) if isinstance(answer, Refused) else None
+
+
+#: The columns of `answers`: their types, and what gives their fields.
+_FIELDS: Dict[str, Tuple[str, Callable[[Answer], Any]]] = {
+    "acres": ("float64", _acres_in),
+    "refusal": ("Int64", _refused_by("number")),
+    "at": ("Int64", _refused_by("at")),
+    "sentence": ("string", _refused_by("sentence")),
+}
 
 
 def _present(value: Any) -> Any:

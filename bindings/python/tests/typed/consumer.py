@@ -20,13 +20,14 @@ def figures(path: Path) -> Optional[Decimal]:
     again: Plat = Plat.of_parts(plat.township, plat.closing_quarters)
     acres: Decimal = plat.acres("sec. 14.", account="plat")
     area: Fraction = again.area(b"sec. 14.")
+    total: Decimal = township.rounded(sum([area, area]))
     sections: Mapping[int, Section] = plat.sections
     report: Report = plat.report([("A", "sec. 14.")])
     tracts: List[Tract] = list(report.tracts)
     where: Township = plat.township
     sides: "tuple[NorthSouth, EastWest]" = (where.north_south, where.east_west)
     text: str = plat.text + plat.normal("sec. 14.") + township.version() + township.__version__ + sides[0]
-    return max(acres, sections[1].total, tracts[0].acres) if text and area else None
+    return max(acres, total, sections[1].total, tracts[0].acres) if text and area else None
 
 
 def refusal(refused: Refused) -> Union[Refusal, int, str, None]:

@@ -3,13 +3,15 @@ from __future__ import annotations
 
 from typing import List, Optional, Sequence
 
+from .._text import shown
 from .stopped import Stopped
 
 #: The columns that a batch adds.
 ADDED = ("acres", "refusal", "at", "sentence", "canonical")
 
-#: The number of columns that a message lists.
+#: The number of columns that a message lists, and the number of characters of each name.
 _SHOWN = 12
+_SHOWN_CHARACTERS = 40
 
 
 def index_in(heading: Sequence[str], name: str) -> Optional[int]:
@@ -55,5 +57,10 @@ def _plain(name: str) -> str:
 
 
 def _shown_heading(heading: Sequence[str]) -> str:
-    shown = ", ".join(f"`{name}`" for name in heading[:_SHOWN])
-    return (shown or "empty") + (", .." if len(heading) > _SHOWN else "")
+    names = ", ".join(f"`{_shown_name(name)}`" for name in heading[:_SHOWN])
+    return (names or "empty") + (", .." if len(heading) > _SHOWN else "")
+
+
+def _shown_name(name: str) -> str:
+    """Return a name as a terminal can show it: what is not a list may contain anything."""
+    return shown(name[:_SHOWN_CHARACTERS]) + (".." if len(name) > _SHOWN_CHARACTERS else "")

@@ -9,11 +9,19 @@ import codecs
 import io
 from typing import Tuple
 
+#: The character of a byte order mark.
+MARK = "\ufeff"
+
 #: The encodings that the command line can name.
 ENCODINGS = {"utf-8": "utf-8", "windows-1252": "cp1252"}
 
 #: The number of bytes that tell the encoding.
 _HEAD = 4
+
+#: What files of workbooks begin with, new ones (zip files) and old ones, and then those of documents.
+_OTHER_FORMATS = (b"PK\x03\x04", b"\xd0\xcf\x11\xe0", b"%PDF")
+
+_MARKS = (codecs.BOM_UTF8, codecs.BOM_UTF16_LE, codecs.BOM_UTF16_BE)
 
 
 class Counted(io.RawIOBase):
@@ -52,6 +60,16 @@ class Counted(io.RawIOBase):
     def close(self) -> None:
         self._file.close()
         super().close()
+
+
+def is_another_format(file: Counted) -> bool:
+    """Return whether a file is not a text."""
+    return file.head.startswith(_OTHER_FORMATS)
+
+
+def mark_of(file: Counted) -> str:
+    """Return the byte order mark with which a file begins, or nothing."""
+    return MARK if file.head.startswith(_MARKS) else ""
 
 
 def decoded(file: Counted, encoding: str) -> io.TextIOWrapper:

@@ -57,6 +57,12 @@ class Folder:
         if not self.meridians and not self.refused:
             raise Stopped(f"township: {shown(name)}: there are no field notes ({_SUFFIX}) in this folder")
 
+    @property
+    def files(self) -> List[str]:
+        """The files of field notes that make plats."""
+        townships = (each.values() for each in self.meridians.values())
+        return [notes.file for found in townships for several in found for notes in several]
+
     def _read(self, folder: str, meridian: str) -> None:
         """Read the files of a folder, and none of the folders inside it."""
         for entry in _entries(folder):

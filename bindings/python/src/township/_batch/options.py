@@ -5,8 +5,8 @@ from typing import NamedTuple, Optional
 
 from .._account import Account
 
-#: The argument that means standard input.
-STANDARD_INPUT = "-"
+#: The argument that means standard input or, for the output, standard output.
+STANDARD = "-"
 
 
 class Options(NamedTuple):
@@ -32,3 +32,5 @@ class Options(NamedTuple):
     output: Optional[str] = None
     #: Whether to go on where the output ends.
     resume: bool = False
+    #: The number of processes that answer records.
+    jobs: int = 1

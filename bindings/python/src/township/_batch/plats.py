@@ -6,10 +6,11 @@ from typing import Any, NamedTuple, Optional, Protocol, Sequence, Union
 
 from .._plat import Plat
 from .._text import shown
+from .cells import text_of
 from .folder import NO_MERIDIAN, Folder, Notes, Townships, meridian_key
+from .records import Record
 from .spelling import NotTownship, township_spelled
 from .stopped import Stopped
-from .workbook import text_of
 
 #: A plat, or the reason that there is none.
 Found = Union[Plat, str]
@@ -21,6 +22,13 @@ _SPELLINGS = 1 << 16
 class Plats(Protocol):
     """The plats of a batch."""
 
+    #: The first principal meridian that a record names, where all must be on the same one; else nothing.
+    first_meridian: str
+
+    def find_first_meridian(self, records: Sequence[Record]) -> None:
+        """Look for the first meridian in records whose plats are not asked for here."""
+        ...
+
     def plat_of(self, fields: Sequence[Any]) -> Found:
         """Return the plat of a record, or the reason that there is none."""
         ...
@@ -31,6 +39,10 @@ class OnePlat:
 
     def __init__(self, plat: Plat) -> None:
         self._plat = plat
+        self.first_meridian = ""
+
+    def find_first_meridian(self, records: Sequence[Record]) -> None:
+        """Do nothing: meridians do not matter."""
 
     def plat_of(self, fields: Sequence[Any]) -> Found:
         """Return the plat."""
@@ -62,8 +74,18 @@ class FolderPlats:
         self._key = key
         self._shown = shown(folder.name)
         self._by_meridian = key.meridian is not None and any(folder.meridians)
-        self._only_meridian = ""
+        self.first_meridian = ""
         self._remembered = functools.lru_cache(maxsize=_SPELLINGS)(self._find)
+
+    def find_first_meridian(self, records: Sequence[Record]) -> None:
+        """Look for the first meridian in records whose plats are not asked for here."""
+        if self._by_meridian or self._key.meridian is None:
+            return
+        for record in records:
+            if self.first_meridian:
+                return
+            if not record.fault:
+                self.plat_of(record.fields)
 
     def plat_of(self, fields: Sequence[Any]) -> Found:
         """Return the plat of a record, or the reason that there is none."""
@@ -103,11 +125,11 @@ class FolderPlats:
 
     def _townships_on_one(self, meridian: str) -> Union[Townships, str]:
         """Return all townships. If the list has meridians, they are on the first one that a record names."""
-        self._only_meridian = self._only_meridian or meridian
-        if meridian_key(meridian) not in ("", meridian_key(self._only_meridian)):
+        self.first_meridian = self.first_meridian or meridian
+        if meridian_key(meridian) not in ("", meridian_key(self.first_meridian)):
             return (
                 f"the township is on another principal meridian, `{meridian}` and not "
-                f"`{self._only_meridian}`: {self._shown} needs a folder for each"
+                f"`{self.first_meridian}`: {self._shown} needs a folder for each"
             )
         return next(iter(self._folder.meridians.values()), {})
 

@@ -45,7 +45,7 @@ class _Lines:
 
 
 def records_of(headed: Headed, column: int) -> Iterator[Record]:
-    """Yield the records after the heading. Empty lines are skipped.
+    """Yield the records after the heading. Records without any text are skipped.
 
     If the quotation marks of a record are not well formed, its first line alone is a record with a fault. The
     text of the line is then in the column with this index, and the next record begins on the next line.
@@ -59,8 +59,12 @@ def records_of(headed: Headed, column: int) -> Iterator[Record]:
         reader = csv.reader(lines, delimiter=headed.separator, strict=True)
         try:
             for row in reader:
-                if row:
-                    yield _record(row, width, line)
+                if not any(row):
+                    pass
+                elif len(row) == width:
+                    yield Record(row, line)
+                else:
+                    yield _uneven_record(row, lines.taken[-1], line, width, column)
                 line += len(lines.taken)
                 lines.taken.clear()
             return
@@ -71,12 +75,28 @@ def records_of(headed: Headed, column: int) -> Iterator[Record]:
             line += 1
 
 
-def _record(row: List[str], width: int, line: int) -> Record:
-    """Return the record of a row, which should have this many fields."""
-    if len(row) == width:
-        return Record(row, line)
+def _uneven_record(row: List[str], last_line: str, line: int, width: int, column: int) -> Record:
+    """Return the record of a row that has not as many fields as the heading, which is this wide.
+
+    The description is in the column with this index, and `last_line` is the last line of the row.
+    """
+    fields = (row + [""] * width)[:width]
+    # In some rows, Excel leaves out the fields at the end that are empty.
+    if len(row) < width and _has_whole(row, column, last_line):
+        return Record(fields, line)
     count = "1 field" if len(row) == 1 else f"{len(row)} fields"
     fault = f"line {line} has {count}, but the heading has {width}"
     if len(row) > width:
         fault += "; put a description that contains a separator in quotation marks"
-    return Record((row + [""] * width)[:width], line, fault)
+    elif len(row) == column + 1:
+        fault += "; put the description in quotation marks if it is whole"
+    return Record(fields, line, fault)
+
+
+def _has_whole(row: List[str], column: int, last_line: str) -> bool:
+    """Return whether the field with this index is whole: another follows it, or it is quoted.
+
+    Otherwise it could go on in the next line, after a line break that should be in quotation marks.
+    """
+    after = len(row) - column - 1
+    return after > 0 or (after == 0 and last_line.rstrip("\r\n").endswith('"'))

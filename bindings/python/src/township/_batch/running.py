@@ -3,7 +3,8 @@ from __future__ import annotations
 
 import os
 import sys
-from typing import List, Optional
+from contextlib import nullcontext
+from typing import TYPE_CHECKING, ContextManager, List, Optional, Sequence
 
 from .._text import shown
 from .answers import Answers
@@ -14,9 +15,12 @@ from .options import Options
 from .plats import FolderPlats, Key, OnePlat, Plats
 from .progress import bar_of, watched
 from .resuming import Earlier
-from .sinks import sink_for
+from .sinks import CsvSink, sink_for
 from .source import Source, source_of
 from .stopped import Status, Stopped
+
+if TYPE_CHECKING:
+    from .workers import Workers
 
 
 def run_batch(options: Options) -> Status:
@@ -24,8 +28,8 @@ def run_batch(options: Options) -> Status:
 
     If it is interrupted, the answers so far are written.
     """
-    _check_output(options)
     notes = _Notes(options)
+    _check_output(options.output, [options.list, *notes.files])
     with source_of(options) as source:
         answers = Answers(notes.plats_for(source, options), source.column, options.account)
         try:
@@ -37,15 +41,21 @@ def run_batch(options: Options) -> Status:
     _say(notes.refused + _remarks(answers, options, interrupted))
     if interrupted:
         return Status.INTERRUPTED
-    return Status.REFUSED if answers.refused or notes.refused else Status.ACCEPTED
+    return Status.REFUSED if answers.counts.refused or notes.refused else Status.ACCEPTED
 
 
 class _Notes:
     """The field notes that the command line names: a file, or a folder."""
 
     def __init__(self, options: Options) -> None:
+        self._name = options.notes
         self._plat = plat_in(options.notes) if options.notes is not None else None
         self._folder = Folder(options.plats) if options.plats is not None else None
+
+    @property
+    def files(self) -> List[str]:
+        """The files of field notes."""
+        return self._folder.files if self._folder else list(filter(None, [self._name]))
 
     @property
     def refused(self) -> List[str]:
@@ -69,13 +79,12 @@ def _meridian_in(source: Source, options: Options) -> Optional[int]:
     return column_in(source.heading, options.meridian, "--meridian", source.place)
 
 
-def _check_output(options: Options) -> None:
+def _check_output(output: Optional[str], inputs: Sequence[str]) -> None:
     """Stop if the output would overwrite an input."""
-    if options.output is None or not os.path.exists(options.output):
+    if output is None or not os.path.exists(output):
         return
-    for name in (options.list, options.notes):
-        if name is not None and os.path.exists(name) and os.path.samefile(name, options.output):
-            raise Stopped(f"township: {shown(options.output)}: the output must not be one of the inputs")
+    if any(os.path.exists(name) and os.path.samefile(name, output) for name in inputs):
+        raise Stopped(f"township: {shown(output)}: the output must not be one of the inputs")
 
 
 def _answer(source: Source, answers: Answers, options: Options, interrupts: Interrupts) -> None:
@@ -85,35 +94,51 @@ def _answer(source: Source, answers: Answers, options: Options, interrupts: Inte
     begun = False
     if options.resume and options.output is not None:
         earlier = Earlier(options.output, heading, source.separator)
-        for record, added in earlier.skipped(records, len(source.heading)):
-            answers.count_earlier(record, added)
+        earlier.skip(records, answers, len(source.heading))
         begun = earlier.begun
-    sink = sink_for(options.output, source.separator, append=begun)
-    bar = bar_of(source.size)
-    try:
-        if not begun:
-            sink.write(heading)
-        for record in watched(records, bar, source.position if source.size else None):
-            sink.write(record.fields + answers.added_to(record))
-    finally:
-        bar.close()
-        sink.close()
+    # They are forked before the output is opened, so that they have no part of it to write.
+    with _workers(options.jobs, answers, source.separator) as workers:
+        sink = sink_for(options.output, source.separator, source.mark, append=begun)
+        bar = bar_of(source.size)
+        try:
+            if not begun:
+                sink.write(heading)
+            records = watched(records, bar, source.position if source.size else None)
+            if workers is not None and isinstance(sink, CsvSink):
+                workers.write_answers(records, answers, sink)
+            else:
+                for record in records:
+                    sink.write(record.fields + answers.added_to(record))
+        finally:
+            bar.close()
+            sink.close()
+
+
+def _workers(jobs: int, answers: Answers, separator: str) -> ContextManager[Optional[Workers]]:
+    """Return the processes that answer records in place of this one, if there are any."""
+    if jobs == 1:
+        return nullcontext()
+    # Importing what starts processes takes time.
+    from .workers import Workers
+
+    return Workers(jobs, answers, separator)
 
 
 def _remarks(answers: Answers, options: Options, interrupted: bool) -> List[str]:
     """Return what there is to say at the end."""
     remarks = []
-    if answers.undecoded and options.encoding == "utf-8":
-        verb = "is" if answers.undecoded == 1 else "are"
+    counts = answers.counts
+    if counts.undecoded and options.encoding == "utf-8":
+        verb = "is" if counts.undecoded == 1 else "are"
         remarks.append(
-            f"township: {answers.undecoded} of the descriptions {verb} not UTF-8; if the list is in "
+            f"township: {counts.undecoded} of the descriptions {verb} not UTF-8; if the list is in "
             "Windows-1252, add --encoding windows-1252"
         )
-    count = answers.accepted + answers.refused
+    count = counts.accepted + counts.refused
     if interrupted:
         remarks.append(f"township: interrupted after {count} records")
     elif sys.stderr.isatty():
-        remarks.append(f"township: {count} records: {answers.accepted} accepted, {answers.refused} not")
+        remarks.append(f"township: {count} records: {counts.accepted} accepted, {counts.refused} not")
     return remarks
 
 

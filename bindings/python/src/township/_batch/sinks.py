@@ -2,10 +2,12 @@
 from __future__ import annotations
 
 import csv
-from typing import Any, Optional, Protocol, Sequence, TextIO
+import io
+from typing import Any, Iterable, Optional, Protocol, Sequence, TextIO
 
 from .stopped import writing
-from .workbook import WorkbookSink, is_workbook
+from .workbook import is_workbook
+from .workbook_sink import WorkbookSink
 
 _CRLF = "\r\n"
 
@@ -25,17 +27,20 @@ class Sink(Protocol):
         ...
 
 
-def sink_for(name: Optional[str], separator: str, append: bool = False) -> Sink:
-    """Return the sink for a file, or for standard output if there is no name."""
+def sink_for(name: Optional[str], separator: str, mark: str = "", append: bool = False) -> Sink:
+    """Return the sink for a file, or for standard output if there is no name.
+
+    A new CSV file begins with the byte order mark, if there is one.
+    """
     if name is not None and is_workbook(name):
         return WorkbookSink(name)
-    return CsvSink(name, separator, append)
+    return CsvSink(name, separator, mark, append)
 
 
 class CsvSink:
     """Writes records as UTF-8, preserving other bytes of the list. Each record ends with a line feed."""
 
-    def __init__(self, name: Optional[str], separator: str, append: bool = False) -> None:
+    def __init__(self, name: Optional[str], separator: str, mark: str = "", append: bool = False) -> None:
         self._name = name or ""
         with writing(self._name):
             self._file: TextIO = open(
@@ -46,8 +51,9 @@ class CsvSink:
                 newline="",
                 closefd=name is not None,
             )
-        lines = _LineFeeds(self._file)
-        self._write = csv.writer(lines, delimiter=separator, lineterminator=_CRLF).writerow
+            if not append:
+                self._file.write(mark)
+        self._write = _writer_to(self._file, separator).writerow
 
     def write(self, fields: Sequence[Any]) -> None:
         """Write a record."""
@@ -57,10 +63,26 @@ class CsvSink:
             with writing(self._name):
                 raise error
 
+    def write_text(self, text: str) -> None:
+        """Write records that are CSV already."""
+        with writing(self._name):
+            self._file.write(text)
+
     def close(self) -> None:
         """Write everything that has not been written yet."""
         with writing(self._name):
             self._file.close()
+
+
+def csv_text(rows: Iterable[Sequence[Any]], separator: str) -> str:
+    """Return records as a CSV file has them."""
+    text = io.StringIO(newline="")
+    _writer_to(text, separator).writerows(rows)
+    return text.getvalue()
+
+
+def _writer_to(file: TextIO, separator: str) -> Any:
+    return csv.writer(_LineFeeds(file), delimiter=separator, lineterminator=_CRLF)
 
 
 class _LineFeeds:

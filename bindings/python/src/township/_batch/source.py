@@ -7,13 +7,14 @@ from contextlib import contextmanager
 from typing import Callable, Iterator, List, NamedTuple, Optional
 
 from .._text import shown
+from .cells import text_of
 from .columns import column_in
-from .decoding import Counted, decoded
-from .options import STANDARD_INPUT, Options
+from .decoding import Counted, decoded, is_another_format, mark_of
+from .options import STANDARD, Options
 from .records import Record, records_of
 from .separators import headed
-from .stopped import reading
-from .workbook import is_workbook, text_of, workbook_rows
+from .stopped import Stopped, reading
+from .workbook import is_workbook, workbook_rows
 
 #: The file descriptor of standard input.
 _INPUT = 0
@@ -27,6 +28,8 @@ class Source(NamedTuple):
     column: int
     #: The character between fields, which the answers have as well.
     separator: str
+    #: The byte order mark at the beginning, which the answers have as well, or nothing.
+    mark: str
     records: Iterator[Record]
     #: The file and the line of the heading.
     place: str
@@ -41,23 +44,37 @@ def source_of(options: Options) -> Iterator[Source]:
     if is_workbook(options.list):
         yield _workbook(options)
         return
-    name = "standard input" if options.list == STANDARD_INPUT else options.list
+    name = "standard input" if options.list == STANDARD else options.list
     with reading(name):
         file = _opened(options.list)
         size = os.fstat(file.fileno()).st_size or None
         counted = Counted(file)
+    if is_another_format(counted):
+        raise Stopped(
+            f"township: {shown(name)}: this is not CSV; save the list as CSV, or as a workbook whose name "
+            "ends in .xlsx"
+        )
     with decoded(counted, options.encoding) as text:
         with reading(name):
             found = headed(iter(text), options.column)
         place = f"{shown(name)}:{max(found.line, 1)}"
         column = column_in(found.heading, options.column, "--column", place)
         records = _reading_records(name, records_of(found, column))
-        yield Source(found.heading, column, found.separator, records, place, size, lambda: counted.position)
+        yield Source(
+            heading=found.heading,
+            column=column,
+            separator=found.separator,
+            mark=mark_of(counted),
+            records=records,
+            place=place,
+            size=size,
+            position=lambda: counted.position,
+        )
 
 
 def _opened(name: str) -> io.FileIO:
     """Open a file, or standard input, which stays open when the result is closed."""
-    if name == STANDARD_INPUT:
+    if name == STANDARD:
         return open(_INPUT, "rb", buffering=0, closefd=False)
     return open(name, "rb", buffering=0)
 
@@ -69,7 +86,7 @@ def _workbook(options: Options) -> Source:
         records = (record._replace(fields=list(map(text_of, record.fields))) for record in records)
     place = f"{shown(options.list)}:{line}"
     column = column_in(heading, options.column, "--column", place)
-    return Source(heading, column, ",", records, place, None, lambda: 0)
+    return Source(heading, column, ",", "", records, place, size=None, position=lambda: 0)
 
 
 def _reading_records(name: str, records: Iterator[Record]) -> Iterator[Record]:

@@ -1,13 +1,14 @@
-"""Lists and answers in workbooks of Excel (`.xlsx`), for which the package `openpyxl` is needed."""
+"""Lists in workbooks of Excel (`.xlsx`), for which the package `openpyxl` is needed."""
 from __future__ import annotations
 
-import zipfile
-from decimal import Decimal
-from typing import Any, Iterator, List, Sequence, Tuple
+import warnings
+from contextlib import closing, contextmanager
+from typing import Any, Iterator, List, NamedTuple, Sequence
 
 from .._text import shown
+from .cells import text_of
 from .records import Record
-from .stopped import Stopped, reading, writing
+from .stopped import Stopped, reading
 
 _SUFFIX = ".xlsx"
 
@@ -17,8 +18,8 @@ def is_workbook(name: str) -> bool:
     return name.lower().endswith(_SUFFIX)
 
 
-def _openpyxl(name: str) -> Any:
-    """Return the package, or stop if it is not installed."""
+def openpyxl_for(name: str) -> Any:
+    """Return the package `openpyxl`, or stop if it is not installed. `name` is the workbook's."""
     try:
         import openpyxl
     except ImportError:
@@ -26,22 +27,70 @@ def _openpyxl(name: str) -> Any:
             f"township: {shown(name)}: a workbook takes the Python package openpyxl (on Debian, "
             "python3-openpyxl); or save the list as CSV"
         ) from None
+    # It warns of what it does not read, such as the lists of values that cells offer.
+    warnings.filterwarnings("ignore", category=UserWarning, module="openpyxl")
     return openpyxl
 
 
-def workbook_rows(name: str) -> Tuple[List[str], int, Iterator[Record]]:
-    """Read the active sheet of a workbook: its heading, the row of the heading, and its records."""
-    openpyxl = _openpyxl(name)
-    with reading(name):
-        try:
-            book = openpyxl.load_workbook(name, read_only=True, data_only=True)
-        except (openpyxl.utils.exceptions.InvalidFileException, zipfile.BadZipFile, KeyError, ValueError):
-            raise Stopped(f"township: cannot read {shown(name)}: this is not a workbook") from None
-    rows = enumerate(book.active.iter_rows(values_only=True), start=1)
-    filled = ((line, _without_end(row)) for line, row in rows)
-    present = ((line, row) for line, row in filled if row)
-    line, heading = next(present, (1, []))
-    return [text_of(cell) for cell in heading], line, (_record(row, len(heading), at) for at, row in present)
+class Row(NamedTuple):
+    """A row of a sheet that is not empty, without the empty cells at its end."""
+
+    cells: List[Any]
+    #: Its number, counted from 1.
+    number: int
+
+
+class HeadedRows(NamedTuple):
+    """A sheet whose heading has been read."""
+
+    heading: List[str]
+    #: The number of the row that is the heading.
+    line: int
+    records: Iterator[Record]
+
+
+def workbook_rows(name: str) -> HeadedRows:
+    """Read a workbook: its heading, and the records of the sheet that is shown when it is opened."""
+    rows = _rows_of(name)
+    heading = next(rows, Row([], 1))
+    records = (_record(row, len(heading.cells)) for row in rows)
+    return HeadedRows(list(map(text_of, heading.cells)), heading.number, records)
+
+
+def _rows_of(name: str) -> Iterator[Row]:
+    """Yield the rows of a workbook's sheet."""
+    openpyxl = openpyxl_for(name)
+    with _reading_workbook(name, "this is not a workbook"):
+        book = openpyxl.load_workbook(name, read_only=True, data_only=True)
+        sheet = _sheet_of(book)
+        if sheet is None:
+            raise Stopped(f"township: {shown(name)}: there is no sheet of cells in this workbook")
+    with closing(book), _reading_workbook(name, "the workbook is damaged"):
+        # Some programs write a wrong size, outside which cells would not be read.
+        sheet.reset_dimensions()
+        for number, row in enumerate(sheet.iter_rows(values_only=True), start=1):
+            cells = _without_end(row)
+            if cells:
+                yield Row(cells, number)
+
+
+@contextmanager
+def _reading_workbook(name: str, fault: str) -> Iterator[None]:
+    """Report any failure in the block as one to read a workbook, with this fault."""
+    try:
+        with reading(name):
+            yield
+    except (Stopped, MemoryError):
+        raise
+    except Exception as error:
+        # A file that is damaged raises more than `openpyxl` documents: errors of zip, XML, and its own.
+        raise Stopped(f"township: cannot read {shown(name)}: {fault}") from error
+
+
+def _sheet_of(book: Any) -> Any:
+    """Return the sheet that is shown when a workbook is opened or, if that is a chart, the first of cells."""
+    sheets = book.worksheets
+    return book.active if book.active in sheets else next(iter(sheets), None)
 
 
 def _without_end(row: Sequence[Any]) -> List[Any]:
@@ -52,49 +101,8 @@ def _without_end(row: Sequence[Any]) -> List[Any]:
     return cells
 
 
-def _record(row: List[Any], width: int, line: int) -> Record:
+def _record(row: Row, width: int) -> Record:
     """Return the record of a row, whose last cells may be empty."""
-    fault = f"row {line} has {len(row)} cells, but the heading has {width}" if len(row) > width else ""
-    return Record((row + [None] * width)[:width], line, fault)
-
-
-def text_of(cell: Any) -> str:
-    """Return the text of a cell: of a number as it is shown, and of a date in the form 2026-01-31."""
-    if cell is None:
-        return ""
-    if isinstance(cell, float) and cell.is_integer():
-        return str(int(cell))
-    return str(cell.isoformat()) if hasattr(cell, "isoformat") else str(cell)
-
-
-class WorkbookSink:
-    """Writes records to a new workbook, which is saved when it is closed."""
-
-    def __init__(self, name: str) -> None:
-        openpyxl = _openpyxl(name)
-        self._name = name
-        self._book = openpyxl.Workbook(write_only=True)
-        self._sheet = self._book.create_sheet("answers")
-        self._cell = openpyxl.cell.WriteOnlyCell
-        self._illegal = openpyxl.cell.cell.ILLEGAL_CHARACTERS_RE
-
-    def write(self, fields: Sequence[Any]) -> None:
-        """Write a record, each number as a number."""
-        self._sheet.append([self._cell_of(field) for field in fields])
-
-    def _cell_of(self, field: Any) -> Any:
-        if isinstance(field, str):
-            # A text that begins with `=` is not a formula. A workbook cannot contain some control characters.
-            text = self._illegal.sub(lambda found: ascii(found.group())[1:-1], field)
-            cell = self._cell(self._sheet, value=text.encode("utf-8", "backslashreplace").decode())
-            cell.data_type = "s"
-            return cell
-        cell = self._cell(self._sheet, value=field)
-        if isinstance(field, Decimal):
-            cell.number_format = "0.00"
-        return cell
-
-    def close(self) -> None:
-        """Save the workbook."""
-        with writing(self._name):
-            self._book.save(self._name)
+    cells, number = row
+    fault = f"row {number} has {len(cells)} cells, but the heading has {width}" if len(cells) > width else ""
+    return Record((cells + [None] * width)[:width], number, fault)
