@@ -2,9 +2,7 @@
 # Checks that need no proofs and take seconds: the layout of definitions and proofs, and that each wrong body kept for
 # releases still fits the code. `make test` begins with them, so that they don't fail after an hour of proofs. The last
 # line is 'N passed, M failed'.
-set -u
-root=$(readlink -f "$(dirname "$0")/..")
-. "$root/tests/lib.sh"
+. "$(dirname "$0")/lib.sh"
 cd "$root" || exit 1
 if python=$(python_with argparse); then
     try 'the layout of definitions and proofs' "$python" tools/wrap_proofs.py --check
