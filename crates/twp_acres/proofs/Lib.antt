@@ -17,3 +17,4 @@ pub mod OnPlatFacts
 pub mod OneNormal
 pub mod OwnText
 pub mod FinerPlaces
+pub mod LandAnswers

@@ -11,6 +11,8 @@ pub mod NormalAnswers
 pub mod NormalLaws
 pub mod PlatReading
 pub mod OnPlats
+pub mod OnLands
+pub mod OnLandLaws
 pub mod OnPlatLaws
 pub mod Laws
 pub mod FinerPlaces

@@ -6,6 +6,7 @@ ghost use Rattle.twp_acres.specs.Laws.{OneAnswerBy};
 ghost use Rattle.twp_acres.specs.OnPlatLaws.{AcresOnAreOfNotes, NormalOnIsOfNotes, OneAreaOn};
 ghost use Rattle.twp_acres.specs.OnPlatLaws.{TextOfPlatIsOfNotes, RefusalOnIsOfNotes};
 ghost use Rattle.twp_acres.specs.OnPlatLaws.{AnsweredOrRefusedOn};
+ghost use Rattle.twp_acres.specs.OnLandLaws.{AcresOnAreOfLand, TextOfLandIsItsDescription};
 ghost use Rattle.twp_acres.specs.NormalLaws.{NormalTextIsItsOwn, LongNormalTextIsRefused};
 ghost use Rattle.twp_acres.specs.FinerPlaces.{FinerPlacesKeepAll, FinerPlacesKeepPlatAreas};
 ghost use Rattle.twp_acres.specs.FinerPlaces.{ThirtySecondsKeepAll};
@@ -86,6 +87,17 @@ pub fn answered_or_refused_on()
 /// A description has only one area on a plat by each account.
 pub fn one_area_on()
     ensures { OneAreaOn }
+{}
+
+/// The acreage of a description on a plat is that of its land.
+pub fn acres_on_are_of_land()
+    ensures { AcresOnAreOfLand }
+{}
+
+/// If land is not empty, and its canonical text is no longer than descriptions can be, the text is
+/// a description of that land.
+pub fn text_of_land_is_its_description()
+    ensures { TextOfLandIsItsDescription }
 {}
 
 /// The same field notes and list of tracts always have one account and one verdict.

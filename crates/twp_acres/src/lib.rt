@@ -7,6 +7,7 @@ mod answer;
 pub mod laws;
 mod names;
 mod normal_answer;
+mod on_land;
 mod on_plat;
 mod plat_answer;
 mod report_answer;
@@ -21,6 +22,7 @@ mod tracts;
 mod verdict;
 mod writing;
 
+pub use on_land::{acres_of, land_of};
 pub use on_plat::{account_on, acres_on, area_on, normal_on};
 pub use plat_answer::print_plat;
 pub use running::{
