@@ -17,7 +17,7 @@ use Rattle.twp_read.proofs.OneAnswer as texts
 use Rattle.twp_resolve.proofs.PlaceAnswers as lands
 use Rattle.twp_acres.specs.Answers.{ArePlatted, Describe, IsLandOnPlat, AreRefused, IsNoDescription}
 use Rattle.twp_acres.specs.Answers.{IsNoPlat, IsRefusal}
-use Rattle.twp_acres.specs.AcresAnswers.{AreHundredthsOf, HasAcres, IsAcresAnswer}
+use Rattle.twp_acres.specs.Answers.{AreHundredthsOf, HasAcres, IsAcresAnswer}
 use Rattle.twp_acres.specs.Laws.{OneAnswerOfLand}
 use Rattle.twp_acres.specs.declared.verdict.Verdict.{Verdict}
 use Rattle.twp_acres.specs.declared.verdict.Verdict.TheVariants.{Accepted, Refused, TractRefused}

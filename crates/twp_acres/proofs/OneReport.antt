@@ -6,7 +6,7 @@ use Rattle.twp_grid.specs.Townships.{Designation}
 use Rattle.twp_notes.specs.Records.{Fields, record_at}
 use Rattle.twp_plat.specs.Plats.{TownshipPlat}
 use Rattle.twp_acres.specs.Answers.{IsNoDescription}
-use Rattle.twp_acres.specs.AcresAnswers.{AreHundredthsOf}
+use Rattle.twp_acres.specs.Answers.{AreHundredthsOf}
 use Rattle.twp_acres.specs.Tracts.{tract_records, name_in, description_in, IsTractList}
 use Rattle.twp_acres.specs.TractFaults.{HasTractFault, IsFirstTractFault, IsFrom, record_of}
 use Rattle.twp_acres.specs.TractFaults.{turn_of, verdict_of}

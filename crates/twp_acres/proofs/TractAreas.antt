@@ -7,7 +7,7 @@ use Rattle.twp_grid.proofs.TotalFacts.{total-all_zero}
 use Rattle.twp_land.specs.Lands.{no_places, union, SharePlace}
 use Rattle.twp_plat.specs.Plats.{TownshipPlat}
 use Rattle.twp_plat.specs.Pieces.{over_of}
-use Rattle.twp_plat.specs.PlatAreas.{ArePieces}
+use Rattle.twp_plat.specs.Pieces.{ArePieces}
 use Rattle.twp_area.specs.steps.Bounds.{OF_POSITION}
 use Rattle.twp_area.specs.LandAreas.{section_sum, township_sum, IsLandArea}
 use Rattle.twp_area.specs.Laws.{township_places}

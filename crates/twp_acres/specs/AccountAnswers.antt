@@ -5,7 +5,7 @@ use Rattle.twp_measure.specs.Areas.{Fraction, IsRounded}
 use Rattle.twp_grid.specs.Places.{PLACE_DIGITS}
 use Rattle.twp_plat.specs.Plats.{TownshipPlat}
 use Rattle.twp_acres.specs.Answers.{AnswersRefusal, IsLandOnPlat, IsRefusal}
-use Rattle.twp_acres.specs.AcresAnswers.{HasAcres, acres_line}
+use Rattle.twp_acres.specs.Answers.{HasAcres, acres_line}
 use Rattle.twp_area.specs.PlatAccounts.{IsPlatArea}
 use Rattle.twp_acres.specs.Runs.{AnswerRelation}
 use Rattle.twp_area.specs.declared.account.Account.{Account}

@@ -1,22 +1,25 @@
 -- What the answers of runs rest on: the plat that field notes make, the land of a description on
--- it, and the first fault of all other bytes.
+-- it, the first fault of all other bytes, and the acreage of the land.
 use Rattle.std.specs.Prelude.{◌≡◌, ◌⊎◌, ℕ, List, [], ◌∷◌, ◌++◌, Bool, Some, codes, decimal}
 use Rattle.twp_grid.specs.Places.{PLACE_DIGITS}
-use Rattle.twp_grid.specs.Townships.{Designation}
+use Rattle.twp_grid.specs.Townships.{Designation, line_feed}
 use Rattle.twp_grid.specs.declared.refusal.Refusal.{Refusal}
-use Rattle.twp_grid.specs.Texts.{line_feed}
 use Rattle.twp_notes.specs.FieldNotes.{FieldNotes, AreNotes}
-use Rattle.twp_notes.specs.NotesFaults as notes_faults
 use Rattle.twp_notes.specs.declared.fault.NotesFault.{NotesFault}
 use Rattle.twp_plat.specs.Plats.{TownshipPlat, IsPlatOf}
-use Rattle.twp_plat.specs.PlatFaults as plat_faults
 use Rattle.twp_plat.specs.declared.fault.PlatFault.{PlatFault}
-use Rattle.twp_read.specs.TextFaults as text_faults
 use Rattle.twp_read.specs.TextFaults.{IsReadAs}
 use Rattle.twp_read.specs.declared.fault.TextFault.{TextFault}
-use Rattle.twp_resolve.specs.PlaceFaults as place_faults
 use Rattle.twp_grammar.specs.declared.item.Item.{Item}
 use Rattle.twp_resolve.specs.declared.place_fault.PlaceFault.{PlaceFault}
+use Rattle.twp_measure.specs.Areas.{Fraction, IsRounded, acres_text}
+use Rattle.twp_area.specs.LandAreas.{IsLandArea}
+use Rattle.twp_acres.specs.declared.verdict.Verdict.{Verdict}
+use Rattle.twp_acres.specs.declared.verdict.Verdict.TheVariants.{Accepted, Refused, TractRefused}
+use Rattle.twp_notes.specs.NotesFaults as notes_faults
+use Rattle.twp_plat.specs.PlatFaults as plat_faults
+use Rattle.twp_read.specs.TextFaults as text_faults
+use Rattle.twp_resolve.specs.PlaceFaults as place_faults
 
 -- the bytes are field notes that make this plat
 pub record ArePlatted (bytes : List ℕ) (plat : TownshipPlat) : Type 0 where
@@ -103,3 +106,31 @@ refusal_line refusal =
 -- the refusal has this property, and the answer is its line
 abbrev pub AnswersRefusal : (Refusal → Type 0) → Refusal → List ℕ → Type 0
 AnswersRefusal Is refusal answer = Is refusal × (answer ≡ refusal_line refusal)
+
+-- The hundredths of an acre of a set of places on a plat: its exact area, rounded once, half up.
+pub record AreHundredthsOf (plat : TownshipPlat) (places : ℕ → ℕ → ℕ → Bool) (hundredths : ℕ)
+    : Type 0 where
+  pub area : Fraction
+  pub area_is : IsLandArea PLACE_DIGITS plat places area
+  pub rounded : IsRounded area hundredths
+
+-- the notes make a plat, the description names land on it, and these are the land's hundredths of
+-- an acre
+pub record HasAcres (notes description : List ℕ) (hundredths : ℕ) : Type 0 where
+  pub plat : TownshipPlat
+  pub places : ℕ → ℕ → ℕ → Bool
+  pub land : IsLandOnPlat notes description plat places
+  pub acres : AreHundredthsOf plat places hundredths
+
+-- the line of acres, such as `40.45 acres`
+abbrev pub acres_line : ℕ → List ℕ
+acres_line hundredths = acres_text hundredths ++ codes " acres" ++ line_feed ∷ []
+
+-- The acres of the land described, if the notes make a plat and the description's parts lie on it
+-- without overlapping; otherwise the refusal of the first fault.
+abbrev pub IsAcresAnswer : List ℕ → List ℕ → List ℕ → Verdict → Type 0
+IsAcresAnswer notes description answer Accepted =
+    (hundredths : ℕ) × HasAcres notes description hundredths × (answer ≡ acres_line hundredths)
+IsAcresAnswer notes description answer (Refused refusal) =
+    AnswersRefusal (IsRefusal notes description) refusal answer
+IsAcresAnswer notes description answer (TractRefused at inner) = ⊥

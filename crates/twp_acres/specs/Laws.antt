@@ -3,7 +3,7 @@ use Rattle.std.specs.Prelude.{◌≡◌, ℕ, List, Bool}
 use Rattle.twp_plat.specs.Plats.{TownshipPlat}
 use Rattle.twp_area.specs.declared.account.Account.{Account}
 use Rattle.twp_acres.specs.Answers.{IsLandOnPlat}
-use Rattle.twp_acres.specs.AcresAnswers.{IsAcresAnswer}
+use Rattle.twp_acres.specs.Answers.{IsAcresAnswer}
 use Rattle.twp_acres.specs.AccountAnswers.{IsAcresAnswerBy}
 use Rattle.twp_acres.specs.PlatAnswers.{IsPlatAnswer}
 use Rattle.twp_acres.specs.NormalAnswers.{IsNormalAnswer}

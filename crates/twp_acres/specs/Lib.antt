@@ -1,5 +1,4 @@
 pub mod Answers
-pub mod AcresAnswers
 pub mod Runs
 pub mod PlatAnswers
 pub mod Tracts

@@ -1,9 +1,9 @@
 -- The answer of the plat run: the printed plat, or the refusal.
 use Rattle.std.specs.Prelude.{◌≡◌, ℕ, zero, suc, List, [], ◌∷◌, ◌++◌, codes, decimal}
-use Rattle.twp_measure.specs.Acres.{acres_text}
+use Rattle.twp_measure.specs.Areas.{acres_text}
 use Rattle.twp_grid.specs.Winding.{SECTION_COUNT}
 use Rattle.twp_grid.specs.Lots.{number_of_lots}
-use Rattle.twp_grid.specs.Texts.{line_feed}
+use Rattle.twp_grid.specs.Townships.{line_feed}
 use Rattle.twp_plat.specs.Plats.{TownshipPlat}
 use Rattle.twp_area.specs.PlatFigures.{PlatFigures, AreFigures}
 use Rattle.twp_acres.specs.Answers.{AnswersRefusal, ArePlatted, IsNoPlat}

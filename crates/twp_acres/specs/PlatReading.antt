@@ -3,7 +3,7 @@ use Rattle.std.specs.Prelude.{◌≡◌, ◌≢◌, ◌↔◌, ℕ, ◌+◌, tru
 use Rattle.std.specs.Prelude.{IsErrOf, ⊤}
 use Rattle.twp_grid.specs.Devices.{TakesAtMost}
 use Rattle.twp_grid.specs.declared.refusal.Refusal.{Refusal}
-use Rattle.twp_notes.specs.ReadBytes.{TakesFirst}
+use Rattle.twp_grid.specs.Devices.{TakesFirst}
 use Rattle.twp_plat.specs.Plats.{TownshipPlat}
 use Rattle.twp_acres.specs.Answers.{ArePlatted, IsNoPlat}
 use Rattle.twp_acres.specs.Runs.{Use}

@@ -4,7 +4,7 @@ use Rattle.std.specs.Prelude.{take, Option, Some, Result, Ok, Err, IfOk, IsErrOf
 use Rattle.std.specs.Io.KnownBytes.{Appends, Keeps}
 use Rattle.twp_grid.specs.Devices.{Tells, TakesAtMost}
 use Rattle.twp_notes.specs.FieldNotes.{NOTES_MOST}
-use Rattle.twp_notes.specs.ReadBytes.{TakesFirst}
+use Rattle.twp_grid.specs.Devices.{TakesFirst}
 use Rattle.twp_acres.specs.Answers.{MakePlat}
 use Rattle.twp_acres.specs.declared.verdict.Verdict.{Verdict}
 use Rattle.twp_acres.specs.declared.verdict.RunFault.{RunFault}

@@ -1,6 +1,6 @@
 ghost use Rattle.std.specs.Prelude.{◌≡◌, ◌++◌, OnOk, IfOk, IfErr};
 ghost use Rattle.twp_acres.specs.Answers.{refusal_line};
-ghost use Rattle.twp_acres.specs.AcresAnswers.{acres_line};
+ghost use Rattle.twp_acres.specs.Answers.{acres_line};
 ghost use Rattle.twp_acres.specs.steps.Stops.{AnswersStop};
 
 use crate::stop::Stop;

@@ -8,10 +8,10 @@ use Rattle.twp_measure.specs.Areas.{Fraction, IsArea, HUNDREDTH_OF_AN_ACRE}
 use Rattle.twp_grid.specs.Lots.{IsPosition, position_of_lot}
 use Rattle.twp_grid.specs.Places.{PLACE_DIGITS}
 use Rattle.twp_grid.specs.Spans.{whole_block}
-use Rattle.twp_grid.specs.Totals.{total}
+use Rattle.twp_grid.specs.Spans.{total}
 use Rattle.twp_grid.proofs.TotalFacts.{total-next, total-zero}
 use Rattle.twp_land.specs.Lands.{no_places, Meets, LieWithin}
-use Rattle.twp_land.specs.WholeLots.{HasWholeLots}
+use Rattle.twp_land.specs.Lands.{HasWholeLots}
 use Rattle.twp_land.proofs.LandRanges.{nothing_within}
 use Rattle.twp_plat.specs.Plats.{TownshipPlat, IsPlat}
 use Rattle.twp_area.specs.LandAreas.{section_sum, township_sum}

@@ -8,14 +8,14 @@ use Rattle.twp_measure.specs.Areas.{Fraction}
 use Rattle.twp_grid.specs.Winding.{SECTION_COUNT, IsSection}
 use Rattle.twp_grid.specs.Lots.{POSITIONS_ACROSS}
 use Rattle.twp_grid.specs.Places.{places_across, places_to_position, position_along}
-use Rattle.twp_grid.specs.Totals.{total, total_over}
+use Rattle.twp_grid.specs.Spans.{total, total_over}
 use Rattle.twp_grid.specs.Spans.{whole_block}
 use Rattle.twp_grid.proofs.TotalFacts.{total-ext, total-both}
 use Rattle.twp_grid.proofs.TilingFacts.{one_position}
 use Rattle.twp_land.specs.Lands.{union}
 use Rattle.twp_plat.specs.Plats.{TownshipPlat}
 use Rattle.twp_plat.proofs.RatioFacts.{cancelled}
-use Rattle.twp_plat.specs.PlatAreas.{ArePieces}
+use Rattle.twp_plat.specs.Pieces.{ArePieces}
 use Rattle.twp_area.specs.LandAreas.{IsLandArea, places_of_position, piece_where_held}
 use Rattle.twp_area.specs.LandAreas.{township_sum}
 use Rattle.twp_area.specs.Laws.{OneLandArea, DisjointSumsAdd, DisjointAreasAdd, township_places}

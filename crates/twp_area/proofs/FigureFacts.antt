@@ -9,13 +9,13 @@ use Rattle.twp_grid.specs.Winding.{SECTION_COUNT, IsSection}
 use Rattle.twp_grid.specs.Lines.{north_run, west_run}
 use Rattle.twp_grid.specs.Lots.{IsPosition, position_of_lot}
 use Rattle.twp_grid.specs.Places.{PLACE_DIGITS}
-use Rattle.twp_grid.specs.Totals.{total, over_positions}
+use Rattle.twp_grid.specs.Spans.{total, over_positions}
 use Rattle.twp_grid.proofs.LotFacts.{lots_match}
 use Rattle.twp_land.proofs.LotFacts.{fills}
 use Rattle.twp_plat.specs.Plats.{TownshipPlat, IsPlat, closing_quarter_of}
 use Rattle.twp_plat.specs.Pieces.{over_of, line_length}
 use Rattle.twp_plat.proofs.SectionPieces.{pieces_of}
-use Rattle.twp_plat.specs.PlatAreas.{IsSectionArea, IsTownshipArea}
+use Rattle.twp_plat.specs.Pieces.{IsSectionArea, IsTownshipArea}
 use Rattle.twp_plat.specs.LotFigures.{IsFigureOfLot}
 use Rattle.twp_plat.proofs.FigureFacts.{same_figure}
 use Rattle.twp_area.specs.Laws.{section_places, township_places}

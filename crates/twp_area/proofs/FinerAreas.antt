@@ -8,12 +8,12 @@ use Rattle.twp_grid.specs.Winding.{SECTION_COUNT}
 use Rattle.twp_grid.specs.Lots.{POSITIONS_ACROSS, Lot, lots}
 use Rattle.twp_grid.specs.Places.{places_across, places_to_position, position_along}
 use Rattle.twp_grid.specs.Spans.{whole_block, position_block}
-use Rattle.twp_grid.specs.Totals.{total_over}
+use Rattle.twp_grid.specs.Spans.{total_over}
 use Rattle.twp_grid.proofs.TotalFacts.{total-ext, total-scale}
 use Rattle.twp_grid.proofs.FinerPlaces.{position_twice, same_position, whole_finer}
 use Rattle.twp_land.specs.Lands.{count_held}
 use Rattle.twp_land.specs.FinerLands.{cut_in_four, finer_land}
-use Rattle.twp_land.specs.WholeLots.{off_lots}
+use Rattle.twp_land.specs.Lands.{off_lots}
 use Rattle.twp_land.proofs.FinerLands.{same_off_lots, count_of_section, count_of_position}
 use Rattle.twp_plat.specs.Plats.{TownshipPlat}
 use Rattle.twp_plat.proofs.RatioFacts.{cancelled}

@@ -11,13 +11,13 @@ use Rattle.twp_grid.specs.Winding.{SECTION_COUNT}
 use Rattle.twp_grid.specs.Lots.{POSITIONS_ACROSS, Lot, lot, lots, lot_at_position}
 use Rattle.twp_grid.specs.Places.{places_across, places_to_position, position_along}
 use Rattle.twp_grid.specs.Spans.{whole_block, position_block}
-use Rattle.twp_grid.specs.Totals.{total, total_over, one_where, over_positions}
+use Rattle.twp_grid.specs.Spans.{total, total_over, one_where, over_positions}
 use Rattle.twp_grid.proofs.TotalFacts.{total-ext, total-same, total-scale, total-both, total-swap}
 use Rattle.twp_grid.proofs.TotalFacts.{total-all_zero}
 use Rattle.twp_grid.proofs.TilingFacts.{position_has_places}
 use Rattle.twp_land.specs.Lands.{count_held}
-use Rattle.twp_land.specs.WholeLots.{lot_of_place, IsWholeOrNot, HasWholeLots}
-use Rattle.twp_land.specs.WholeLots.{off_lots}
+use Rattle.twp_land.specs.Lands.{lot_of_place, IsWholeOrNot, HasWholeLots}
+use Rattle.twp_land.specs.Lands.{off_lots}
 use Rattle.twp_area.specs.LandAreas.{places_of_position, piece_where_held, section_sum}
 use Rattle.twp_area.specs.LandAreas.{township_sum}
 use Rattle.twp_area.specs.PlatAccounts.{holds_lot, lots_held, places_off_lots}

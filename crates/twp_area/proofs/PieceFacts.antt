@@ -4,7 +4,7 @@ use Rattle.twp_grid.specs.Winding.{IsSection}
 use Rattle.twp_grid.specs.Lots.{IsPosition, lot_at_position}
 use Rattle.twp_plat.specs.Plats.{TownshipPlat, IsPlat}
 use Rattle.twp_plat.specs.Pieces.{piece, over_of}
-use Rattle.twp_plat.specs.PlatAreas.{ArePieces}
+use Rattle.twp_plat.specs.Pieces.{ArePieces}
 use Rattle.twp_plat.proofs.FormulaFacts.{piece_terms}
 use Rattle.twp_plat.proofs.RatioFacts.{parts_of_whole}
 use Rattle.twp_area.specs.steps.Accounts.{over_by, AreUnitsBy}

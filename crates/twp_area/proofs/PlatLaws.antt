@@ -12,15 +12,15 @@ use Rattle.twp_grid.specs.Winding.{SECTION_COUNT, IsSection}
 use Rattle.twp_grid.specs.Lots.{POSITIONS_ACROSS, IsPosition, Lot, lot, lots, lot_at_position}
 use Rattle.twp_grid.specs.Places.{places_across, position_along}
 use Rattle.twp_grid.specs.Spans.{whole_block}
-use Rattle.twp_grid.specs.Totals.{total, total_over, over_positions}
+use Rattle.twp_grid.specs.Spans.{total, total_over, over_positions}
 use Rattle.twp_grid.proofs.TotalFacts.{total-ext, total-le, total-scale}
 use Rattle.twp_grid.proofs.TilingFacts.{one_position}
 use Rattle.twp_land.specs.Lands.{union}
-use Rattle.twp_land.specs.WholeLots.{HasWholeLots}
+use Rattle.twp_land.specs.Lands.{HasWholeLots}
 use Rattle.twp_land.proofs.LotFacts.{fills}
 use Rattle.twp_plat.specs.Plats.{TownshipPlat, IsPlat}
 use Rattle.twp_plat.specs.Pieces.{over_of}
-use Rattle.twp_plat.specs.PlatAreas.{ArePieces}
+use Rattle.twp_plat.specs.Pieces.{ArePieces}
 use Rattle.twp_plat.proofs.RatioFacts.{cancelled}
 use Rattle.twp_plat.proofs.SectionPieces.{piece_at}
 use Rattle.twp_area.specs.LandAreas.{places_of_position, piece_where_held}

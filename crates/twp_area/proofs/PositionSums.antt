@@ -5,7 +5,7 @@ use Rattle.twp_grid.specs.Places.{PLACE_DIGITS}
 use Rattle.twp_grid.specs.Lots.{POSITIONS_ACROSS}
 use Rattle.twp_area.specs.steps.Bounds.{ACROSS, TO_POSITION}
 use Rattle.twp_grid.specs.Spans.{whole_block, position_block}
-use Rattle.twp_grid.specs.Totals.{total, total_over, over_positions}
+use Rattle.twp_grid.specs.Spans.{total, total_over, over_positions}
 use Rattle.twp_grid.proofs.TotalFacts.{total-ext, total-add, total-both, total-scale, total-swap}
 use Rattle.twp_grid.proofs.TotalFacts.{total-all_zero, total-le}
 

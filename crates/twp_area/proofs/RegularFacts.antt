@@ -10,7 +10,7 @@ use Rattle.twp_grid.specs.steps.WesternSections.{is_western_number}
 use Rattle.twp_grid.proofs.LotFacts.{each, each_of_three, lot_at_is, lot_by_code}
 use Rattle.twp_plat.specs.Plats.{TownshipPlat, IsPlat, closing_quarter_of, ClosingQuarters}
 use Rattle.twp_plat.specs.Plats.{AreClosingQuarters}
-use Rattle.twp_plat.specs.Ratios.{ratio, whole, IsSame}
+use Rattle.twp_plat.specs.Pieces.{ratio, whole, IsSame}
 use Rattle.twp_plat.specs.Pieces.{piece}
 use Rattle.twp_plat.specs.Formula.{both_ends, west_length, north_length, both_widths, both_heights}
 use Rattle.twp_plat.proofs.FormulaFacts.{piece_is_formula, piece_terms}

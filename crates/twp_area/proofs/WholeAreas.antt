@@ -5,7 +5,7 @@ use Rattle.std.proofs.lemmas.Bool.{eq-eqb, ne_eqb}
 use Rattle.std.proofs.lemmas.Bool.Decides.{nat_tests}
 use Rattle.twp_grid.specs.Places.{PLACE_DIGITS, is_place}
 use Rattle.twp_grid.specs.Spans.{position_block}
-use Rattle.twp_grid.specs.Totals.{total, total_over, one_where, over_positions}
+use Rattle.twp_grid.specs.Spans.{total, total_over, one_where, over_positions}
 use Rattle.twp_grid.proofs.TotalFacts.{total-ext, total-same, total-scale, total-all_zero}
 use Rattle.twp_land.specs.Storage.{is_section}
 use Rattle.twp_area.specs.LandAreas.{piece_where_held, section_sum}

@@ -6,10 +6,10 @@ use Rattle.twp_measure.specs.Areas.{Fraction}
 use Rattle.twp_grid.specs.Winding.{SECTION_COUNT}
 use Rattle.twp_grid.specs.Places.{places_to_position, position_along}
 use Rattle.twp_grid.specs.Spans.{whole_block}
-use Rattle.twp_grid.specs.Totals.{total, total_over}
+use Rattle.twp_grid.specs.Spans.{total, total_over}
 use Rattle.twp_plat.specs.Plats.{TownshipPlat}
 use Rattle.twp_plat.specs.Pieces.{over_of}
-use Rattle.twp_plat.specs.PlatAreas.{ArePieces}
+use Rattle.twp_plat.specs.Pieces.{ArePieces}
 
 -- the number of places in a position
 abbrev pub places_of_position : ℕ → ℕ

@@ -7,7 +7,7 @@ use Rattle.twp_grid.specs.Places.{PLACE_DIGITS, places_across, is_place}
 use Rattle.twp_land.specs.Lands.{union, intersection, difference}
 use Rattle.twp_land.specs.Storage.{is_section}
 use Rattle.twp_plat.specs.Plats.{TownshipPlat}
-use Rattle.twp_plat.specs.PlatAreas.{IsSectionArea, IsTownshipArea}
+use Rattle.twp_plat.specs.Pieces.{IsSectionArea, IsTownshipArea}
 use Rattle.twp_area.specs.LandAreas.{IsLandArea, township_sum}
 
 -- no place is in both sets

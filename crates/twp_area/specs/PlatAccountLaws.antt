@@ -2,7 +2,7 @@
 use Rattle.std.specs.Prelude.{◌≡◌, ℕ, ◌+◌, ◌*◌, ◌/◌, ◌≤◌, Bool, length}
 use Rattle.twp_measure.specs.Areas.{Fraction, HUNDREDTH_OF_AN_ACRE}
 use Rattle.twp_land.specs.Lands.{union, intersection, difference}
-use Rattle.twp_land.specs.WholeLots.{HasWholeLots}
+use Rattle.twp_land.specs.Lands.{HasWholeLots}
 use Rattle.twp_plat.specs.Plats.{TownshipPlat, IsPlat}
 use Rattle.twp_area.specs.LandAreas.{IsLandArea}
 use Rattle.twp_area.specs.Laws.{AreDisjoint}

@@ -5,7 +5,7 @@ use Rattle.twp_measure.specs.Areas.{Fraction, IsRounded}
 use Rattle.twp_grid.specs.Winding.{IsSection}
 use Rattle.twp_grid.specs.Lots.{position_of_lot}
 use Rattle.twp_plat.specs.Plats.{TownshipPlat}
-use Rattle.twp_plat.specs.PlatAreas.{IsSectionArea, IsTownshipArea}
+use Rattle.twp_plat.specs.Pieces.{IsSectionArea, IsTownshipArea}
 use Rattle.twp_plat.specs.LotFigures.{IsLotFigure}
 
 -- the figure of a section: the sum of its pieces, rounded

@@ -10,7 +10,7 @@ use Rattle.twp_grid.specs.Lots.{number_of_lots, position_of_lot}
 use Rattle.twp_grid.specs.Places.{PLACE_DIGITS, is_place, position_along}
 use Rattle.twp_grid.specs.Spans.{Rectangle, in_rectangle}
 use Rattle.twp_land.specs.Lands.{no_places, union, difference, block_places}
-use Rattle.twp_land.specs.WholeLots.{lot_of_place}
+use Rattle.twp_land.specs.Lands.{lot_of_place}
 use Rattle.twp_land.proofs.LotFacts.{fills, block_of}
 use Rattle.twp_land.proofs.LotBlocks.{lot_is_place}
 use Rattle.twp_resolve.specs.steps.ResolvingSteps.{lots_from}

@@ -6,7 +6,7 @@ use Rattle.std.proofs.lemmas.Bool.Decides.{nat_tests}
 use Rattle.twp_grid.specs.Lots.{POSITIONS_ACROSS}
 use Rattle.twp_grid.specs.Places.{places_across, places_to_position, is_place, position_along, binary, begins}
 use Rattle.twp_grid.specs.Spans.{span_from, rectangle, whole_block, position_span, position_block}
-use Rattle.twp_grid.specs.Totals.{total, total_over}
+use Rattle.twp_grid.specs.Spans.{total, total_over}
 use Rattle.twp_grid.proofs.TilingFacts.{position_has_places}
 use Rattle.twp_grid.proofs.TotalFacts.{total-ext, total-scale}
 

@@ -10,7 +10,7 @@ use Rattle.twp_grid.specs.Winding.{IsSection}
 use Rattle.twp_grid.specs.Lots.{POSITIONS_ACROSS, IsPosition, Lot, lots, lot_at_position}
 use Rattle.twp_grid.specs.Places.{places_across, places_to_position, IsPlace, position_along}
 use Rattle.twp_grid.specs.Spans.{in_span, in_rectangle, position_span, position_block}
-use Rattle.twp_grid.specs.Totals.{total, one_where}
+use Rattle.twp_grid.specs.Spans.{total, one_where}
 use Rattle.twp_grid.specs.Tiling.{lots_filling, is_regular, lots_holding, regular_holding}
 use Rattle.twp_grid.proofs.LotFacts.{each, each_of_three, either, a_section}
 use Rattle.twp_grid.proofs.TotalFacts.{total-ext, total-all_zero}

@@ -1,6 +1,6 @@
 -- Sums over numbers from 0 on.
 use Rattle.std.proofs.Common.{◌≡◌, ℕ, zero, suc, ◌+◌, ◌*◌, ◌<◌, ◌≤◌, ap, refl, sym, ◌∙◌, arith}
-use Rattle.twp_grid.specs.Totals.{total}
+use Rattle.twp_grid.specs.Spans.{total}
 
 pub total-zero : (f : ℕ → ℕ) → total 0 f ≡ 0
 unfolding total

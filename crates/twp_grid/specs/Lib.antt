@@ -6,10 +6,8 @@ pub mod Places
 pub mod Spans
 pub mod Blocks
 pub mod Cuts
-pub mod Totals
 pub mod Tiling
 pub mod Townships
-pub mod Texts
 pub mod Devices
 pub mod Laws
 pub mod steps

@@ -1,6 +1,9 @@
--- Rectangles of places: the whole section, its positions, and the halves of both.
-use Rattle.std.specs.Prelude.{◌≡◌, ℕ, ◌+◌, ◌*◌, ◌/◌, ◌%◌, ◌≤◌, ◌<◌, ◌&&◌, nat_le, nat_lt, Bool}
+-- Rectangles of places: the whole section, its positions, and the halves of both; and sums over numbers
+-- from 0 on and over the places of a rectangle.
+use Rattle.std.specs.Prelude.{◌≡◌, ℕ, ◌+◌, ◌*◌, ◌/◌, ◌%◌, ◌≤◌, ◌<◌, ◌&&◌, nat_le, nat_lt, Bool, zero, suc}
+use Rattle.std.specs.Prelude.{if◌then◌else◌}
 use Rattle.twp_grid.specs.Places.{places_across, places_to_position}
+use Rattle.twp_grid.specs.Lots.{POSITIONS_ACROSS}
 
 -- consecutive columns or rows: the first of them, and how many there are
 pub record Span : Type 0 where
@@ -59,3 +62,23 @@ whole_block g = rectangle (whole_span g) (whole_span g)
 -- the places of a position
 abbrev pub position_block : ℕ → ℕ → ℕ → Rectangle
 position_block g column row = rectangle (position_span g column) (position_span g row)
+
+-- the sum of a function's values at the numbers below n
+unfoldable pub total : ℕ → (ℕ → ℕ) → ℕ
+total zero f = 0
+total (suc n) f = total n f + f n
+
+-- the sum of a function's values at the column and row of each place in a block
+abbrev pub total_over : Rectangle → (ℕ → ℕ → ℕ) → ℕ
+total_over block f =
+    total block.rows.len (λ up. total block.columns.len (λ along.
+    f (block.columns.start + along) (block.rows.start + up)))
+
+-- the sum of a function's values at the column and row of each position in a section
+abbrev pub over_positions : (ℕ → ℕ → ℕ) → ℕ
+over_positions f =
+    total POSITIONS_ACROSS (λ row. total POSITIONS_ACROSS (λ column. f column row))
+
+-- 1 if a test holds, and 0 otherwise
+abbrev pub one_where : Bool → ℕ
+one_where test = if test then 1 else 0

@@ -2,7 +2,7 @@
 use Rattle.std.specs.Prelude.{◌==◌, ◌&&◌, ℕ, Bool, count_by, is_none}
 use Rattle.twp_grid.specs.Lots.{POSITIONS_ACROSS, Lot, lots, lot_at_position}
 use Rattle.twp_grid.specs.Spans.{position_block, in_rectangle}
-use Rattle.twp_grid.specs.Totals.{total, one_where}
+use Rattle.twp_grid.specs.Spans.{total, one_where}
 
 -- how many lots in the table fill a position of a section
 abbrev pub lots_filling : ℕ → ℕ → ℕ → ℕ

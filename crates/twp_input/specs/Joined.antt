@@ -2,7 +2,7 @@
 -- feed.
 use Rattle.std.specs.Prelude.{ℕ, ◌+◌, ◌==◌, List, take}
 use Rattle.std.specs.List.{before_first, after_first}
-use Rattle.twp_grid.specs.Texts.{line_feed}
+use Rattle.twp_grid.specs.Townships.{line_feed}
 use Rattle.twp_notes.specs.FieldNotes.{NOTES_MOST}
 use Rattle.twp_read.specs.TextFaults.{TEXT_LIMIT}
 

@@ -2,8 +2,8 @@ ghost use Rattle.std.specs.Prelude.{◌≡◌, ◌≢◌, ◌==◌, ◌≤◌, �
 ghost use Rattle.std.specs.Prelude.{IsErrOf, IsOkUnless};
 ghost use Rattle.std.specs.List.{before_first, after_first, position_or_len};
 ghost use Rattle.twp_grid.specs.Devices.{TakesAtMost};
-ghost use Rattle.twp_notes.specs.ReadBytes.{TakesFirst};
-ghost use Rattle.twp_acres.specs.AcresAnswers.{IsAcresAnswer};
+ghost use Rattle.twp_grid.specs.Devices.{TakesFirst};
+ghost use Rattle.twp_acres.specs.Answers.{IsAcresAnswer};
 ghost use Rattle.twp_input.specs.Joined.{JOINED_MOST, joined_notes, joined_description};
 ghost use Rattle.twp_acres.specs.Runs.{IsRun, Reads};
 

@@ -15,7 +15,7 @@ use Rattle.std.proofs.lemmas.Bool.Decides.{nat_tests}
 use Rattle.std.proofs.Math.Nat.{two-pow-succ, mod-eq_of_lt, mul_comm, mul-sub}
 use Rattle.std.proofs.Math.Pow.{pow_mono}
 use Rattle.twp_grid.specs.Spans.{Span, in_span}
-use Rattle.twp_grid.specs.Totals.{total, one_where}
+use Rattle.twp_grid.specs.Spans.{total, one_where}
 use Rattle.twp_land.specs.steps.BitLanes.{LANE_BITS}
 use Rattle.twp_grid.proofs.TotalFacts.{total-zero, total-ext, total-front}
 

@@ -12,7 +12,7 @@ use Rattle.std.proofs.lemmas.Nat.{pow_pos}
 use Rattle.std.proofs.lemmas.Nat.Bits.{and_pow, bit_at-lt, bit_at-zero}
 use Rattle.std.proofs.lemmas.Bool.{and_right, ne_eqb, eq-eqb, eqb-true}
 use Rattle.twp_grid.specs.Spans.{in_span, Rectangle, in_rectangle}
-use Rattle.twp_grid.specs.Totals.{one_where}
+use Rattle.twp_grid.specs.Spans.{one_where}
 use Rattle.twp_grid.proofs.LotFacts.{each, each_of_three}
 use Rattle.twp_land.specs.steps.BitLanes.{LANE_BITS, AreBlockLanes}
 use Rattle.twp_land.proofs.BitFacts.{bit_of_ones}

@@ -18,7 +18,7 @@ use Rattle.std.proofs.lemmas.Bool.{cases_Bool, and_parts, and_right, eqb-true, e
 use Rattle.std.proofs.lemmas.Bool.Decides.{nat_tests}
 use Rattle.twp_grid.specs.Places.{PLACE_DIGITS, places_across, is_place}
 use Rattle.twp_grid.specs.Spans.{Rectangle, in_rectangle}
-use Rattle.twp_grid.specs.Totals.{total, one_where}
+use Rattle.twp_grid.specs.Spans.{total, one_where}
 use Rattle.twp_grid.proofs.TotalFacts.{total-ext, total-le, total-same}
 use Rattle.twp_land.specs.Lands.{Meets, HoldsAll, count_held}
 use Rattle.twp_land.specs.Storage.{held_by_lane, nothing_held, with_block}

@@ -5,7 +5,7 @@ use Rattle.std.proofs.Common.{Option, None, refl, sym, ap, inl, inr, nat_le, nat
 use Rattle.std.proofs.lemmas.Bool.Decides.{nat_tests}
 use Rattle.twp_grid.specs.Winding.{IsSection}
 use Rattle.twp_grid.specs.Places.{PLACE_DIGITS, places_across, places_to_position, is_place, position_along}
-use Rattle.twp_land.specs.WholeLots.{lot_of_place, HoldsLotPlace}
+use Rattle.twp_land.specs.Lands.{lot_of_place, HoldsLotPlace}
 use Rattle.twp_land.specs.steps.Crossing.{Cross}
 use Rattle.twp_land.proofs.LotFacts.{fills, block_of, in_lot, lot_inside}
 use Rattle.std.proofs.lemmas.Bool.{cases_lt, and_parts, eqb-true, eq-eqb}

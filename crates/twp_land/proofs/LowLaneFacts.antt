@@ -18,7 +18,7 @@ use Rattle.std.proofs.lemmas.Bool.{cases_eq, cases_lt, and_right, eq-eqb, ne_eqb
 use Rattle.std.proofs.lemmas.Bool.Decides.{nat_tests}
 use Rattle.twp_grid.specs.Places.{PLACE_DIGITS, places_across}
 use Rattle.twp_grid.specs.Spans.{in_span, Rectangle, in_rectangle}
-use Rattle.twp_grid.specs.Totals.{one_where}
+use Rattle.twp_grid.specs.Spans.{one_where}
 use Rattle.twp_land.specs.Lands.{Meets}
 use Rattle.twp_land.specs.Storage.{held_by_lane, with_block}
 use Rattle.twp_land.specs.steps.BitLanes.{LANE_BITS, AreBlockLanes}

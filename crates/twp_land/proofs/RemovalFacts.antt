@@ -12,7 +12,7 @@ use Rattle.std.proofs.lemmas.Bool.{cases_Bool, and_parts}
 use Rattle.std.proofs.lemmas.Bool.Decides.{nat_tests}
 use Rattle.twp_grid.specs.Places.{PLACE_DIGITS, places_across, is_place}
 use Rattle.twp_grid.specs.Spans.{Rectangle, in_span, in_rectangle}
-use Rattle.twp_grid.specs.Totals.{one_where}
+use Rattle.twp_grid.specs.Spans.{one_where}
 use Rattle.twp_land.specs.Storage.{held_by_row, held_by_lane, without_block}
 use Rattle.twp_land.specs.steps.BitLanes.{AreBlockLanes}
 use Rattle.twp_land.specs.steps.RowTests.{AreCleared}

@@ -8,7 +8,7 @@ use Rattle.std.proofs.lemmas.Bool.{cases_eq, and_parts, cases_Bool, and_right}
 use Rattle.std.proofs.lemmas.Bool.Decides.{nat_tests}
 use Rattle.twp_grid.specs.Places.{PLACE_DIGITS, places_across, is_place}
 use Rattle.twp_grid.specs.Spans.{Span, in_span, IsDyadic, Rectangle, in_rectangle}
-use Rattle.twp_grid.specs.Totals.{total, one_where}
+use Rattle.twp_grid.specs.Spans.{total, one_where}
 use Rattle.twp_grid.proofs.TotalFacts.{total-zero, total-next, total-ext}
 use Rattle.twp_land.specs.Lands.{Meets, HoldsAll, count_held}
 use Rattle.twp_land.specs.Storage.{held_by_row, nothing_held, with_block}

@@ -1,7 +1,6 @@
 pub mod Lands
 pub mod FinerLands
 pub mod Storage
-pub mod WholeLots
 pub mod Comparisons
 pub mod Laws
 pub mod steps

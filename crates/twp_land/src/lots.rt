@@ -1,6 +1,6 @@
 ghost use Rattle.std.specs.Prelude.{ℕ, ◌↔◌, IsTrue};
 ghost use Rattle.twp_grid.specs.Places.{PLACE_DIGITS};
-ghost use Rattle.twp_land.specs.WholeLots.{IsWholeOrNot, HasWholeLots};
+ghost use Rattle.twp_land.specs.Lands.{IsWholeOrNot, HasWholeLots};
 
 use crate::land::Land;
 use twp_grid::{Block, SECTIONS, Section, lot_count};

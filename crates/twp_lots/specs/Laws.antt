@@ -4,7 +4,7 @@ use Rattle.twp_measure.specs.Areas.{Fraction}
 use Rattle.twp_grid.specs.Winding.{IsSection}
 use Rattle.twp_grid.specs.Lots.{position_of_lot}
 use Rattle.twp_land.specs.Lands.{union, intersection, difference}
-use Rattle.twp_land.specs.WholeLots.{HasWholeLots}
+use Rattle.twp_land.specs.Lands.{HasWholeLots}
 use Rattle.twp_plat.specs.Plats.{TownshipPlat}
 use Rattle.twp_area.specs.PlatFigures.{PlatFigures, AreFigures}
 use Rattle.twp_area.specs.PlatAccounts.{IsPlatArea}

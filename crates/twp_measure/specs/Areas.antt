@@ -1,5 +1,7 @@
--- Areas as exact fractions, and their rounding to hundredths of an acre, which are printed.
-use Rattle.std.specs.Prelude.{ℕ, ◌+◌, ◌*◌, ◌/◌, ◌^◌, ◌≤◌, ◌<◌}
+-- Areas as exact fractions, their rounding to hundredths of an acre, which are printed, and the text of
+-- acres.
+use Rattle.std.specs.Prelude.{ℕ, ◌+◌, ◌*◌, ◌/◌, ◌^◌, ◌≤◌, ◌<◌, ◌%◌, List, [], ◌∷◌, ◌++◌, decimal}
+use Rattle.twp_measure.specs.LengthTexts.{point, digit_byte}
 
 -- a number of square thousandths of a chain over a denominator
 pub record Fraction : Type 0 where
@@ -28,3 +30,8 @@ hundredth_of area = HUNDREDTH_OF_AN_ACRE * area.over
 pub record IsRounded (area : Fraction) (h : ℕ) : Type 0 where
   pub least : 2 * h * hundredth_of area ≤ 2 * area.units + hundredth_of area
   pub most : 2 * area.units < 2 * h * hundredth_of area + hundredth_of area
+
+-- hundredths of an acre as acres: whole acres, a point, and two decimals
+abbrev pub acres_text : ℕ → List ℕ
+acres_text hundredths = decimal (hundredths / 100)
+    ++ point ∷ digit_byte (hundredths / 10 % 10) ∷ digit_byte (hundredths % 10) ∷ []

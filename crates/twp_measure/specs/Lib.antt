@@ -1,5 +1,4 @@
 pub mod LengthTexts
 pub mod LengthFaults
 pub mod Areas
-pub mod Acres
 pub mod Laws

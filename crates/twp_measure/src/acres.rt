@@ -1,5 +1,5 @@
 ghost use Rattle.std.specs.Prelude.{◌≡◌, ◌++◌, OnOk, OnErr};
-ghost use Rattle.twp_measure.specs.Acres.{acres_text};
+ghost use Rattle.twp_measure.specs.Areas.{acres_text};
 
 use itoa::write_digits;
 use std::alloc::AllocError;

@@ -13,7 +13,7 @@ use Rattle.twp_grid.specs.declared.township.EastWest.{EastWest}
 use Rattle.twp_grid.specs.declared.township.EastWest.TheVariants as ew
 use Rattle.twp_notes.specs.Records.{Fields, record_numbered, records_of}
 use Rattle.twp_notes.specs.FieldNotes.{FieldNotes, FIELDS, nothing_returned, returned_of}
-use Rattle.twp_grid.specs.Texts.{north_south_letter, east_west_letter}
+use Rattle.twp_grid.specs.Townships.{north_south_letter, east_west_letter}
 use Rattle.twp_notes.specs.FieldNotes.{IsTownshipRecord}
 use Rattle.twp_notes.specs.FieldNotes.{IsLineNumber, IsLineRecord, AreNotes}
 use Rattle.twp_notes.specs.NotesFaults.{HasFault, IsFirstFault, AnswersNotes, number_of, place_of}

@@ -17,7 +17,7 @@ use Rattle.twp_grid.specs.declared.township.NorthSouth.TheVariants as ns
 use Rattle.twp_grid.specs.declared.township.EastWest.{EastWest}
 use Rattle.twp_grid.specs.declared.township.EastWest.TheVariants as ew
 use Rattle.twp_notes.specs.Records.{Fields, records_of, record_at, record_numbered}
-use Rattle.twp_grid.specs.Texts.{north_south_letter, east_west_letter}
+use Rattle.twp_grid.specs.Townships.{north_south_letter, east_west_letter}
 use Rattle.twp_notes.specs.FieldNotes.{FieldNotes, NOTES_MOST, heading}
 use Rattle.twp_notes.specs.FieldNotes.{run_text, returned_of, IsTownshipRecord}
 use Rattle.twp_notes.specs.FieldNotes.{IsSectionText, IsNeighborText, NamesLine, IsLineRecord}

@@ -6,7 +6,7 @@ use Rattle.twp_measure.specs.LengthTexts.{IsShortNumber, IsLengthText}
 use Rattle.twp_grid.specs.Winding.{IsSection}
 use Rattle.twp_grid.specs.Lines.{LINE_COUNT, IsLine, IsLineOf}
 use Rattle.twp_grid.specs.Townships.{Designation, IsTownshipNumber}
-use Rattle.twp_grid.specs.Texts.{north_south_letter, east_west_letter}
+use Rattle.twp_grid.specs.Townships.{north_south_letter, east_west_letter}
 use Rattle.twp_grid.specs.declared.line.Run.{Run}
 use Rattle.twp_grid.specs.declared.line.Run.TheVariants as run
 use Rattle.twp_notes.specs.Records.{Fields, field, records_of, record_numbered}

@@ -1,5 +1,4 @@
 pub mod Records
-pub mod ReadBytes
 pub mod FieldNotes
 pub mod NotesFaults
 pub mod NotesTexts

@@ -7,7 +7,7 @@ use Rattle.twp_measure.specs.LengthTexts.{IsLength, length_text}
 use Rattle.twp_grid.specs.Winding.{LiesAt}
 use Rattle.twp_grid.specs.Lines.{LINE_COUNT, IsLine, IsLineOf, north_run, west_run}
 use Rattle.twp_grid.specs.Townships.{Designation, IsTownshipNumber}
-use Rattle.twp_grid.specs.Texts.{north_south_letter, east_west_letter, line_feed}
+use Rattle.twp_grid.specs.Townships.{north_south_letter, east_west_letter, line_feed}
 use Rattle.twp_grid.specs.declared.line.Run.{Run}
 use Rattle.twp_grid.specs.declared.line.Run.TheVariants as run
 use Rattle.twp_notes.specs.Records.{Fields, record_at}

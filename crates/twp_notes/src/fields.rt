@@ -7,7 +7,7 @@ ghost use Rattle.twp_grid.specs.declared.line.Run.{Run};
 ghost use Rattle.twp_grid.specs.declared.township.NorthSouth.{NorthSouth};
 ghost use Rattle.twp_grid.specs.declared.township.EastWest.{EastWest};
 ghost use Rattle.twp_grid.specs.Finding.{Finds};
-ghost use Rattle.twp_grid.specs.Texts.{north_south_letter, east_west_letter};
+ghost use Rattle.twp_grid.specs.Townships.{north_south_letter, east_west_letter};
 ghost use Rattle.twp_notes.specs.FieldNotes.{FIELDS, heading, IsTownshipRecord};
 ghost use Rattle.twp_notes.specs.FieldNotes.{run_text, IsSectionText};
 ghost use Rattle.twp_notes.specs.FieldNotes.{IsNeighborText, NamesLine, Returns};

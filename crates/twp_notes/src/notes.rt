@@ -4,7 +4,7 @@ ghost use Rattle.twp_grid.specs.Devices.{Tells, TakesAtMost};
 ghost use Rattle.twp_notes.specs.FieldNotes.{FieldNotes, NOTES_MOST, returned_of};
 ghost use Rattle.twp_notes.specs.NotesFaults.{AnswersNotes};
 ghost use Rattle.twp_notes.specs.NotesTexts.{AppendsNotes};
-ghost use Rattle.twp_notes.specs.ReadBytes.{TakesFirst};
+ghost use Rattle.twp_grid.specs.Devices.{TakesFirst};
 
 use crate::fault::{MOST_BYTES, NotesFault};
 use crate::parsing::parse;

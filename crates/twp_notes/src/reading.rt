@@ -2,7 +2,7 @@ ghost use Rattle.std.specs.Prelude.{◌≡◌, ℕ, ◌+◌, ◌^◌, ◌≤◌,
 ghost use Rattle.std.specs.Prelude.{length, take, IfOk, OnOk, IsErrOf, MatchOption};
 ghost use Rattle.std.specs.Io.KnownBytes.{Consumes, IsAtEnd};
 ghost use Rattle.twp_grid.specs.Devices.{Tells, TakesAtMost};
-ghost use Rattle.twp_notes.specs.ReadBytes.{TakesJust, TakesAll, TakesFirst};
+ghost use Rattle.twp_grid.specs.Devices.{TakesJust, TakesAll, TakesFirst};
 
 use std::alloc::{AllocError, Global};
 use thiserror::Error;

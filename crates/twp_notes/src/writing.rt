@@ -2,7 +2,7 @@ ghost use Rattle.std.specs.Prelude.{◌≡◌, ◌<◌, ◌∷◌, [], ◌++◌,
 ghost use Rattle.twp_grid.specs.Winding.{SECTIONS_ACROSS};
 ghost use Rattle.twp_grid.specs.Lines.{LINES_ACROSS, north_run, west_run};
 ghost use Rattle.twp_notes.specs.Records.{Fields};
-ghost use Rattle.twp_grid.specs.Texts.{north_south_letter, east_west_letter};
+ghost use Rattle.twp_grid.specs.Townships.{north_south_letter, east_west_letter};
 ghost use Rattle.twp_notes.specs.FieldNotes.{run_text};
 ghost use Rattle.twp_notes.specs.NotesTexts.{record_text, township_fields, AreNames};
 ghost use Rattle.twp_notes.specs.steps.WrittenFields.{field_text};

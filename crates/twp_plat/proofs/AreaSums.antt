@@ -4,11 +4,11 @@ use Rattle.std.proofs.Common.{arith}
 use Rattle.std.specs.Option.{SomeIff}
 use Rattle.twp_measure.specs.Areas.{Fraction}
 use Rattle.twp_grid.specs.Winding.{IsSection}
-use Rattle.twp_grid.specs.Totals.{total, over_positions}
+use Rattle.twp_grid.specs.Spans.{total, over_positions}
 use Rattle.twp_grid.proofs.TotalFacts.{total-next}
 use Rattle.twp_plat.specs.Plats.{TownshipPlat, IsPlat}
 use Rattle.twp_plat.specs.Pieces.{IsPieceArea, over_of}
-use Rattle.twp_plat.specs.PlatAreas.{ArePieces, IsSectionArea, IsTownshipArea}
+use Rattle.twp_plat.specs.Pieces.{ArePieces, IsSectionArea, IsTownshipArea}
 use Rattle.twp_plat.proofs.SectionPieces.{pieces_of, piece_at}
 
 -- one more term

@@ -2,7 +2,7 @@
 use Rattle.std.proofs.Common.{◌≡◌, ◌==◌, ℕ, zero, suc, ◌+◌, ◌-◌, ◌*◌, ◌≤◌, ◌<◌, pos, ◌+ℤ◌, ◌-ℤ◌}
 use Rattle.std.proofs.Common.{◌*ℤ◌, refl, ap, sym, arith, if◌then◌else◌}
 use Rattle.twp_plat.specs.Plats.{ClosingQuarters}
-use Rattle.twp_plat.specs.Ratios.{Ratio, ratio, times, IsSame}
+use Rattle.twp_plat.specs.Pieces.{Ratio, ratio, times, IsSame}
 use Rattle.twp_plat.specs.Pieces.{quarter_mile, reach, line_length, mean_width, mean_height, piece}
 use Rattle.twp_plat.specs.Formula.{west_length, north_length, both_ends, both_widths, both_heights}
 use Rattle.twp_plat.specs.Formula.{formula}

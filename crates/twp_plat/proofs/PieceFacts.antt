@@ -4,7 +4,7 @@ use Rattle.std.proofs.Common.{arith}
 use Rattle.std.proofs.Math.Nat.{mul-le-mul, mul-div_cancel}
 use Rattle.twp_plat.specs.Plats.{ClosingQuarters}
 use Rattle.twp_plat.specs.steps.SideLimits.{HaveRegularLines}
-use Rattle.twp_plat.specs.Ratios.{ratio, whole, IsSame}
+use Rattle.twp_plat.specs.Pieces.{ratio, whole, IsSame}
 use Rattle.twp_plat.specs.Pieces.{line_length, piece}
 use Rattle.twp_plat.specs.Formula.{both_widths, both_heights}
 use Rattle.twp_plat.proofs.StraightFacts.{weighted}

@@ -2,7 +2,7 @@
 -- plat's denominator.
 use Rattle.std.proofs.Common.{◌≡◌, ◌≢◌, ◌⊎◌, ℕ, ◌*◌, ◌<◌, pos, inl, inr, arith}
 use Rattle.twp_plat.specs.Plats.{TownshipPlat, IsPlat, ClosingQuarters, AreClosingQuarters}
-use Rattle.twp_plat.specs.Ratios.{ratio, whole, IsSame}
+use Rattle.twp_plat.specs.Pieces.{ratio, whole, IsSame}
 use Rattle.twp_plat.specs.Pieces.{piece, over_of}
 use Rattle.twp_plat.proofs.FormulaFacts.{piece_terms}
 use Rattle.twp_plat.proofs.RatioFacts.{whole_in_parts}

@@ -2,7 +2,7 @@
 use Rattle.std.proofs.Common.{◌≡◌, ℕ, ◌*◌, ◌/◌, ◌<◌, ℤ, pos, ◌*ℤ◌, ap, sym, ◌∙◌, arith}
 use Rattle.std.proofs.Math.Nat.{mul-div_cancel}
 use Rattle.std.proofs.lemmas.Int.{ints}
-use Rattle.twp_plat.specs.Ratios.{Ratio, ratio, whole, IsSame}
+use Rattle.twp_plat.specs.Pieces.{Ratio, ratio, whole, IsSame}
 
 -- numbers are the same if they are the same after multiplication by a number above 0
 pub cancelled : (m n d : ℕ) → 0 < d → m * d ≡ n * d → m ≡ n

@@ -10,7 +10,7 @@ use Rattle.twp_grid.proofs.WindingFacts.{parity, stands_even, stands_odd}
 use Rattle.twp_plat.specs.Plats.{TownshipPlat, IsPlat, closing_quarter_of, ClosingQuarters}
 use Rattle.twp_plat.specs.Plats.{AreClosingQuarters}
 use Rattle.twp_plat.specs.Pieces.{IsPieceArea, over_of}
-use Rattle.twp_plat.specs.PlatAreas.{ArePieces}
+use Rattle.twp_plat.specs.Pieces.{ArePieces}
 use Rattle.twp_plat.proofs.PlatPieces.{piece_is_over}
 use Rattle.twp_plat.proofs.OneAnswer.{one_area}
 

@@ -3,7 +3,7 @@
 use Rattle.std.proofs.Common.{◌≡◌, ℕ, ◌+◌, ◌*◌, pos, ◌+ℤ◌, ◌-ℤ◌, ◌*ℤ◌, refl, ap, sym, ◌∙◌, arith}
 use borrow.Author.Differences.{up, down}
 use Rattle.std.proofs.lemmas.Int.{ints}
-use Rattle.twp_plat.specs.Ratios.{Ratio, mean}
+use Rattle.twp_plat.specs.Pieces.{Ratio, mean}
 use Rattle.twp_plat.specs.Pieces.{straight}
 
 -- a difference times x

@@ -3,7 +3,7 @@ use Rattle.std.proofs.Common.{◌≡◌, ◌==◌, ℕ, ◌+◌, ◌-◌, ◌*�
 use Rattle.std.proofs.Common.{ap, sym, ◌∙◌, inl, inr, arith, if◌then◌else◌}
 use Rattle.twp_plat.specs.Plats.{ClosingQuarters}
 use Rattle.twp_plat.specs.steps.SideLimits.{HaveRegularLines}
-use Rattle.twp_plat.specs.Ratios.{ratio, whole, IsSame}
+use Rattle.twp_plat.specs.Pieces.{ratio, whole, IsSame}
 use Rattle.twp_plat.specs.Pieces.{quarter_mile, piece}
 use Rattle.twp_plat.specs.Formula.{both_ends}
 use Rattle.twp_plat.proofs.FormulaFacts.{under_four, both_are, piece_is_formula, piece_terms}

@@ -1,7 +1,7 @@
 -- Pieces calculated by hand, to show that the definitions say what they are meant to say.
 use Rattle.std.proofs.Common.{ℕ, pos, refl}
 use Rattle.twp_plat.specs.Plats.{ClosingQuarters}
-use Rattle.twp_plat.specs.Ratios.{ratio, whole, IsSame}
+use Rattle.twp_plat.specs.Pieces.{ratio, whole, IsSame}
 use Rattle.twp_plat.specs.Pieces.{piece}
 
 abbrev quarters : ℕ → ℕ → ℕ → ℕ → ClosingQuarters

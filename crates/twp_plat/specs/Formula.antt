@@ -2,7 +2,7 @@
 use Rattle.std.specs.Prelude.{◌==◌, ℕ, ◌+◌, ◌*◌, ℤ, pos, ◌+ℤ◌, ◌-ℤ◌, ◌*ℤ◌, if◌then◌else◌}
 use Rattle.twp_plat.specs.Closing.{QUARTER_MILE}
 use Rattle.twp_plat.specs.Plats.{ClosingQuarters}
-use Rattle.twp_plat.specs.Ratios.{Ratio, ratio}
+use Rattle.twp_plat.specs.Pieces.{Ratio, ratio}
 use Rattle.twp_plat.specs.Pieces.{line_length}
 
 -- the length of a section's west line

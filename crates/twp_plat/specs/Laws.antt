@@ -6,7 +6,7 @@ use Rattle.twp_notes.specs.FieldNotes.{FieldNotes}
 use Rattle.twp_plat.specs.Plats.{TownshipPlat, IsPlat, IsPlatOf, ClosingQuarters}
 use Rattle.twp_plat.specs.Plats.{AreClosingQuarters}
 use Rattle.twp_plat.specs.PlatFaults.{AnswersPlat}
-use Rattle.twp_plat.specs.Ratios.{ratio, whole, IsSame}
+use Rattle.twp_plat.specs.Pieces.{ratio, whole, IsSame}
 use Rattle.twp_plat.specs.Pieces.{piece, divisor_of, IsPieceArea, over_of}
 use Rattle.twp_plat.specs.Formula.{formula}
 use Rattle.twp_plat.specs.declared.fault.PlatFault.{PlatFault}

@@ -1,10 +1,8 @@
 pub mod Closing
 pub mod Plats
 pub mod PlatFaults
-pub mod Ratios
 pub mod Pieces
 pub mod Formula
-pub mod PlatAreas
 pub mod LotFigures
 pub mod Laws
 pub mod steps

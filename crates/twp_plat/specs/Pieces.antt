@@ -1,15 +1,48 @@
 -- The area of a position of a section, its piece, is interpolated between the section's lines. This
 -- rule, including its use in section 6, is the project's own. A position's column is counted from
--- the east and its row from the south, 0 to 3. Lengths are in thousandths of a chain.
-use Rattle.std.specs.Prelude.{ℕ, ◌+◌, ◌*◌, List, [], ◌∷◌, take, slice_index_or, pos, ◌-ℤ◌, ◌*ℤ◌}
+-- the east and its row from the south, 0 to 3. Lengths are in thousandths of a chain. The areas of whole
+-- sections, and of the township, are sums of pieces, without rounding. The quotients are exact, and
+-- need not be in lowest terms.
+use Rattle.std.specs.Prelude.{ℕ, ◌+◌, ◌*◌, List, [], ◌∷◌, take, slice_index_or, pos, ◌-ℤ◌, ◌*ℤ◌, ◌≡◌, ℤ, ◌+ℤ◌}
 use Rattle.std.specs.List.{sum}
 use Rattle.twp_measure.specs.Areas.{Fraction}
-use Rattle.twp_grid.specs.Winding.{SECTIONS_ACROSS, WESTERN_COLUMN}
+use Rattle.twp_grid.specs.Winding.{SECTIONS_ACROSS, WESTERN_COLUMN, SECTION_COUNT, IsSection}
 use Rattle.twp_grid.specs.Lines.{north_run, west_run}
 use Rattle.twp_plat.specs.Closing.{QUARTER_MILE, CLOSING_MOST}
-use Rattle.twp_plat.specs.Plats.{TownshipPlat, closing_quarter_of, ClosingQuarters}
-use Rattle.twp_plat.specs.Plats.{AreClosingQuarters}
-use Rattle.twp_plat.specs.Ratios.{Ratio, ratio, whole, plus, times, mean, IsSame}
+use Rattle.twp_plat.specs.Plats.{TownshipPlat, closing_quarter_of, ClosingQuarters, AreClosingQuarters}
+use Rattle.twp_grid.specs.Lots.{IsPosition}
+use Rattle.twp_grid.specs.Spans.{total, over_positions}
+
+-- a numerator, which can be negative, over a denominator
+pub record Ratio : Type 0 where
+  pub numerator : ℤ
+  pub denominator : ℕ
+
+-- one number over another
+abbrev pub ratio : ℤ → ℕ → Ratio
+ratio numerator denominator = record { numerator = numerator; denominator = denominator }
+
+-- a whole number, over 1
+abbrev pub whole : ℕ → Ratio
+whole n = ratio (pos n) 1
+
+-- the sum of two quotients
+abbrev pub plus : Ratio → Ratio → Ratio
+plus a b =
+    ratio (a.numerator *ℤ pos b.denominator +ℤ b.numerator *ℤ pos a.denominator)
+    (a.denominator * b.denominator)
+
+-- the product of two quotients
+abbrev pub times : Ratio → Ratio → Ratio
+times a b = ratio (a.numerator *ℤ b.numerator) (a.denominator * b.denominator)
+
+-- half the sum of two quotients
+abbrev pub mean : Ratio → Ratio → Ratio
+mean a b = times (ratio (pos 1) 2) (plus a b)
+
+-- both quotients are the same number
+abbrev pub IsSame : Ratio → Ratio → Type 0
+IsSame a b = a.numerator *ℤ pos b.denominator ≡ b.numerator *ℤ pos a.denominator
 
 -- the four quarter miles of a line from its start: three of 20 chains, and its closing quarter
 abbrev pub quarter_miles : ℕ → List ℕ
@@ -85,3 +118,23 @@ over_of plat =
 -- the greatest possible denominator
 abbrev pub OVER_MOST : ℕ
 OVER_MOST = 4 * line_length CLOSING_MOST * line_length CLOSING_MOST
+
+-- the units of each section's pieces over the plat's denominator, by the position's column and row
+pub record ArePieces (plat : TownshipPlat) (pieces : ℕ → ℕ → ℕ → ℕ) : Type 0 where
+  pub is_piece : (section column row : ℕ) → IsSection section → IsPosition column row
+      → IsPieceArea plat section column row
+      (record { units = pieces section column row; over = over_of plat })
+
+-- the area of a section: the sum of its pieces, over the plat's denominator
+pub record IsSectionArea (plat : TownshipPlat) (section : ℕ) (area : Fraction) : Type 0 where
+  pub pieces : ℕ → ℕ → ℕ → ℕ
+  pub are : ArePieces plat pieces
+  pub over_is : area.over ≡ over_of plat
+  pub sum_is : area.units ≡ over_positions (pieces section)
+
+-- the area of the township: the sum of its sections' areas, over the plat's denominator
+pub record IsTownshipArea (plat : TownshipPlat) (area : Fraction) : Type 0 where
+  pub pieces : ℕ → ℕ → ℕ → ℕ
+  pub are : ArePieces plat pieces
+  pub over_is : area.over ≡ over_of plat
+  pub sum_is : area.units ≡ total SECTION_COUNT (λ before. over_positions (pieces (before + 1)))

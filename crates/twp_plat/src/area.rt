@@ -1,9 +1,9 @@
 ghost use Rattle.std.specs.Prelude.{◌≡◌, ℕ, ◌*◌, ◌<◌, ◌≤◌};
 ghost use Rattle.twp_grid.specs.Lots.{POSITIONS_ACROSS, POSITIONS};
-ghost use Rattle.twp_grid.specs.Totals.{total, over_positions};
+ghost use Rattle.twp_grid.specs.Spans.{total, over_positions};
 ghost use Rattle.twp_plat.specs.Closing.{CLOSING_MOST};
 ghost use Rattle.twp_plat.specs.Pieces.{over_of, OVER_MOST};
-ghost use Rattle.twp_plat.specs.PlatAreas.{ArePieces, IsSectionArea, IsTownshipArea};
+ghost use Rattle.twp_plat.specs.Pieces.{ArePieces, IsSectionArea, IsTownshipArea};
 
 use crate::plat::Plat;
 use twp_grid::{POSITIONS_ACROSS, SECTIONS, Section};

@@ -1,7 +1,7 @@
 ghost use Rattle.std.specs.Prelude.{◌≡◌, ◌+◌, ◌*◌, ◌≤◌, ◌<◌, pos, ◌+ℤ◌, ◌-ℤ◌, ◌*ℤ◌};
 ghost use Rattle.twp_grid.specs.Lots.{POSITIONS_ACROSS};
 ghost use Rattle.twp_plat.specs.Closing.{CLOSING_MOST};
-ghost use Rattle.twp_plat.specs.Ratios.{ratio, whole, IsSame};
+ghost use Rattle.twp_plat.specs.Pieces.{ratio, whole, IsSame};
 ghost use Rattle.twp_plat.specs.steps.SideLimits.{HaveRegularLines};
 ghost use Rattle.twp_plat.specs.Pieces.{piece, line_length, divisor_of};
 ghost use Rattle.twp_plat.specs.Formula.{west_length, north_length, both_ends, both_widths};

@@ -3,7 +3,7 @@ use Rattle.std.proofs.Common.{ℕ, List, Result, Ok, Err, Option}
 use Rattle.std.specs.Prelude.{IfOk, IfErr}
 use Rattle.clap.specs.Words.{Text}
 use Rattle.twp_acres.specs.PlatAnswers.{IsPlatAnswer}
-use Rattle.twp_acres.specs.AcresAnswers.{IsAcresAnswer}
+use Rattle.twp_acres.specs.Answers.{IsAcresAnswer}
 use Rattle.twp_acres.specs.Runs.{IsRun, Reads, RunsOnPlat, Use}
 use Rattle.twp_acres.specs.declared.verdict.Verdict.{Verdict}
 use Rattle.twp_acres.specs.declared.verdict.RunFault.{RunFault}

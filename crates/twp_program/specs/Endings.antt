@@ -5,10 +5,10 @@ use Rattle.clap.specs.Words.{Text}
 use Rattle.clap.specs.declared.error.kind.ErrorKind.TheVariants.{DisplayHelp}
 use Rattle.twp_grid.specs.Devices.{TakesAtMost}
 use Rattle.twp_notes.specs.FieldNotes.{NOTES_MOST}
-use Rattle.twp_notes.specs.ReadBytes.{TakesFirst}
+use Rattle.twp_grid.specs.Devices.{TakesFirst}
 use Rattle.twp_acres.specs.Runs.{AnswerRelation, IsRun, Reads, Use}
 use Rattle.twp_acres.specs.PlatAnswers.{IsPlatAnswer}
-use Rattle.twp_acres.specs.AcresAnswers.{IsAcresAnswer}
+use Rattle.twp_acres.specs.Answers.{IsAcresAnswer}
 use Rattle.twp_acres.specs.AccountAnswers.{IsAcresAnswerBy}
 use Rattle.twp_acres.specs.NormalAnswers.{IsNormalAnswer}
 use Rattle.twp_acres.specs.ReportAnswers.{IsReportAnswer}

@@ -15,7 +15,7 @@ use Rattle.twp_grammar.specs.ItemPlaces.{cuts_of, item_places}
 use Rattle.twp_grammar.specs.OnPlat.{HoldsOfLot}
 use Rattle.twp_resolve.specs.PlaceFaults.{HasFault, number_of}
 use Rattle.twp_grammar.specs.ItemPlaces.{item_of}
-use Rattle.twp_land.specs.WholeLots.{HoldsLotPlace}
+use Rattle.twp_land.specs.Lands.{HoldsLotPlace}
 use Rattle.twp_resolve.specs.steps.ResolvingSteps.{IsTaken, IsItemsFirstFault}
 use Rattle.twp_land.proofs.LotBlocks.{same_section, share_of_meets, meets_of_share}
 use Rattle.twp_resolve.proofs.ChainFacts.{chain_places}

@@ -5,13 +5,13 @@ use Rattle.std.specs.List.{flat_map, join_by, AllZip}
 use Rattle.twp_grid.specs.Winding.{IsSection}
 use Rattle.twp_grid.specs.Places.{IsPlace}
 use Rattle.twp_grid.specs.Townships.{Designation}
-use Rattle.twp_grid.specs.Texts.{line_feed}
-pub use Rattle.twp_grid.specs.Texts.{north_south_letter, east_west_letter}
+use Rattle.twp_grid.specs.Townships.{line_feed}
+pub use Rattle.twp_grid.specs.Townships.{north_south_letter, east_west_letter}
 use Rattle.twp_grid.specs.declared.block.Side.{Side}
 use Rattle.twp_grid.specs.declared.block.Side.TheVariants.{N, S, E, W}
 use Rattle.twp_grid.specs.declared.block.Corner.{Corner}
 use Rattle.twp_grid.specs.declared.block.Corner.TheVariants.{NE, NW, SW, SE}
-use Rattle.twp_land.specs.WholeLots.{lot_of_place, off_lots}
+use Rattle.twp_land.specs.Lands.{lot_of_place, off_lots}
 use Rattle.twp_grammar.specs.declared.item.Step.{Step}
 use Rattle.twp_grammar.specs.declared.item.Step.TheVariants.{Half, Quarter}
 use Rattle.twp_spell.specs.Listing.{AreListed}

@@ -5,7 +5,7 @@ ghost use Rattle.twp_grid.specs.Blocks.{CanQuarter};
 ghost use Rattle.twp_grid.specs.declared.block.Corner.{Corner};
 ghost use Rattle.twp_spell.specs.WrittenParts.{Part, IsFull, AreWrittenParts};
 ghost use Rattle.twp_spell.specs.WrittenParts.Part.{square};
-ghost use Rattle.twp_land.specs.WholeLots.{off_lots};
+ghost use Rattle.twp_land.specs.Lands.{off_lots};
 ghost use Rattle.twp_spell.specs.CanonicalText.{HoldsEach};
 ghost use Rattle.twp_spell.specs.steps.Spelling.{IsBlockOf, AreOfSquare, AreOfQuarter};
 ghost use Rattle.twp_spell.specs.steps.Spelling.{AreWritten, AreFull, FINE_SIDE, quarters_text};

@@ -5,7 +5,7 @@ use Rattle.twp_plat.specs.Plats.{TownshipPlat}
 use Rattle.twp_area.specs.declared.account.Account.{Account}
 use Rattle.twp_acres.specs.Answers.{AnswersRefusal, ArePlatted, IsNoDescription, IsNoText}
 use Rattle.twp_acres.specs.Answers.{IsRefusal}
-use Rattle.twp_acres.specs.AcresAnswers.{acres_line}
+use Rattle.twp_acres.specs.Answers.{acres_line}
 use Rattle.twp_acres.specs.OnPlats.{HasAcresOn, HasNormalOn}
 use Rattle.twp_acres.specs.Runs.{AnswerRelation}
 use Rattle.twp_acres.specs.steps.Stops.{IfRefused}

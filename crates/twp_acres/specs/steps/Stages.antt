@@ -3,7 +3,7 @@ use Rattle.std.specs.Prelude.{◌≡◌, ◌≢◌, ◌↔◌, ℕ, ◌+◌, tru
 use Rattle.std.specs.Prelude.{IfErr, IsErrOf}
 use Rattle.twp_grid.specs.Devices.{TakesAtMost}
 use Rattle.twp_notes.specs.FieldNotes.{NOTES_MOST}
-use Rattle.twp_notes.specs.ReadBytes.{TakesFirst}
+use Rattle.twp_grid.specs.Devices.{TakesFirst}
 use Rattle.twp_acres.specs.Answers.{MakePlat}
 pub use Rattle.twp_acres.specs.PlatReading.{ReadsUpTo}
 use Rattle.twp_acres.specs.Runs.{AnyFailed, Use}

@@ -7,11 +7,11 @@ use Rattle.twp_measure.specs.Areas.{Fraction}
 use Rattle.twp_grid.specs.Places.{PLACE_DIGITS}
 use Rattle.twp_grid.specs.Townships.{Designation}
 use Rattle.twp_land.specs.Lands.{union, SharePlace}
-use Rattle.twp_land.specs.WholeLots.{HasWholeLots}
+use Rattle.twp_land.specs.Lands.{HasWholeLots}
 use Rattle.twp_notes.specs.Records.{Fields, record_at}
 use Rattle.twp_plat.specs.Plats.{TownshipPlat}
 use Rattle.twp_acres.specs.Answers.{Describe, IsNoDescription}
-use Rattle.twp_acres.specs.AcresAnswers.{AreHundredthsOf}
+use Rattle.twp_acres.specs.Answers.{AreHundredthsOf}
 use Rattle.twp_area.specs.LandAreas.{IsLandArea}
 use Rattle.twp_acres.specs.steps.Names.{has_name}
 use Rattle.twp_acres.specs.Tracts.{TRACTS_MOST, name_in, description_in}

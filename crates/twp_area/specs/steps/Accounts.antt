@@ -6,7 +6,7 @@ use Rattle.twp_grid.specs.Lots.{lot_at_position}
 use Rattle.twp_plat.specs.Closing.{QUARTER_MILE}
 use Rattle.twp_plat.specs.Plats.{TownshipPlat}
 use Rattle.twp_plat.specs.Pieces.{over_of}
-use Rattle.twp_plat.specs.PlatAreas.{ArePieces}
+use Rattle.twp_plat.specs.Pieces.{ArePieces}
 use Rattle.twp_area.specs.PlatFigures.{PlatFigures, AreFigures}
 use Rattle.twp_area.specs.declared.account.Account.{Account}
 use Rattle.twp_area.specs.declared.account.Account.TheVariants.{Exact, Plat}

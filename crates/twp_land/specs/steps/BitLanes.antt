@@ -4,7 +4,7 @@ use Rattle.std.specs.Prelude.{List, length, slice_index_or}
 use Rattle.std.specs.Int.{bit_at}
 use Rattle.twp_grid.specs.Places.{PLACE_DIGITS, places_across}
 use Rattle.twp_grid.specs.Spans.{Rectangle, in_rectangle}
-use Rattle.twp_grid.specs.Totals.{one_where}
+use Rattle.twp_grid.specs.Spans.{one_where}
 
 -- the number of bits in a lane: one for each column
 abbrev pub LANE_BITS : ℕ

@@ -3,7 +3,7 @@ use Rattle.std.specs.Prelude.{◌≡◌, ℕ, ◌+◌, ◌<◌, ◌&&◌, ◌||�
 use Rattle.std.specs.Prelude.{List, [], length, slice_index_or}
 use Rattle.twp_grid.specs.Places.{PLACE_DIGITS, places_across}
 use Rattle.twp_grid.specs.Spans.{Span, in_span, Rectangle}
-use Rattle.twp_grid.specs.Totals.{total, one_where}
+use Rattle.twp_grid.specs.Spans.{total, one_where}
 
 -- some of a row's tests in a span is true
 abbrev pub SomeHeld : List Bool → ℕ → ℕ → Type 0

@@ -3,7 +3,7 @@ use Rattle.twp_grid.specs.Places.{PLACE_DIGITS}
 use Rattle.twp_grid.specs.Spans.{whole_block}
 use Rattle.twp_land.specs.Lands.{count_held}
 use Rattle.twp_plat.specs.Closing.{CLOSING_MOST}
-use Rattle.twp_grid.specs.Totals.{over_positions}
+use Rattle.twp_grid.specs.Spans.{over_positions}
 use Rattle.twp_area.specs.steps.Accounts.{over_by, AreUnitsBy}
 use Rattle.twp_area.proofs.SectionSums.{of_lots, places_where, piece_where}
 use Rattle.twp_area.proofs.area.units_in_section.Given as goal

@@ -1,7 +1,7 @@
 use Rattle.std.proofs.Common.{◌≡◌, inl, inr, arith}
 use Rattle.std.proofs.lemmas.Bool.{cases_lt}
 use Rattle.twp_grid.specs.Places.{PLACE_DIGITS}
-use Rattle.twp_land.specs.WholeLots.{IsWholeOrNot}
+use Rattle.twp_land.specs.Lands.{IsWholeOrNot}
 use Rattle.twp_land.proofs.LotFacts.{section_is}
 use Rattle.twp_land.proofs.lots.lots_whole.Goals as goal
 

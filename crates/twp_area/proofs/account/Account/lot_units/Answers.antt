@@ -1,6 +1,6 @@
 use Rattle.std.proofs.Common.{◌≡◌, ℕ, ◌*◌, ap, refl, sym, ◌∙◌}
 use Rattle.twp_land.proofs.LotFacts.{has_lot}
-use Rattle.twp_plat.specs.PlatAreas.{ArePieces}
+use Rattle.twp_plat.specs.Pieces.{ArePieces}
 use Rattle.twp_area.specs.steps.Accounts.{ArePrintedUnits}
 use Rattle.twp_plat.proofs.SectionPieces.{piece_at}
 use Rattle.twp_area.proofs.AreaFacts.{lot_at_is}

@@ -1,6 +1,6 @@
 use Rattle.std.proofs.Common.{sym, subst}
 use Rattle.twp_grid.specs.Places.{PLACE_DIGITS}
-use Rattle.twp_land.specs.WholeLots.{HasWholeLots}
+use Rattle.twp_land.specs.Lands.{HasWholeLots}
 use Rattle.twp_land.proofs.land_rows.Sections+LaneRows.from_rows.Goals as goal
 
 pub returns-then-not-lots_whole : goal.returns-then-not-lots_whole

@@ -1,6 +1,6 @@
 use Rattle.std.proofs.Common.{◌≡◌, ap, sym, ◌∙◌, arith}
 use Rattle.twp_measure.specs.Areas.{Fraction}
-use Rattle.twp_grid.specs.Totals.{total}
+use Rattle.twp_grid.specs.Spans.{total}
 use Rattle.twp_grid.proofs.TotalFacts.{total-zero}
 use Rattle.twp_plat.proofs.AreaSums.{sum_next, most_next, section_area}
 use Rattle.twp_plat.proofs.plat.Plat.section_area.Goals as goal

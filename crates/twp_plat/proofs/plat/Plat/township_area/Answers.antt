@@ -1,6 +1,6 @@
 use Rattle.std.proofs.Common.{ap, sym, ◌∙◌, arith}
 use Rattle.twp_measure.specs.Areas.{Fraction}
-use Rattle.twp_grid.specs.Totals.{over_positions}
+use Rattle.twp_grid.specs.Spans.{over_positions}
 use Rattle.twp_grid.proofs.TotalFacts.{total-zero}
 use Rattle.twp_plat.proofs.AreaSums.{sections_next, sections_most, township_area, value_is}
 use Rattle.twp_plat.proofs.plat.Plat.township_area.Goals as goal

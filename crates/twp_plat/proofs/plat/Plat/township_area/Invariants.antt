@@ -1,8 +1,8 @@
 use Rattle.std.proofs.Common.{◌≡◌, ℕ, ◌+◌, ◌-◌, ◌*◌, ◌≤◌}
-use Rattle.twp_grid.specs.Totals.{total, over_positions}
+use Rattle.twp_grid.specs.Spans.{total, over_positions}
 use Rattle.twp_plat.specs.Closing.{CLOSING_MOST}
 use Rattle.twp_plat.specs.Pieces.{over_of, OVER_MOST}
-use Rattle.twp_plat.specs.PlatAreas.{ArePieces}
+use Rattle.twp_plat.specs.Pieces.{ArePieces}
 use Rattle.twp_plat.proofs.plat.Plat.township_area.Given as goal
 
 -- the sum of the sections so far
