@@ -15,7 +15,8 @@ HEADER = re.compile(
     r"(?P<name>[^\s{}]+)(?(kind)( |$)| : )"
 )
 FIXITY = re.compile(r"infix[lr]? ")
-FIELD = re.compile(r"  (?:pub )?(\S+) :(?: |$)")
+# A field, or constructors of one type, which can share a line.
+FIELD = re.compile(r"  (?:pub )?((?:[^\s(]\S* )*[^\s(]\S*) :(?: |$)")
 
 
 @dataclass(frozen=True)
@@ -150,14 +151,14 @@ def read_fields(result: Definition, body: List[str], first: int) -> None:
     result.names.append(names_in(head, set()))
     bound = {name for name, _, _ in binders_in(head)}
     for start, end in zip(starts, starts[1:] + [len(body)]):
-        own = FIELD.match(body[start])[1]
+        own = FIELD.match(body[start])[1].split()
         words = words_of(body[start:end], first + start)
         colon = [word.text for word in words].index(":")
         result.names.append(names_in(words[colon + 1 :], bound))
         if result.kind.endswith("data"):
-            result.constructors.append(own)
+            result.constructors.extend(own)
         else:
-            bound = bound | {own}
+            bound = bound | set(own)
 
 
 def read_equations(result: Definition, body: List[str], first: int) -> None:

@@ -28,12 +28,13 @@ COUNT = 5
 -- two numbers
 pub data Pair : Type 0 where
   pair : ℕ → ℕ → Pair
-  none : Pair
+  none neither : Pair
 
 -- their sum
 abbrev pub sum : Pair → ℕ
 sum (pair a b) = a + b
 sum none = COUNT
+sum neither = 0
 """
 FIRST = """\
 -- The first crate's texts.
@@ -115,6 +116,9 @@ class Names(unittest.TestCase):
 
     def test_a_constructor_is_its_type(self):
         self.assertEqual(self.used("-- c\nabbrev pub f : ℕ\nf = sum places.none\n"), ["sum", "Pair"])
+
+    def test_constructors_share_a_line(self):
+        self.assertEqual(self.used("-- c\nabbrev pub f : ℕ\nf = sum places.neither\n"), ["sum", "Pair"])
 
     def test_a_field_of_a_variable_is_no_name(self):
         self.assertEqual(self.used("-- c\nabbrev pub f : ℕ → ℕ\nf other = other.sum\n"), [])

@@ -33,8 +33,7 @@ MakePlat bytes = (plat : TownshipPlat) × ArePlatted bytes plat
 
 -- The bytes are a description of this land: they are read as items that lie on the plat of the
 -- township without overlapping, and the land is the set of all places that they name.
-pub record Describe (township : Designation) (bytes : List ℕ) (places : ℕ → ℕ → ℕ → Bool)
-    : Type 0 where
+pub record Describe (township : Designation) (bytes : List ℕ) (places : ℕ → ℕ → ℕ → Bool) : Type 0 where
   pub items : List Item
   pub read : IsReadAs bytes items
   pub land : place_faults.IsLandOfItems PLACE_DIGITS township items places
@@ -108,14 +107,12 @@ abbrev pub AnswersRefusal : (Refusal → Type 0) → Refusal → List ℕ → Ty
 AnswersRefusal Is refusal answer = Is refusal × (answer ≡ refusal_line refusal)
 
 -- The hundredths of an acre of a set of places on a plat: its exact area, rounded once, half up.
-pub record AreHundredthsOf (plat : TownshipPlat) (places : ℕ → ℕ → ℕ → Bool) (hundredths : ℕ)
-    : Type 0 where
+pub record AreHundredthsOf (plat : TownshipPlat) (places : ℕ → ℕ → ℕ → Bool) (hundredths : ℕ) : Type 0 where
   pub area : Fraction
   pub area_is : IsLandArea PLACE_DIGITS plat places area
   pub rounded : IsRounded area hundredths
 
--- the notes make a plat, the description names land on it, and these are the land's hundredths of
--- an acre
+-- the notes make a plat, the description names land on it, and these are the land's hundredths of an acre
 pub record HasAcres (notes description : List ℕ) (hundredths : ℕ) : Type 0 where
   pub plat : TownshipPlat
   pub places : ℕ → ℕ → ℕ → Bool

@@ -46,8 +46,7 @@ IsRun Answers old new (Err Memory) = Keeps old new
 -- the run gave this verdict and wrote this answer, unless it ended with a fault
 abbrev pub IsAnswered : Option (List ℕ) → Option (List ℕ) → List ℕ → Verdict
     → Result Verdict RunFault → Type 0
-IsAnswered old new answer verdict result =
-    IfOk result (λ given. (given ≡ verdict) × Appends old new answer)
+IsAnswered old new answer verdict result = IfOk result (λ given. (given ≡ verdict) × Appends old new answer)
 
 -- These are the bytes that a source had to give: the known ones, if they are known.
 pub record Reads (told : Option (List ℕ)) (Holds : List ℕ → Type 0) : Type 0 where

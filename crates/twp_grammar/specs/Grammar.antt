@@ -13,29 +13,9 @@ use Rattle.twp_grammar.specs.declared.kind.Kind.TheVariants.{Colon, Stop, Other,
 
 -- a kind of token without its value
 pub data Class : Type 0 where
-  sec : Class
-  lot : Class
-  all : Class
-  and : Class
-  to : Class
-  inclusive : Class
-  of : Class
-  the : Class
-  t : Class
-  r : Class
-  north_south : Class
-  east_west : Class
-  corner : Class
-  half : Class
-  quarter : Class
-  number : Class
-  comma : Class
-  semicolon : Class
-  colon : Class
-  stop : Class
-  other : Class
-  bad_number : Class
-  bad_byte : Class
+  sec lot all and to inclusive of the : Class
+  t r north_south east_west corner half quarter number : Class
+  comma semicolon colon stop other bad_number bad_byte : Class
 
 -- the values of the tokens of a class
 abbrev pub Value : Class → Type 0
@@ -102,11 +82,9 @@ infixr 5 ◌∣◌
 -- grammars: one without sentences, the empty list of tokens, one token of a class, a sequence, an
 -- alternative, or a repetition
 pub data Ebnf : Type 0 where
-  never : Ebnf
-  nothing : Ebnf
+  never nothing : Ebnf
   one : Class → Ebnf
-  ◌⨾◌ : Ebnf → Ebnf → Ebnf
-  ◌∣◌ : Ebnf → Ebnf → Ebnf
+  ◌⨾◌ ◌∣◌ : Ebnf → Ebnf → Ebnf
   many : Ebnf → Ebnf
 
 -- an optional part
@@ -160,11 +138,9 @@ group = one sec ⨾ maybe (one stop) ⨾ one number ⨾ maybe (comma_or_colon �
 
 -- T. 2 N., R. 3 W.,
 abbrev pub heading : Ebnf
-heading =
-    one t ⨾ maybe (one stop) ⨾ one number ⨾ one north_south ⨾ maybe (one stop) ⨾ maybe (one comma)
+heading = one t ⨾ maybe (one stop) ⨾ one number ⨾ one north_south ⨾ maybe (one stop) ⨾ maybe (one comma)
     ⨾ one r ⨾ maybe (one stop) ⨾ one number ⨾ one east_west ⨾ maybe (one stop) ⨾ maybe (one comma)
 
 -- a heading, if there is one, and groups
 abbrev pub description : Ebnf
-description =
-    maybe heading ⨾ group ⨾ many (one semicolon ⨾ maybe (one and) ⨾ group) ⨾ maybe (one stop)
+description = maybe heading ⨾ group ⨾ many (one semicolon ⨾ maybe (one and) ⨾ group) ⨾ maybe (one stop)

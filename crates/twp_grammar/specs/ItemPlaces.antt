@@ -23,8 +23,7 @@ cuts_of steps = map cut_of steps
 
 -- the places whose first digits are those that the aliquot part asks for
 abbrev pub in_chain : ℕ → List Step → ℕ → ℕ → Bool
-in_chain g steps column row =
-    begins (columns_asked (cuts_of steps)) (binary g column)
+in_chain g steps column row = begins (columns_asked (cuts_of steps)) (binary g column)
     && begins (rows_asked (cuts_of steps)) (binary g row)
 
 -- a lot with a number from first to last
@@ -40,8 +39,7 @@ in_item g section (Sections first last true) other column row =
 in_item g section (Sections first last false) other column row = false
 in_item g section (Lots first last) other column row =
     (section == other) && is_lot_from first.value last.value (lot_of_place g section column row)
-in_item g section (Chain steps at) other column row =
-    (section == other) && in_chain g steps column row
+in_item g section (Chain steps at) other column row = (section == other) && in_chain g steps column row
 in_item g section (All at) other column row = section == other
 
 -- an item, and the number of the section that it belongs to

@@ -110,8 +110,7 @@ abbrev pub ranges_of_several : Tree several → List Range
 ranges_of_several (first & inl thru & more) =
     record { first = numeral first; last = end_of thru } ∷ map (after range_of) more
 ranges_of_several (first & inr (_ & second) & more) =
-    record { first = numeral first; last = numeral first } ∷ range_of second
-    ∷ map (after range_of) more
+    record { first = numeral first; last = numeral first } ∷ range_of second ∷ map (after range_of) more
 
 -- the lots of a range
 abbrev pub lots_item : Range → Item
@@ -133,8 +132,7 @@ parts_items (first & more) = part_items first ++ flat_map (after part_items) mor
 
 -- sections, and then their parts; `all` after several sections is not an item
 abbrev pub group_items : Tree group → List Item
-group_items (inl (_ & _ & only & inl (_ & v))) =
-    Sections (numeral only) (numeral only) false ∷ parts_items v
+group_items (inl (_ & _ & only & inl (_ & v))) = Sections (numeral only) (numeral only) false ∷ parts_items v
 group_items (inl (_ & _ & only & inr _)) = Sections (numeral only) (numeral only) true ∷ []
 group_items (inr (_ & _ & v & _)) = map whole_sections_item (ranges_of_several v)
 

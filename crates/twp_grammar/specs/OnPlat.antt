@@ -31,19 +31,16 @@ LiesOnPlat g township section (item.Heading number north_south range east_west a
     designation number north_south range east_west ≡ township
 LiesOnPlat g township section (item.Sections first last whole) =
     IsSection first.value × IsSection last.value × (first.value ≤ last.value)
-LiesOnPlat g township section (item.Lots first last) =
-    (first.value ≤ last.value)
+LiesOnPlat g township section (item.Lots first last) = (first.value ≤ last.value)
     × ((lot : ℕ) → first.value ≤ lot → lot ≤ last.value → HasLot section lot)
-LiesOnPlat g township section (item.Chain steps at) =
-    AreWithin g (cuts_of steps)
+LiesOnPlat g township section (item.Chain steps at) = AreWithin g (cuts_of steps)
     × ¬ HoldsOfLot g (record { section = section; item = item.Chain steps at })
 LiesOnPlat g township section (item.All at) = Unit {0}
 
 -- each item lies on the plat, and no place is named by two items
 pub record AreOnPlat (g : ℕ) (township : Designation) (items : List Item) : Type 0 where
   pub each : All (λ part. LiesOnPlat g township part.section part.item) (parts_of items)
-  pub apart : AllPairs (λ part more. ¬ SharePlace (item_places g part) (item_places g more))
-      (parts_of items)
+  pub apart : AllPairs (λ part more. ¬ SharePlace (item_places g part) (item_places g more)) (parts_of items)
 
 -- the items lie on the plat without overlapping, and this is their land
 pub record IsLandOfItems (g : ℕ) (township : Designation) (items : List Item)

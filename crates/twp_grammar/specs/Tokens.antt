@@ -36,15 +36,13 @@ word letters kind = record { letters = letters; kind = kind }
 
 -- the words of descriptions with four letters or more
 abbrev pub long_words : List Word
-long_words =
-    word (codes "thru") To ∷ word (codes "lots") Lot ∷ word (codes "secs") Sec
+long_words = word (codes "thru") To ∷ word (codes "lots") Lot ∷ word (codes "secs") Sec
     ∷ word (codes "section") Sec ∷ word (codes "sections") Sec ∷ word (codes "through") To
     ∷ word (codes "inclusive") Inclusive ∷ []
 
 -- the words of descriptions with up to three letters
 abbrev pub short_words : List Word
-short_words =
-    word (codes "sec") Sec ∷ word (codes "lot") Lot ∷ word (codes "all") All
+short_words = word (codes "sec") Sec ∷ word (codes "lot") Lot ∷ word (codes "all") All
     ∷ word (codes "and") And ∷ word (codes "the") The ∷ word (codes "to") To ∷ word (codes "of") Of
     ∷ word (codes "ne") (Corner corner.NE) ∷ word (codes "nw") (Corner corner.NW)
     ∷ word (codes "sw") (Corner corner.SW) ∷ word (codes "se") (Corner corner.SE)
@@ -96,12 +94,10 @@ pub record IsNumber (text rest : List ℕ) : Type 0 where
 -- the text, when the rest follows it, is a token of this kind other than a bad byte; U+00BD is the
 -- bytes C2 BD, and U+00BC is C2 BC
 pub data IsGoodToken (text rest : List ℕ) (kind : Kind) : Type 0 where
-  a_word : IsWholeRun is_ascii_alphabetic text rest → kind ≡ kind_of_word text
-      → IsGoodToken text rest kind
+  a_word : IsWholeRun is_ascii_alphabetic text rest → kind ≡ kind_of_word text → IsGoodToken text rest kind
   a_number : IsNumber text rest → length text ≤ 4 → kind ≡ Number (digits_value 10 text)
       → IsGoodToken text rest kind
-  a_bad_number : IsNumber text rest → 4 < length text → kind ≡ BadNumber
-      → IsGoodToken text rest kind
+  a_bad_number : IsNumber text rest → 4 < length text → kind ≡ BadNumber → IsGoodToken text rest kind
   a_half : text ≡ codes "1/2" → kind ≡ Half → IsGoodToken text rest kind
   a_half_sign : text ≡ 0xC2 ∷ 0xBD ∷ [] → kind ≡ Half → IsGoodToken text rest kind
   a_quarter : text ≡ codes "1/4" → kind ≡ Quarter → IsGoodToken text rest kind
@@ -113,8 +109,7 @@ pub data IsGoodToken (text rest : List ℕ) (kind : Kind) : Type 0 where
 
 -- the bytes begin with no token other than a bad byte
 abbrev pub NoGoodToken : List ℕ → Type 0
-NoGoodToken bytes =
-    (text rest : List ℕ) (kind : Kind) → bytes ≡ text ++ rest → ¬ IsGoodToken text rest kind
+NoGoodToken bytes = (text rest : List ℕ) (kind : Kind) → bytes ≡ text ++ rest → ¬ IsGoodToken text rest kind
 
 -- one byte that is not white space, and that no other token can begin with
 pub record IsBadByte (text rest : List ℕ) : Type 0 where
@@ -139,8 +134,7 @@ pub record StartsWith (at : ℕ) (bytes : List ℕ) (token : Token) (rest : List
 -- the bytes at a place consist of white space and the texts of these tokens, in order
 abbrev pub HasTokens : ℕ → List ℕ → List Token → Type 0
 HasTokens at bytes [] = AllPass is_white bytes
-HasTokens at bytes (token ∷ tokens) =
-    (rest : List ℕ) × StartsWith at bytes token rest
+HasTokens at bytes (token ∷ tokens) = (rest : List ℕ) × StartsWith at bytes token rest
     × HasTokens (token.at + length token.text) rest tokens
 
 -- the rest of a text, and its place

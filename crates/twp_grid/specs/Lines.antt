@@ -18,13 +18,11 @@ NORTH_RUN_COUNT = LINES_ACROSS * SECTIONS_ACROSS
 abbrev pub LINE_COUNT : ℕ
 LINE_COUNT = 2 * NORTH_RUN_COUNT
 
--- The index of a north-run line: in a row of sections, on one of seven meridians counted from the
--- east.
+-- The index of a north-run line: in a row of sections, on one of seven meridians counted from the east.
 abbrev pub north_run : ℕ → ℕ → ℕ
 north_run row meridian = LINES_ACROSS * row + meridian
 
--- The index of a west-run line: on one of seven tiers counted from the north, in a column of
--- sections.
+-- The index of a west-run line: on one of seven tiers counted from the north, in a column of sections.
 abbrev pub west_run : ℕ → ℕ → ℕ
 west_run tier column = NORTH_RUN_COUNT + SECTIONS_ACROSS * tier + column
 
@@ -55,17 +53,14 @@ pub record IsSide (section index : ℕ) : Type 0 where
 
 -- the line lies between two different sections, or on the township's boundary beside one
 abbrev pub LiesBeside : ℕ → Option ℕ → ℕ → Type 0
-LiesBeside section (Some other) index = (section ≢ other) × IsSide section index
-    × IsSide other index
-LiesBeside section None index =
-    IsSide section index × ((other : ℕ) → IsSide other index → other ≡ section)
+LiesBeside section (Some other) index = (section ≢ other) × IsSide section index × IsSide other index
+LiesBeside section None index = IsSide section index × ((other : ℕ) → IsSide other index → other ≡ section)
 
 -- the line of this run between two sections, or between a section and the outside
 abbrev pub IsLineOf : Run → ℕ → Option ℕ → ℕ → Type 0
 IsLineOf run section other index = RunsAs run index × LiesBeside section other index
 
--- The closing lines: the north-run lines in the northern row, and the west-run lines in the western
--- column.
+-- The closing lines: the north-run lines in the northern row, and the west-run lines in the western column.
 abbrev pub IsClosing : ℕ → Type 0
 IsClosing index = ((meridian : ℕ) × (meridian < LINES_ACROSS) × (index ≡ north_run 0 meridian))
     ⊎ ((tier : ℕ) × (tier < LINES_ACROSS) × (index ≡ west_run tier WESTERN_COLUMN))

@@ -25,11 +25,9 @@ pub record Lot : Type 0 where
 
 -- a row of the table
 abbrev pub lot : ℕ → ℕ → ℕ → ℕ → Lot
-lot section number column row =
-    record { section = section; number = number; column = column; row = row }
+lot section number column row = record { section = section; number = number; column = column; row = row }
 
--- the 47 lots: along the north of sections 1 to 5, down the west of the western column, and both in
--- section 6
+-- the 47 lots: along the north of sections 1 to 5, down the west of the western column, and both in section 6
 unfoldable pub lots : List Lot
 lots =
     lot 1 1 0 3 ∷ lot 1 2 1 3 ∷ lot 1 3 2 3 ∷ lot 1 4 3 3
@@ -48,14 +46,12 @@ lots =
 
 -- the lot that fills a position of a section, if one does
 unfoldable pub lot_at_position : ℕ → ℕ → ℕ → Option ℕ
-lot_at_position section column row =
-    option_map (λ (l : Lot). l.number)
+lot_at_position section column row = option_map (λ (l : Lot). l.number)
     (find (λ (l : Lot). (l.section == section) && (l.column == column) && (l.row == row)) lots)
 
 -- the column and the row of a section's lot, if it has that lot
 unfoldable pub position_of_lot : ℕ → ℕ → Option (ℕ × ℕ)
-position_of_lot section number =
-    option_map (λ (l : Lot). (l.column, l.row))
+position_of_lot section number = option_map (λ (l : Lot). (l.column, l.row))
     (find (λ (l : Lot). (l.section == section) && (l.number == number)) lots)
 
 -- the number of lots in a section

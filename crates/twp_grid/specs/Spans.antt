@@ -70,8 +70,7 @@ total (suc n) f = total n f + f n
 
 -- the sum of a function's values at the column and row of each place in a block
 abbrev pub total_over : Rectangle → (ℕ → ℕ → ℕ) → ℕ
-total_over block f =
-    total block.rows.len (λ up. total block.columns.len (λ along.
+total_over block f = total block.rows.len (λ up. total block.columns.len (λ along.
     f (block.columns.start + along) (block.rows.start + up)))
 
 -- the sum of a function's values at the column and row of each position in a section

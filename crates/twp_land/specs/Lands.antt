@@ -71,8 +71,7 @@ LieWithin places first last =
 
 -- the lot of a section that a place lies in, if it lies in one
 abbrev pub lot_of_place : ℕ → ℕ → ℕ → ℕ → Option ℕ
-lot_of_place g section column row =
-    lot_at_position section (position_along g column) (position_along g row)
+lot_of_place g section column row = lot_at_position section (position_along g column) (position_along g row)
 
 -- the places of a set in one section that lie in no lot
 abbrev pub off_lots : ℕ → ℕ → (ℕ → ℕ → Bool) → ℕ → ℕ → Bool

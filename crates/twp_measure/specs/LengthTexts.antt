@@ -54,8 +54,7 @@ pub record IsPointed (text : List ℕ) (v : ℕ) : Type 0 where
 
 -- the text is a length of v thousandths: whole chains, with or without decimals
 abbrev pub IsLengthText : List ℕ → ℕ → Type 0
-IsLengthText text v = ((chains : ℕ) × IsShortNumber text chains × (v ≡ 1000 * chains))
-    ⊎ IsPointed text v
+IsLengthText text v = ((chains : ℕ) × IsShortNumber text chains × (v ≡ 1000 * chains)) ⊎ IsPointed text v
 
 -- the byte of a digit
 abbrev pub digit_byte : ℕ → ℕ

@@ -56,8 +56,7 @@ pub record Closes (quarter : ℤ) : Type 0 where
   pub least : pos CLOSING_LEAST ≤ℤ quarter
   pub most : quarter ≤ℤ pos CLOSING_MOST
 
--- Both half miles of a line are regular, except that the second one of a closing line only has to
--- close.
+-- Both half miles of a line are regular, except that the second one of a closing line only has to close.
 pub record IsInLimits (line : ℕ) (returned : Returned) : Type 0 where
   pub first : IsRegular (first_half returned)
   pub second : ¬ IsClosing line → IsRegular (second_half returned)
@@ -67,9 +66,7 @@ pub record IsInLimits (line : ℕ) (returned : Returned) : Type 0 where
 abbrev pub MakesPlat : FieldNotes → Type 0
 MakesPlat notes = (line : ℕ) → IsLine line → IsInLimits line (returned_of notes line)
 
--- The closing quarter of a line: the last quarter mile of a closing line, and 20 chains for any
--- other line.
+-- The closing quarter of a line: the last quarter mile of a closing line, and 20 chains for any other line.
 abbrev pub IsClosingQuarter : ℕ → Returned → ℕ → Type 0
-IsClosingQuarter line returned quarter =
-    (IsClosing line × (pos quarter ≡ last_quarter returned))
+IsClosingQuarter line returned quarter = (IsClosing line × (pos quarter ≡ last_quarter returned))
     ⊎ (¬ IsClosing line × (quarter ≡ QUARTER_MILE))

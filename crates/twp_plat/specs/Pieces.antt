@@ -28,8 +28,7 @@ whole n = ratio (pos n) 1
 
 -- the sum of two quotients
 abbrev pub plus : Ratio → Ratio → Ratio
-plus a b =
-    ratio (a.numerator *ℤ pos b.denominator +ℤ b.numerator *ℤ pos a.denominator)
+plus a b = ratio (a.numerator *ℤ pos b.denominator +ℤ b.numerator *ℤ pos a.denominator)
     (a.denominator * b.denominator)
 
 -- the product of two quotients
@@ -63,21 +62,18 @@ line_length closing = sum (quarter_miles closing)
 -- A length that varies linearly along a line, from one value at its start to another at its end:
 -- its value at a distance from the start.
 abbrev pub straight : (start end along distance : ℕ) → Ratio
-straight start end along distance =
-    plus (whole start) (ratio ((pos end -ℤ pos start) *ℤ pos distance) along)
+straight start end along distance = plus (whole start) (ratio ((pos end -ℤ pos start) *ℤ pos distance) along)
 
 -- A column's width at a distance north of the section's south line: it varies linearly along the
 -- west line, from the column's quarter mile of the south line to that of the north line.
 abbrev pub width_at : ClosingQuarters → ℕ → ℕ → Ratio
-width_at q column distance =
-    straight (quarter_mile q.south column) (quarter_mile q.north column)
+width_at q column distance = straight (quarter_mile q.south column) (quarter_mile q.north column)
     (line_length q.west) distance
 
 -- A row's height at a distance west of the section's east line: it varies linearly along the north
 -- line, from the row's quarter mile of the east line to that of the west line.
 abbrev pub height_at : ClosingQuarters → ℕ → ℕ → Ratio
-height_at q row distance =
-    straight (quarter_mile q.east row) (quarter_mile q.west row)
+height_at q row distance = straight (quarter_mile q.east row) (quarter_mile q.west row)
     (line_length q.north) distance
 
 -- a position's mean width: the mean of its widths at its south and north edges, each of which is at a
@@ -97,8 +93,7 @@ unfoldable pub piece : ClosingQuarters → ℕ → ℕ → Ratio
 piece q column row = times (mean_width q column row) (mean_height q column row)
 
 -- the area of a section's position on a plat, over any denominator
-pub record IsPieceArea (plat : TownshipPlat) (section column row : ℕ) (area : Fraction)
-    : Type 0 where
+pub record IsPieceArea (plat : TownshipPlat) (section column row : ℕ) (area : Fraction) : Type 0 where
   pub quarters : ClosingQuarters
   pub are : AreClosingQuarters plat section quarters
   pub area_is : IsSame (ratio (pos area.units) area.over) (piece quarters column row)
@@ -111,8 +106,7 @@ divisor_of q = 4 * line_length q.north * line_length q.west
 -- The denominator of all areas on a plat is that of section 6, whose north line is the westernmost
 -- of the first tier, and whose west line is the westernmost of the first row.
 unfoldable pub over_of : TownshipPlat → ℕ
-over_of plat =
-    4 * line_length (closing_quarter_of plat (west_run 0 WESTERN_COLUMN))
+over_of plat = 4 * line_length (closing_quarter_of plat (west_run 0 WESTERN_COLUMN))
     * line_length (closing_quarter_of plat (north_run 0 SECTIONS_ACROSS))
 
 -- the greatest possible denominator

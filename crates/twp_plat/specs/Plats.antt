@@ -52,8 +52,7 @@ pub record ClosingQuarters : Type 0 where
   pub south : ℕ
 
 -- these are the closing quarters of the section's lines
-pub record AreClosingQuarters (plat : TownshipPlat) (section : ℕ) (q : ClosingQuarters)
-    : Type 0 where
+pub record AreClosingQuarters (plat : TownshipPlat) (section : ℕ) (q : ClosingQuarters) : Type 0 where
   pub east_line : ℕ
   pub west_line : ℕ
   pub north_line : ℕ
