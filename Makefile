@@ -41,7 +41,7 @@ test:
 
 ## e2e            build the program, and test it on files, pipes, and devices
 e2e: township
-	@cd crates/twp_growth && rt run -- write-acres 3905 2 > /dev/null
+	@cd crates/twp_trials && rt run -- write-acres 3905 2 > /dev/null
 	@sh tests/e2e.sh
 
 ## check          prove all crates, and nothing else

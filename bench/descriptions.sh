@@ -1,10 +1,10 @@
 #!/bin/sh
-# Builds twp_bench and prints how many instructions it takes to read descriptions: the count of the whole
+# Builds twp_trials and prints how many instructions it takes to read descriptions: the count of the whole
 # process, less the count for reading nothing. The descriptions are the named files, or by default 65,536
 # bytes of small parts, the same in lowercase, half as many, and 65,536 bytes of halves of halves in words.
 set -eu
-(cd crates/twp_bench && rt run -- lanes count 10 > /dev/null)
-program=crates/twp_bench/out/twp_bench
+(cd crates/twp_trials && rt run -- lanes count 10 > /dev/null)
+program=crates/twp_trials/out/twp_trials
 count() {
     env -i PATH="$PATH" valgrind --tool=callgrind --callgrind-out-file=/dev/null "$program" text \
         < "$1" 2>&1 >/dev/null | sed -n 's/.*Collected : *//p'

@@ -1,10 +1,10 @@
 #!/bin/sh
-# Builds twp_bench and prints how many instructions 1,000 calls of each kind take on a `Land` of 200 mixed
+# Builds twp_trials and prints how many instructions 1,000 calls of each kind take on a `Land` of 200 mixed
 # blocks, over `Grid` and over `Lanes`: the count of the whole process, less the count for only making the
 # same `Land` and the same 1,000 sections and blocks. `take` is `meets` and then `add` of one block.
 set -eu
-(cd crates/twp_bench && rt run -- lanes count 10 > /dev/null)
-program=crates/twp_bench/out/twp_bench
+(cd crates/twp_trials && rt run -- lanes count 10 > /dev/null)
+program=crates/twp_trials/out/twp_trials
 count() {
     env -i PATH="$PATH" valgrind --tool=callgrind --callgrind-out-file=/dev/null "$program" "$1" "$2" 1000 \
         2>&1 >/dev/null | sed -n 's/.*Collected : *//p'

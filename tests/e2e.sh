@@ -1,6 +1,6 @@
 #!/bin/sh
 # Tests ./township, or the program that is named, as people use it, and the documents and the installation that go with
-# it; twp_growth is taken from its crate, or is named second. The last line counts all tests: 'N passed, 0 failed'.
+# it; twp_trials is taken from its crate, or is named second. The last line counts all tests: 'N passed, 0 failed'.
 . "$(dirname "$0")/lib.sh"
 name_programs "$@"
 tests=$root/tests/program

@@ -16,10 +16,10 @@ failed=0
 work=$(mktemp -d)
 trap 'rm -rf "$work"' EXIT
 
-# The programs to test: ./township, or the first word; and twp_growth of its crate, or the second word.
+# The programs to test: ./township, or the first word; and twp_trials of its crate, or the second word.
 name_programs() {
     program=$(readlink -f "${1:-./township}")
-    calls=$(readlink -f "${2:-$root/crates/twp_growth/out/twp_growth}")
+    calls=$(readlink -f "${2:-$root/crates/twp_trials/out/twp_trials}")
 }
 
 # The same, in the script's folder. A faulty program must not fill the disk or run forever.

@@ -1,13 +1,16 @@
 #!/bin/sh
-# Checks that need no proofs and take seconds: the layout of definitions and proofs, and that each wrong body kept for
-# releases still fits the code. `make test` begins with them, so that they don't fail after an hour of proofs. The last
-# line is 'N passed, M failed'.
+# Checks that need no proofs and take seconds: the layout of definitions and proofs, that each wrong body kept for
+# releases still fits the code, and that what several files repeat is the same in all of them. `make test` begins with
+# them, so that they don't fail after an hour of proofs. The last line is 'N passed, M failed'.
 . "$(dirname "$0")/lib.sh"
 cd "$root" || exit 1
 if python=$(python_with argparse); then
     try 'the layout of definitions and proofs' "$python" tools/wrap_proofs.py --check
     try 'the wrong bodies for releases fit the code' "$python" tools/bugs.py --check
+    try 'the signatures of the calls' "$python" tools/signatures.py
+    try 'the constants of township.h' "$python" tools/header_names.py --check
+    try 'what several files repeat' "$python" -B tools/repeated
 else
-    skip 'the layout of definitions and proofs, and the fit of wrong bodies, since there is no Python here'
+    skip 'the checks of the sources, since there is no Python here'
 fi
 ended

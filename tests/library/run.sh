@@ -43,22 +43,6 @@ echo "libtownship.so.${version%%.*}" > "$work/wanted"
 readelf -d lib/libtownship.so | sed -n 's/.*(SONAME).*\[\(.*\)\]/\1/p' > "$work/found"
 same 'the soname'
 
-# The signatures of the calls, which are written in several languages; and structs, constants, limits, and ranges of
-# refusals.
-if [ -n "$python" ]; then
-    try 'the signatures of the calls' "$python" tools/signatures.py
-    try 'what several files repeat' "$python" -B tools/repeated
-else
-    skip 'the signatures of the calls, and what several files repeat, since there is no Python here'
-fi
-
-# The header's names of refusals, and all versions, are those of their sources.
-if [ -n "${PYTHON:-}" ]; then
-    try 'the constants of township.h' "$PYTHON" tools/header_names.py --check
-else
-    skip 'the constants of township.h: no Python'
-fi
-
 # The documents' C program: its answers, what its explanations begin with, and its statuses.
 acres_program() {
     cat > "$work/wanted" << 'END'

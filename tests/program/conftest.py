@@ -12,8 +12,8 @@ TOP = Path(__file__).resolve().parents[2]
 
 def pytest_addoption(parser: pytest.Parser) -> None:
     parser.addoption("--program", default=str(TOP / "township"), help="the program to test, by default ./township")
-    calls = TOP / "crates" / "twp_growth" / "out" / "twp_growth"
-    parser.addoption("--calls", default=str(calls), help="the program of single calls, by default twp_growth's")
+    calls = TOP / "crates" / "twp_trials" / "out" / "twp_trials"
+    parser.addoption("--calls", default=str(calls), help="the program of single calls, by default twp_trials's")
 
 
 @pytest.fixture(scope="session")

@@ -1,6 +1,6 @@
 #!/bin/sh
 # Refuses ./township, or the program that is named, one growth of its memory after another, in each of its
-# five ways of running; and likewise calls that read and write, which twp_growth, or the program that is named
+# five ways of running; and likewise calls that read and write, which twp_trials, or the program that is named
 # second, makes separately. A run with a refused growth ends there, as out of memory: it has written nothing, and
 # a call leaves a vector unchanged. Only explaining a refusal is optional: if memory is refused for the copy of
 # the program's input, or for the explanation, the answer and the status are the same, and the explanation is

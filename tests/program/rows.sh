@@ -1,6 +1,6 @@
 #!/bin/sh
 # Runs the rows of tests/program/rows, and the tests that are written in Python beside them, on ./township or the program
-# that is named, and on twp_growth or the program that is named second. Further words go to pytest, such as `-k acres`.
+# that is named, and on twp_trials or the program that is named second. Further words go to pytest, such as `-k acres`.
 . "$(dirname "$0")/../lib.sh"
 name_programs "$@"
 # A faulty program must not fill the disk.

@@ -1,4 +1,4 @@
-"""Single calls of twp_growth, which makes one and prints its answer: values as they are written, and the messages for an
+"""Single calls of twp_trials, which makes one and prints its answer: values as they are written, and the messages for an
 invalid length, field notes, or description, few of which the program shows."""
 from __future__ import annotations
 

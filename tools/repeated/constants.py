@@ -7,12 +7,11 @@ from reading import CALLS, HEADER, PYTHON, RUST, Compared, number_of, text_of
 
 WHAT = "constants of the header, in the library and the bindings"
 
-#: What each file has to repeat: the comments above the constants in the header.
-REPEATED = {
-    f"{CALLS}/verdict.rt": ("Verdicts.",),
-    RUST: ("Verdicts.", "Accounts:", "Which side of the base line", "The number of section lines"),
-    f"{PYTHON}/_library.py": ("Verdicts.", "Accounts:", "The number of section lines"),
-}
+#: Those that a binding repeats: the comments above them in the header.
+OF_BINDINGS = ("Verdicts.", "Accounts:", "Which side of the base line", "The number of section lines")
+
+#: What each file has to repeat.
+REPEATED = {f"{CALLS}/verdict.rt": ("Verdicts.",), RUST: OF_BINDINGS, f"{PYTHON}/_library.py": OF_BINDINGS}
 
 
 def compare() -> Compared:

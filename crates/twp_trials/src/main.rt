@@ -1,41 +1,62 @@
-//! Tries calls that `township` does not make, or whose answers it does not show separately, and
-//! prints the answer of each. The file `stdout` beside `src/` contains the expected lines, which
-//! were worked out by hand; each calculation is in a comment beside the call. Standard input is the
-//! field notes of the uneven township, `samples/b1.csv`.
+//! Calls that `township` does not make, or whose answers it does not show separately.
+//!
+//! - Without words, it makes all trials, and prints a line for each. The file `stdout` beside `src/`
+//!   contains the expected lines, which were worked out by hand. Standard input is the field notes
+//!   of the uneven township, `samples/b1.csv`.
+//! - With the name of a call, it makes this call alone: `tests/program/growths.sh` refuses it
+//!   memory, and `tests/program/test_calls.py` compares its answer.
+//! - With a kind of land, or `text`, it does work whose instructions `make bench` counts.
 #![tactic(auto)]
 
-mod blocks;
-mod descriptions;
-mod figures;
-mod fronts;
-mod lands;
+mod counted;
 mod mixed;
-mod words;
+mod single;
+mod trials;
 
-use std::io;
+use counted::LandTask;
 use std::process::ExitCode;
-use twp_grid::Device;
-use twp_notes::Notes;
-use twp_plat::Plat;
-
-/// The plat of the field notes on standard input.
-fn plat_of_input(rt: &HostRuntime) -> Option<Plat> {
-    let mut input = Device::new(rt.reader());
-    let notes = Notes::read(rt.alloc(), &mut input).ok()?;
-    Plat::protract(&notes).ok()
-}
+use std::{env, io};
 
 fn main(rt: HostRuntime) -> io::Result<ExitCode> {
-    let Some(plat) = plat_of_input(&rt) else {
-        eprintln!(rt; "twp_trials: standard input must be field notes that make a plat")?;
-        return Ok(ExitCode::from(2));
+    let mut words = env::args(&rt)?;
+    let _program = words.next();
+    let Some(first) = words.next() else {
+        return trials::try_all(&rt);
     };
-    blocks::try_blocks(&rt)?;
-    lands::try_counts(&rt)?;
-    lands::try_both_kinds(&rt)?;
-    figures::try_figures(&rt, &plat)?;
-    words::try_words(&rt)?;
-    descriptions::try_descriptions(&rt, &plat)?;
-    fronts::try_fronts(&rt, &plat)?;
-    Ok(ExitCode::SUCCESS)
+    if first.as_str() == "text" {
+        counted::read_text(&rt)?;
+        return Ok(ExitCode::SUCCESS);
+    }
+    let (Some(second), third) = (words.next(), words.next()) else {
+        return misused(&rt);
+    };
+    let Some(third) = third else {
+        return ended(&rt, single::read(&rt, first.as_str(), second.as_str())?);
+    };
+    match LandTask::of_words(first.as_str(), second.as_str(), third.as_str()) {
+        Some(task) => {
+            rt.println(task.tally())?;
+            Ok(ExitCode::SUCCESS)
+        }
+        None => {
+            let is_made = single::write(&rt, first.as_str(), second.as_str(), third.as_str())?;
+            ended(&rt, is_made)
+        }
+    }
+}
+
+/// How the program ends that was asked for a call, which was made if there is such a call.
+fn ended(rt: &HostRuntime, is_made: bool) -> io::Result<ExitCode> {
+    if is_made {
+        return Ok(ExitCode::SUCCESS);
+    }
+    misused(rt)
+}
+
+/// How the program ends if its words ask for nothing that it does.
+fn misused(rt: &HostRuntime) -> io::Result<ExitCode> {
+    eprintln!(rt;
+        "twp_trials [CALL INPUT [ROOM] | grid|lanes WORK TIMES | text]: see src/main.rt"
+    )?;
+    Ok(ExitCode::from(2))
 }

@@ -26,6 +26,12 @@ NO_MEMORY = 6
 EXACT = 0
 BY_PLAT = 1
 
+# Sides of the base line, and of the principal meridian.
+NORTH = 0
+SOUTH = 1
+EAST = 0
+WEST = 1
+
 #: The environment variable that gives the path of the library.
 VARIABLE = "TOWNSHIP_LIBRARY"
 

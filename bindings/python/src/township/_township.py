@@ -1,7 +1,7 @@
 """The designation of a township, and the library's struct of a plat."""
 from __future__ import annotations
 
-from typing import Literal, NamedTuple, Sequence, Tuple
+from typing import Dict, Literal, NamedTuple, Sequence, Tuple
 
 from . import _library
 
@@ -10,8 +10,9 @@ NorthSouth = Literal["N", "S"]
 #: The side of the principal meridian.
 EastWest = Literal["E", "W"]
 
-_NORTH_SOUTH: Tuple[NorthSouth, ...] = ("N", "S")
-_EAST_WEST: Tuple[EastWest, ...] = ("E", "W")
+# The sides by the library's codes.
+_NORTH_SOUTH: Dict[int, NorthSouth] = {_library.NORTH: "N", _library.SOUTH: "S"}
+_EAST_WEST: Dict[int, EastWest] = {_library.EAST: "E", _library.WEST: "W"}
 
 
 class Township(NamedTuple):
@@ -50,12 +51,12 @@ def struct_of(township: Tuple[int, str, int, str], closing_quarters: Sequence[in
         raise ValueError("the last quarter mile of a section line is 5,000 to 25,000 thousandths of a chain")
     if not (0 < number < 100 and 0 < range_number < 100):
         raise ValueError("the numbers of a township and of its range are 1 to 99")
-    if north_south not in _NORTH_SOUTH or east_west not in _EAST_WEST:
+    if north_south not in _NORTH_SOUTH.values() or east_west not in _EAST_WEST.values():
         raise ValueError("a township is 'N' or 'S' of its base line, and 'E' or 'W' of its meridian")
     return _library.Plat(
         _library.Quarters(*closing_quarters),
         number,
-        _NORTH_SOUTH.index(north_south),
+        _library.NORTH if north_south == "N" else _library.SOUTH,
         range_number,
-        _EAST_WEST.index(east_west),
+        _library.EAST if east_west == "E" else _library.WEST,
     )

@@ -1,6 +1,6 @@
 //! Descriptions resolved to land of each kind, with its area and its canonical text.
 
-use crate::figures::print_area;
+use crate::trials::figures::print_area;
 use std::io;
 use std::io::Write;
 use twp_acres::{Stop, area_of};

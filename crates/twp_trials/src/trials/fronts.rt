@@ -1,6 +1,6 @@
 //! Prefixes of descriptions: their first bytes, including those that end within a character.
 
-use crate::descriptions::DESCRIPTIONS;
+use crate::trials::descriptions::DESCRIPTIONS;
 use std::io;
 use twp_acres::{Account, Stop, acres_on};
 use twp_plat::Plat;

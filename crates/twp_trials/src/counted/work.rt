@@ -30,8 +30,10 @@ impl Work {
 }
 
 /// Does the work a number of times on land with 200 mixed blocks, and returns a sum of its results.
+/// It is not inlined, so that what is counted does not depend on the rest of the program.
+#[inline(never)]
 pub fn measure<L: Land>(work: Work, times: u32) -> u32 {
-    let mut mixed = Mixed::new(1796);
+    let mut mixed = Mixed::new();
     let mut land = L::empty();
     for _ in 0..200u32 {
         let section = mixed.section();

@@ -2,7 +2,7 @@ use std::io::{self, Read};
 use twp_read::Description;
 
 /// Reads standard input as a description, and prints how many items it names, or why it is not one.
-pub fn print_items(rt: &HostRuntime) -> io::Result<()> {
+pub fn read_text(rt: &HostRuntime) -> io::Result<()> {
     let mut text = Vec::new(rt.alloc());
     let mut reader = rt.reader();
     let mut piece = [0; 4_096];

@@ -1,6 +1,6 @@
 //! Calls that make a value, which is printed as its text.
 
-use crate::showing::{ANSWERED, start};
+use crate::single::showing::{ANSWERED, start};
 use std::io;
 use std::io::Write;
 use twp_grid::Bytes;
