@@ -68,7 +68,10 @@ class Workers:
             self._here.append(here)
             given = (there, list(self._here), answers, separator)
             process = context.Process(target=_work, args=given, daemon=True)
-            process.start()
+            try:
+                process.start()
+            except OSError as error:
+                raise Stopped(f"township: cannot start a process: {error.strerror}") from error
             there.close()
             self._processes.append(process)
 
