@@ -101,7 +101,8 @@ class Faults(BatchCase):
 
     def test_empty_fields_that_excel_leaves_out(self):
         # It does so in blocks of 16 rows, if all fields of a column at the end are empty there.
-        rows = self.batch('id,description,by,remark\n7,"sec. 14, N1/2",x,y\n8,sec. 15.,x\n9,"sec. 16;\nsec. 17."\n', status=0)
+        data = 'id,description,by,remark\n7,"sec. 14, N1/2",x,y\n8,sec. 15.,x\n9,"sec. 16;\nsec. 17."\n'
+        rows = self.batch(data, status=0)
         self.assertEqual([row[:5] for row in rows[1:]], [
             ["7", "sec. 14, N1/2", "x", "y", "320.00"],
             ["8", "sec. 15.", "x", "", "640.00"],

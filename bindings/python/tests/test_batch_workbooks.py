@@ -81,8 +81,8 @@ class Lists(WorkbookCase):
             with self.subTest(size=size):
                 made = self.changed(listed, lambda xml: re.sub(b'(<dimension ref=")[^"]*', b"\\g<1>" + size, xml))
                 run = self.run_words("batch", NOTES, made)
-                self.assertEqual([row[:3] for row in records(run.stdout)],
-                                 [["id", "description", "acres"], ["7", "sec. 14.", "640.00"], ["8", "sec. 15.", "640.00"]])
+                wanted = [["id", "description", "acres"], ["7", "sec. 14.", "640.00"], ["8", "sec. 15.", "640.00"]]
+                self.assertEqual([row[:3] for row in records(run.stdout)], wanted)
 
     def test_workbook_that_opens_with_a_chart(self):
         import openpyxl
@@ -107,8 +107,21 @@ class Lists(WorkbookCase):
         book.active.append(["description"])
         book.active.append(["sec. 14."])
         book.save(self.folder / "list.xlsx")
-        run = self.run_words("batch", NOTES, self.folder / "list.xlsx")
-        self.assertEqual(records(run.stdout)[1][:2], ["sec. 14.", "640.00"])
+        words = ("batch", NOTES, self.folder / "list.xlsx")
+        for run in (self.run_words(*words), self.run_words(*words, "--sheet", "LIST")):
+            self.assertEqual(records(run.stdout)[1][:2], ["sec. 14.", "640.00"])
+        run = self.run_words(*words, "--sheet", "Sheet")
+        self.assertEqual(run.returncode, 3)
+        said = r"\Atownship: \S+list.xlsx, sheet `Sheet`, row 1: the heading has no column `desc.*: `other`\n\Z"
+        self.assertRegex(run.stderr.decode(), said)
+        run = self.run_words(*words, "--sheet", "no\a")
+        self.assertEqual(run.returncode, 3)
+        said = r"\Atownship: \S+list.xlsx: there is no sheet `no\\x07`; the sheets are: `Sheet`, `list`\n\Z"
+        self.assertRegex(run.stderr.decode(), said)
+
+    def test_sheet_of_a_list_that_is_no_workbook(self):
+        run = self.run_words("batch", NOTES, self.put("description\n"), "--sheet", "Sheet")
+        self.assertEqual((run.returncode, run.stdout), (2, b""))
 
     def test_warnings_of_the_package_are_not_shown(self):
         # Excel writes such an element where a cell offers a list of values, and the package warns of it.
@@ -172,13 +185,15 @@ class Answers(WorkbookCase):
         with mock.patch("township._batch.workbook_sink.ROWS_MOST", 4):
             run = self.run_words("batch", NOTES, listed, "--output", made)
         self.assertEqual(run.returncode, 3)
-        self.assertRegex(run.stderr, rb"\Atownship: [^\n]*answers.xlsx: a workbook has at most 4 rows; write [^\n]*\n\Z")
+        said = rb"\Atownship: [^\n]*answers.xlsx: a workbook has at most 4 rows; write [^\n]*\n\Z"
+        self.assertRegex(run.stderr, said)
         self.assertEqual([row[:2] for row in self.rows_of(made)[1:]], [["sec. 14.", 640]] * 3)
 
     def test_folder_that_is_not_there(self):
         # It is found out before the list is answered, and even before it is read to its end.
         with mock.patch("township._batch.answers.Answers.added_to", side_effect=AssertionError):
-            run = self.run_words("batch", NOTES, self.put("description\nsec. 14.\n"), "--output", self.folder / "no" / "x.xlsx")
+            listed = self.put("description\nsec. 14.\n")
+            run = self.run_words("batch", NOTES, listed, "--output", self.folder / "no" / "x.xlsx")
         self.assertEqual(run.returncode, 3)
         self.assertRegex(run.stderr, rb"\Atownship: cannot write [^\n]*x.xlsx: No such file or directory\n\Z")
 
@@ -189,7 +204,8 @@ class Answers(WorkbookCase):
         made = self.folder / "answers.xlsx"
         run = self.run_command("batch", NOTES, listed, "--output", made, preexec_fn=limited)
         self.assertEqual((run.returncode, run.stdout), (3, b""))
-        self.assertRegex(run.stderr, rb"\Atownship: cannot write [^\n]*answers.xlsx: its temporary file cannot be [^\n]*\n\Z")
+        said = rb"\Atownship: cannot write [^\n]*answers.xlsx: its temporary file cannot be [^\n]*\n\Z"
+        self.assertRegex(run.stderr, said)
 
     @unittest.skipUnless(os.path.exists("/dev/full"), "there is no /dev/full")
     def test_full_disk_of_the_workbook_alone(self):
