@@ -110,11 +110,12 @@ class Lists(WorkbookCase):
         words = ("batch", NOTES, self.folder / "list.xlsx")
         for run in (self.run_words(*words), self.run_words(*words, "--sheet", "LIST")):
             self.assertEqual(records(run.stdout)[1][:2], ["sec. 14.", "640.00"])
-        run = self.run_words(*words, "--sheet", "Sheet")
+        # The package keeps a sheet that is not read to its end open for a while, and a test would show a warning.
+        run = self.run_command(*words, "--sheet", "Sheet")
         self.assertEqual(run.returncode, 3)
         said = r"\Atownship: \S+list.xlsx, sheet `Sheet`, row 1: the heading has no column `desc.*: `other`\n\Z"
         self.assertRegex(run.stderr.decode(), said)
-        run = self.run_words(*words, "--sheet", "no\a")
+        run = self.run_command(*words, "--sheet", "no\a")
         self.assertEqual(run.returncode, 3)
         said = r"\Atownship: \S+list.xlsx: there is no sheet `no\\x07`; the sheets are: `Sheet`, `list`\n\Z"
         self.assertRegex(run.stderr.decode(), said)
@@ -143,6 +144,12 @@ class Lists(WorkbookCase):
                 run = self.run_command("batch", NOTES, self.changed(listed, change))
                 self.assertEqual(run.returncode, 3)
                 self.assertRegex(run.stderr.decode(), f"\\Atownship: [^\n]*changed.xlsx: {said}\n\\Z")
+
+    def test_workbook_with_a_password(self):
+        run = self.run_words("batch", NOTES, self.put(b"\xd0\xcf\x11\xe0\xa1\xb1\x1a\xe1" + bytes(512), "list.xlsx"))
+        self.assertEqual((run.returncode, run.stdout), (3, b""))
+        said = rb"\Atownship: cannot read [^\n]*list.xlsx: it has a password, or is an old workbook [^\n]*\n\Z"
+        self.assertRegex(run.stderr, said)
 
     def test_bytes_that_are_damaged(self):
         data = bytearray(self.workbook(["description"], ["sec. 14."]).read_bytes())

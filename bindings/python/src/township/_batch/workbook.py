@@ -7,6 +7,7 @@ from typing import Any, Iterator, List, NamedTuple, Optional, Sequence
 
 from .._text import shown
 from .cells import text_of
+from .decoding import OLD_WORKBOOK
 from .records import Record
 from .stopped import Stopped, reading
 
@@ -56,6 +57,10 @@ def workbook_rows(name: str, title: Optional[str] = None) -> Iterator[HeadedRows
     If there is no title, it is the sheet that is shown when the workbook is opened.
     """
     openpyxl = openpyxl_for(name)
+    with reading(name), open(name, "rb") as file:
+        if file.read(len(OLD_WORKBOOK)) == OLD_WORKBOOK:
+            fault = "it has a password, or is an old workbook (.xls); save it as .xlsx without a password"
+            raise Stopped(f"township: cannot read {shown(name)}: {fault}")
     with _reading_workbook(name, "this is not a workbook"):
         book = openpyxl.load_workbook(name, read_only=True, data_only=True)
     with closing(book):
