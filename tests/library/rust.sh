@@ -44,8 +44,9 @@ else
     features=
 fi
 # Cargo reads the registry's place in a folder above the crate, and makes no lock file in the repository.
-sh "$root/packaging/crate.sh" "$work/crate"
-cd "$work/crate"
+mkdir "$work/crates"
+sh "$root/packaging/crate.sh" "$work/crates/township"
+cd "$work/crates/township"
 [ -n "$features" ] ||
     sed -i -e 's/^serde = \["dep:serde"\]$/serde = []/' -e '/^serde = {/d' -e '/^serde_json = /d' Cargo.toml
 
@@ -85,6 +86,32 @@ else
     skip serde 'it is not in the registry'
     skip package 'serde is not in the registry'
 fi
+
+# The library can be a shared one that pkg-config finds.
+by_pkg_config() {
+    env -u TOWNSHIP_LIB_DIR PKG_CONFIG_PATH="$work/installed" LD_LIBRARY_PATH="$work/installed" \
+        cargo test --offline $features --test plat >&2
+}
+if [ ! -f "$TOWNSHIP_LIB_DIR/libtownship.so" ]; then
+    skip pkg-config 'there is no shared library'
+elif ! pkg-config --version > "$work/lost" 2>&1; then
+    skip pkg-config 'it is not installed'
+else
+    cp -R "$TOWNSHIP_LIB_DIR" "$work/installed"
+    rm -f "$work/installed/libtownship.a"
+    sed "s|^libdir=.*|libdir=$work/installed|" "$TOWNSHIP_LIB_DIR/township.pc" > "$work/installed/township.pc"
+    one pkg-config by_pkg_config
+fi
+
+# Without a library, the types can be checked, and a build says what to do.
+without_library() {
+    env -u TOWNSHIP_LIB_DIR PKG_CONFIG=false cargo check --offline $features || return 1
+    if env -u TOWNSHIP_LIB_DIR PKG_CONFIG=false cargo build --offline $features --tests > "$work/told" 2>&1; then
+        return 1
+    fi
+    grep -q '`make lib` in the repository builds them' "$work/told"
+}
+one 'without the library' without_library
 
 cargo test --offline --no-fail-fast $features -- $ignored > "$work/tests" 2>&1 || status=$?
 cat "$work/tests"

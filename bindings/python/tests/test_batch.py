@@ -101,7 +101,8 @@ class Faults(BatchCase):
 
     def test_empty_fields_that_excel_leaves_out(self):
         # It does so in blocks of 16 rows, if all fields of a column at the end are empty there.
-        rows = self.batch('id,description,by,remark\n7,"sec. 14, N1/2",x,y\n8,sec. 15.,x\n9,"sec. 16;\nsec. 17."\n', status=0)
+        data = 'id,description,by,remark\n7,"sec. 14, N1/2",x,y\n8,sec. 15.,x\n9,"sec. 16;\nsec. 17."\n'
+        rows = self.batch(data, status=0)
         self.assertEqual([row[:5] for row in rows[1:]], [
             ["7", "sec. 14, N1/2", "x", "y", "320.00"],
             ["8", "sec. 15.", "x", "", "640.00"],
@@ -117,7 +118,7 @@ class Faults(BatchCase):
     def test_description_that_may_go_on_in_the_next_line(self):
         rows = self.batch("id,description,by,remark\n7,sec. 14\nNE1/4,x,y\n8,sec. 15.,x,y\n", status=1)
         said = "line 2 has 2 fields, but the heading has 4; put the description in quotation marks if it is whole"
-        self.assertEqual(rows[1], ["7", "sec. 14", "", "", "", "", "", said, ""])
+        self.assertEqual(rows[1][:8], ["7", "sec. 14", "", "", "", "", "", said])
         self.assertEqual([row[4] for row in rows[1:]], ["", "", "640.00"])
 
     def test_text_after_a_closing_quotation_mark(self):

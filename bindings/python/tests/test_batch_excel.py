@@ -10,6 +10,7 @@ from unittest import mock
 from batches import ADDED, HEADING, NOTES, BatchCase, records
 
 EXCEL = Path(__file__).parent / "excel"
+EXCEL_ROWS = Path(__file__).parent / "excel_rows.csv"
 
 HEAD = ["id", "description", "county"]
 
@@ -101,6 +102,15 @@ class Habits(BatchCase):
         for data in (b"", b"\xef\xbb\xbf", b"\xff\xfe", b"a", b"a\0", b"\xef\xbb"):
             with self.subTest(data=data):
                 self.assertIn("no column `description`", self.stopped(data))
+
+    def test_blocks_of_16_rows(self):
+        # In each block of 16 rows, Excel writes the fields up to the last one that is not empty in any of them.
+        run = self.run_words("batch", NOTES, EXCEL_ROWS)
+        self.assertEqual((run.returncode, run.stderr), (0, b""))
+        rows = records(run.stdout)
+        self.assertEqual([row[0] for row in rows[1:]], [str(number) for number in range(1, 33)])
+        self.assertEqual({(len(row), row[3]) for row in rows[1:]}, {(3 + len(ADDED), "160.00")})
+        self.assertEqual([row[0] for row in rows[1:] if row[2]], ["2", "31"])
 
     def test_sep_line_is_obeyed(self):
         said = self.stopped("sep=;\ndescription,county\nsec. 14.,Lane\n")

@@ -12,7 +12,8 @@ from batches import ADDED, EVEN_NOTES, NOTES, BatchCase, command, feed, records
 
 #: Accepted and refused descriptions, and records with faults of all kinds.
 MIXED = "id,description,county\n" + "".join(
-    f'{k},"sec. {k % 40 + 1}, NE1/4",Lane\n{k},sec. 14\n\n{k},sec. 14, NE1/4,Lane,x\n"{k}"x,sec. 14,Lane\n{k},sec. 5,Doña\n'
+    f'{k},"sec. {k % 40 + 1}, NE1/4",Lane\n'
+    f'{k},sec. 14\n\n{k},sec. 14, NE1/4,Lane,x\n"{k}"x,sec. 14,Lane\n{k},sec. 5,Doña\n'
     for k in range(100)
 )
 
@@ -57,11 +58,11 @@ class Jobs(BatchCase):
         # The first meridian is in the third record, and then counts for all.
         self.put_notes("plats/b1.csv")
         self.put_notes("plats/b0.csv", "T,3,S,4,E", EVEN_NOTES)
-        rows = ["T2N R3W,,sec. 14.", "T9N R9W,Ute,sec. 14.,x", "T3S R4E,Boise,sec. 14.", "T2N R3W,Ute,sec. 14.", "T2N R3W,,sec. 5."]
+        rows = ["T2N R3W,,sec. 14.", "T9N R9W,Ute,sec. 14.,x", "T3S R4E,Boise,sec. 14.", "T2N R3W,Ute,sec. 14."]
         listed = self.put("township,meridian,description\n" + "\n".join(rows * 5) + "\n")
         run = self.same("--plats", self.folder / "plats", listed)
         acres = [row[3] for row in records(run.stdout)[1:]]
-        self.assertEqual(acres[:5], ["640.00", "", "640.00", "", records(run.stdout)[5][3]])
+        self.assertEqual(acres, ["640.00", "", "640.00", ""] * 5)
 
     def test_resumed(self):
         whole = self.run_words("batch", NOTES, self.put(MIXED)).stdout
@@ -70,6 +71,13 @@ class Jobs(BatchCase):
             words = ("batch", NOTES, self.put(MIXED), "--output", made, "--resume", "--jobs", 2)
             self.assertEqual(self.run_words(*words).returncode, 1)
             self.assertEqual(made.read_bytes(), whole)
+
+    def test_processes_that_cannot_be_started(self):
+        failing = mock.patch("multiprocessing.context.ForkProcess.start", side_effect=OSError(11, "Try again"))
+        with failing:
+            run = self.run_words("batch", NOTES, self.put("description\nsec. 14.\n"), "--jobs", 2)
+        self.assertEqual((run.returncode, run.stdout), (3, b""))
+        self.assertEqual(run.stderr, b"township: cannot start a process: Try again\n")
 
     def test_wrong_numbers(self):
         for count in ("0", "-1", "1.5", "x", "", "1025"):

@@ -114,7 +114,7 @@ class Resumed(BatchCase):
 
     def test_output_of_no_batch(self):
         # Nothing is cut off from another file, and nothing is added to it.
-        heading = "description,acres,refusal,at,sentence,canonical\n"
+        heading = ",".join(["description", *ADDED]) + "\n"
         for data, said in (
             ('"a"b\n"c"d\n', "answers.csv: this is not the output of a batch"),
             ("a letter\nwithout a line feed", "answers.csv:1: the heading is not that"),

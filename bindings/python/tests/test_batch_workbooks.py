@@ -11,7 +11,7 @@ import zipfile
 from importlib.util import find_spec
 from unittest import mock
 
-from batches import HEADING, NOTES, BatchCase, command, records
+from batches import ADDED, HEADING, NOTES, BatchCase, command, records
 
 SHEET = "xl/worksheets/sheet1.xml"
 
@@ -81,8 +81,8 @@ class Lists(WorkbookCase):
             with self.subTest(size=size):
                 made = self.changed(listed, lambda xml: re.sub(b'(<dimension ref=")[^"]*', b"\\g<1>" + size, xml))
                 run = self.run_words("batch", NOTES, made)
-                self.assertEqual([row[:3] for row in records(run.stdout)],
-                                 [["id", "description", "acres"], ["7", "sec. 14.", "640.00"], ["8", "sec. 15.", "640.00"]])
+                wanted = [["id", "description", "acres"], ["7", "sec. 14.", "640.00"], ["8", "sec. 15.", "640.00"]]
+                self.assertEqual([row[:3] for row in records(run.stdout)], wanted)
 
     def test_workbook_that_opens_with_a_chart(self):
         import openpyxl
@@ -107,8 +107,22 @@ class Lists(WorkbookCase):
         book.active.append(["description"])
         book.active.append(["sec. 14."])
         book.save(self.folder / "list.xlsx")
-        run = self.run_words("batch", NOTES, self.folder / "list.xlsx")
-        self.assertEqual(records(run.stdout)[1][:2], ["sec. 14.", "640.00"])
+        words = ("batch", NOTES, self.folder / "list.xlsx")
+        for run in (self.run_words(*words), self.run_words(*words, "--sheet", "LIST")):
+            self.assertEqual(records(run.stdout)[1][:2], ["sec. 14.", "640.00"])
+        # The package keeps a sheet that is not read to its end open for a while, and a test would show a warning.
+        run = self.run_command(*words, "--sheet", "Sheet")
+        self.assertEqual(run.returncode, 3)
+        said = r"\Atownship: \S+list.xlsx, sheet `Sheet`, row 1: the heading has no column `desc.*: `other`\n\Z"
+        self.assertRegex(run.stderr.decode(), said)
+        run = self.run_command(*words, "--sheet", "no\a")
+        self.assertEqual(run.returncode, 3)
+        said = r"\Atownship: \S+list.xlsx: there is no sheet `no\\x07`; the sheets are: `Sheet`, `list`\n\Z"
+        self.assertRegex(run.stderr.decode(), said)
+
+    def test_sheet_of_a_list_that_is_no_workbook(self):
+        run = self.run_words("batch", NOTES, self.put("description\n"), "--sheet", "Sheet")
+        self.assertEqual((run.returncode, run.stdout), (2, b""))
 
     def test_warnings_of_the_package_are_not_shown(self):
         # Excel writes such an element where a cell offers a list of values, and the package warns of it.
@@ -130,6 +144,12 @@ class Lists(WorkbookCase):
                 run = self.run_command("batch", NOTES, self.changed(listed, change))
                 self.assertEqual(run.returncode, 3)
                 self.assertRegex(run.stderr.decode(), f"\\Atownship: [^\n]*changed.xlsx: {said}\n\\Z")
+
+    def test_workbook_with_a_password(self):
+        run = self.run_words("batch", NOTES, self.put(b"\xd0\xcf\x11\xe0\xa1\xb1\x1a\xe1" + bytes(512), "list.xlsx"))
+        self.assertEqual((run.returncode, run.stdout), (3, b""))
+        said = rb"\Atownship: cannot read [^\n]*list.xlsx: it has a password, or is an old workbook [^\n]*\n\Z"
+        self.assertRegex(run.stderr, said)
 
     def test_bytes_that_are_damaged(self):
         data = bytearray(self.workbook(["description"], ["sec. 14."]).read_bytes())
@@ -172,13 +192,15 @@ class Answers(WorkbookCase):
         with mock.patch("township._batch.workbook_sink.ROWS_MOST", 4):
             run = self.run_words("batch", NOTES, listed, "--output", made)
         self.assertEqual(run.returncode, 3)
-        self.assertRegex(run.stderr, rb"\Atownship: [^\n]*answers.xlsx: a workbook has at most 4 rows; write [^\n]*\n\Z")
+        said = rb"\Atownship: [^\n]*answers.xlsx: a workbook has at most 4 rows; write [^\n]*\n\Z"
+        self.assertRegex(run.stderr, said)
         self.assertEqual([row[:2] for row in self.rows_of(made)[1:]], [["sec. 14.", 640]] * 3)
 
     def test_folder_that_is_not_there(self):
         # It is found out before the list is answered, and even before it is read to its end.
         with mock.patch("township._batch.answers.Answers.added_to", side_effect=AssertionError):
-            run = self.run_words("batch", NOTES, self.put("description\nsec. 14.\n"), "--output", self.folder / "no" / "x.xlsx")
+            listed = self.put("description\nsec. 14.\n")
+            run = self.run_words("batch", NOTES, listed, "--output", self.folder / "no" / "x.xlsx")
         self.assertEqual(run.returncode, 3)
         self.assertRegex(run.stderr, rb"\Atownship: cannot write [^\n]*x.xlsx: No such file or directory\n\Z")
 
@@ -189,7 +211,8 @@ class Answers(WorkbookCase):
         made = self.folder / "answers.xlsx"
         run = self.run_command("batch", NOTES, listed, "--output", made, preexec_fn=limited)
         self.assertEqual((run.returncode, run.stdout), (3, b""))
-        self.assertRegex(run.stderr, rb"\Atownship: cannot write [^\n]*answers.xlsx: its temporary file cannot be [^\n]*\n\Z")
+        said = rb"\Atownship: cannot write [^\n]*answers.xlsx: its temporary file cannot be [^\n]*\n\Z"
+        self.assertRegex(run.stderr, said)
 
     @unittest.skipUnless(os.path.exists("/dev/full"), "there is no /dev/full")
     def test_full_disk_of_the_workbook_alone(self):
@@ -216,7 +239,7 @@ class Answers(WorkbookCase):
         rows = self.rows_of(made)
         self.assertEqual(len(rows) - 1, int(said.split()[3]))
         for row in rows[1:]:
-            self.assertEqual(row, ["sec. 14.", 640, None, None, None, HEADING + "sec. 14, all."])
+            self.assertEqual((row[:2], row[1 + ADDED.index("canonical")]), (["sec. 14.", 640], HEADING + "sec. 14, all."))
         process.stdin.close()
         process.stderr.close()
 

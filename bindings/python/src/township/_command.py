@@ -75,6 +75,8 @@ def _options_in(words: Sequence[str]) -> Options:
     if asked.resume and (output is None or is_workbook(output)):
         batch.error("--resume needs an --output file that is not a workbook")
     *notes, listed = asked.files
+    if asked.sheet is not None and not is_workbook(listed):
+        batch.error("--sheet needs a list that is a workbook")
     return Options(
         list=listed,
         notes=notes[0] if notes else None,
@@ -83,6 +85,7 @@ def _options_in(words: Sequence[str]) -> Options:
         column=asked.column,
         township=asked.township,
         meridian=asked.meridian,
+        sheet=asked.sheet,
         prefix=asked.prefix,
         encoding=asked.encoding,
         output=output,
@@ -151,6 +154,11 @@ def _add_inputs(batch: argparse.ArgumentParser) -> None:
         "--meridian",
         metavar="NAME",
         help="with --plats, the column of the principal meridian (default: meridian, if there is one)",
+    )
+    batch.add_argument(
+        "--sheet",
+        metavar="NAME",
+        help="the sheet of a workbook (default: the one that is shown when it is opened)",
     )
     batch.add_argument(
         "--encoding",

@@ -18,8 +18,11 @@ ENCODINGS = {"utf-8": "utf-8", "windows-1252": "cp1252"}
 #: The number of bytes that tell the encoding.
 _HEAD = 4
 
-#: What files of workbooks begin with, new ones (zip files) and old ones, and then those of documents.
-_OTHER_FORMATS = (b"PK\x03\x04", b"\xd0\xcf\x11\xe0", b"%PDF")
+#: What old workbooks (.xls) begin with, and new ones that have a password.
+OLD_WORKBOOK = b"\xd0\xcf\x11\xe0"
+
+#: What other files begin with: new workbooks, which are zip files, and documents.
+_OTHER_FORMATS = (OLD_WORKBOOK, b"PK\x03\x04", b"%PDF")
 
 _MARKS = (codecs.BOM_UTF8, codecs.BOM_UTF16_LE, codecs.BOM_UTF16_BE)
 

@@ -14,7 +14,7 @@ from .options import STANDARD, Options
 from .records import Record, records_of
 from .separators import headed
 from .stopped import Stopped, reading
-from .workbook import is_workbook, workbook_rows
+from .workbook import HeadedRows, is_workbook, workbook_rows
 
 #: The file descriptor of standard input.
 _INPUT = 0
@@ -31,7 +31,7 @@ class Source(NamedTuple):
     #: The byte order mark at the beginning, which the answers have as well, or nothing.
     mark: str
     records: Iterator[Record]
-    #: The file and the line of the heading.
+    #: The file and the line of the heading, for messages.
     place: str
     #: The number of bytes of the list, if it is known, and a function that returns how many of them are read.
     size: Optional[int]
@@ -42,7 +42,8 @@ class Source(NamedTuple):
 def source_of(options: Options) -> Iterator[Source]:
     """Open the list, and read its heading."""
     if is_workbook(options.list):
-        yield _workbook(options)
+        with workbook_rows(options.list, options.sheet) as rows:
+            yield _workbook(options, rows)
         return
     name = "standard input" if options.list == STANDARD else options.list
     with reading(name):
@@ -79,12 +80,11 @@ def _opened(name: str) -> io.FileIO:
     return open(name, "rb", buffering=0)
 
 
-def _workbook(options: Options) -> Source:
-    """Read the heading of a workbook. Only in another workbook are cells more than texts."""
-    heading, line, records = workbook_rows(options.list)
+def _workbook(options: Options, rows: HeadedRows) -> Source:
+    """Return a workbook as a list. Only in another workbook are cells more than texts."""
+    heading, place, records = rows
     if options.output is None or not is_workbook(options.output):
         records = (record._replace(fields=list(map(text_of, record.fields))) for record in records)
-    place = f"{shown(options.list)}:{line}"
     column = column_in(heading, options.column, "--column", place)
     return Source(heading, column, ",", "", records, place, size=None, position=lambda: 0)
 

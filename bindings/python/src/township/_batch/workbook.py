@@ -3,10 +3,11 @@ from __future__ import annotations
 
 import warnings
 from contextlib import closing, contextmanager
-from typing import Any, Iterator, List, NamedTuple, Sequence
+from typing import Any, Iterator, List, NamedTuple, Optional, Sequence
 
 from .._text import shown
 from .cells import text_of
+from .decoding import OLD_WORKBOOK
 from .records import Record
 from .stopped import Stopped, reading
 
@@ -44,28 +45,36 @@ class HeadedRows(NamedTuple):
     """A sheet whose heading has been read."""
 
     heading: List[str]
-    #: The number of the row that is the heading.
-    line: int
+    #: The file, the sheet, and the row of the heading.
+    place: str
     records: Iterator[Record]
 
 
-def workbook_rows(name: str) -> HeadedRows:
-    """Read a workbook: its heading, and the records of the sheet that is shown when it is opened."""
-    rows = _rows_of(name)
-    heading = next(rows, Row([], 1))
-    records = (_record(row, len(heading.cells)) for row in rows)
-    return HeadedRows(list(map(text_of, heading.cells)), heading.number, records)
+@contextmanager
+def workbook_rows(name: str, title: Optional[str] = None) -> Iterator[HeadedRows]:
+    """Open a workbook, and read the heading of a sheet.
 
-
-def _rows_of(name: str) -> Iterator[Row]:
-    """Yield the rows of a workbook's sheet."""
+    If there is no title, it is the sheet that is shown when the workbook is opened.
+    """
     openpyxl = openpyxl_for(name)
+    with reading(name), open(name, "rb") as file:
+        if file.read(len(OLD_WORKBOOK)) == OLD_WORKBOOK:
+            fault = "it has a password, or is an old workbook (.xls); save it as .xlsx without a password"
+            raise Stopped(f"township: cannot read {shown(name)}: {fault}")
     with _reading_workbook(name, "this is not a workbook"):
         book = openpyxl.load_workbook(name, read_only=True, data_only=True)
-        sheet = _sheet_of(book)
-        if sheet is None:
-            raise Stopped(f"township: {shown(name)}: there is no sheet of cells in this workbook")
-    with closing(book), _reading_workbook(name, "the workbook is damaged"):
+    with closing(book):
+        sheet = _sheet_of(book, name, title)
+        rows = _rows_of(name, sheet)
+        heading = next(rows, Row([], 1))
+        records = (_record(row, len(heading.cells)) for row in rows)
+        place = f"{shown(name)}, sheet `{shown(sheet.title)}`, row {heading.number}"
+        yield HeadedRows(list(map(text_of, heading.cells)), place, records)
+
+
+def _rows_of(name: str, sheet: Any) -> Iterator[Row]:
+    """Yield the rows of a sheet."""
+    with _reading_workbook(name, "the workbook is damaged"):
         # Some programs write a wrong size, outside which cells would not be read.
         sheet.reset_dimensions()
         for number, row in enumerate(sheet.iter_rows(values_only=True), start=1):
@@ -87,10 +96,23 @@ def _reading_workbook(name: str, fault: str) -> Iterator[None]:
         raise Stopped(f"township: cannot read {shown(name)}: {fault}") from error
 
 
-def _sheet_of(book: Any) -> Any:
-    """Return the sheet that is shown when a workbook is opened or, if that is a chart, the first of cells."""
+def _sheet_of(book: Any, name: str, title: Optional[str]) -> Any:
+    """Return the sheet with a title, or stop if there is none.
+
+    If no title is given, return the sheet that is shown when the workbook is opened or, if that is a chart,
+    the first of cells.
+    """
     sheets = book.worksheets
-    return book.active if book.active in sheets else next(iter(sheets), None)
+    if not sheets:
+        raise Stopped(f"township: {shown(name)}: there is no sheet of cells in this workbook")
+    if title is None:
+        return book.active if book.active in sheets else sheets[0]
+    found = [sheet for sheet in sheets if sheet.title.casefold() == title.casefold()]
+    if not found:
+        titles = ", ".join(f"`{shown(sheet.title)}`" for sheet in sheets)
+        fault = f"there is no sheet `{shown(title)}`; the sheets are: {titles}"
+        raise Stopped(f"township: {shown(name)}: {fault}")
+    return found[0]
 
 
 def _without_end(row: Sequence[Any]) -> List[Any]:

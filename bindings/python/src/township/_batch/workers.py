@@ -17,9 +17,6 @@ from .stopped import Stopped
 #: The number of records that a process is given at a time.
 _CHUNK = 1000
 
-#: The line and the fault of a record that has none, of which the line is not needed.
-_NO_FAULT = (0, "")
-
 
 class Chunk(NamedTuple):
     """Records that one process answers. Sending their parts takes much less time than sending the records."""
@@ -31,10 +28,12 @@ class Chunk(NamedTuple):
     #: The first principal meridian that is named before these records, or nothing.
     first_meridian: str
 
-    def records(self) -> Iterator[Record]:
-        """Yield the records."""
-        for index, fields in enumerate(self.rows):
-            yield Record(fields, *self.faults.get(index, _NO_FAULT))
+    def records(self) -> List[Record]:
+        """Return the records. The line of a record without a fault is not needed, and is 0."""
+        records = list(map(Record, self.rows, itertools.repeat(0)))
+        for index, (line, fault) in self.faults.items():
+            records[index] = Record(self.rows[index], line, fault)
+        return records
 
 
 class Answered(NamedTuple):
@@ -68,7 +67,10 @@ class Workers:
             self._here.append(here)
             given = (there, list(self._here), answers, separator)
             process = context.Process(target=_work, args=given, daemon=True)
-            process.start()
+            try:
+                process.start()
+            except OSError as error:
+                raise Stopped(f"township: cannot start a process: {error.strerror}") from error
             there.close()
             self._processes.append(process)
 
