@@ -7,3 +7,5 @@ pub mod PartFacts
 pub mod SightFacts
 pub mod SignFacts
 pub mod OriginFacts
+pub mod RecordFacts
+pub mod AfterFacts

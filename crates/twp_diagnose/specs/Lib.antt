@@ -5,3 +5,4 @@ pub mod Sights
 pub mod Origins
 pub mod Spots
 pub mod steps
+pub mod RecordFields

@@ -11,11 +11,16 @@ use Rattle.twp_diagnose.specs.declared.location.Location.TheVariants.{Whole, Lin
 abbrev pub in_file : Given → ℕ → ℕ
 in_file file at = min at (length file.bytes.now)
 
--- This is the line and the column of a place in a file, whose lines are numbered from its first; the line
--- where its number is one of a `u32`.
+-- this is the line of a place in a file, whose lines are numbered from its first, if its number is one of a
+-- `u32`
+abbrev pub IsLineIn : Given → ℕ → ℕ → Type 0
+IsLineIn file at line =
+    line_of file.bytes.now (in_file file at) + file.first_line ≤ 4294967295
+    → line + 1 ≡ line_of file.bytes.now (in_file file at) + file.first_line
+
+-- this is the line and the column of a place in a file
 pub record IsSpotIn (file : Given) (at : ℕ) (spot : Spot) : Type 0 where
-  pub line : line_of file.bytes.now (in_file file at) + file.first_line ≤ 4294967295
-      → spot.line + 1 ≡ line_of file.bytes.now (in_file file at) + file.first_line
+  pub line : IsLineIn file at spot.line
   pub column : spot.column ≡ column_of file.bytes.now (in_file file at)
 
 -- the most bytes of a file in which places are shown, which is more than any run reads

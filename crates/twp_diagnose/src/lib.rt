@@ -16,11 +16,11 @@ mod sight;
 
 pub use given::Given;
 pub use listed::Listed;
-pub use location::{Location, spot_in, spot_of_place};
+pub use location::{Location, line_in, spot_in, spot_of_place};
 pub use lots_held::{PartOfLots, part_of_lots};
 pub use mark::{chain_span, heading_span, range_span, token_span};
 pub use numbers::{is_short_number, number_in, thousandths, thousandths_of};
 pub use origin::Origin;
-pub use records::Record;
+pub use records::{Record, text_in};
 pub use shared_land::{Shared, shared_land_text};
 pub use sight::{Surroundings, TokenAt};

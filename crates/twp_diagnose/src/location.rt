@@ -1,6 +1,6 @@
 //! Where in a file a fault is shown, and on which line and in which column that is.
-ghost use Rattle.std.specs.Prelude.{◌≡◌};
-ghost use Rattle.twp_diagnose.specs.Spots.{IsSpotAt, IsSpotOf};
+ghost use Rattle.std.specs.Prelude.{◌≡◌, ◌≤◌, length};
+ghost use Rattle.twp_diagnose.specs.Spots.{MOST_BYTES, IsLineIn, IsSpotAt, IsSpotOf};
 
 use crate::given::Given;
 use twp_excerpt::{Span, Spot, spot_of};
@@ -45,4 +45,15 @@ pub fn spot_in(file: &Given<'_>, at: usize) -> Option<Spot>
         line: line.saturating_add(file.first_line).saturating_sub(1),
         column,
     })
+}
+
+/// The number of the line of a byte in a file; of the file's first line if that has more bytes than
+/// any run reads.
+pub fn line_in(file: &Given<'_>, at: usize) -> u32
+    ensures { length file.now.bytes.now ≤ MOST_BYTES → IsLineIn file.now at result }
+{
+    match spot_in(file, at) {
+        Some(spot) => spot.line,
+        None => file.first_line,
+    }
 }

@@ -253,7 +253,7 @@ fn is_step(first: Kind, second: Kind) -> bool
 
 /// Takes the next token.
 #[tactic(auto, using(crate::proofs::MarkFacts::next_found))]
-fn next_token<'a>(tokens: &mut Tokens<'a>) -> Option<Token<'a>>
+pub(crate) fn next_token<'a>(tokens: &mut Tokens<'a>) -> Option<Token<'a>>
     ensures found { (list : List SeenToken) → AreLeft tokens.old list
         → GivesFirstOf list result tokens.new }
     ensures end { end_of_left tokens.new ≡ end_of_left tokens.old }

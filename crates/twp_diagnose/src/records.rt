@@ -1,7 +1,14 @@
 //! Where a record is in its file, and where its fields do.
-ghost use Rattle.std.specs.Prelude.{◌≡◌, IfOk, IfSome};
+ghost use Rattle.std.specs.Prelude.{◌≡◌, ◌≤◌, ◌<◌, length, drop, min, option_map, IfOk, IfSome};
+ghost use Rattle.std.specs.Prelude.{IsTrue, MatchOption};
 ghost use Rattle.csv.specs.Records.{fields_of};
+ghost use Rattle.twp_grammar.specs.Tokens.{begins_with};
+ghost use Rattle.twp_grid.specs.Finding.{Finds};
 ghost use Rattle.twp_notes.specs.FieldNotes.{NamesLine};
+ghost use Rattle.twp_notes.specs.Records.{field, records_of};
+ghost use Rattle.twp_diagnose.specs.RecordFields.{fields_in, fields_span, field_span, field_end, is_comma};
+ghost use Rattle.twp_diagnose.specs.RecordFields.{IsRecordAt};
+ghost use Rattle.twp_diagnose.specs.steps.Fields.{state_of, GoesOn};
 
 use csv::ByteRecord;
 use std::alloc::{AllocError, Global};
@@ -28,7 +35,9 @@ pub struct Record<'a> {
 impl<'a> Record<'a> {
     /// The record that was just read from a file.
     fn of_row(bytes: &'a [u8], number: u32, row: ByteRecord) -> Record<'a>
-        ensures { result.row ≡ row }
+        ensures bytes { result.bytes.now ≡ bytes.now }
+        ensures number { result.number ≡ number }
+        ensures fields { result.row ≡ row }
     {
         let start = start_of(bytes, &row);
         Record {
@@ -45,10 +54,13 @@ impl<'a> Record<'a> {
         alloc: Global,
         bytes: &'a [u8],
         number: u32,
-    ) -> Result<Option<Record<'a>>, AllocError> {
+    ) -> Result<Option<Record<'a>>, AllocError>
+        ensures { 1 ≤ number → IfOk result (λ found. MatchOption found
+            (length (records_of bytes.now) < number) (IsRecordAt bytes.now number)) }
+    {
         let mut records = Records::new(alloc, bytes);
         let mut row = ByteRecord::new(alloc);
-        'records: for _ in 0..number {
+        'records: for passed in 0..number {
             if !records.read(&mut row)? {
                 return Ok(None);
             }
@@ -79,12 +91,16 @@ impl<'a> Record<'a> {
     }
 
     /// The line that it names.
-    pub fn line(&self) -> Option<Line> {
+    pub fn line(&self) -> Option<Line>
+        ensures { Finds result (NamesLine (fields_in self.now)) }
+    {
         named_line(&self.row)
     }
 
     /// How many fields it has.
-    pub fn len(&self) -> usize {
+    pub fn len(&self) -> usize
+        ensures { result ≡ length (fields_in self.now) }
+    {
         self.row.len()
     }
 
@@ -94,36 +110,63 @@ impl<'a> Record<'a> {
     }
 
     /// What a field says, from 0: nothing where there is no such field.
-    pub fn text(&self, field: usize) -> &[u8] {
-        self.row.get(field).unwrap_or(b"")
+    pub fn text(&self, place: usize) -> &[u8]
+        ensures { result.now ≡ field (fields_in self.now) place }
+    {
+        text_in(&self.row, place)
     }
 
     /// Where it begins.
-    pub fn start(&self) -> usize {
+    pub fn start(&self) -> usize
+        ensures { result ≡ self.now.start }
+    {
         self.start
     }
 
     /// Where fields of it are, from one to another, with their quotation marks. It ends with the
     /// record where that has no such fields.
-    pub fn span(&self, first: usize, last: usize) -> Span {
+    pub fn span(&self, first: usize, last: usize) -> Span
+        ensures { result ≡ fields_span self.now first last }
+    {
         let Span { start, .. } = self.field_span(first);
         let Span { end, .. } = self.field_span(last);
         Span { start, end }
     }
 
-    /// Where a field of it stands, or the record's end.
-    fn field_span(&self, field: usize) -> Span {
+    /// Where a field of it is, or the record's end.
+    fn field_span(&self, place: usize) -> Span
+        ensures { result ≡ field_span self.now.bytes.now self.now.start place }
+    {
         let mut start = self.start;
         let mut end = end_of_field(self.bytes, start);
-        for _ in 0..field {
-            if self.bytes.get(end) != Some(&b',') {
+        'fields: for passed in 0..place {
+            if !comma_at(self.bytes, end) {
                 return Span { start: end, end };
             }
-            start = end.saturating_add(1);
+            start = end + 1;
             end = end_of_field(self.bytes, start);
         }
         Span { start, end }
     }
+}
+
+/// What a field of a record says, from 0: nothing if there is no such field.
+#[tactic(auto, using(crate::proofs::RecordFacts::text_found, crate::proofs::RecordFacts::text_missing))]
+pub fn text_in(row: &ByteRecord, place: usize) -> &[u8]
+    ensures { result.now ≡ field (fields_of row.now) place }
+{
+    match row.get(place) {
+        Some(text) => text,
+        None => b"",
+    }
+}
+
+/// Whether a comma is at an offset of a file.
+fn comma_at(file: &[u8], at: usize) -> bool
+    ensures value { result ≡ begins_with is_comma (drop at file.now) }
+    ensures within { IsTrue result → at < length file.now }
+{
+    at < file.len() && file[at] == b','
 }
 
 /// Where a record begins: after the byte order mark and the ends of lines that come before it.
@@ -159,7 +202,9 @@ enum Quoting {
 
 impl Quoting {
     /// How far it is after one more byte. None where the byte ends the field.
-    fn after(self, byte: u8) -> Option<Quoting> {
+    fn after(self, byte: u8) -> Option<Quoting>
+        ensures { GoesOn (state_of self) byte (option_map state_of result) }
+    {
         match (self, byte) {
             (Quoting::Quoted, b'"') => Some(Quoting::Ended),
             (Quoting::Quoted, _) => Some(Quoting::Quoted),
@@ -172,13 +217,17 @@ impl Quoting {
 
 /// Where the field that begins at an offset ends: at a comma, or at the end of a line or of the
 /// bytes.
-fn end_of_field(bytes: &[u8], start: usize) -> usize {
+fn end_of_field(bytes: &[u8], start: usize) -> usize
+    ensures { result ≡ field_end bytes.now start }
+{
     let mut quoting = Quoting::Start;
-    for (offset, byte) in bytes.get(start..).unwrap_or(b"").iter().enumerate() {
-        let Some(next) = quoting.after(*byte) else {
-            return start.saturating_add(offset);
+    let mut end = start;
+    while end < bytes.len() {
+        let Some(next) = quoting.after(bytes[end]) else {
+            return end;
         };
         quoting = next;
+        end += 1;
     }
     bytes.len()
 }

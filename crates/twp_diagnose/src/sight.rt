@@ -3,8 +3,9 @@ ghost use Rattle.std.specs.Prelude.{◌≡◌, ◌≤◌, ◌↔◌, length, dro
 ghost use Rattle.std.specs.List.{AllPass};
 ghost use Rattle.twp_excerpt.specs.Spots.{is_white};
 ghost use Rattle.twp_grammar.specs.declared.kind.Kind.TheVariants.{BadByte};
-ghost use Rattle.twp_diagnose.specs.Sights.{shown_place, TakesSign};
+ghost use Rattle.twp_diagnose.specs.Sights.{is_apart, shown_place, IsSignAfter, TakesSign};
 
+use crate::mark::next_token;
 use twp_excerpt::{end_of_text, first_size};
 use twp_grammar::{Expected, Kind};
 use twp_grid::Refusal;
@@ -71,11 +72,15 @@ impl<'a> Surroundings<'a> {
     }
 
     /// The sign this many signs after the refused one, from 0. Commas and periods don't count.
-    pub fn after(&self, index: usize) -> TokenAt<'a> {
+    #[tactic(auto, using(crate::proofs::AfterFacts::sought, crate::proofs::AfterFacts::apart_passed, crate::proofs::AfterFacts::sign_passed, crate::proofs::AfterFacts::sign_found, crate::proofs::AfterFacts::no_sign_left))]
+    pub fn after(&self, index: usize) -> TokenAt<'a>
+        ensures { IsSignAfter self.now.rest.now index result.bytes.now }
+    {
+        let mut tokens = Tokens::new(self.rest);
         let mut left = index;
         let mut is_joined = true;
-        for token in Tokens::new(self.rest) {
-            if matches!(token.kind, Kind::Comma | Kind::Stop) {
+        'tokens: while let Some(token) = next_token(&mut tokens) {
+            if is_apart(token.kind) {
                 is_joined = false;
                 continue;
             }
@@ -90,6 +95,13 @@ impl<'a> Surroundings<'a> {
         }
         NOTHING
     }
+}
+
+/// Whether a token is a comma or a period, which set signs apart.
+fn is_apart(kind: Kind) -> bool
+    ensures { result ≡ is_apart kind }
+{
+    matches!(kind, Kind::Comma | Kind::Stop)
 }
 
 /// What is where a text begins or ends.

@@ -5,3 +5,4 @@ pub mod ShownFacts
 pub mod UnderlinedFacts
 pub mod SharingFacts
 pub mod NoteFacts
+pub mod BlamedFacts

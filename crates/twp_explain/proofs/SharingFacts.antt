@@ -1,12 +1,17 @@
 -- The first tract that shares land with another.
-use Rattle.std.proofs.Common.{◌≡◌, ℕ, ◌+◌, ◌<◌, Bool, List, ap, sym, ◌∙◌, inl, inr, subst}
+use Rattle.std.proofs.Common.{◌≡◌, ℕ, ◌+◌, ◌-◌, ◌≤◌, ◌<◌, Bool, List, length, ap, sym, ◌∙◌, inl, inr, subst}
+use Rattle.std.proofs.Common.{Option, Some, None, Result, Ok, Err, IfOk, MatchOption, arith}
+use Rattle.std.specs.Prelude.{IfSome}
 use Rattle.twp_grid.specs.Townships.{Designation}
 use Rattle.twp_land.specs.Lands.{SharePlace}
-use Rattle.twp_notes.specs.Records.{Fields, record_at}
+use Rattle.twp_notes.specs.Records.{Fields, record_at, records_of}
 use Rattle.twp_acres.specs.Answers.{Describe}
-use Rattle.twp_acres.specs.Tracts.{description_in, Overlap}
+use Rattle.twp_acres.specs.Tracts.{description_in, tract_records, Overlap}
 use Rattle.twp_acres.proofs.OneAnswer.{one_land}
 use Rattle.twp_acres.proofs.TractLands.{earlier_or_last}
+use Rattle.twp_diagnose.specs.RecordFields.{number_listed, IsListedAt}
+use Rattle.twp_diagnose.specs.declared.listed.Listed.{Listed}
+use Rattle.twp_explain.specs.steps.Sharing.{IsFirstSharing, IsFirstSharingRecord}
 
 -- two tracts whose lands have no place in common don't overlap
 pub no_overlap : (township : Designation) (fields next : Fields) (places more : ℕ → ℕ → ℕ → Bool)
@@ -42,3 +47,27 @@ none_more township rows index count before next tract below overlap =
       | inr last ↦
           next (subst (λ t. Overlap township (record_at rows t) (record_at rows index)) last overlap)
     ]
+
+-- the record of the first tract that shares land
+pub sharing_record : {E : Type 0} (township : Designation) (listed : Listed) (index earlier number : ℕ)
+    (common : ℕ → ℕ → ℕ → Bool) (r : Result (Option Listed) E)
+    → IsFirstSharing township (tract_records listed.file.bytes.now) index earlier common
+    → index ≡ number_listed listed - 2 → number ≡ earlier + 2
+    → (1 ≤ number → IfOk r (λ found. MatchOption found (length (records_of listed.file.bytes.now) < number)
+    (IsListedAt listed.file number)))
+    → IfOk r (λ found. IfSome found (λ other. IsFirstSharingRecord township listed other common))
+sharing_record township listed index earlier number common (Err fault) first index_is number_is is = tt
+sharing_record township listed index earlier number common (Ok None) first index_is number_is is = tt
+sharing_record township listed index earlier number common (Ok (Some other)) first index_is number_is is =
+    let at : IsListedAt listed.file number other = is (omega (arith, number_is)) in
+    let numbered : number_listed other ≡ number = at.record_is.number_is in
+    let earlier_is : earlier ≡ number_listed other - 2 = omega (arith, number_is, numbered) in
+    record {
+      listed_is = subst (λ n. IsListedAt listed.file n other) (sym numbered) at;
+      after_heading = omega (arith, number_is, numbered);
+      first =
+          subst (λ n. IsFirstSharing township (tract_records listed.file.bytes.now)
+          (number_listed listed - 2) n common) earlier_is
+          (subst (λ n. IsFirstSharing township (tract_records listed.file.bytes.now) n earlier common)
+          index_is first);
+    }

@@ -86,6 +86,11 @@ same_spot file at at' spot same is = record {
   column = subst (λ n. spot.column ≡ column_of file.bytes.now n) same is.column;
 }
 
+pub same_spot_at : (file : Given) (at at' : ℕ) (spot : Option Spot) → in_file file at ≡ in_file file at'
+    → IsSpotAt file at spot → IsSpotAt file at' spot
+same_spot_at file at at' None same is = is
+same_spot_at file at at' (Some spot) same is = same_spot file at at' spot same is
+
 located_at : (file : Given) (refusal : Refusal) (place : Location) (spot : Option Spot) (at : ℕ)
     → BeginsAt file.bytes.now at place → ((s : Spot) → IsSpotIn file at s → IsSpotRefused file refusal s)
     → IsSpotOf file place spot

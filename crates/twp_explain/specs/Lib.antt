@@ -6,3 +6,6 @@ pub mod Refusals
 pub mod steps
 pub mod ExplainedPlaces
 pub mod ShownNotes
+pub mod Blamed
+pub mod BlamedDistances
+pub mod BlamedTracts

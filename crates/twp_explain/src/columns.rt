@@ -1,9 +1,10 @@
 //! Records of field notes that have too few fields or too many: how that came about, where nothing
 //! else can be meant.
 
+use crate::blamed::section_in;
 use crate::half_mile_hints::{Distances, is_in_limits};
-use twp_diagnose::{Record, is_short_number, number_in, thousandths_of};
-use twp_grid::{Line, Run, Section};
+use twp_diagnose::{Record, is_short_number, thousandths_of};
+use twp_grid::{Line, Run};
 use twp_measure::Length;
 use twp_notes::FIELDS;
 
@@ -60,14 +61,6 @@ fn line_beside(record: &Record<'_>, neighbor: &[u8]) -> Option<Line> {
         return Line::find(run, section, None);
     }
     Line::find(run, section, Some(section_in(neighbor)?))
-}
-
-/// The section of a number.
-fn section_in(text: &[u8]) -> Option<Section> {
-    if !is_short_number(text, 2) {
-        return None;
-    }
-    Section::new(u8::try_from(number_in(text)?).ok()?)
 }
 
 /// The length that a field is, in thousandths of a chain.

@@ -1,4 +1,5 @@
 //! What may have led to a half mile that is out of its limits, where the distances explain it.
+ghost use Rattle.twp_explain.specs.steps.Slips.{IsMended};
 
 use crate::lines::write_chains;
 use std::alloc::AllocError;
@@ -28,7 +29,9 @@ enum Slip {
 
 impl Slip {
     /// What the distances are without the slip.
-    fn mended(self, found: Distances) -> Distances {
+    fn mended(self, found: Distances) -> Distances
+        ensures { IsMended self found result }
+    {
         let Distances { quarter, corner } = found;
         match self {
             Slip::HalfMileAlone => Distances {

@@ -2,6 +2,7 @@
 //! the bytes decide it, and the message that shows both; and notes on accepted input.
 #![tactic(auto)]
 
+mod blamed;
 mod columns;
 mod explaining;
 mod explanation;

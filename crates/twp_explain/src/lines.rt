@@ -2,9 +2,10 @@
 ghost use Rattle.std.specs.Prelude.{◌≡◌};
 ghost use Rattle.twp_plat.specs.Closing.{last_quarter};
 ghost use Rattle.twp_explain.specs.steps.HalfMiles.{half_mile_of};
+ghost use Rattle.twp_explain.specs.steps.Sides.{LiesOnSide};
 
 use std::alloc::AllocError;
-use twp_grid::{Line, Run, sides};
+use twp_grid::{Line, Run, Section, Side, sides};
 use twp_notes::{Returned, names_of};
 use twp_plat::{HalfMile, QUARTER_MILE};
 
@@ -29,18 +30,35 @@ pub fn write_side(line: Line, out: &mut String) -> Result<(), AllocError> {
     match names.other {
         Some(other) => write!(out, "between sections {section} and {}", other.number()),
         None => {
-            let [east, west, north, _] = sides(names.section);
-            let side = if line == east {
-                "east"
-            } else if line == west {
-                "west"
-            } else if line == north {
-                "north"
-            } else {
-                "south"
-            };
+            let side = side_name(side_of(line, names.section));
             write!(out, "on the {side} side of section {section}")
         }
+    }
+}
+
+/// On which side of a section a line lies that is one of its sides.
+fn side_of(line: Line, section: Section) -> Side
+    ensures { LiesOnSide section line result }
+{
+    let [east, west, north, _] = sides(section);
+    if line == east {
+        Side::E
+    } else if line == west {
+        Side::W
+    } else if line == north {
+        Side::N
+    } else {
+        Side::S
+    }
+}
+
+/// The name of a side.
+fn side_name(side: Side) -> &'static str {
+    match side {
+        Side::N => "north",
+        Side::S => "south",
+        Side::E => "east",
+        Side::W => "west",
     }
 }
 

@@ -1,7 +1,11 @@
 //! Notes on accepted input: on a place of a description that can be read in two ways. A note names the reading
 //! with its acres, and the way to write the other one with its acres.
-ghost use Rattle.std.specs.Prelude.{◌≡◌, IfOk, IfSome, MatchOption};
-ghost use Rattle.twp_explain.specs.ShownNotes.{IsNoteOf, ShowsNoteIn};
+ghost use Rattle.std.specs.Prelude.{◌≡◌, ◌≤◌, ◌<◌, Some, None, length, IfOk, IfSome, MatchOption};
+ghost use Rattle.twp_diagnose.specs.Spots.{IsSpotAt};
+ghost use Rattle.twp_read.specs.Doubts.{AreDoubts};
+ghost use Rattle.twp_explain.specs.ShownNotes.{AreClear, IsNoteOf, IsNoteOfList, IsOfFirstTract};
+ghost use Rattle.twp_explain.specs.ShownNotes.{IsSpotOfNote, ShowsNoteIn};
+ghost use Rattle.twp_explain.specs.steps.ListDoubts.{AreOfList, Takes};
 
 mod acres;
 mod heading;
@@ -19,7 +23,7 @@ use crate::note::span::end_of_place;
 use csv::ByteRecord;
 use std::alloc::{AllocError, Global};
 use twp_acres::{Account, TRACTS_MOST, read_plat};
-use twp_diagnose::{Given, Listed, Location, Origin};
+use twp_diagnose::{Given, Listed, Location, Origin, text_in};
 use twp_excerpt::{Span, write_escaped};
 use twp_grid::Bytes;
 use twp_notes::Records;
@@ -38,6 +42,8 @@ pub fn note_land(
     account: Account,
 ) -> Result<Option<Note>, AllocError>
     ensures note { IfOk result (IsNoteOf description.now.bytes.now) }
+    ensures spot { IfOk result (λ explained. IfSome explained (λ note.
+        IsSpotAt description.now note.at note.spot)) }
     ensures shows { IfOk result (λ explained. IfSome explained (ShowsNoteIn description.now)) }
 {
     let Some(doubts) = doubts_in(alloc, description.bytes)? else {
@@ -55,6 +61,8 @@ pub fn note_description(
     account: Account,
 ) -> Result<Option<Note>, AllocError>
     ensures note { IfOk result (IsNoteOf description.now.bytes.now) }
+    ensures spot { IfOk result (λ explained. IfSome explained (λ note.
+        IsSpotAt description.now note.at note.spot)) }
     ensures shows { IfOk result (λ explained. IfSome explained (ShowsNoteIn description.now)) }
 {
     let Some(doubts) = doubts_in(alloc, description.bytes)? else {
@@ -72,6 +80,8 @@ fn note_on(
     doubts: Doubts,
 ) -> Result<Option<Note>, AllocError>
     ensures at { IfOk result (λ explained. MatchOption explained ⊥ (λ note. note.at ≡ doubts.first.at)) }
+    ensures spot { IfOk result (λ explained. IfSome explained (λ note.
+        IsSpotAt description.now note.at note.spot)) }
     ensures shows { IfOk result (λ explained. IfSome explained (ShowsNoteIn description.now)) }
 {
     let reckoner = Reckoner { plat, account };
@@ -96,6 +106,7 @@ pub fn note_list(
     notes: &Given<'_>,
     tracts: &Given<'_>,
 ) -> Result<Option<Note>, AllocError>
+    ensures note { IfOk result (IsNoteOfList tracts.now) }
     ensures shows { IfOk result (λ explained. IfSome explained (ShowsNoteIn tracts.now)) }
 {
     let Some(found) = doubts_of_list(alloc, tracts.bytes)? else {
@@ -111,6 +122,7 @@ pub fn note_tracts(
     plat: &Plat,
     tracts: &Given<'_>,
 ) -> Result<Option<Note>, AllocError>
+    ensures note { IfOk result (IsNoteOfList tracts.now) }
     ensures shows { IfOk result (λ explained. IfSome explained (ShowsNoteIn tracts.now)) }
 {
     let Some(found) = doubts_of_list(alloc, tracts.bytes)? else {
@@ -128,35 +140,54 @@ fn plat_of(alloc: Global, notes: &Given<'_>) -> Option<Plat> {
 #[derive(Clone, Copy)]
 struct ListDoubts {
     /// The number of the record, from 1.
-    record: u32,
+    number: u32,
     doubts: Doubts,
 }
 
 /// The doubtful places in the descriptions of a list of tracts.
 #[inline(never)]
-fn doubts_of_list(alloc: Global, bytes: &[u8]) -> Result<Option<ListDoubts>, AllocError> {
+fn doubts_of_list(alloc: Global, bytes: &[u8]) -> Result<Option<ListDoubts>, AllocError>
+    ensures { IfOk result (λ found.
+        MatchOption found (AreClear bytes.now) (AreOfList bytes.now)) }
+{
     let mut records = Records::new(alloc, bytes);
     let mut row = ByteRecord::new(alloc);
     let mut found = None;
-    'records: for record in 1..RECORDS_MOST + 1 {
+    'records: for number in 1..RECORDS_MOST + 1 {
         if !records.read(&mut row)? {
             return Ok(found);
         }
-        if let Some(description) = row.get(1) {
-            if let Some(doubts) = doubts_in(alloc, description)? {
-                found = Some(with_more(found, record, doubts));
-            }
-        }
+        found = with_record(alloc, found, number, text_in(&row, 1))?;
     }
     Ok(found)
 }
 
+/// The doubtful places of a list with those in the description of one more record.
+fn with_record(
+    alloc: Global,
+    found: Option<ListDoubts>,
+    number: u32,
+    description: &[u8],
+) -> Result<Option<ListDoubts>, AllocError>
+    ensures { IfOk result (Takes found number description.now) }
+{
+    match doubts_in(alloc, description)? {
+        Some(doubts) => Ok(Some(with_more(found, number, doubts))),
+        None => Ok(found),
+    }
+}
+
 /// The doubtful places of a list with those of one more record.
-fn with_more(found: Option<ListDoubts>, record: u32, doubts: Doubts) -> ListDoubts {
+fn with_more(found: Option<ListDoubts>, number: u32, doubts: Doubts) -> ListDoubts
+    ensures some { IfSome found (λ first. (result.number ≡ first.number)
+        × (result.doubts.first ≡ first.doubts.first)) }
+    ensures none { found ≡ None → (result.number ≡ number)
+        × (result.doubts.first ≡ doubts.first) }
+{
     match found {
-        None => ListDoubts { record, doubts },
+        None => ListDoubts { number, doubts },
         Some(first) => ListDoubts {
-            record: first.record,
+            number: first.number,
             doubts: Doubts {
                 first: first.doubts.first,
                 others: first
@@ -176,9 +207,11 @@ fn note_tract(
     tracts: &Given<'_>,
     found: ListDoubts,
 ) -> Result<Option<Note>, AllocError>
+    ensures note { AreOfList tracts.now.bytes.now found
+        → IfOk result (λ explained. MatchOption explained ⊥ (IsOfFirstTract tracts.now)) }
     ensures shows { IfOk result (λ explained. IfSome explained (ShowsNoteIn tracts.now)) }
 {
-    let Some(listed) = Listed::numbered(alloc, *tracts, found.record)? else {
+    let Some(listed) = Listed::numbered(alloc, *tracts, found.number)? else {
         return Ok(None);
     };
     let origin = Origin::of_field(*tracts, listed.span(1).start);
@@ -212,6 +245,7 @@ fn note_place(
     begun: String,
 ) -> Result<Note, AllocError>
     ensures at { IfOk result (λ note. note.at ≡ doubts.first.at) }
+    ensures spot { IfOk result (IsSpotOfNote origin.now) }
     ensures shows { IfOk result (ShowsNoteIn origin.now.file) }
 {
     let place = doubts.first;

@@ -1,102 +1,14 @@
-//! What a record of field notes is refused for, as the explanation says it, and which of its fields is to blame.
+//! What a record of field notes is refused for, as the explanation says it.
+ghost use Rattle.std.specs.Prelude.{◌≡◌, ◌↔◌, IsTrue};
+ghost use Rattle.twp_explain.specs.BlamedDistances.{QUARTER};
 
 use crate::lines::write_names;
-use crate::note_hints::HEADING;
 use crate::quoted::write_quoted;
 use std::alloc::AllocError;
-use twp_diagnose::{Record, number_in};
+use twp_diagnose::Record;
 use twp_excerpt::write_escaped;
-use twp_grid::{Run, Section};
 use twp_measure::{Length, LengthFault};
 use twp_notes::{FIELDS, NotesFault};
-
-/// Fields of a record, from one to another, counted from 0.
-#[derive(Clone, Copy, PartialEq, Eq)]
-pub(crate) struct Fields {
-    pub(crate) first: usize,
-    pub(crate) last: usize,
-}
-
-impl Fields {
-    /// One field.
-    fn one(field: usize) -> Fields {
-        Fields {
-            first: field,
-            last: field,
-        }
-    }
-
-    /// All fields of a record.
-    fn all(record: &Record<'_>) -> Fields {
-        Fields {
-            first: 0,
-            last: record.len().saturating_sub(1),
-        }
-    }
-}
-
-/// The fields of a record that are to blame for its fault.
-pub(crate) fn blamed(fault: NotesFault, record: &Record<'_>) -> Fields {
-    match fault {
-        NotesFault::Heading if record.len() == FIELDS => Fields::one(unlike_heading(record)),
-        NotesFault::Columns(_) => Fields::one(record.len().min(FIELDS)),
-        NotesFault::Township => Fields::one(unlike_township(record)),
-        NotesFault::Run(_) => Fields::one(0),
-        NotesFault::Section(_) => Fields::one(match section_in(record.text(1)) {
-            Some(_) => 2,
-            None => 1,
-        }),
-        NotesFault::NoLine(_) => Fields { first: 1, last: 2 },
-        NotesFault::Length(_) => Fields::one(match Length::read(record.text(3)) {
-            Ok(_) => 4,
-            Err(_) => 3,
-        }),
-        _ => Fields::all(record),
-    }
-}
-
-/// The first field that isn't the heading's.
-fn unlike_heading(record: &Record<'_>) -> usize {
-    for (place, word) in HEADING.iter().enumerate() {
-        if record.text(place) != word.as_bytes() {
-            return place;
-        }
-    }
-    0
-}
-
-/// The first field that isn't a township's.
-fn unlike_township(record: &Record<'_>) -> usize {
-    if record.text(0) != b"T".as_slice() {
-        0
-    } else if !is_township_number(record.text(1)) {
-        1
-    } else if !matches!(record.text(2), b"N" | b"S") {
-        2
-    } else if !is_township_number(record.text(3)) {
-        3
-    } else {
-        4
-    }
-}
-
-/// Whether a text is a number from 1 to 99, in one or two digits.
-fn is_township_number(text: &[u8]) -> bool {
-    matches!(short_number(text), Some(1..=99))
-}
-
-/// The section of a number in one or two digits.
-pub(crate) fn section_in(text: &[u8]) -> Option<Section> {
-    Section::new(short_number(text)?)
-}
-
-/// The number that one or two digits spell.
-fn short_number(text: &[u8]) -> Option<u8> {
-    if text.is_empty() || text.len() > 2 {
-        return None;
-    }
-    u8::try_from(number_in(text)?).ok()
-}
 
 /// Appends what a record is refused for, with a field to blame.
 pub(crate) fn write_fault(
@@ -217,13 +129,21 @@ fn write_length_fault(
         write_quoted(text, out)?;
     }
     out.push_str(match fault {
-        LengthFault::Empty if field == 3 => "the distance to the quarter corner is missing",
+        LengthFault::Empty if is_to_quarter_corner(field) =>
+            "the distance to the quarter corner is missing",
         LengthFault::Empty => "the distance to the section corner is missing",
         LengthFault::BadDigit => " is not a distance in chains, such as 40, 79.6, or 19.575",
         LengthFault::TooManyPlaces => " has more than three digits after the decimal point",
         LengthFault::TooLong => " is not a distance in chains: it has more than two digits before \
             the decimal point",
     })
+}
+
+/// Whether the distance in a field is the one to the quarter corner.
+fn is_to_quarter_corner(field: usize) -> bool
+    ensures { IsTrue result ↔ (field ≡ QUARTER) }
+{
+    field == 3
 }
 
 /// Appends that a line has a record already.

@@ -192,7 +192,7 @@ const HINTS: [Hint; 45] = [
 ];
 
 /// The words of the heading.
-pub const HEADING: [&str; FIELDS] = ["line", "between", "and", "quarter", "corner"];
+const HEADING: [&str; FIELDS] = ["line", "between", "and", "quarter", "corner"];
 
 /// What mends a record that was refused with a number for one of its fields, from 0.
 pub fn advice_on(number: u8, record: &Record<'_>, field: usize) -> Option<&'static str> {

@@ -1,12 +1,17 @@
 //! What is wrong with field notes.
-ghost use Rattle.std.specs.Prelude.{◌≡◌, IfOk};
+ghost use Rattle.std.specs.Prelude.{◌≡◌, ◌≤◌, ◌<◌, length, IfOk, IfSome, MatchOption};
+ghost use Rattle.twp_notes.specs.Records.{records_of};
+ghost use Rattle.twp_diagnose.specs.RecordFields.{fields_in};
+ghost use Rattle.twp_explain.specs.Blamed.{IsOfRecord, IsRecordOf, ShowsBlamed};
+ghost use Rattle.twp_explain.specs.steps.EarlierRecords.{IsEarlierRecord};
 
+use crate::blamed::{blamed, section_in};
 use crate::finding::Finding;
 use crate::lines::{write_names, write_side};
-use crate::note_faults::{blamed, section_in, write_fault};
+use crate::note_faults::write_fault;
 use crate::note_hints::advice_on;
 use std::alloc::{AllocError, Global};
-use twp_diagnose::{Given, Location, Record};
+use twp_diagnose::{Given, Location, Record, line_in};
 use twp_grid::{Line, Refusal, Run, Section};
 use twp_notes::NotesFault;
 
@@ -18,6 +23,8 @@ pub fn find(
     refusal: Refusal,
 ) -> Result<Finding, AllocError>
     ensures refusal { IfOk result (λ finding. finding.refusal ≡ refusal) }
+    ensures place { (IsOfRecord fault → 1 ≤ refusal.at) → IfOk result (λ finding.
+        ShowsBlamed notes.now.bytes.now fault refusal.at finding.place) }
 {
     let Some(record) = refused_record(alloc, notes, fault, refusal)? else {
         return Ok(Finding {
@@ -49,7 +56,11 @@ fn refused_record<'a>(
     notes: &Given<'a>,
     fault: NotesFault,
     refusal: Refusal,
-) -> Result<Option<Record<'a>>, AllocError> {
+) -> Result<Option<Record<'a>>, AllocError>
+    ensures { (IsOfRecord fault → 1 ≤ refusal.at) → IfOk result (λ found. MatchOption found
+        (IsOfRecord fault → length (records_of notes.now.bytes.now) < refusal.at)
+        (IsRecordOf notes.now.bytes.now fault refusal.at)) }
+{
     match fault {
         NotesFault::TooLarge | NotesFault::Missing(_) => Ok(None),
         _ => Record::numbered(alloc, notes.bytes, refusal.at),
@@ -100,31 +111,42 @@ fn write_help(
 ) -> Result<(), AllocError> {
     match fault {
         NotesFault::NoLine(_) => write_other_run(record, out),
-        NotesFault::Repeated(_) => {
-            let Some(line) = record.line() else {
-                return Ok(());
-            };
-            let Some(earlier) = Record::of_line(alloc, notes.bytes, line)? else {
-                return Ok(());
-            };
-            let at = line_at(notes, earlier.start());
-            write!(
-                out,
-                "record {} at line {at} also returns this line",
-                earlier.number
-            )
-        }
+        NotesFault::Repeated(_) => match earlier_of(alloc, notes, record)? {
+            Some(Earlier { number, line }) => {
+                write!(out, "record {number} at line {line} also returns this line")
+            }
+            None => Ok(()),
+        },
         _ => Ok(()),
     }
 }
 
-/// The number of the line that a byte of notes is on.
-fn line_at(notes: &Given<'_>, at: usize) -> u32 {
-    let before = notes.bytes.get(..at).unwrap_or(b"");
-    let ended = before.iter().filter(|byte| **byte == b'\n').count();
-    u32::try_from(ended)
-        .unwrap_or(u32::MAX)
-        .saturating_add(notes.first_line)
+/// The first record of a line, and the line of the file on which that record begins.
+#[derive(Clone, Copy)]
+struct Earlier {
+    number: u32,
+    line: u32,
+}
+
+/// The first record of the line that a record names.
+fn earlier_of(
+    alloc: Global,
+    notes: &Given<'_>,
+    record: &Record<'_>,
+) -> Result<Option<Earlier>, AllocError>
+    ensures { IfOk result (λ found. IfSome found
+        (IsEarlierRecord notes.now (fields_in «record».now))) }
+{
+    let Some(line) = record.line() else {
+        return Ok(None);
+    };
+    let Some(earlier) = Record::of_line(alloc, notes.bytes, line)? else {
+        return Ok(None);
+    };
+    Ok(Some(Earlier {
+        number: earlier.number,
+        line: line_in(notes, earlier.start()),
+    }))
 }
 
 /// Appends which way the line runs that is between these sections, where it runs the other way.

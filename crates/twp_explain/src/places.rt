@@ -14,8 +14,8 @@ use crate::places::items::{
 };
 pub use crate::places::words::write_land;
 use crate::places::words::{
-    write_heading, write_lots_and_rest, write_lots_cut, write_lots_of, write_township,
-    write_whole_lots,
+    turned_range, write_heading, write_lots_and_rest, write_lots_cut, write_lots_of,
+    write_township, write_whole_lots,
 };
 use crate::quoted::write_quoted;
 use std::alloc::{AllocError, Global};
@@ -174,12 +174,10 @@ impl<'a> Described<'a> {
             "this range runs backward: {} is less than {}",
             last, first
         )?;
-        let mut help = String::new(alloc);
-        write!(help, "write {} to {}", last, first)?;
         Ok(Explained {
             end: token_span(self.text, at as usize).end,
             sentence,
-            help,
+            help: turned_range(alloc, first, last)?,
         })
     }
 

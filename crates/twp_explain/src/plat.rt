@@ -1,5 +1,8 @@
 //! Why field notes make no plat.
-ghost use Rattle.std.specs.Prelude.{◌≡◌, IfOk};
+ghost use Rattle.std.specs.Prelude.{◌≡◌, IfOk, IfSome};
+ghost use Rattle.twp_plat.specs.PlatFaults.{place_of as line_of_fault};
+ghost use Rattle.twp_diagnose.specs.RecordFields.{fields_span};
+ghost use Rattle.twp_explain.specs.BlamedDistances.{distance_of, least_of, most_of, IsShownIn, ShowsDistance};
 
 use crate::finding::Finding;
 use crate::half_mile_hints::write_half_mile_hint;
@@ -25,6 +28,8 @@ pub fn find(
     refusal: Refusal,
 ) -> Result<Finding, AllocError>
     ensures refusal { IfOk result (λ finding. finding.refusal ≡ refusal) }
+    ensures place { IfOk result (λ finding.
+        ShowsDistance file.now.bytes.now fault finding.place) }
 {
     let Some(line) = line_of(fault) else {
         return Ok(Finding {
@@ -51,7 +56,9 @@ pub fn find(
 }
 
 /// Where a field of a record is shown.
-fn place_of(record: &Option<Record<'_>>, field: usize) -> Location {
+fn place_of(record: &Option<Record<'_>>, field: usize) -> Location
+    ensures { IsShownIn «record».now field result }
+{
     match record {
         Some(record) => Location::Field(record.span(field, field)),
         None => Location::Whole,
@@ -89,7 +96,9 @@ fn help(
 }
 
 /// The line that a fault is on.
-fn line_of(fault: PlatFault) -> Option<Line> {
+fn line_of(fault: PlatFault) -> Option<Line>
+    ensures { IfSome result (λ line. line ≡ line_of_fault fault) }
+{
     let (PlatFault::Irregular { line, .. }
     | PlatFault::ClosingShort(line)
     | PlatFault::ClosingLong(line)) = fault;
@@ -97,13 +106,39 @@ fn line_of(fault: PlatFault) -> Option<Line> {
 }
 
 /// The field of a record that is to blame for a fault: the distance that ends the half mile.
-fn field_of(fault: PlatFault) -> usize {
+fn field_of(fault: PlatFault) -> usize
+    ensures { result ≡ distance_of fault }
+{
     match fault {
         PlatFault::Irregular {
             half: HalfMile::First,
             ..
         } => QUARTER,
         _ => CORNER,
+    }
+}
+
+/// The least and the greatest length of what a fault is on, in thousandths of a chain.
+#[derive(Clone, Copy)]
+struct Limits {
+    least: u32,
+    most: u32,
+}
+
+/// The limits that a fault breaks: of a half mile, or of the last quarter mile of a closing line.
+fn limits_of(fault: PlatFault) -> Limits
+    ensures least { result.least ≡ least_of fault }
+    ensures most { result.most ≡ most_of fault }
+{
+    match fault {
+        PlatFault::Irregular { .. } => Limits {
+            least: HALF_LEAST,
+            most: HALF_MOST,
+        },
+        _ => Limits {
+            least: CLOSING_LEAST,
+            most: CLOSING_MOST,
+        },
     }
 }
 
@@ -115,29 +150,27 @@ fn sentence(
     fault: PlatFault,
 ) -> Result<String, AllocError> {
     let mut text = String::new(alloc);
-    match fault {
+    let length = match fault {
         PlatFault::Irregular { half, .. } => {
             write!(text, "the {half} half mile ")?;
-            write_side(line, &mut text)?;
-            let length = half_mile(returned, half);
-            write_limits(length, HALF_LEAST, HALF_MOST, &mut text)?;
+            half_mile(returned, half)
         }
         _ => {
             text.push_str("the last quarter mile ")?;
-            write_side(line, &mut text)?;
-            let length = last_quarter_mile(returned);
-            write_limits(length, CLOSING_LEAST, CLOSING_MOST, &mut text)?;
+            last_quarter_mile(returned)
         }
-    }
+    };
+    write_side(line, &mut text)?;
+    write_limits(length, limits_of(fault), &mut text)?;
     Ok(text)
 }
 
 /// Appends a length and its limits, all in thousandths of a chain.
-fn write_limits(length: i64, least: u32, most: u32, out: &mut String) -> Result<(), AllocError> {
+fn write_limits(length: i64, limits: Limits, out: &mut String) -> Result<(), AllocError> {
     out.push_str(" is ")?;
     write_chains(length, out)?;
     out.push_str(" chains; allowed: ")?;
-    write_chains(i64::from(least), out)?;
+    write_chains(i64::from(limits.least), out)?;
     out.push_str(" to ")?;
-    write_chains(i64::from(most), out)
+    write_chains(i64::from(limits.most), out)
 }

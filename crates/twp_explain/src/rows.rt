@@ -1,6 +1,9 @@
 //! Records of a list that are no heading or no tract.
-ghost use Rattle.std.specs.Prelude.{◌≡◌};
+ghost use Rattle.std.specs.Prelude.{◌≡◌, ◌<◌, ◌↔◌, length, IsTrue, OnOk};
+ghost use Rattle.twp_diagnose.specs.RecordFields.{fields_listed, number_listed};
+ghost use Rattle.twp_explain.specs.BlamedTracts.{IsNotOfHeading, ShowsRow};
 
+use crate::blamed::is_text;
 use crate::finding::Finding;
 use crate::note_faults::write_count;
 use crate::quoted::write_quoted;
@@ -9,8 +12,8 @@ use twp_diagnose::{Listed, Location, Origin};
 use twp_excerpt::{Span, write_escaped};
 use twp_read::{Description, TextFault};
 
-/// The fields of the heading.
-const HEADING: [&[u8]; 2] = [b"name", b"description"];
+/// How many fields a record has.
+const COLUMNS: usize = 2;
 
 /// The most bytes of a tract's name.
 const NAME_MOST: usize = 64;
@@ -25,12 +28,13 @@ pub(crate) fn explain(
     finding: &mut Finding,
 ) -> Result<(), AllocError>
     ensures refusal { finding.new.refusal ≡ finding.old.refusal }
+    ensures place { OnOk result (ShowsRow listed.now finding.new.place) }
 {
     if listed.number() == 1 {
         finding.place = Location::Field(listed.span(heading_place(listed)));
         write_heading_fault(listed, &mut finding.sentence)?;
-    } else if listed.len() != HEADING.len() {
-        finding.place = Location::Field(listed.span(listed.len().min(HEADING.len())));
+    } else if listed.len() != COLUMNS {
+        finding.place = Location::Field(listed.span(listed.len().min(COLUMNS)));
         finding.sentence.push_str("this record has ")?;
         write_count(listed.len(), &mut finding.sentence)?;
         finding.sentence.push_str(", not 2")?;
@@ -42,20 +46,30 @@ pub(crate) fn explain(
 }
 
 /// The first field of a record that isn't the heading's.
-fn heading_place(listed: &Listed<'_>) -> usize {
-    if listed.field(0) != HEADING[0] {
-        return 0;
+fn heading_place(listed: &Listed<'_>) -> usize
+    ensures { IsNotOfHeading (fields_listed listed.now) result }
+{
+    if !is_text(listed.field(0), "name") {
+        0
+    } else if !is_text(listed.field(1), "description") {
+        1
+    } else {
+        2
     }
-    if listed.field(1) != HEADING[1] {
-        return 1;
-    }
-    2
+}
+
+/// Whether a record begins with the heading, and has more fields.
+fn is_long_heading(listed: &Listed<'_>) -> bool
+    ensures { IsTrue result ↔ ((number_listed listed.now ≡ 1)
+        × IsNotOfHeading (fields_listed listed.now) 2) }
+{
+    listed.number() == 1 && heading_place(listed) == 2
 }
 
 /// Appends what is no heading.
 fn write_heading_fault(listed: &Listed<'_>, text: &mut String) -> Result<(), AllocError> {
     text.push_str("the heading must be `name,description`: ")?;
-    if listed.len() != HEADING.len() {
+    if listed.len() != COLUMNS {
         text.push_str("it has ")?;
         return write_count(listed.len(), text);
     }
@@ -172,7 +186,7 @@ impl Sign {
             Sign::OneField(byte) => listed.len() == 1 && listed.field(0).contains(&byte),
             Sign::SpacedQuotes => has_spaced_quotes(listed.written(1)),
             Sign::Unquoted => listed.number() > 1 && is_unquoted(listed),
-            Sign::LongHeading => listed.number() == 1 && heading_place(listed) == 2,
+            Sign::LongHeading => is_long_heading(listed),
             Sign::LongRecord => {
                 listed.number() > 1 && listed.len() > 2 && listed.written(1).first() == Some(&b'"')
             }
@@ -195,7 +209,9 @@ fn has_spaced_quotes(field: &[u8]) -> bool {
 }
 
 /// Whether a record is a name and a description with commas, but without quotes.
-fn is_unquoted(listed: &Listed<'_>) -> bool {
+fn is_unquoted(listed: &Listed<'_>) -> bool
+    ensures { IsTrue result → 2 < length (fields_listed listed.now) }
+{
     let rest = listed.written_from(1);
     let begins = rest.starts_with(b"sec") || rest.starts_with(b"Sec") || rest.starts_with(b"T");
     listed.len() > 2 && begins && !rest.contains(&b'"')

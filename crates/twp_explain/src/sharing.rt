@@ -4,20 +4,45 @@ ghost use Rattle.csv.specs.Records.{fields_of};
 ghost use Rattle.twp_notes.specs.Records.{record_at};
 ghost use Rattle.twp_acres.specs.Answers.{Describe};
 ghost use Rattle.twp_acres.specs.Tracts.{tract_records, description_in};
-ghost use Rattle.twp_explain.specs.steps.Sharing.{IsFirstSharing};
+ghost use Rattle.twp_diagnose.specs.RecordFields.{number_listed};
+ghost use Rattle.twp_explain.specs.steps.Sharing.{IsFirstSharing, IsFirstSharingRecord};
 
 use csv::ByteRecord;
 use std::alloc::{AllocError, Global};
+use twp_diagnose::Listed;
 use twp_grid::Township;
 use twp_land::Land;
 use twp_notes::{Records, field};
 use twp_read::{Description, TextFault};
 use twp_resolve::resolve_into;
 
+/// The number of the record after the heading, the first one of a tract.
+pub(crate) const FIRST_TRACT: u32 = 2;
+
+/// The record of the first tract that shares land with another one. Sets a land to what the two
+/// share. None if there is no such tract.
+#[inline(never)]
+pub(crate) fn first_sharing_record<'a, L: Land>(
+    alloc: Global,
+    listed: &Listed<'a>,
+    township: Township,
+    common: &mut L,
+) -> Result<Option<Listed<'a>>, AllocError>
+    ensures { IfOk result (λ found. IfSome found (λ earlier.
+        IsFirstSharingRecord township listed.now earlier (L.places common.new))) }
+{
+    let index = listed.number().saturating_sub(FIRST_TRACT);
+    let found = first_sharing_tract(alloc, listed.file.bytes, township, index, common)?;
+    let Some(earlier) = found else {
+        return Ok(None);
+    };
+    Listed::numbered(alloc, listed.file, earlier.saturating_add(FIRST_TRACT))
+}
+
 /// The first tract of a list that shares land with the one that so many come before: how many come
 /// before it. Sets a land to what the two share. None where there is no such tract.
 #[inline(never)]
-pub fn first_sharing_tract<L: Land>(
+fn first_sharing_tract<L: Land>(
     alloc: Global,
     bytes: &[u8],
     township: Township,

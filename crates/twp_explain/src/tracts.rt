@@ -1,23 +1,29 @@
 //! What is wrong with lists of tracts.
-ghost use Rattle.std.specs.Prelude.{◌≡◌, IfOk};
+ghost use Rattle.std.specs.Prelude.{◌≡◌, ◌≤◌, ◌↔◌, IfOk, IfErr, IsTrue, OnOk};
+ghost use Rattle.csv.specs.Records.{fields_of};
+ghost use Rattle.twp_notes.specs.Records.{records_of};
+ghost use Rattle.twp_acres.specs.Answers.{IsNoDescription};
+ghost use Rattle.twp_acres.specs.Tracts.{description_in, name_in};
+ghost use Rattle.twp_diagnose.specs.RecordFields.{fields_listed, listed_span, number_listed};
+ghost use Rattle.twp_diagnose.specs.RecordFields.{start_listed, IsListedAt};
+ghost use Rattle.twp_diagnose.specs.declared.location.Location.TheVariants.{Field, Line, Whole};
+ghost use Rattle.twp_explain.specs.BlamedTracts.{IsFirstNamed, IsShownInRecord, ShowsTractFault};
+ghost use Rattle.twp_explain.specs.Findings.{IfFound};
 
 use crate::explaining::describe;
 use crate::finding::{Failure, Finding};
 use crate::places::write_land;
 use crate::rows;
-use crate::sharing::first_sharing_tract;
+use crate::sharing::{FIRST_TRACT, first_sharing_record};
 use csv::ByteRecord;
 use std::alloc::{AllocError, Global};
 use twp_acres::TractFault;
-use twp_diagnose::{Given, Listed, Location, Origin};
+use twp_diagnose::{Given, Listed, Location, Origin, text_in};
 use twp_excerpt::write_escaped;
 use twp_grid::{Refusal, Township};
 use twp_land::{Land, Lanes};
 use twp_notes::Records;
 use twp_spell::spell;
-
-/// The number of the record after the heading, the first one of a tract.
-const FIRST_TRACT: u32 = 2;
 
 /// The explanation of a list of tracts that has a fault, on the plat of a township.
 #[inline(never)]
@@ -29,6 +35,8 @@ pub(crate) fn find(
     refusal: Refusal,
 ) -> Result<Finding, AllocError>
     ensures refusal { IfOk result (λ finding. finding.refusal ≡ refusal) }
+    ensures place { 1 ≤ refusal.at → IfOk result (λ finding.
+        ShowsTractFault tracts.now fault refusal.at finding.place) }
 {
     let Some(listed) = Listed::numbered(alloc, *tracts, refusal.at)? else {
         return find_none(alloc, fault, refusal);
@@ -39,21 +47,35 @@ pub(crate) fn find(
         sentence: String::new(alloc),
         help: String::new(alloc),
     };
-    match fault {
-        TractFault::TractRow(_) => rows::explain(alloc, &listed, &mut finding)?,
-        TractFault::NameRepeated(_) => explain_name(alloc, &listed, &mut finding)?,
-        TractFault::TractRefused { .. } => {
-            explain_tract(alloc, &listed, township, &mut finding)?
-        }
-        TractFault::TractsOverlap(_) => explain_overlap(alloc, &listed, township, &mut finding)?,
-        _ => explain_many(&listed, &mut finding)?,
-    }
+    explain(alloc, &listed, township, fault, &mut finding)?;
     Ok(finding)
+}
+
+/// Tells of the fault of a record, which is shown as a line where nothing else is said.
+fn explain(
+    alloc: Global,
+    listed: &Listed<'_>,
+    township: Township,
+    fault: TractFault,
+    finding: &mut Finding,
+) -> Result<(), AllocError>
+    ensures refusal { finding.new.refusal ≡ finding.old.refusal }
+    ensures place { finding.old.place ≡ Line (start_listed listed.now)
+        → OnOk result (IsShownInRecord listed.now fault finding.new.place) }
+{
+    match fault {
+        TractFault::TractRow(_) => rows::explain(alloc, listed, finding),
+        TractFault::NameRepeated(_) => explain_name(alloc, listed, finding),
+        TractFault::TractRefused { .. } => explain_tract(alloc, listed, township, finding),
+        TractFault::TractsOverlap(_) => explain_overlap(alloc, listed, township, finding),
+        _ => explain_many(listed, finding),
+    }
 }
 
 /// The explanation of a list of too many bytes, or without a heading.
 fn find_none(alloc: Global, fault: TractFault, refusal: Refusal) -> Result<Finding, AllocError>
     ensures refusal { IfOk result (λ finding. finding.refusal ≡ refusal) }
+    ensures place { IfOk result (λ finding. finding.place ≡ Whole) }
 {
     let mut sentence = String::new(alloc);
     let mut help = String::new(alloc);
@@ -74,6 +96,7 @@ fn find_none(alloc: Global, fault: TractFault, refusal: Refusal) -> Result<Findi
 /// Tells of one tract too many.
 fn explain_many(listed: &Listed<'_>, finding: &mut Finding) -> Result<(), AllocError>
     ensures refusal { finding.new.refusal ≡ finding.old.refusal }
+    ensures place { finding.new.place ≡ finding.old.place }
 {
     write!(
         finding.sentence,
@@ -87,6 +110,7 @@ fn explain_many(listed: &Listed<'_>, finding: &mut Finding) -> Result<(), AllocE
 #[inline(never)]
 fn explain_name(alloc: Global, listed: &Listed<'_>, finding: &mut Finding) -> Result<(), AllocError>
     ensures refusal { finding.new.refusal ≡ finding.old.refusal }
+    ensures place { OnOk result (finding.new.place ≡ Field (listed_span listed.now 0)) }
 {
     finding.place = Location::Field(listed.span(0));
     write_tract(listed, &mut finding.sentence)?;
@@ -106,7 +130,11 @@ fn explain_name(alloc: Global, listed: &Listed<'_>, finding: &mut Finding) -> Re
 
 /// The number of the first tract's record that has the name of one.
 #[inline(never)]
-fn first_named(alloc: Global, listed: &Listed<'_>) -> Result<u32, AllocError> {
+fn first_named(alloc: Global, listed: &Listed<'_>) -> Result<u32, AllocError>
+    ensures { IsListedAt listed.now.file (number_listed listed.now) listed.now
+        → IfOk result (IsFirstNamed (records_of listed.now.file.bytes.now)
+        (name_in (fields_listed listed.now)) (number_listed listed.now)) }
+{
     let last = listed.number();
     let mut records = Records::new(alloc, listed.file.bytes);
     let mut row = ByteRecord::new(alloc);
@@ -114,11 +142,25 @@ fn first_named(alloc: Global, listed: &Listed<'_>) -> Result<u32, AllocError> {
         if !records.read(&mut row)? {
             return Ok(last);
         }
-        if number >= FIRST_TRACT && row.get(0) == Some(listed.field(0)) {
+        if is_named(number, &row, listed.field(0)) {
             return Ok(number);
         }
     }
     Ok(last)
+}
+
+/// Whether a record is one of a tract with this name.
+fn is_named(number: u32, row: &ByteRecord, name: &[u8]) -> bool
+    ensures { IsTrue result ↔ ((2 ≤ number) × (name_in (fields_of row.now) ≡ name.now)) }
+{
+    number >= FIRST_TRACT && are_same(text_in(row, 0), name)
+}
+
+/// Whether two texts are the same.
+fn are_same(first: &[u8], second: &[u8]) -> bool
+    ensures { IsTrue result ↔ (first.now ≡ second.now) }
+{
+    first == second
 }
 
 /// Tells of a tract whose description is refused.
@@ -132,8 +174,7 @@ fn explain_tract(
     ensures refusal { finding.new.refusal ≡ finding.old.refusal }
 {
     write_tract(listed, &mut finding.sentence)?;
-    let origin = Origin::of_field(listed.file, listed.span(1).start);
-    let inner = match describe(alloc, &origin, listed.field(1), township) {
+    let inner = match describe_tract(alloc, listed, township) {
         Err(Failure::Found(inner)) => inner,
         Err(Failure::Memory) => return Err(AllocError),
         Ok(()) => return finding.sentence.push_str(" has an invalid description"),
@@ -154,6 +195,15 @@ fn explain_tract(
     finding.help.push_str(inner.help.as_str())
 }
 
+/// Goes through the description of a tract, or gives what is wrong with it.
+fn describe_tract(alloc: Global, listed: &Listed<'_>, township: Township) -> Result<(), Failure>
+    ensures { IfErr result (λ stop. IfFound stop
+        (IsNoDescription township (description_in (fields_listed listed.now)))) }
+{
+    let origin = Origin::of_field(listed.file, listed.span(1).start);
+    describe(alloc, &origin, listed.field(1), township)
+}
+
 /// Tells of a tract that shares land with an earlier one.
 #[inline(never)]
 fn explain_overlap(
@@ -163,20 +213,16 @@ fn explain_overlap(
     finding: &mut Finding,
 ) -> Result<(), AllocError>
     ensures refusal { finding.new.refusal ≡ finding.old.refusal }
+    ensures place { finding.new.place ≡ finding.old.place }
 {
     write_tract(listed, &mut finding.sentence)?;
-    let index = listed.number().saturating_sub(FIRST_TRACT);
     let mut common = Lanes::empty();
-    let found = first_sharing_tract(alloc, listed.file.bytes, township, index, &mut common)?;
-    let Some(earlier) = found else {
-        return finding.sentence.push_str(" overlaps an earlier tract");
-    };
-    let number = earlier.saturating_add(FIRST_TRACT);
-    let Some(earlier) = Listed::numbered(alloc, listed.file, number)? else {
+    let Some(earlier) = first_sharing_record(alloc, listed, township, &mut common)? else {
         return finding.sentence.push_str(" overlaps an earlier tract");
     };
     finding.sentence.push_str(" overlaps ")?;
     write_tract(&earlier, &mut finding.sentence)?;
+    let number = earlier.number();
     write!(finding.sentence, " (record {number}); both include ")?;
     let land = spell(alloc, &common, township)?;
     write_land(land.as_slice(), &mut finding.sentence)

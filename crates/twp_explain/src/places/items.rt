@@ -1,5 +1,6 @@
 //! Which item of a description is at a place, and which section it is about.
-ghost use Rattle.std.specs.Prelude.{◌≡◌, ◌↔◌, IsTrue};
+ghost use Rattle.std.specs.Prelude.{◌≡◌, ◌↔◌, IsTrue, SomeIff};
+ghost use Rattle.twp_grid.specs.Winding.{IsSection};
 ghost use Rattle.twp_resolve.specs.PlaceFaults.{start_of};
 ghost use Rattle.twp_explain.specs.Underlined.{IsItemSpan};
 
@@ -51,7 +52,9 @@ pub(crate) fn section_after(section: Option<Section>, item: &Item) -> Option<Sec
 }
 
 /// The section of a number.
-fn section_of(number: Numeral) -> Option<Section> {
+fn section_of(number: Numeral) -> Option<Section>
+    ensures { SomeIff result (IsSection number.value) number.value }
+{
     if number.value > u16::from(SECTIONS) {
         return None;
     }

@@ -1,7 +1,9 @@
 //! How townships, lots, and land are written in explanations.
-ghost use Rattle.std.specs.Prelude.{◌≤◌, length};
+ghost use Rattle.std.specs.Prelude.{◌≡◌, ◌≤◌, ◌++◌, length, drop, codes, count_by, string_bytes, IfOk};
+ghost use Rattle.std.specs.Fmt.{decimal};
+ghost use Rattle.twp_diagnose.specs.RecordFields.{is_comma};
 
-use std::alloc::AllocError;
+use std::alloc::{AllocError, Global};
 use twp_diagnose::PartOfLots;
 use twp_excerpt::write_escaped;
 use twp_grammar::Item;
@@ -60,6 +62,14 @@ fn way(side: EastWest) -> char {
         EastWest::E => 'E',
         EastWest::W => 'W',
     }
+}
+
+/// What to write for a range that runs backward.
+pub(crate) fn turned_range(alloc: Global, first: u16, last: u16) -> Result<String, AllocError>
+    ensures { IfOk result (λ text. string_bytes text
+        ≡ codes "write " ++ (decimal last ++ (codes " to " ++ decimal first))) }
+{
+    format!(in alloc; "write {last} to {first}")
 }
 
 /// Appends which lots a section has.
@@ -146,9 +156,15 @@ pub fn write_land(text: &[u8], out: &mut String) -> Result<(), AllocError> {
     }
     let shown = front_of_land(land);
     write_on_one_line(&land[..shown], out)?;
-    // A comma is before each lot and each part, and before `all`.
-    let left = land[shown..].iter().filter(|byte| **byte == b',').count();
-    write!(out, " and {left} more")
+    write!(out, " and {} more", commas_after(land, shown))
+}
+
+/// How many lots and parts come after the front of a land: a comma is before each, and before `all`.
+fn commas_after(land: &[u8], front: usize) -> usize
+    requires { front ≤ length land.now }
+    ensures { result ≡ count_by is_comma (drop front land.now) }
+{
+    land[front..].iter().filter(|byte| **byte == b',').count()
 }
 
 /// The front of a long land that is shown: it ends after a section, a lot, or a part.
