@@ -96,7 +96,8 @@ extern "C" {
 #define TOWNSHIP_NO_ACCOUNT 4u    /* the account you passed is not valid */
 #define TOWNSHIP_NO_ROOM 5u       /* the text needs `length` bytes and `room` is smaller: nothing is written */
 #define TOWNSHIP_NO_MEMORY 6u     /* memory ran out, and nothing was written: every function except
-                                     township_version may return this */
+                                     township_version and township_figures may return this */
+#define TOWNSHIP_NO_RANGE 7u      /* township_acres_many: no bytes are between these two offsets */
 
 /* Accounts: how whole lots count. */
 #define TOWNSHIP_EXACT 0u   /* at their exact area */
@@ -148,8 +149,27 @@ typedef struct township_fraction {
     uint64_t over;
 } township_fraction;
 
+/* The most lots of a section (section 6 has lots 1 to 7), and the number of sections. */
+#define TOWNSHIP_LOTS_MOST 7
+#define TOWNSHIP_SECTIONS 36
+
+/*
+ * The figures of a printed plat, in hundredths of an acre. Each is an exact area, rounded once, half up.
+ * `lots[section - 1][lot - 1]` is that of a lot, and 0 if the section has no such lot;
+ * `sections[section - 1]` is that of a section.
+ */
+typedef struct township_plat_figures {
+    uint64_t lots[TOWNSHIP_SECTIONS][TOWNSHIP_LOTS_MOST];
+    uint64_t sections[TOWNSHIP_SECTIONS];
+    uint64_t township;
+} township_plat_figures;
+
 /* Makes a plat from field notes. On any verdict other than TOWNSHIP_ACCEPTED, `plat` is unchanged. */
 township_answer township_read(const uint8_t *notes, size_t notes_length, township_plat *plat);
+
+/* Writes field notes (CSV) from which township_read makes this plat again. Each half mile in them is 40 chains
+   long, except for the second ones of closing lines. */
+township_answer township_write_notes(const township_plat *plat, uint8_t *text, size_t room);
 
 /* Returns the acres of the land described on a plat, by an account, in `hundredths`. */
 township_answer township_acres(const township_plat *plat, const uint8_t *description,
@@ -170,6 +190,23 @@ township_answer township_print(const township_plat *plat, uint8_t *text, size_t 
 /* Writes the account of a list of tracts (CSV; see docs/TRACTS-FORMAT.md). */
 township_answer township_report(const township_plat *plat, const uint8_t *list, size_t list_length,
                                 uint8_t *text, size_t room);
+
+/* Writes to `figures` the figures that township_print prints. On any verdict other than TOWNSHIP_ACCEPTED,
+   `figures` is unchanged. */
+township_answer township_figures(const township_plat *plat, township_plat_figures *figures);
+
+/*
+ * Answers many descriptions, which are bytes in a row: the first description begins at offsets[0] and ends
+ * before offsets[1], the next one begins there and ends before offsets[2], and so on, so there is one more
+ * offset than descriptions. Each answer is that of township_acres, or TOWNSHIP_NO_RANGE if its second offset
+ * is less than its first one or more than `descriptions_length`. A refusal does not end the call: check the
+ * verdict of each answer. `length` is the number of descriptions; if `room`, the number of elements of
+ * `answers`, is smaller, the verdict is TOWNSHIP_NO_ROOM, and nothing is written.
+ */
+township_answer township_acres_many(const township_plat *plat, const uint8_t *descriptions,
+                                    size_t descriptions_length, const size_t *offsets,
+                                    size_t offsets_length, uint32_t account, township_answer *answers,
+                                    size_t room);
 
 /*
  * Explain why field notes, a description, or a list is refused: each returns the same verdict, with the

@@ -19,11 +19,17 @@ Parameter = Tuple[str, str]
 Calls = Dict[str, List[Parameter]]
 
 BYTES, ROOM, LENGTH = "bytes", "room for bytes", "length"
+OFFSETS, ANSWERS = "offsets", "room for answers"
+# Each of these is a pointer, and its length follows it.
+SLICES = (BYTES, ROOM, OFFSETS, ANSWERS)
 # What each type is, in the languages where a slice is a pointer and a length, and in Rattle.
 C_TYPES = {
     "const township_plat *": "plat",
     "township_plat *": "plat to write",
     "township_fraction *": "fraction to write",
+    "township_plat_figures *": "figures to write",
+    "const size_t *": OFFSETS,
+    "township_answer *": ANSWERS,
     "uint32_t": "number",
     "size_t": LENGTH,
 }
@@ -31,6 +37,9 @@ RUST_TYPES = {
     "*const Parts": "plat",
     "*mut Parts": "plat to write",
     "*mut Fraction": "fraction to write",
+    "*mut Figures": "figures to write",
+    "*const usize": OFFSETS,
+    "*mut Answer": ANSWERS,
     "*const u8": BYTES,
     "*mut u8": ROOM,
     "u32": "number",
@@ -40,6 +49,9 @@ RATTLE_TYPES = {
     "&TownshipPlat": "plat",
     "&mut TownshipPlat": "plat to write",
     "&mut TownshipFraction": "fraction to write",
+    "&mut TownshipPlatFigures": "figures to write",
+    "&[usize]": OFFSETS,
+    "&mut [TownshipAnswer]": ANSWERS,
     "&[u8]": BYTES,
     "&mut [u8]": ROOM,
     "u32": "number",
@@ -49,18 +61,21 @@ PYTHON_TYPES = {
     "POINTER(Area)": "fraction to write",
     "*_BYTES": BYTES,
     "*_ROOM": ROOM,
+    "POINTER(Figures)": "figures to write",
+    "*_OFFSETS": OFFSETS,
+    "*_ANSWERS": ANSWERS,
     "c_uint32": "number",
 }
 
 
 def without_lengths(parameters: List[Parameter]) -> List[Parameter]:
-    """The parameters. A pointer to bytes includes its length, which must follow it."""
+    """The parameters. A pointer to several values includes their number, which must follow it."""
     kept: List[Parameter] = []
     for index, (kind, name) in enumerate(parameters):
         if kind != LENGTH:
             kept.append((kind, name))
-        elif index == 0 or parameters[index - 1][0] not in (BYTES, ROOM):
-            kept.append(("length without bytes", name))
+        elif index == 0 or parameters[index - 1][0] not in SLICES:
+            kept.append(("length without a pointer", name))
     return kept
 
 

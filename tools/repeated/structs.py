@@ -1,6 +1,7 @@
 """The structs that cross to C: their fields, in order, with their types."""
 
 import re
+from math import prod
 from typing import Dict, List, Tuple
 
 from reading import CALLS, HEADER, PYTHON, RUST, Compared, text_of
@@ -32,43 +33,56 @@ def structs_of_header(text: str) -> Structs:
     found = {}
     form = r"^typedef struct township_(\w+) \{\n((?:    [^\n]*\n)*)\} township_\w+;"
     for name, inside in re.findall(form, text, re.M):
-        fields = re.findall(r"^ +uint(\d+)_t (\w+)(?:\[(?:TOWNSHIP_)?(\w+)\])?;", inside, re.M)
-        found[name] = [(field, kind_of(f"u{bits}", count)) for bits, field, count in fields]
+        fields = re.findall(r"^ +uint(\d+)_t (\w+)((?:\[\w+\])*);", inside, re.M)
+        found[name] = [
+            (field, kind_of(f"u{bits}", re.findall(r"\[(?:TOWNSHIP_)?(\w+)", counts), {})) for bits, field, counts in fields
+        ]
     return found
 
 
 def structs_of_rattle(text: str) -> Structs:
     """`pub struct TownshipPlat { pub number: u8, .. }`"""
     found = re.findall(r"^pub struct Township(\w+) \{\n((?:    [^\n]*\n)*)\}", text, re.M)
-    return {in_lower_case(name): fields_of(inside, "pub") for name, inside in found}
+    return {in_lower_case(name): fields_of(inside, "pub", text) for name, inside in found}
 
 
 def structs_of_rust(text: str) -> Structs:
     """The same, under a comment that begins with the name in C."""
     form = r"^/// `township_(\w+)`[^\n]*\n(?:(?:///|#)[^\n]*\n)*pub\(crate\) struct \w+ \{\n((?:    [^\n]*\n)*)\}"
-    return {name: fields_of(inside, r"pub\(crate\)") for name, inside in re.findall(form, text, re.M)}
+    return {name: fields_of(inside, r"pub\(crate\)", text) for name, inside in re.findall(form, text, re.M)}
 
 
 def structs_of_python(text: str) -> Structs:
     """`_fields_ = [("number", c_uint8), ..]`, under a docstring that begins with the name in C."""
-    counted = re.findall(r"^(\w+) = c_uint(\d+) \* (\w+)", text, re.M)
-    arrays = {name: kind_of(f"u{bits}", count) for name, bits, count in counted}
-    form = r'\(ctypes\.Structure\):\n +"""`township_(\w+)`.*?_fields_ = \[(.*?)\]\n'
+    numbers = dict(re.findall(r"^([A-Z_]+) = (\d+)", text, re.M))
+    arrays = dict(re.findall(r"^(\w+) = (c_uint\d+ \* .+)", text, re.M))
+    form = r'\(ctypes\.Structure\):\n +"""`township_(\w+)`.*?_fields_ = \[(.*?)\n? *\]\n'
     found = {}
     for name, inside in re.findall(form, text, re.S):
-        fields = re.findall(r'\("(\w+)", (\w+)\)', inside)
-        found[name] = [(field, arrays.get(kind, kind.replace("c_uint", "u"))) for field, kind in fields]
+        fields = []
+        for field, kind in re.findall(r'\("(\w+)", ([^)]+)\)', inside):
+            number, *counts = arrays.get(kind, kind).split(" * ")
+            fields.append((field, kind_of(number.replace("c_uint", "u"), counts, numbers)))
+        found[name] = fields
     return found
 
 
-def fields_of(inside: str, visibility: str) -> List[Field]:
+def fields_of(inside: str, visibility: str, text: str) -> List[Field]:
     """The fields of a struct in Rust or in Rattle."""
-    return re.findall(rf"^ +{visibility} (\w+): (.*),$", inside, re.M)
+    numbers = dict(re.findall(r"const (\w+): usize = (\d+)", text))
+    fields = re.findall(rf"^ +{visibility} (\w+): (.*),$", inside, re.M)
+    return [
+        (field, kind_of(re.findall(r"u\d+", kind)[0], re.findall(r"; (\w+)", kind), numbers)) for field, kind in fields
+    ]
 
 
-def kind_of(number: str, count: str) -> str:
-    """The type of a number, or of an array of so many."""
-    return f"[{number}; {count}]" if count else number
+def kind_of(number: str, counts: List[str], numbers: Dict[str, str]) -> str:
+    """The type of a number, or of an array, in one dimension or more: how many numbers it has. The names of counts
+    are those of the header, or of the file."""
+    if not counts:
+        return number
+    known = {**dict(re.findall(r"^#define TOWNSHIP_(\w+) (\d+)", text_of(HEADER), re.M)), **numbers}
+    return f"[{number}; {prod(int(known.get(count, count)) for count in counts)}]"
 
 
 def in_lower_case(name: str) -> str:

@@ -9,7 +9,7 @@ from pathlib import Path
 from unittest import mock
 
 import township
-from samples import TOP, uneven
+from samples import NOTES, TOP, uneven
 from township import _library
 
 
@@ -47,12 +47,18 @@ class Found(unittest.TestCase):
 
 class Declared(unittest.TestCase):
     def test_sizes(self):
-        sizes = [ctypes.sizeof(struct) for struct in (_library.Plat, _library.Answer, _library.Area)]
-        self.assertEqual(sizes, [340, 48, 24])
+        structs = (_library.Plat, _library.Answer, _library.Area, _library.Figures)
+        self.assertEqual([ctypes.sizeof(struct) for struct in structs], [340, 48, 24, 2312])
 
     def test_fields_are_those_of_the_header(self):
         header = (TOP / "include" / "township.h").read_text()
-        for struct, name in ((_library.Plat, "plat"), (_library.Answer, "answer"), (_library.Area, "fraction")):
+        structs = (
+            (_library.Plat, "plat"),
+            (_library.Answer, "answer"),
+            (_library.Area, "fraction"),
+            (_library.Figures, "plat_figures"),
+        )
+        for struct, name in structs:
             body = header.partition(f"typedef struct township_{name} {{")[2].partition("}")[0]
             declared = re.findall(r"^ +uint\d+_t (\w+)", body, re.MULTILINE)
             self.assertEqual(declared, [field for field, _ in struct._fields_])
@@ -61,10 +67,12 @@ class Declared(unittest.TestCase):
         header = (TOP / "include" / "township.h").read_text()
         self.assertIn(f"#define TOWNSHIP_LINES {_library.LINES}\n", header)
         self.assertIn(f"#define TOWNSHIP_NOTES_MOST {_library.NOTES_MOST}\n", header)
+        self.assertIn(f"#define TOWNSHIP_SECTIONS {_library.SECTIONS}\n", header)
+        self.assertIn(f"#define TOWNSHIP_LOTS_MOST {_library.LOTS_MOST}\n", header)
 
     def test_verdicts_are_those_of_the_header(self):
         header = (TOP / "include" / "township.h").read_text()
-        for name in ("ACCEPTED", "REFUSED", "TRACT_REFUSED", "NO_PLAT", "NO_ACCOUNT", "NO_ROOM", "NO_MEMORY"):
+        for name in ("ACCEPTED", "REFUSED", "TRACT_REFUSED", "NO_PLAT", "NO_ACCOUNT", "NO_ROOM", "NO_MEMORY", "NO_RANGE"):
             self.assertIn(f"#define TOWNSHIP_{name} {getattr(_library, name)}u ", header)
 
 
@@ -85,6 +93,9 @@ class Verdicts(unittest.TestCase):
         "normal": lambda: uneven().normal("sec. 14."),
         "report": lambda: uneven().report([]),
         "print_plat": lambda: uneven()._print(),
+        "figures": lambda: township.Plat.read(NOTES).total,
+        "write_notes": lambda: uneven().write_notes(),
+        "acres_many": lambda: uneven().acres_many(["sec. 14."]),
         "version": township.version,
         "explain_notes": lambda: township.Plat.read(b""),
         "explain_description": lambda: uneven().acres(""),

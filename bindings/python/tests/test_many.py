@@ -53,6 +53,36 @@ class Many(unittest.TestCase):
         with self.assertRaises(TypeError):
             next(answers)
 
+    def test_by_one_call(self):
+        descriptions = [ACCEPTED, REFUSED, b"sec. 36.", "", "sec. 14, N\u00bd.", "sec. 7, lots 1 to 4."]
+        for account in ("exact", "plat"):
+            with self.subTest(account=account):
+                answers = uneven().acres_many(descriptions, account)
+                wanted = list(uneven().acres_of(descriptions, account))
+                self.assertEqual(list(answers), wanted)
+                self.assertEqual([answers[k] for k in range(len(answers))], wanted)
+                self.assertEqual((answers[-1], answers[1:3]), (wanted[-1], wanted[1:3]))
+                self.assertEqual(answers.refused, [1, 3])
+                hundredths = [0 if k in (1, 3) else 100 * acres for k, acres in enumerate(wanted)]
+                self.assertEqual(list(answers.hundredths), hundredths)
+
+    def test_by_one_call_in_ascii_alone(self):
+        answers = uneven().acres_many(("sec. 5, lot 1.", REFUSED))
+        self.assertEqual(numbers(answers), [Decimal("40.45"), (67, 19)])
+
+    def test_nothing_by_one_call(self):
+        answers = uneven().acres_many([])
+        self.assertEqual((len(answers), list(answers), answers.refused), (0, [], []))
+        with self.assertRaises(IndexError):
+            answers[0]
+
+    def test_what_is_not_answered_by_one_call(self):
+        for descriptions, error in (("sec. 14.", TypeError), ([None], TypeError), ([14], TypeError)):
+            with self.subTest(descriptions=descriptions), self.assertRaises(error):
+                uneven().acres_many(descriptions)
+        with self.assertRaises(ValueError):
+            uneven().acres_many([], account="printed")
+
     @unittest.skipUnless(find_spec("pandas"), "pandas isn't installed")
     def test_column_of_a_data_frame(self):
         import pandas

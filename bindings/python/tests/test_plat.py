@@ -72,6 +72,15 @@ class Answers(unittest.TestCase):
                 even().acres(description)
 
 
+class Written(unittest.TestCase):
+    def test_notes_make_the_plat_again(self):
+        for plat in (even(), uneven()):
+            self.assertEqual(township.Plat.read(plat.write_notes()), plat)
+
+    def test_notes_of_the_even_township(self):
+        self.assertEqual(even().write_notes(), (TOP / "samples" / "b0.csv").read_text())
+
+
 class Notes(unittest.TestCase):
     def test_none(self):
         self.assertEqual(uneven().notes("sec. 14, NE1/4, SE1/4."), [])

@@ -14,6 +14,7 @@ pub(crate) enum Verdict {
     NoAccount,
     NoRoom,
     NoMemory,
+    NoRange,
 }
 
 /// The reason that an input is refused, before it is explained.
@@ -34,6 +35,7 @@ impl Answer {
             ffi::NO_ACCOUNT => Verdict::NoAccount,
             ffi::NO_ROOM => Verdict::NoRoom,
             ffi::NO_MEMORY => Verdict::NoMemory,
+            ffi::NO_RANGE => Verdict::NoRange,
             unknown => panic!("the library answered with verdict {unknown}, which is unknown here"),
         }
     }
@@ -48,7 +50,10 @@ impl Answer {
             Verdict::Refused => Err(self.fault(None)),
             Verdict::TractRefused => Err(self.fault(Some(self.inner_refusal()))),
             Verdict::NoMemory => out_of_memory(),
-            verdict @ (Verdict::NoPlat | Verdict::NoAccount | Verdict::NoRoom) => {
+            verdict @ (Verdict::NoPlat
+            | Verdict::NoAccount
+            | Verdict::NoRoom
+            | Verdict::NoRange) => {
                 unreachable!("the library was given what it takes, and answered {verdict:?}")
             }
         }

@@ -15,6 +15,11 @@ pub(crate) const NO_PLAT: u32 = 3;
 pub(crate) const NO_ACCOUNT: u32 = 4;
 pub(crate) const NO_ROOM: u32 = 5;
 pub(crate) const NO_MEMORY: u32 = 6;
+pub(crate) const NO_RANGE: u32 = 7;
+
+/// The most lots of a section, and the number of sections.
+pub(crate) const LOTS_MOST: usize = 7;
+pub(crate) const SECTIONS: usize = 36;
 
 // Accounts.
 pub(crate) const EXACT: u32 = 0;
@@ -80,10 +85,30 @@ pub(crate) struct Fraction {
     pub(crate) over: u64,
 }
 
+/// `township_plat_figures`: the figures of a printed plat, in hundredths of an acre.
+#[repr(C)]
+#[derive(Clone, Debug, PartialEq, Eq)]
+pub(crate) struct Figures {
+    /// Those of lots, by section and lot: 0 if there is no such lot.
+    pub(crate) lots: [[u64; LOTS_MOST]; SECTIONS],
+    pub(crate) sections: [u64; SECTIONS],
+    pub(crate) township: u64,
+}
+
+impl Figures {
+    /// No figures, for a call to overwrite.
+    const BLANK: Figures = Figures {
+        lots: [[0; LOTS_MOST]; SECTIONS],
+        sections: [0; SECTIONS],
+        township: 0,
+    };
+}
+
 // The library is compiled for these layouts.
 const _: () = assert!(size_of::<Parts>() == 340 && offset_of!(Parts, number) == 336);
 const _: () = assert!(size_of::<Answer>() == 48 && offset_of!(Answer, hundredths) == 32);
 const _: () = assert!(size_of::<Fraction>() == 24 && offset_of!(Fraction, over) == 16);
+const _: () = assert!(size_of::<Figures>() == 2312 && offset_of!(Figures, sections) == 2016);
 
 // The library requires that no pointer be null, that each point to at least as many bytes as its
 // length parameter says, and that the memory a call writes not overlap its other arguments. Slices
@@ -91,6 +116,7 @@ const _: () = assert!(size_of::<Fraction>() == 24 && offset_of!(Fraction, over) 
 // and a `&mut` borrow overlaps nothing else. The library keeps no pointer after it returns.
 extern "C" {
     fn township_read(notes: *const u8, notes_length: usize, plat: *mut Parts) -> Answer;
+    fn township_write_notes(plat: *const Parts, text: *mut u8, room: usize) -> Answer;
     fn township_acres(
         plat: *const Parts,
         description: *const u8,
@@ -117,6 +143,17 @@ extern "C" {
         list: *const u8,
         list_length: usize,
         text: *mut u8,
+        room: usize,
+    ) -> Answer;
+    fn township_figures(plat: *const Parts, figures: *mut Figures) -> Answer;
+    fn township_acres_many(
+        plat: *const Parts,
+        descriptions: *const u8,
+        descriptions_length: usize,
+        offsets: *const usize,
+        offsets_length: usize,
+        account: u32,
+        answers: *mut Answer,
         room: usize,
     ) -> Answer;
     fn township_explain_notes(
@@ -154,6 +191,12 @@ pub(crate) fn read(notes: &[u8]) -> (Answer, Parts) {
     // SAFETY: a slice and a reference meet the library's requirements.
     let answer = unsafe { township_read(notes.as_ptr(), notes.len(), &mut plat) };
     (answer, plat)
+}
+
+/// Writes field notes that make the plat.
+pub(crate) fn write_notes(plat: &Parts, room: &mut [u8]) -> Answer {
+    // SAFETY: a slice and a reference meet the library's requirements.
+    unsafe { township_write_notes(plat, room.as_mut_ptr(), room.len()) }
 }
 
 /// Returns the acreage of a description, by an account.
@@ -209,6 +252,37 @@ pub(crate) fn report(plat: &Parts, list: &[u8], room: &mut [u8]) -> Answer {
             list.len(),
             room.as_mut_ptr(),
             room.len(),
+        )
+    }
+}
+
+/// Returns the figures of the printed plat. They are valid only if the answer accepts the plat.
+pub(crate) fn figures(plat: &Parts) -> (Answer, Figures) {
+    let mut figures = Figures::BLANK;
+    // SAFETY: references meet the library's requirements.
+    let answer = unsafe { township_figures(plat, &mut figures) };
+    (answer, figures)
+}
+
+/// Writes the answers to the descriptions between offsets, by an account.
+pub(crate) fn acres_many(
+    plat: &Parts,
+    descriptions: &[u8],
+    offsets: &[usize],
+    account: u32,
+    answers: &mut [Answer],
+) -> Answer {
+    // SAFETY: slices and a reference meet the library's requirements.
+    unsafe {
+        township_acres_many(
+            plat,
+            descriptions.as_ptr(),
+            descriptions.len(),
+            offsets.as_ptr(),
+            offsets.len(),
+            account,
+            answers.as_mut_ptr(),
+            answers.len(),
         )
     }
 }

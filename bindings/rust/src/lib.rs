@@ -40,6 +40,7 @@ mod data;
 mod explanation;
 #[allow(unsafe_code)]
 mod ffi;
+mod figures;
 mod note;
 mod parse;
 mod plat;
@@ -51,6 +52,7 @@ mod township;
 pub use self::account::Account;
 pub use self::acres::Acres;
 pub use self::area::Area;
+pub use self::figures::{Figures, Section};
 pub use self::note::Note;
 pub use self::parse::ParseError;
 pub use self::plat::{NoPlat, Plat, LINES};

@@ -3,6 +3,7 @@
 use crate::answer::{out_of_memory, Verdict};
 use crate::ffi::{self, Parts};
 use crate::refused::{Refused, NOTES};
+use crate::text::accepted_text_by;
 use crate::township::Township;
 use std::error::Error;
 use std::fmt;
@@ -99,6 +100,22 @@ impl Plat {
             Verdict::NoMemory => out_of_memory(),
             _ => Ok(Plat { parts }),
         }
+    }
+
+    /// Returns field notes (CSV) from which [`Plat::read`] makes this plat again.
+    ///
+    /// Each half mile in them is 40 chains long, except for the second ones of closing lines.
+    ///
+    /// ```
+    /// # let notes = include_bytes!(concat!(env!("CARGO_MANIFEST_DIR"), "/samples/b1.csv"));
+    /// # let plat = township::Plat::read(notes)?;
+    /// let written = plat.write_notes();
+    /// assert!(written.starts_with("line,between,and,quarter,corner\nT,2,N,3,W\n"));
+    /// assert_eq!(township::Plat::read(written.as_bytes())?, plat);
+    /// # Ok::<(), township::Refused>(())
+    /// ```
+    pub fn write_notes(&self) -> String {
+        accepted_text_by(|room| ffi::write_notes(&self.parts, room))
     }
 
     /// Returns the township's designation.

@@ -141,6 +141,34 @@ fn printed() {
     assert_eq!(text.lines().count(), 37);
 }
 
+#[test]
+fn figures_are_those_of_the_text() {
+    let plat = uneven();
+    let figures = plat.figures();
+    let mut text = String::new();
+    for section in &figures.sections {
+        text.push_str(&format!("sec. {}: ", section.number));
+        for (lot, acres) in (1..).zip(&section.lots) {
+            text.push_str(&format!("lot {lot} {acres}, "));
+        }
+        text.push_str(&format!("total {}\n", section.total));
+    }
+    text.push_str(&format!("township total {}\n", figures.total));
+    assert_eq!(text, plat.print());
+}
+
+#[test]
+fn sections_and_lots_by_number() {
+    let figures = uneven().figures();
+    let section = figures.section(6).unwrap();
+    assert_eq!((section.number, section.lots.len()), (6, 7));
+    assert_eq!(section.lot(7), section.lots.last().copied());
+    assert_eq!((section.lot(0), section.lot(8)), (None, None));
+    assert_eq!(figures.section(14).unwrap().lot(1), None);
+    assert_eq!((figures.section(0), figures.section(37)), (None, None));
+    assert_eq!(figures.section(36).unwrap().number, 36);
+}
+
 /// The lots and the section of a printed line, such as `sec. 7: lot 1 39.18, total 636.40`, with
 /// their figures.
 fn printed_lands(line: &str) -> Vec<(String, &str)> {
@@ -347,6 +375,22 @@ fn many_in_order() {
         ]
     );
     assert_eq!(plat.acres_of([""; 0]).count(), 0);
+}
+
+#[test]
+fn many_by_one_call() {
+    let plat = uneven();
+    let descriptions = [
+        "sec. 36.",
+        "",
+        "sec. 7, lots 1 to 4.",
+        "sec. 14, N½ and NE¼.",
+    ];
+    for account in [Account::Exact, Account::Plat] {
+        let wanted: Vec<_> = descriptions.map(|land| plat.acres_by(land, account)).into();
+        assert_eq!(plat.acres_many(&descriptions, account), wanted);
+    }
+    assert!(plat.acres_many(&[""; 0], Account::Exact).is_empty());
 }
 
 #[test]

@@ -5,7 +5,7 @@ mod samples;
 use samples::{uneven, NOTES, TRACTS};
 use std::sync::Barrier;
 use std::thread;
-use township::{Account, Acres, Area, Plat, Refused, Report, Township};
+use township::{Account, Acres, Area, Figures, Note, Plat, Refused, Report, Township};
 
 const THREADS: usize = 4;
 const ROUNDS: usize = 200;
@@ -21,7 +21,11 @@ struct Answers {
     by_plat: Result<Acres, Refused>,
     area: Result<Area, Refused>,
     normal: Result<String, Refused>,
+    many: Vec<Result<Acres, Refused>>,
+    notes: Result<Vec<Note>, Refused>,
     printed: String,
+    figures: Figures,
+    written: String,
     report: Result<String, Refused>,
     refused: Result<Acres, Refused>,
     refused_notes: Result<Plat, Refused>,
@@ -35,7 +39,11 @@ fn answers_on(plat: &Plat) -> Answers {
         by_plat: plat.acres_by("sec. 7, lots 1 to 4.", Account::Plat),
         area: plat.area("sec. 6, lot 1."),
         normal: plat.normal("sec. 14, SE1/4, NE1/4, NW1/4."),
+        many: plat.acres_many(&["sec. 6.", "sec. 7, lot 5."], Account::Exact),
+        notes: plat.notes("sec. 14, NE1/4 SE1/4."),
         printed: plat.print(),
+        figures: plat.figures(),
+        written: plat.write_notes(),
         report: plat.report(TRACTS),
         refused: plat.acres("sec. 14, NE1/4 and N1/2."),
         refused_notes: Plat::read(b"line,between\n"),

@@ -3,6 +3,7 @@ ghost use Rattle.std.specs.Prelude.{◌≡◌, ◌≢◌};
 ghost use Rattle.twp_calls.specs.Answers.{ACCEPTED};
 ghost use Rattle.twp_calls.specs.Calls.{IsReadCall, IsAcresCall, IsAreaCall, IsNormalCall};
 ghost use Rattle.twp_calls.specs.Calls.{IsPrintCall, IsReportCall};
+ghost use Rattle.twp_calls.specs.WrittenNotes.{IsWriteNotesCall};
 
 use std::alloc::Global;
 use twp_calls::{TownshipAnswer, TownshipFraction, TownshipPlat};
@@ -18,6 +19,19 @@ pub extern "C" fn township_read(
     ensures kept { result.verdict ≢ ACCEPTED → plat.new ≡ plat.old }
 {
     twp_calls::township_read(alloc, notes, plat)
+}
+
+/// Field notes that make a plat.
+#[unsafe(no_mangle)]
+pub extern "C" fn township_write_notes(
+    alloc: Global,
+    plat: &TownshipPlat,
+    text: &mut [u8],
+) -> TownshipAnswer
+    ensures answer { IsWriteNotesCall plat.now text.old text.new result }
+    ensures kept { result.verdict ≢ ACCEPTED → text.new ≡ text.old }
+{
+    twp_calls::township_write_notes(alloc, plat, text)
 }
 
 /// The acres of a description on a plat, by an account.

@@ -4,3 +4,4 @@
 
 mod explaining;
 mod exports;
+mod figures;

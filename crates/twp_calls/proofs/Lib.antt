@@ -1,3 +1,6 @@
 pub mod CallFacts
+pub mod FigureFacts
+pub mod ManyFacts
 pub mod NoteFacts
 pub mod PlaceFacts
+pub mod WritingFacts

@@ -31,6 +31,9 @@ NO_ROOM = 5
 abbrev pub NO_MEMORY : ℕ
 NO_MEMORY = 6
 
+abbrev pub NO_RANGE : ℕ
+NO_RANGE = 7
+
 -- the verdict is one of a refusal
 abbrev pub IsRefused : ℕ → Type 0
 IsRefused verdict = (verdict ≡ REFUSED) ⊎ (verdict ≡ TRACT_REFUSED)

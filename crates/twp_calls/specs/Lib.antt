@@ -1,7 +1,10 @@
 pub mod Answers
 pub mod GivenPlats
 pub mod Calls
+pub mod Figures
+pub mod ManyAnswers
 pub mod Names
 pub mod ShownTexts
 pub mod Explanations
+pub mod WrittenNotes
 pub mod steps

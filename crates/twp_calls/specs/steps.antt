@@ -1,2 +1,4 @@
 -- What private functions promise one another.
+pub mod Filling
 pub mod Noting
+pub mod Returning

@@ -6,11 +6,14 @@ mod account;
 mod answer;
 mod answering;
 mod explaining;
+mod figures;
+mod many;
 mod plat;
 mod reading;
 mod text;
 mod verdict;
 mod version;
+mod writing;
 
 pub use answer::TownshipAnswer;
 pub use answering::{
@@ -20,4 +23,7 @@ pub use answering::{
 pub use explaining::{
     township_explain_description, township_explain_list, township_explain_notes, township_version,
 };
+pub use figures::{TownshipPlatFigures, township_figures};
+pub use many::township_acres_many;
 pub use plat::TownshipPlat;
+pub use writing::township_write_notes;

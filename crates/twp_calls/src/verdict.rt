@@ -14,6 +14,8 @@ pub const NO_ACCOUNT: u32 = 4;
 pub const NO_ROOM: u32 = 5;
 /// Memory ran out.
 pub const NO_MEMORY: u32 = 6;
+/// The offsets that were given have no bytes between them.
+pub const NO_RANGE: u32 = 7;
 
 /// The refusal of a tract whose description is refused itself.
 pub const TRACT_NUMBER: u32 = 83;

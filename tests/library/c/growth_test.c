@@ -110,6 +110,8 @@ static bytes notes;
 static township_plat plat;
 static township_plat read_to;
 static township_fraction area;
+static township_plat_figures figures;
+static township_answer answers[2];
 static room *texts;
 
 #define BYTES(text) ((const uint8_t *)(text)), (sizeof(text) - 1)
@@ -161,6 +163,20 @@ static township_answer call_explain_list(void) {
                                  BYTES("tracts.csv"), room_text(texts), MOST_TEXT);
 }
 
+static township_answer call_write_notes(void) {
+    return township_write_notes(&plat, room_text(texts), MOST_TEXT);
+}
+
+static township_answer call_figures(void) {
+    return township_figures(&plat, &figures);
+}
+
+static township_answer call_many(void) {
+    static const size_t offsets[] = {0, 8, 22};
+
+    return township_acres_many(&plat, BYTES("sec. 14.sec. 7, lot 1."), offsets, 3, TOWNSHIP_EXACT, answers, 2);
+}
+
 static township_answer call_note_description(void) {
     return township_explain_description(&plat, BYTES("sec. 14, NE1/4 SE1/4."), BYTES("land.txt"), room_text(texts),
                                         MOST_TEXT);
@@ -188,12 +204,15 @@ static const struct {
     {"township_explain_list", call_explain_list},
     {"township_explain_description, accepted with a note", call_note_description},
     {"township_explain_list, accepted with a note", call_note_list},
+    {"township_write_notes", call_write_notes},
+    {"township_figures", call_figures},
 };
 
 /* Everything that a call can write. */
 typedef struct written {
     township_plat read_to;
     township_fraction area;
+    township_plat_figures figures;
     room texts;
 } written;
 
@@ -202,12 +221,15 @@ static written before, after, found;
 static void clear(void) {
     memset(&read_to, 0, sizeof read_to);
     memset(&area, 0, sizeof area);
+    memset(&figures, 0, sizeof figures);
+    memset(answers, 0, sizeof answers);
     room_clear(texts);
 }
 
 static void keep(written *in) {
     in->read_to = read_to;
     in->area = area;
+    in->figures = figures;
     in->texts = *texts;
 }
 
@@ -252,6 +274,24 @@ static void refuse_in_turn(const char *name, township_answer (*call)(void)) {
     printf("%s: %ld growths refused, %ld of them done without\n", name, growth - 1, without);
 }
 
+/* Of many descriptions, each is answered as usual, or that memory ran out. */
+static void refuse_many_in_turn(void) {
+    township_answer wanted[2];
+    long growth = 0;
+
+    CHECK_ANSWER(make(call_many, 0, &after), with_length(TOWNSHIP_ACCEPTED, 2));
+    memcpy(wanted, answers, sizeof wanted);
+    CHECK(wanted[0].hundredths == 64000 && wanted[1].hundredths == 3918);
+    do {
+        CHECK_ANSWER(make(call_many, ++growth, &found), with_length(TOWNSHIP_ACCEPTED, 2));
+        for (int i = 0; i < 2; i++) {
+            CHECK(same_answer(answers[i], wanted[i]) || same_answer(answers[i], bare(TOWNSHIP_NO_MEMORY)));
+        }
+    } while (was_refused && growth < 100000);
+    CHECK(!was_refused);
+    printf("township_acres_many: %ld growths refused\n", growth - 1);
+}
+
 int main(int count, char **words) {
     notes = bytes_of_file(count > 1 ? words[1] : "samples", "b1.csv");
     texts = room_new();
@@ -259,6 +299,7 @@ int main(int count, char **words) {
     for (size_t i = 0; i < sizeof calls / sizeof *calls; i++) {
         refuse_in_turn(calls[i].name, calls[i].call);
     }
+    refuse_many_in_turn();
     drop(notes);
     free(texts);
     return checked();

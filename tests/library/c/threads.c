@@ -7,7 +7,7 @@
 #include "check.h"
 
 #define THREADS 4
-#define CALLS 13
+#define CALLS 16
 
 /* The stack that the library requires, and room for the thread's own calls. */
 #define STACK ((256 + 64) * 1024)
@@ -17,6 +17,8 @@ typedef struct round_answers {
     township_answer answers[CALLS];
     township_plat read;
     township_fraction area;
+    township_plat_figures figures;
+    township_answer many[2];
     uint8_t texts[CALLS][8192];
 } round_answers;
 
@@ -34,6 +36,7 @@ typedef struct job {
 
 /* Calls each function once. */
 static void call_all(bytes notes, const township_plat *plat, round_answers *to) {
+    static const size_t offsets[] = {0, 7, 21};
     township_answer *answer = to->answers;
 
     memset(to, 0, sizeof *to);
@@ -56,6 +59,15 @@ static void call_all(bytes notes, const township_plat *plat, round_answers *to) 
                                               to->texts[11], sizeof to->texts[11]);
     answer[12] = township_explain_list(plat, BYTES("name,description\nA,\"sec. 14, NE1/4 SE1/4.\"\n"),
                                        BYTES("tracts.csv"), to->texts[12], sizeof to->texts[12]);
+    answer[13] = township_figures(plat, &to->figures);
+    answer[14] = township_acres_many(plat, BYTES("sec. 6.sec. 7, lot 5."), offsets, 3, TOWNSHIP_EXACT, to->many, 2);
+    answer[15] = township_write_notes(plat, to->texts[15], sizeof to->texts[15]);
+}
+
+/* Whether the figures and the answers to many descriptions of two rounds are the same. */
+static bool same_figures(const round_answers *a, const round_answers *b) {
+    return memcmp(&a->figures, &b->figures, sizeof a->figures) == 0 &&
+           same_answer(a->many[0], b->many[0]) && same_answer(a->many[1], b->many[1]);
 }
 
 static bool same_round(const round_answers *a, const round_answers *b) {
@@ -65,7 +77,7 @@ static bool same_round(const round_answers *a, const round_answers *b) {
         }
     }
     return memcmp(&a->read, &b->read, sizeof a->read) == 0 && memcmp(&a->area, &b->area, sizeof a->area) == 0 &&
-           memcmp(a->texts, b->texts, sizeof a->texts) == 0;
+           memcmp(a->texts, b->texts, sizeof a->texts) == 0 && same_figures(a, b);
 }
 
 static void *run(void *given) {

@@ -13,6 +13,7 @@
 _Static_assert(sizeof(township_plat) == 340, "a plat has 340 bytes");
 _Static_assert(sizeof(township_answer) == 48, "an answer has 48 bytes");
 _Static_assert(sizeof(township_fraction) == 24, "a fraction has 24 bytes");
+_Static_assert(sizeof(township_plat_figures) == 2312, "the figures have 7 * 36 + 36 + 1 numbers");
 _Static_assert(offsetof(township_plat, number) == 336, "a township follows the 84 lines");
 _Static_assert(offsetof(township_answer, hundredths) == 32, "hundredths follow eight words");
 
@@ -52,6 +53,11 @@ static township_answer write_normal(const township_plat *plat, bytes input, uint
 static township_answer write_print(const township_plat *plat, bytes input, uint8_t *text, size_t size) {
     (void)input;
     return township_print(plat, text, size);
+}
+
+static township_answer write_notes(const township_plat *plat, bytes input, uint8_t *text, size_t size) {
+    (void)input;
+    return township_write_notes(plat, text, size);
 }
 
 static township_answer write_report(const township_plat *plat, bytes input, uint8_t *text, size_t size) {
@@ -235,6 +241,25 @@ static void reads_notes(const char *samples, bytes notes, const township_plat *p
     drop(missing);
 }
 
+/* The notes that are written for a plat make it again. Those of the even township are its sample. */
+static void writes_notes(const char *samples, const township_plat *plat, const township_plat *even) {
+    bytes even_notes = bytes_of_file(samples, "b0.csv");
+    char *text = calloc(MOST_TEXT + 1, 1);
+    township_plat again = *even;
+    township_answer answer = township_write_notes(plat, (uint8_t *)text, MOST_TEXT);
+
+    CHECK_ANSWER(answer, with_length(TOWNSHIP_ACCEPTED, strlen(text)));
+    CHECK_ANSWER(township_read((uint8_t *)text, strlen(text), &again), bare(TOWNSHIP_ACCEPTED));
+    CHECK(memcmp(&again, plat, sizeof again) == 0);
+    check_text(write_notes, plat, (bytes){NULL, 0}, bare(TOWNSHIP_ACCEPTED), text);
+
+    memset(text, 0, MOST_TEXT);
+    answer = township_write_notes(even, (uint8_t *)text, MOST_TEXT);
+    CHECK(answer.length == even_notes.length && memcmp(text, even_notes.at, even_notes.length) == 0);
+    free(text);
+    drop(even_notes);
+}
+
 static void writes_normal(const township_plat *plat) {
     bytes parts = bytes_of("sec. 14, SE1/4, NE1/4, NW1/4.");
 
@@ -261,6 +286,100 @@ static void reports(const char *samples, const township_plat *plat) {
     check_text(write_report, plat, list, bare(TOWNSHIP_ACCEPTED),
                "tract A: 39.18 acres\ntract B: 39.03 acres\ntotal: 78.20 acres\nremaining: 22959.37 acres\n");
     drop(list);
+}
+
+/* The number of lots of a section. */
+static uint32_t lots_of(uint32_t section) {
+    bool is_northern = section <= 6;
+    bool is_western = section == 6 || section == 7 || section == 18 || section == 19 || section == 30 ||
+                      section == 31;
+
+    return is_northern && is_western ? 7 : is_northern || is_western ? 4 : 0;
+}
+
+/* Figures are those that townships_acres gives to the same land, and 0 for lots that are not there. */
+static void has_figures(const township_plat *plat) {
+    township_plat_figures figures;
+    char text[64];
+
+    memset(&figures, 0xFE, sizeof figures);
+    CHECK_ANSWER(township_figures(plat, &figures), bare(TOWNSHIP_ACCEPTED));
+    CHECK(figures.lots[5 - 1][1 - 1] == 4045 && figures.lots[5 - 1][2 - 1] == 4055);
+    CHECK(figures.lots[7 - 1][1 - 1] == 3918 && figures.lots[7 - 1][4 - 1] == 3903);
+    CHECK(figures.sections[5 - 1] == 64240 && figures.sections[36 - 1] == 64000);
+    CHECK(figures.township == 2303757);
+    for (uint32_t section = 1; section <= TOWNSHIP_SECTIONS; section++) {
+        snprintf(text, sizeof text, "sec. %u, all.", section);
+        CHECK_ANSWER(acres_of(plat, text, TOWNSHIP_EXACT), acres(figures.sections[section - 1]));
+        for (uint32_t lot = 1; lot <= TOWNSHIP_LOTS_MOST; lot++) {
+            uint64_t figure = figures.lots[section - 1][lot - 1];
+
+            snprintf(text, sizeof text, "sec. %u, lot %u.", section, lot);
+            if (lot <= lots_of(section)) {
+                CHECK_ANSWER(acres_of(plat, text, TOWNSHIP_EXACT), acres(figure));
+            } else {
+                CHECK(figure == 0 && acres_of(plat, text, TOWNSHIP_EXACT).number == 64);
+            }
+        }
+    }
+}
+
+/* Answers descriptions one by one, and all by one call: the answers are the same. */
+static void answers_many(const township_plat *plat) {
+    static const char *const texts[] = {ONE_LOT, NAMED_TWICE, "", "sec. 7, lots 1 to 4.", "secs. 14-15."};
+    township_answer answers[COUNT(texts) + 1];
+    size_t offsets[COUNT(texts) + 1] = {0};
+    char row[256] = "";
+    bytes all;
+
+    for (size_t i = 0; i < COUNT(texts); i++) {
+        strcat(row, texts[i]);
+        offsets[i + 1] = strlen(row);
+    }
+    all = bytes_of(row);
+    for (uint32_t account = TOWNSHIP_EXACT; account <= TOWNSHIP_BY_PLAT; account++) {
+        answers[COUNT(texts)] = bare(99);
+        CHECK_ANSWER(township_acres_many(plat, all.at, all.length, offsets, COUNT(offsets), account, answers,
+                                         COUNT(answers)),
+                     with_length(TOWNSHIP_ACCEPTED, COUNT(texts)));
+        for (size_t i = 0; i < COUNT(texts); i++) {
+            CHECK_ANSWER(answers[i], acres_of(plat, texts[i], account));
+        }
+        CHECK_ANSWER(answers[COUNT(texts)], bare(99));
+    }
+    answers[0] = bare(99);
+    CHECK_ANSWER(township_acres_many(plat, all.at, all.length, offsets, COUNT(offsets), TOWNSHIP_EXACT, answers,
+                                     COUNT(texts) - 1),
+                 with_length(TOWNSHIP_NO_ROOM, COUNT(texts)));
+    CHECK_ANSWER(township_acres_many(plat, all.at, all.length, offsets, COUNT(offsets), 2, answers,
+                                     COUNT(answers)),
+                 bare(TOWNSHIP_NO_ACCOUNT));
+    CHECK_ANSWER(answers[0], bare(99));
+    drop(all);
+}
+
+/* Offsets that are not in order, or beyond the bytes, have no description between them. */
+static void answers_ranges(const township_plat *plat) {
+    bytes all = bytes_of(ONE_LOT);
+    const size_t offsets[] = {0, all.length, 0, all.length + 1, 0, SIZE_MAX, all.length, all.length};
+    township_answer answers[COUNT(offsets) - 1];
+
+    CHECK_ANSWER(township_acres_many(plat, all.at, all.length, offsets, COUNT(offsets), TOWNSHIP_EXACT, answers,
+                                     COUNT(answers)),
+                 with_length(TOWNSHIP_ACCEPTED, COUNT(answers)));
+    CHECK_ANSWER(answers[0], acres(4045));
+    CHECK_ANSWER(answers[1], bare(TOWNSHIP_NO_RANGE));
+    CHECK_ANSWER(answers[2], bare(TOWNSHIP_NO_RANGE));
+    CHECK_ANSWER(answers[3], bare(TOWNSHIP_NO_RANGE));
+    CHECK_ANSWER(answers[4], bare(TOWNSHIP_NO_RANGE));
+    CHECK_ANSWER(answers[5], bare(TOWNSHIP_NO_RANGE));
+    CHECK_ANSWER(answers[6], refused(44, 0));
+    /* Without offsets, or with only one, there are no descriptions. */
+    for (size_t count = 0; count < 2; count++) {
+        CHECK_ANSWER(township_acres_many(plat, all.at, all.length, offsets, count, TOWNSHIP_EXACT, answers, 0),
+                     with_length(TOWNSHIP_ACCEPTED, 0));
+    }
+    drop(all);
 }
 
 static const struct {
@@ -414,7 +533,10 @@ static void has_version(const char *version) {
 static void refuses_plat(const township_plat *plat) {
     township_answer no_plat = bare(TOWNSHIP_NO_PLAT);
     township_fraction area = {1, 2, 3};
+    township_plat_figures figures = {.lots = {{1}}};
+    township_answer kept = bare(99);
     bytes land = bytes_of(ONE_LOT);
+    const size_t offsets[] = {0, land.length};
     bytes list = bytes_of("name,description\n");
 
     CHECK_ANSWER(acres_of(plat, ONE_LOT, TOWNSHIP_EXACT), no_plat);
@@ -422,7 +544,12 @@ static void refuses_plat(const township_plat *plat) {
     keeps_area(area_of(plat, ONE_LOT, TOWNSHIP_EXACT, &area), no_plat, area);
     check_no_text(write_normal, plat, land, no_plat);
     check_no_text(write_print, plat, land, no_plat);
+    check_no_text(write_notes, plat, land, no_plat);
     check_no_text(write_report, plat, list, no_plat);
+    CHECK_ANSWER(township_figures(plat, &figures), no_plat);
+    CHECK(figures.lots[0][0] == 1 && figures.sections[0] == 0 && figures.township == 0);
+    CHECK_ANSWER(township_acres_many(plat, land.at, land.length, offsets, 2, TOWNSHIP_EXACT, &kept, 1), no_plat);
+    CHECK_ANSWER(kept, bare(99));
     check_no_text(explain_land, plat, land, no_plat);
     check_no_text(explain_list, plat, list, no_plat);
     drop(land);
@@ -509,9 +636,13 @@ int main(int count, char **words) {
     reads_notes(samples, notes, &plat);
     has_acres(&plat);
     has_areas(&plat);
+    writes_notes(samples, &plat, &even);
     writes_normal(&plat);
     prints(&plat);
+    has_figures(&plat);
     reports(samples, &plat);
+    answers_many(&plat);
+    answers_ranges(&plat);
     has_version(version);
     refuses_descriptions(&plat);
     refuses_lists(&plat);

@@ -9,6 +9,7 @@
 static_assert(sizeof(township_plat) == 340, "a plat has 340 bytes");
 static_assert(sizeof(township_answer) == 48, "an answer has 48 bytes");
 static_assert(sizeof(township_fraction) == 24, "a fraction has 24 bytes");
+static_assert(sizeof(township_plat_figures) == 2312, "the figures have 7 * 36 + 36 + 1 numbers");
 
 static const std::uint8_t *bytes(const std::string &text) {
     return reinterpret_cast<const std::uint8_t *>(text.data());
@@ -24,10 +25,20 @@ static std::uint64_t hundredths(const std::string &notes, const std::string &des
     return answer.verdict == TOWNSHIP_ACCEPTED ? answer.hundredths : 0;
 }
 
+// The figure of lot 1 of section 5, which is among all the figures of the plat.
+static std::uint64_t figure(const std::string &notes) {
+    township_plat plat{};
+    township_plat_figures figures{};
+    const bool holds = township_read(bytes(notes), notes.size(), &plat).verdict == TOWNSHIP_ACCEPTED &&
+                       township_figures(&plat, &figures).verdict == TOWNSHIP_ACCEPTED;
+
+    return holds ? figures.lots[5 - 1][1 - 1] : 0;
+}
+
 int main(int count, char **words) {
     std::ifstream file(count > 1 ? words[1] : "samples/b1.csv", std::ios::binary);
     const std::string notes((std::istreambuf_iterator<char>(file)), std::istreambuf_iterator<char>());
-    const bool holds = hundredths(notes, "sec. 5, lot 1.") == 4045;
+    const bool holds = hundredths(notes, "sec. 5, lot 1.") == 4045 && figure(notes) == 4045;
 
     std::cout << holds << " passed, " << !holds << " failed\n";
     return !holds;

@@ -18,6 +18,7 @@ from __future__ import annotations
 from . import _library
 from ._account import Account
 from ._figures import Report, Section, Tract
+from ._many import Answers
 from ._note import Note
 from ._plat import Plat
 from ._refused import Refusal, Refused, failure_of
@@ -27,6 +28,7 @@ from ._version import __version__
 
 __all__ = [
     "Account",
+    "Answers",
     "EastWest",
     "NorthSouth",
     "Note",
@@ -42,7 +44,7 @@ __all__ = [
     "version",
 ]
 
-for _public in (Note, Plat, Refusal, Refused, Report, Section, Township, Tract):
+for _public in (Answers, Note, Plat, Refusal, Refused, Report, Section, Township, Tract):
     # Tracebacks and pickles name each class as users import it.
     _public.__module__ = __name__
 del _public

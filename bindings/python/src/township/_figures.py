@@ -1,9 +1,10 @@
-"""The figures in printed plats and reports, parsed from the library's texts."""
+"""The figures of printed plats, and those in reports, which are parsed from the library's texts."""
 from __future__ import annotations
 
 from decimal import Context, Decimal
-from typing import Dict, Iterable, NamedTuple, Tuple
+from typing import Dict, Iterable, List, NamedTuple, Tuple
 
+from . import _library
 from ._text import Text, encoded
 
 # A 64-bit number has at most 20 digits, so nothing is rounded, whatever the caller's decimal context is.
@@ -53,18 +54,20 @@ class Report(NamedTuple):
     remaining: Decimal
 
 
-def sections_of(text: str) -> Tuple[Dict[int, Section], Decimal]:
-    """Return the sections of a printed plat, by section number, and the township's total."""
-    *lines, last = text.splitlines()
-    sections = map(_section_of, lines)
-    return {section.number: section for section in sections}, Decimal(last.rpartition(" ")[2])
+def sections_of(figures: _library.Figures) -> Dict[int, Section]:
+    """Return the sections of a printed plat, by section number."""
+    numbers = range(1, _library.SECTIONS + 1)
+    return {number: _section_of(number, lots, total) for number, lots, total in zip(numbers, *_rows(figures))}
 
 
-def _section_of(line: str) -> Section:
-    """Parse a line such as `sec. 7: lot 1 39.18, lot 2 39.13, lot 3 39.08, lot 4 39.03, total 636.40`."""
-    head, _, figures = line.partition(": ")
-    *lots, total = [Decimal(figure.rpartition(" ")[2]) for figure in figures.split(", ")]
-    return Section(int(head.rpartition(" ")[2]), tuple(lots), total)
+def _rows(figures: _library.Figures) -> Tuple[List[List[int]], List[int]]:
+    """Return the figures of the lots of each section, and those of the sections."""
+    return [list(lots) for lots in figures.lots], list(figures.sections)
+
+
+def _section_of(number: int, lots: List[int], total: int) -> Section:
+    """Return a section. The places of lots that it does not have are 0, which is no lot's figure."""
+    return Section(number, tuple(map(acres_of_hundredths, filter(None, lots))), acres_of_hundredths(total))
 
 
 def report_of(text: str) -> Report:

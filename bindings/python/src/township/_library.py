@@ -10,6 +10,10 @@ from typing import Any, Callable, Tuple
 #: The number of section lines in a township.
 LINES = 84
 
+#: The number of sections in a township, and the most lots of a section.
+SECTIONS = 36
+LOTS_MOST = 7
+
 #: The maximum size of field notes, in bytes: longer notes are refused.
 NOTES_MOST = 65_536
 
@@ -21,6 +25,7 @@ NO_PLAT = 3
 NO_ACCOUNT = 4
 NO_ROOM = 5
 NO_MEMORY = 6
+NO_RANGE = 7
 
 # Accounts.
 EXACT = 0
@@ -81,6 +86,16 @@ class Area(ctypes.Structure):
     _fields_ = [("units_low", c_uint64), ("units_high", c_uint64), ("over", c_uint64)]
 
 
+class Figures(ctypes.Structure):
+    """`township_plat_figures`: 2,312 bytes."""
+
+    _fields_ = [
+        ("lots", c_uint64 * LOTS_MOST * SECTIONS),
+        ("sections", c_uint64 * SECTIONS),
+        ("township", c_uint64),
+    ]
+
+
 def _load() -> ctypes.CDLL:
     """Load the library that the environment variable names, or else the one in the package's folder."""
     path = os.environ.get(VARIABLE) or BESIDE
@@ -97,6 +112,8 @@ _LIBRARY = _load()
 _PLAT = POINTER(Plat)
 _BYTES = (c_char_p, c_size_t)
 _ROOM = (POINTER(c_char), c_size_t)
+_OFFSETS = (POINTER(c_size_t), c_size_t)
+_ANSWERS = (POINTER(Answer), c_size_t)
 
 
 def _call(name: str, *types: Any) -> Callable[..., Answer]:
@@ -109,11 +126,14 @@ def _call(name: str, *types: Any) -> Callable[..., Answer]:
 
 
 read = _call("township_read", *_BYTES, _PLAT)
+write_notes = _call("township_write_notes", _PLAT, *_ROOM)
 acres = _call("township_acres", _PLAT, *_BYTES, c_uint32)
 area = _call("township_area", _PLAT, *_BYTES, c_uint32, POINTER(Area))
 normal = _call("township_normal", _PLAT, *_BYTES, *_ROOM)
 print_plat = _call("township_print", _PLAT, *_ROOM)
 report = _call("township_report", _PLAT, *_BYTES, *_ROOM)
+figures = _call("township_figures", _PLAT, POINTER(Figures))
+acres_many = _call("township_acres_many", _PLAT, *_BYTES, *_OFFSETS, c_uint32, *_ANSWERS)
 explain_notes = _call("township_explain_notes", *_BYTES, *_BYTES, *_ROOM)
 explain_description = _call("township_explain_description", _PLAT, *_BYTES, *_BYTES, *_ROOM)
 explain_list = _call("township_explain_list", _PLAT, *_BYTES, *_BYTES, *_ROOM)

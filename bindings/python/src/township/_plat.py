@@ -11,6 +11,7 @@ from typing import Any, Iterable, Iterator, List, Mapping, Optional, Sequence, T
 from . import _library
 from ._account import Account, code_of
 from ._figures import Report, Section, acres_of_hundredths, list_of, report_of, sections_of
+from ._many import Answers, answers_of
 from ._note import Note, notes_of
 from ._refused import DESCRIPTION, LIST, NOTES, Refused, exception_of, failure_of, hinted
 from ._text import Path, Text, encoded, names_a_file, shown
@@ -120,8 +121,25 @@ class Plat:
         True
         """
         plat = cls._of_struct(struct_of(township, closing_quarters))
-        plat._print()
+        plat._printed_figures()
         return plat
+
+    def write_notes(self) -> str:
+        """Return field notes (CSV) from which `Plat.read` makes this plat again.
+
+        Each half mile in them is 40 chains long, except for the second ones of closing lines.
+
+        >>> print(plat.write_notes()[:45])
+        line,between,and,quarter,corner
+        T,2,N,3,W
+        N,1
+        >>> township.Plat.read(plat.write_notes()) == plat
+        True
+        """
+        answer, text = _library.text_by(_library.write_notes, byref(self._parts))
+        if answer.verdict != _library.ACCEPTED:
+            raise failure_of(answer.verdict)
+        return text
 
     @property
     def township(self) -> Township:
@@ -255,6 +273,20 @@ write a comma after NE1/4 (320.00 acres)
             raise TypeError("this takes many descriptions; for one there is Plat.acres")
         return self._each_acres(descriptions, code_of(account))
 
+    def acres_many(self, descriptions: Sequence[Text], account: Account = "exact") -> Answers:
+        """Return the answers to many descriptions, which one call of the library gives.
+
+        The answers are those of `acres_of`, as a sequence. This is several times as fast, and takes about 100
+        bytes of memory for each description, beyond their text.
+
+        >>> answers = plat.acres_many(["sec. 5, lot 1.", "sec. 5, lot 5.", "sec. 36."])
+        >>> answers[0], answers[1].number, answers[2]
+        (Decimal('40.45'), 64, Decimal('640.00'))
+        """
+        if isinstance(descriptions, (str, bytes)):
+            raise TypeError("this takes many descriptions; for one there is Plat.acres")
+        return answers_of(byref(self._parts), list(descriptions), code_of(account), self._exception_of)
+
     def _each_acres(self, descriptions: Iterable[Text], code: int) -> Iterator[Union[Decimal, Refused]]:
         """Yield the answers of `acres_of`. Whatever does not depend on the description is computed once."""
         call = _library.acres
@@ -315,8 +347,12 @@ write a comma after NE1/4 (320.00 acres)
     def _printed_figures(self) -> Tuple[Mapping[int, Section], Decimal]:
         """Return the figures of the printed plat, which are cached."""
         if self._figures is None:
-            sections, total = sections_of(self.text)
-            self._figures = MappingProxyType(sections), total
+            figures = _library.Figures()
+            answer = _library.figures(byref(self._parts), byref(figures))
+            if answer.verdict != _library.ACCEPTED:
+                raise failure_of(answer.verdict)
+            sections = MappingProxyType(sections_of(figures))
+            self._figures = sections, acres_of_hundredths(figures.township)
         return self._figures
 
     def _exception_of(self, answer: _library.Answer, given: bytes) -> Exception:

@@ -28,6 +28,7 @@ fn numbers_are_those_of_the_header() {
         ("NO_ACCOUNT", NO_ACCOUNT),
         ("NO_ROOM", NO_ROOM),
         ("NO_MEMORY", NO_MEMORY),
+        ("NO_RANGE", NO_RANGE),
         ("EXACT", EXACT),
         ("BY_PLAT", BY_PLAT),
         ("NORTH", u32::from(NORTH)),
@@ -50,7 +51,10 @@ fn parts_of_no_plat_are_found_out_by_each_call() {
     assert_eq!(area(&none, b"sec. 14.", EXACT).0, no_plat);
     assert_eq!(normal(&none, b"sec. 14.", &mut room), no_plat);
     assert_eq!(print_plat(&none, &mut room), no_plat);
+    assert_eq!(write_notes(&none, &mut room), no_plat);
     assert_eq!(report(&none, b"name,description\n", &mut room), no_plat);
+    assert_eq!(figures(&none), (no_plat, Figures::BLANK));
+    assert_eq!(acres_many(&none, b"", &[0], EXACT, &mut []), no_plat);
     assert_eq!(
         explain_description(&none, b"sec. 37.", "land", &mut room),
         no_plat

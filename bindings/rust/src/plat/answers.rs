@@ -5,7 +5,8 @@ use crate::account::Account;
 use crate::acres::Acres;
 use crate::answer::Fault;
 use crate::area::Area;
-use crate::ffi;
+use crate::ffi::{self, Answer};
+use crate::figures::Figures;
 use crate::note::Note;
 use crate::refused::{Refused, DESCRIPTION, LIST};
 use crate::report::{list_of, Report};
@@ -54,10 +55,8 @@ impl Plat {
         account: Account,
     ) -> Result<Acres, Refused> {
         let description = description.as_ref();
-        match ffi::acres(&self.parts, description, account.code()).accepted() {
-            Ok(answer) => Ok(Acres::from_hundredths(answer.hundredths)),
-            Err(fault) => Err(self.description_refused(fault, description)),
-        }
+        let answer = ffi::acres(&self.parts, description, account.code());
+        self.acres_in(answer, description)
     }
 
     /// Returns the exact area of the land described, in acres. [`Plat::acres`] returns it rounded.
@@ -188,6 +187,39 @@ impl Plat {
             .map(move |description| self.acres(description))
     }
 
+    /// Returns the answers to many descriptions, in order, by an account. Each answer is the result
+    /// of [`Plat::acres_by`]. One call of the library answers them all.
+    ///
+    /// ```
+    /// # let notes = include_bytes!(concat!(env!("CARGO_MANIFEST_DIR"), "/samples/b1.csv"));
+    /// # let plat = township::Plat::read(notes)?;
+    /// let descriptions = ["sec. 5, lot 1.", "sec. 5, lot 5.", "sec. 36."];
+    /// let answers = plat.acres_many(&descriptions, township::Account::Exact);
+    /// assert_eq!(answers[0].as_ref().unwrap().to_string(), "40.45");
+    /// assert_eq!(answers[1].as_ref().unwrap_err().number, 64);
+    /// # Ok::<(), township::Refused>(())
+    /// ```
+    pub fn acres_many<D: AsRef<[u8]>>(
+        &self,
+        descriptions: &[D],
+        account: Account,
+    ) -> Vec<Result<Acres, Refused>> {
+        let mut all = Vec::new();
+        let mut offsets = vec![0];
+        for description in descriptions {
+            all.extend_from_slice(description.as_ref());
+            offsets.push(all.len());
+        }
+        let mut answers = vec![Answer::default(); descriptions.len()];
+        let outcome = ffi::acres_many(&self.parts, &all, &offsets, account.code(), &mut answers);
+        if let Err(fault) = outcome.accepted() {
+            unreachable!("only descriptions are refused, and {}", fault.refusal);
+        }
+        let each = descriptions.iter().zip(answers);
+        each.map(|(description, answer)| self.acres_in(answer, description.as_ref()))
+            .collect()
+    }
+
     /// Returns the printed plat: the acreage of each lot, of each section, and of the township.
     ///
     /// ```
@@ -201,6 +233,23 @@ impl Plat {
     /// ```
     pub fn print(&self) -> String {
         accepted_text_by(|room| ffi::print_plat(&self.parts, room))
+    }
+
+    /// Returns the figures of the printed plat, as data.
+    ///
+    /// ```
+    /// # let notes = include_bytes!(concat!(env!("CARGO_MANIFEST_DIR"), "/samples/b1.csv"));
+    /// # let plat = township::Plat::read(notes)?;
+    /// let figures = plat.figures();
+    /// assert_eq!(figures.section(5).unwrap().total.to_string(), "642.40");
+    /// # Ok::<(), township::Refused>(())
+    /// ```
+    pub fn figures(&self) -> Figures {
+        let (answer, figures) = ffi::figures(&self.parts);
+        match answer.accepted() {
+            Ok(_) => Figures::from_data(&figures),
+            Err(fault) => unreachable!("a plat has figures, and {}", fault.refusal),
+        }
     }
 
     /// Returns the report on a list of tracts (CSV, at most 1,048,576 bytes; see
@@ -230,9 +279,7 @@ impl Plat {
         let (answer, text) = text_by(|room| ffi::report(&self.parts, list, room));
         match answer.accepted() {
             Ok(_) => Ok(text),
-            Err(fault) => Err(Refused::explained(fault, |room| {
-                ffi::explain_list(&self.parts, list, LIST, room)
-            })),
+            Err(fault) => Err(self.list_refused(fault, list)),
         }
     }
 
@@ -267,6 +314,21 @@ impl Plat {
     {
         let text = self.report(list_of(tracts))?;
         Ok(text.parse().expect("the library writes reports"))
+    }
+
+    /// Returns the acreage in the answer to a description, or its refusal.
+    fn acres_in(&self, answer: Answer, description: &[u8]) -> Result<Acres, Refused> {
+        match answer.accepted() {
+            Ok(answer) => Ok(Acres::from_hundredths(answer.hundredths)),
+            Err(fault) => Err(self.description_refused(fault, description)),
+        }
+    }
+
+    /// Returns the refusal of a list of tracts on this plat, with its explanation.
+    fn list_refused(&self, fault: Fault, list: &[u8]) -> Refused {
+        Refused::explained(fault, |room| {
+            ffi::explain_list(&self.parts, list, LIST, room)
+        })
     }
 
     /// Returns the refusal of a description on this plat, with its explanation.
