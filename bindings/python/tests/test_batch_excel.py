@@ -40,7 +40,7 @@ SEPARATORS = {
 }
 
 
-#: The files that begin with a byte order mark, as the answers then do.
+#: The files that begin with a byte order mark, as a file of the answers then does.
 WITH_MARK = ("csv-semicolons.csv", "csv-utf-8.csv", "sep-semicolon.csv", "unicode-big-endian.txt", "unicode-text.txt")
 
 MARK = b"\xef\xbb\xbf"
@@ -61,9 +61,12 @@ class Habits(BatchCase):
                 flag = ("--encoding", "windows-1252") if is_in_windows_1252(name) else ()
                 run = self.run_words("batch", NOTES, EXCEL / name, *flag)
                 self.assertEqual((run.returncode, run.stderr), (1, b""))
-                self.assertEqual(run.stdout.startswith(MARK), name in WITH_MARK)
-                text = io.StringIO(run.stdout.removeprefix(MARK).decode(), newline="")
+                text = io.StringIO(run.stdout.decode(), newline="")
                 self.assertEqual(list(csv.reader(text, delimiter=separator)), ANSWERED)
+                made = self.folder / "answers.csv"
+                self.run_words("batch", NOTES, EXCEL / name, *flag, "--output", made)
+                mark = MARK if name in WITH_MARK else b""
+                self.assertEqual(made.read_bytes(), mark + run.stdout)
 
     def test_each_file_on_standard_input(self):
         for name in ("unicode-text.txt", "csv-utf-8.csv"):
@@ -72,11 +75,11 @@ class Habits(BatchCase):
 
     def test_a_mark_wins_over_the_flag(self):
         run = self.run_words("batch", NOTES, EXCEL / "csv-utf-8.csv", "--encoding", "windows-1252")
-        self.assertEqual(records(run.stdout.removeprefix(MARK)), ANSWERED)
+        self.assertEqual(records(run.stdout), ANSWERED)
 
     def test_mark_line_ends_and_empty_lines(self):
         rows = self.batch(MARK + b"description\r\n\r\nsec. 14.\r\n", status=0)
-        self.assertEqual([row[:2] for row in rows], [["\ufeffdescription", "acres"], ["sec. 14.", "640.00"]])
+        self.assertEqual([row[:2] for row in rows], [["description", "acres"], ["sec. 14.", "640.00"]])
 
     def test_answers_can_be_answered_again(self):
         # As a list from Excel that was answered is opened and saved there, and answered again.

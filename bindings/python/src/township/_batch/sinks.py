@@ -30,11 +30,12 @@ class Sink(Protocol):
 def sink_for(name: Optional[str], separator: str, mark: str = "", append: bool = False) -> Sink:
     """Return the sink for a file, or for standard output if there is no name.
 
-    A new CSV file begins with the byte order mark, if there is one.
+    A new CSV file begins with the byte order mark, if there is one. Standard output does not: other programs
+    read it.
     """
     if name is not None and is_workbook(name):
         return WorkbookSink(name)
-    return CsvSink(name, separator, mark, append)
+    return CsvSink(name, separator, "" if name is None else mark, append)
 
 
 class CsvSink:

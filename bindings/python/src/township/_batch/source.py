@@ -28,7 +28,7 @@ class Source(NamedTuple):
     column: int
     #: The character between fields, which the answers have as well.
     separator: str
-    #: The byte order mark at the beginning, which the answers have as well, or nothing.
+    #: The byte order mark at the beginning, which a file of answers has as well, or nothing.
     mark: str
     records: Iterator[Record]
     #: The file and the line of the heading, for messages.

@@ -98,12 +98,11 @@ class Workers:
         free = deque(self._here)
         busy: Deque[Connection] = deque()
         ended: Optional[BaseException] = None
-        while ended is None:
+        while True:
             try:
                 chunk = next(chunks, None)
             except (KeyboardInterrupt, Stopped) as error:
-                ended = error
-                break
+                chunk, ended = None, error
             if chunk is None:
                 break
             # The process that has worked for the longest time is given the next chunk at once.
