@@ -1,4 +1,6 @@
 pub mod LotTables
 pub mod LotAreas
+pub mod LotRecords
+pub mod LotsFaults
 pub mod Laws
 pub mod steps

@@ -1,2 +1,4 @@
 pub mod SectionUnits
 pub mod LackingSteps
+pub mod PassedFaults
+pub mod LotEntries

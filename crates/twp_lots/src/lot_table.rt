@@ -91,7 +91,7 @@ impl LotTable {
 }
 
 /// The index of a section's lot among all lots. `None` if the section has no such lot.
-fn lot_index(section: Section, lot: u8) -> Option<usize>
+pub(crate) fn lot_index(section: Section, lot: u8) -> Option<usize>
     ensures index { SomeIff result (IsLotNumber section lot) (lot_index section lot) }
     ensures below { IfSome result (λ index. index < LOT_COUNT) }
 {

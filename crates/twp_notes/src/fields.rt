@@ -138,8 +138,8 @@ fn east_west_of(text: &[u8]) -> Option<EastWest>
     }
 }
 
-/// The section with a number.
-fn section_of(text: &[u8]) -> Option<Section>
+/// The section whose number one or two digits spell.
+pub fn section_of(text: &[u8]) -> Option<Section>
     ensures { Finds result (IsSectionText text.now) }
 {
     Section::new(short_number(text)?)
@@ -165,9 +165,9 @@ fn length_of(text: &[u8]) -> Option<Length>
     }
 }
 
-/// The number that one or two digits spell.
+/// The number that one or two digits spell. `None` if the text is not one or two digits.
 #[tactic(auto, using(crate::proofs::FieldFacts::one_digit, crate::proofs::FieldFacts::two_digits))]
-fn short_number(text: &[u8]) -> Option<u8>
+pub fn short_number(text: &[u8]) -> Option<u8>
     ensures { Finds result (IsShortNumber text.now) }
 {
     match text {

@@ -15,7 +15,7 @@ mod table;
 mod writing;
 
 pub use fault::NotesFault;
-pub use fields::{FIELDS, named_line};
+pub use fields::{FIELDS, named_line, section_of, short_number, township_of};
 pub use notes::Notes;
 pub use reading::{ReadFault, read_up_to, read_whole};
 pub use records::{Records, field};
