@@ -1,7 +1,8 @@
 //! The files that a task names, opened.
-ghost use Rattle.std.specs.Prelude.{◌≡◌, Some, IfErr, IfOk, IfSome, false};
+ghost use Rattle.std.specs.Prelude.{◌≡◌, IfErr, IfOk, IfSome, false};
 ghost use Rattle.twp_grid.specs.Devices.{device_failed};
 ghost use Rattle.twp_input.specs.KeptBytes.{copy_of, inner_source};
+ghost use Rattle.twp_program.specs.ShownExplanations.{IsFile};
 
 use crate::ending::Failure;
 use std::fs;
@@ -67,7 +68,7 @@ fn open<R: Files + AllocGlobal>(rt: &R, name: &Name) -> Option<Kept<Device<R::Fi
 impl<S> OpenedNotes<Kept<S>> {
     /// The bytes that were read from the notes, unless memory to keep them ran out.
     pub(crate) fn given(&self) -> Option<Given<'_>>
-        ensures { IfSome result (λ given. copy_of self.now.source ≡ Some given.bytes.now) }
+        ensures { IfSome result (IsFile self.now.name (copy_of self.now.source)) }
     {
         given(&self.name, &self.source)
     }
@@ -76,7 +77,7 @@ impl<S> OpenedNotes<Kept<S>> {
 impl<S> OpenedText<Kept<S>> {
     /// The bytes that were read from the text, unless memory to keep them ran out.
     pub(crate) fn given(&self) -> Option<Given<'_>>
-        ensures { IfSome result (λ given. copy_of self.now.source ≡ Some given.bytes.now) }
+        ensures { IfSome result (IsFile self.now.name (copy_of self.now.source)) }
     {
         given(&self.name, &self.source)
     }
@@ -84,7 +85,7 @@ impl<S> OpenedText<Kept<S>> {
 
 /// The bytes that were read from a file, which begin with its first line.
 fn given<'a, S>(name: &'a Name, source: &'a Kept<S>) -> Option<Given<'a>>
-    ensures { IfSome result (λ given. copy_of source.now ≡ Some given.bytes.now) }
+    ensures { IfSome result (IsFile name.now (copy_of source.now)) }
 {
     let bytes = source.kept()?;
     Some(Given {

@@ -4,7 +4,9 @@
 ghost use Rattle.std.specs.Prelude.{◌≡◌, ◌≢◌, ◌↔◌, Ok, Some, IfSome, IsTrue};
 ghost use Rattle.twp_acres.specs.declared.verdict.Verdict.TheVariants.{Accepted};
 ghost use Rattle.twp_explain.specs.Refusals.{first_refusal};
-ghost use Rattle.twp_program.specs.ShownExplanations.{IsExplanationOf};
+ghost use Rattle.twp_input.specs.KeptBytes.{copy_of};
+ghost use Rattle.twp_program.specs.ShownExplanations.{AreJoinedNotes, IsFile, IsJoinedDescription, IsExplanationOf};
+ghost use Rattle.twp_program.specs.ShownExplanations.{ShowsEither, ShowsNoted, ShowsText};
 
 use crate::ending::Failure;
 use crate::files::{OpenedNotes, OpenedText};
@@ -104,7 +106,10 @@ fn note_of_land<N, D>(
     notes: &OpenedNotes<Kept<N>>,
     description: &OpenedText<Kept<D>>,
     account: Account,
-) -> Option<Note> {
+) -> Option<Note>
+    ensures { IfSome result
+        (ShowsNoted (IsFile description.now.name (copy_of description.now.source))) }
+{
     note_land(alloc, &notes.given()?, &description.given()?, account).ok()?
 }
 
@@ -113,19 +118,25 @@ fn note_of_list<N, T>(
     alloc: Global,
     notes: &OpenedNotes<Kept<N>>,
     tracts: &OpenedText<Kept<T>>,
-) -> Option<Note> {
+) -> Option<Note>
+    ensures { IfSome result (ShowsNoted (IsFile tracts.now.name (copy_of tracts.now.source))) }
+{
     note_list(alloc, &notes.given()?, &tracts.given()?).ok()?
 }
 
 /// The note on joined input.
-fn note_of_joined<S>(alloc: Global, input: &Kept<S>) -> Option<Note> {
+fn note_of_joined<S>(alloc: Global, input: &Kept<S>) -> Option<Note>
+    ensures { IfSome result (ShowsNoted (IsJoinedDescription (copy_of input.now))) }
+{
     let JoinedTexts { description, notes } = joined_texts(input)?;
     note_land(alloc, &notes, &description, Account::Exact).ok()?
 }
 
 /// The explanation for field notes.
 fn of_plat<N>(alloc: Global, notes: &OpenedNotes<Kept<N>>, verdict: Verdict) -> Option<Explanation>
-    ensures { IfSome result (IsExplanationOf verdict) }
+    ensures explained { IfSome result (IsExplanationOf verdict) }
+    ensures shows { IfSome result
+        (ShowsText (IsFile notes.now.name (copy_of notes.now.source))) }
 {
     explain_plat(alloc, &notes.given()?, verdict).ok()?
 }
@@ -137,7 +148,10 @@ fn of_land<N, D>(
     description: &OpenedText<Kept<D>>,
     verdict: Verdict,
 ) -> Option<Explanation>
-    ensures { IfSome result (IsExplanationOf verdict) }
+    ensures explained { IfSome result (IsExplanationOf verdict) }
+    ensures shows { IfSome result
+        (ShowsEither (IsFile notes.now.name (copy_of notes.now.source))
+        (IsFile description.now.name (copy_of description.now.source))) }
 {
     explain_land(alloc, &notes.given()?, &description.given()?, verdict).ok()?
 }
@@ -149,15 +163,20 @@ fn of_list<N, T>(
     tracts: &OpenedText<Kept<T>>,
     verdict: Verdict,
 ) -> Option<Explanation>
-    ensures { IfSome result (λ explanation.
+    ensures explained { IfSome result (λ explanation.
         first_refusal verdict ≡ Some explanation.refusal) }
+    ensures shows { IfSome result
+        (ShowsEither (IsFile notes.now.name (copy_of notes.now.source))
+        (IsFile tracts.now.name (copy_of tracts.now.source))) }
 {
     explain_list(alloc, &notes.given()?, &tracts.given()?, verdict).ok()?
 }
 
 /// The explanation for joined input.
 fn of_joined<S>(alloc: Global, input: &Kept<S>, verdict: Verdict) -> Option<Explanation>
-    ensures { IfSome result (IsExplanationOf verdict) }
+    ensures explained { IfSome result (IsExplanationOf verdict) }
+    ensures shows { IfSome result (ShowsEither (AreJoinedNotes (copy_of input.now))
+        (IsJoinedDescription (copy_of input.now))) }
 {
     let JoinedTexts { description, notes } = joined_texts(input)?;
     explain_land(alloc, &notes, &description, verdict).ok()?
@@ -173,7 +192,11 @@ struct JoinedTexts<'a> {
 }
 
 /// The texts of joined input, unless there was no memory to keep it.
-fn joined_texts<S>(input: &Kept<S>) -> Option<JoinedTexts<'_>> {
+fn joined_texts<S>(input: &Kept<S>) -> Option<JoinedTexts<'_>>
+    ensures description { IfSome result (λ texts.
+        IsJoinedDescription (copy_of input.now) texts.description) }
+    ensures notes { IfSome result (λ texts. AreJoinedNotes (copy_of input.now) texts.notes) }
+{
     let (description, notes) = split_at_line_feed(input.kept()?);
     Some(JoinedTexts {
         description: Given {
