@@ -96,7 +96,8 @@ extern "C" {
 #define TOWNSHIP_NO_ACCOUNT 4u    /* the account you passed is not valid */
 #define TOWNSHIP_NO_ROOM 5u       /* the text needs `length` bytes and `room` is smaller: nothing is written */
 #define TOWNSHIP_NO_MEMORY 6u     /* memory ran out, and nothing was written: every function except
-                                     township_version and township_figures may return this */
+                                     township_version and township_figures may return this;
+                                     township_acres_many, in its answers */
 #define TOWNSHIP_NO_RANGE 7u      /* township_acres_many: no bytes are between these two offsets */
 
 /* Accounts: how whole lots count. */

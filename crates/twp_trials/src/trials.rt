@@ -6,6 +6,7 @@ mod descriptions;
 mod figures;
 mod fronts;
 mod lands;
+mod parcels;
 mod words;
 
 use std::io;
@@ -27,6 +28,7 @@ pub fn try_all(rt: &HostRuntime) -> io::Result<ExitCode> {
     words::try_words(rt)?;
     descriptions::try_descriptions(rt, &plat)?;
     fronts::try_fronts(rt, &plat)?;
+    parcels::try_parcels(rt, &plat)?;
     Ok(ExitCode::SUCCESS)
 }
 
