@@ -178,9 +178,9 @@ print(township.__file__, township.version())') > "$work/found" 2>&1
     # The documents' command for a list.
     printf 'name,description\nA,"sec. 5, lot 1."\nB,"sec. 5, N1/2."\n' > "$work/list.csv"
     cat > "$work/wanted" << END
-name,description,acres,refusal,at,sentence,canonical
-A,"sec. 5, lot 1.",40.45,,,,"T. 2 N., R. 3 W., sec. 5, lot 1."
-B,"sec. 5, N1/2.",,66,8,this part includes lots; name the lots instead,
+name,description,acres,refusal,at,sentence,note,canonical
+A,"sec. 5, lot 1.",40.45,,,,,"T. 2 N., R. 3 W., sec. 5, lot 1."
+B,"sec. 5, N1/2.",,66,8,this part includes lots; name the lots instead,,
 status 1
 END
     {

@@ -16,7 +16,7 @@ NOTES = TOP / "samples" / "b1.csv"
 EVEN_NOTES = TOP / "samples" / "b0.csv"
 
 #: The columns that are added.
-ADDED = ["acres", "refusal", "at", "sentence", "canonical"]
+ADDED = ["acres", "refusal", "at", "sentence", "note", "canonical"]
 
 #: The canonical text of all of a section of the samples' township, such as 14.
 HEADING = "T. 2 N., R. 3 W., "

@@ -9,14 +9,14 @@ class Batch(BatchCase):
     def test_all_accepted(self):
         rows = self.batch('id,description,county\n7,"sec. 5, lot 1.",Lane\n8,sec. 36.,"Li""nn"\n', status=0)
         self.assertEqual(rows[0], ["id", "description", "county", *ADDED])
-        self.assertEqual(rows[1], ["7", "sec. 5, lot 1.", "Lane", "40.45", "", "", "", HEADING + "sec. 5, lot 1."])
-        self.assertEqual(rows[2], ["8", "sec. 36.", 'Li"nn', "640.00", "", "", "", HEADING + "sec. 36, all."])
+        self.assertEqual(rows[1], ["7", "sec. 5, lot 1.", "Lane", "40.45", "", "", "", "", HEADING + "sec. 5, lot 1."])
+        self.assertEqual(rows[2], ["8", "sec. 36.", 'Li"nn', "640.00", "", "", "", "", HEADING + "sec. 36, all."])
         self.assertEqual(len(rows), 3)
 
     def test_some_refused(self):
         rows = self.batch('description\n"sec. 14, NE1/4 and N1/2."\nsec. 14.\n', status=1)
-        self.assertEqual(rows[1][1:], ["", "67", "19", "this land was named before", ""])
-        self.assertEqual(rows[2][1:], ["640.00", "", "", "", HEADING + "sec. 14, all."])
+        self.assertEqual(rows[1][1:], ["", "67", "19", "this land was named before", "", ""])
+        self.assertEqual(rows[2][1:], ["640.00", "", "", "", "", HEADING + "sec. 14, all."])
 
     def test_sentences_are_whole(self):
         # The program shows this one on two lines.
@@ -25,10 +25,17 @@ class Batch(BatchCase):
 
     def test_canonical_texts_of_the_same_land(self):
         rows = self.batch('description\n"sec. 14, S½, N½; sec. 15."\n"sec. 15; sec. 14."\n', status=0)
-        self.assertEqual(rows[1][5], HEADING + "sec. 14, all; sec. 15, all.")
-        self.assertEqual(rows[2][5], rows[1][5])
-        [_, again] = self.batch(f'description\n"{rows[1][5]}"\n', status=0)
+        self.assertEqual(rows[1][6], HEADING + "sec. 14, all; sec. 15, all.")
+        self.assertEqual(rows[2][6], rows[1][6])
+        [_, again] = self.batch(f'description\n"{rows[1][6]}"\n', status=0)
         self.assertEqual(again[1], "1280.00")
+
+    def test_notes(self):
+        # 40 acres as one part; the NE1/4 and the SE1/4 are 320.
+        rows = self.batch('description\n"sec. 14, NE1/4 SE1/4."\n"sec. 14, NE1/4, SE1/4."\n', status=0)
+        wanted = ("NE1/4 SE1/4 is read as one part of 40.00 acres, the NE1/4 of the SE1/4; if two parts were meant, "
+                  "write a comma after NE1/4 (320.00 acres)")
+        self.assertEqual([(row[1], row[5]) for row in rows[1:]], [("40.00", wanted), ("320.00", "")])
 
     def test_by_the_plat(self):
         listed = 'description\n"sec. 7, lots 1 to 4."\n'
@@ -41,7 +48,7 @@ class Batch(BatchCase):
     def test_standard_input(self):
         run = self.run_command("batch", NOTES, "-", input=b"description\nsec. 14.\n")
         self.assertEqual((run.returncode, run.stderr), (0, b""))
-        self.assertTrue(run.stdout.endswith(b'\nsec. 14.,640.00,,,,"T. 2 N., R. 3 W., sec. 14, all."\n'))
+        self.assertTrue(run.stdout.endswith(b'\nsec. 14.,640.00,,,,,"T. 2 N., R. 3 W., sec. 14, all."\n'))
 
     def test_options_between_the_names(self):
         listed = self.put('land\n"sec. 7, lots 1 to 4."\n')

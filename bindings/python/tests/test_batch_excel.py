@@ -17,10 +17,10 @@ HEAD = ["id", "description", "county"]
 #: The records of each list, with their answers.
 ANSWERED = [
     [*HEAD, *ADDED],
-    ["1", "sec. 5, lot 1.", "Lane", "40.45", "", "", "", HEADING + "sec. 5, lot 1."],
-    ["2", "sec. 14, N½.", "Doña Ana", "320.00", "", "", "", HEADING + "sec. 14, N1/2."],
-    ["3", "sec. 14, NE1/4 and N1/2.", "Linn", "", "67", "19", "this land was named before", ""],
-    ["4", "sec. 14;\nsec. 15.", 'Lane "east"', "1280.00", "", "", "", HEADING + "sec. 14, all; sec. 15, all."],
+    ["1", "sec. 5, lot 1.", "Lane", "40.45", "", "", "", "", HEADING + "sec. 5, lot 1."],
+    ["2", "sec. 14, N½.", "Doña Ana", "320.00", "", "", "", "", HEADING + "sec. 14, N1/2."],
+    ["3", "sec. 14, NE1/4 and N1/2.", "Linn", "", "67", "19", "this land was named before", "", ""],
+    ["4", "sec. 14;\nsec. 15.", 'Lane "east"', "1280.00", "", "", "", "", HEADING + "sec. 14, all; sec. 15, all."],
 ]
 
 #: The character between the fields of each file, which the answers have as well.
@@ -156,8 +156,9 @@ class Workbooks(BatchCase):
         self.assertEqual((run.returncode, run.stdout, run.stderr), (1, b"", b""))
         rows = self.rows_of(made)
         self.assertEqual(rows[0], ANSWERED[0])
-        self.assertEqual(rows[1][1:], ["sec. 5, lot 1.", "Lane", 40.45, None, None, None, HEADING + "sec. 5, lot 1."])
-        self.assertEqual(rows[3][3:], [None, 67, 19, "this land was named before", None])
+        wanted = ["sec. 5, lot 1.", "Lane", 40.45, None, None, None, None, HEADING + "sec. 5, lot 1."]
+        self.assertEqual(rows[1][1:], wanted)
+        self.assertEqual(rows[3][3:], [None, 67, 19, "this land was named before", None, None])
 
     def test_workbook_to_workbook(self):
         listed = self.workbook(["id", "description"], [7, "sec. 14."], [None, None], [8.5, "sec. 15."])

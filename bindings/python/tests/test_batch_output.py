@@ -18,7 +18,7 @@ class Output(BatchCase):
         made = self.folder / "answers.csv"
         run = self.run_words("batch", NOTES, self.put("description\nsec. 14.\n"), "--output", made)
         self.assertEqual((run.returncode, run.stdout, run.stderr), (0, b"", b""))
-        self.assertEqual(records(made.read_bytes())[1], ["sec. 14.", "640.00", "", "", "", HEADING + "sec. 14, all."])
+        self.assertEqual(records(made.read_bytes())[1], ["sec. 14.", "640.00", "", "", "", "", HEADING + "sec. 14, all."])
 
     def test_to_standard_output(self):
         listed = self.put("description\nsec. 14.\n")

@@ -28,8 +28,8 @@ class Folders(BatchCase):
         rows = self.over(
             'township,description\n"T. 2 N., R. 3 W.","sec. 5, lot 1."\n"T. 3 S., R. 4 E.","sec. 5, lot 1."\n', status=0
         )
-        self.assertEqual(rows[1][2:], ["40.45", "", "", "", HEADING + "sec. 5, lot 1."])
-        self.assertEqual(rows[2][2:], ["40.00", "", "", "", "T. 3 S., R. 4 E., sec. 5, lot 1."])
+        self.assertEqual(rows[1][2:], ["40.45", "", "", "", "", HEADING + "sec. 5, lot 1."])
+        self.assertEqual(rows[2][2:], ["40.00", "", "", "", "", "T. 3 S., R. 4 E., sec. 5, lot 1."])
 
     def test_accepted_spellings(self):
         for spelling in ("T. 2 N., R. 3 W.", "T. 2 N., R. 3 W.,", "T2N R3W", "t2n r3w", "T. 2 N. R. 3 W.",

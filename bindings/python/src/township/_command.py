@@ -29,6 +29,7 @@ says in which township each is, as in T. 2 N., R. 3 W. The same columns are writ
   refusal    the number of the refusal, if it is refused
   at         the location of the error: a byte of the description in UTF-8, counted from 0
   sentence   what is wrong, in words
+  note       both readings of the first place that can be read in two ways, if it is accepted
   canonical  the canonical description, which is the same for all descriptions of the same land
 """
 

@@ -49,17 +49,19 @@ class Answers:
         found = record.fault or self.plats.plat_of(record.fields)
         if isinstance(found, str):
             self.counts.refused += 1
-            return [None, None, None, found, None]
+            return [None, None, None, found, None, None]
         description = record.fields[self._column]
         if not isinstance(description, str):
             description = text_of(description)
         try:
             acres = found.acres(description, self._account)
             canonical = found.normal(description)
+            notes = found.notes(description)
         except Refused as refused:
             self.counts.refused += 1
             self.counts.undecoded += any("\udc80" <= each <= "\udcff" for each in description)
-            return [None, refused.number, refused.at, refused.sentence, None]
+            return [None, refused.number, refused.at, refused.sentence, None, None]
         self.counts.accepted += 1
+        note = notes[0].sentence if notes else None
         # On one line: a line break in a description means no more than a space.
-        return [acres, None, None, None, canonical.rstrip("\n").replace("\n", " ")]
+        return [acres, None, None, None, note, canonical.rstrip("\n").replace("\n", " ")]

@@ -7,7 +7,7 @@ from .._text import shown
 from .stopped import Stopped
 
 #: The columns that a batch adds.
-ADDED = ("acres", "refusal", "at", "sentence", "canonical")
+ADDED = ("acres", "refusal", "at", "sentence", "note", "canonical")
 
 #: The number of columns that a message lists, and the number of characters of each name.
 _SHOWN = 12
