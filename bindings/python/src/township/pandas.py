@@ -17,21 +17,19 @@ conversion.
 """
 from __future__ import annotations
 
-from decimal import Decimal
-from typing import Any, Callable, Dict, Iterable, Iterator, List, Optional, Tuple, Union
+from typing import Any, Dict, Iterable, Iterator, List, Optional, Sequence, Tuple, Union, cast
 
+import numpy
 import pandas
 
-from ._account import Account
+from ._account import Account, code_of
+from ._many import Answers
 from ._plat import Plat
 from ._refused import Refused
 from ._text import Text
 
 #: One plat for the whole column, or a series that gives the plat of each row.
 Plats = Union[Plat, "pandas.Series[Any]"]
-
-#: The answer to one description of a column: `None` if the description is missing.
-Answer = Union[Decimal, Refused, None]
 
 
 @pandas.api.extensions.register_series_accessor("township")
@@ -52,8 +50,10 @@ class Descriptions:
         >>> frame["description"].township.acres(plat).sum()
         201.45
         """
-        acres = list(map(_acres_in, self._answers(plat, account)))
-        return pandas.Series(acres, self._column.index, dtype="float64", name="acres")
+        acres = numpy.full(len(self._column), numpy.nan)
+        for rows, answers in self._answers(plat, account):
+            acres[rows] = _acres_in(answers)
+        return pandas.Series(acres, self._column.index, name="acres")
 
     def answers(self, plat: Plats, account: Account = "exact") -> "pandas.DataFrame":
         """Return a frame with the answers: `acres` (`float64`), `refusal` and `at` (`Int64`), and `sentence`.
@@ -65,12 +65,17 @@ class Descriptions:
         >>> answers["refusal"].value_counts().to_dict()
         {67: 1}
         """
-        answers = list(self._answers(plat, account))
         index = self._column.index
-        made = {
-            name: pandas.Series(list(map(field, answers)), index, dtype=dtype)
-            for name, (dtype, field) in _FIELDS.items()
-        }
+        acres = numpy.full(len(index), numpy.nan)
+        refused: List[Optional[Refused]] = [None] * len(index)
+        for rows, answers in self._answers(plat, account):
+            acres[rows] = _acres_in(answers)
+            for each in answers.refused:
+                refused[rows[each]] = cast(Refused, answers[each])
+        made = {"acres": pandas.Series(acres, index)}
+        for column, (name, dtype) in _OF_REFUSALS.items():
+            fields = [None if one is None else getattr(one, name) for one in refused]
+            made[column] = pandas.Series(fields, index, dtype=dtype)
         return pandas.DataFrame(made, index=index)
 
     def normal(self, plat: Plats) -> "pandas.Series[Any]":
@@ -83,13 +88,24 @@ class Descriptions:
         texts = [_normal(one, description) for one, description in self._rows(plat)]
         return pandas.Series(texts, self._column.index, dtype="string", name="normal")
 
-    def _answers(self, plat: Plats, account: Account) -> Iterator[Answer]:
-        """Yield the answer to each row."""
+    def _answers(self, plat: Plats, account: Account) -> Iterator[Tuple[List[int], Answers]]:
+        """Yield the answers on each plat, and their rows, counted from 0. Missing descriptions have none."""
+        code_of(account)
+        descriptions = self._column.tolist()
+        missing = self._column.isna().tolist()
+        for one, rows in self._rows_on(plat):
+            present = [row for row in rows if not missing[row]]
+            yield present, one.acres_many([descriptions[row] for row in present], account)
+
+    def _rows_on(self, plat: Plats) -> Iterable[Tuple[Plat, Sequence[int]]]:
+        """Return each plat and its rows."""
         if isinstance(plat, Plat):
-            yield from _answers_on(plat, map(_present, self._column), account)
-            return
-        for one, description in self._rows(plat):
-            yield from _answers_on(one, [description], account)
+            return [(plat, range(len(self._column)))]
+        rows: Dict[Plat, List[int]] = {}
+        for row, one in enumerate(self._plats(plat)):
+            if one is not None:
+                rows.setdefault(one, []).append(row)
+        return rows.items()
 
     def _rows(self, plat: Plats) -> "Iterator[Tuple[Optional[Plat], Optional[Text]]]":
         """Yield the plat and the description of each row, `None` where one is missing."""
@@ -106,33 +122,15 @@ class Descriptions:
         return [_present(one) for one in plat]
 
 
-def _answers_on(
-    plat: Optional[Plat], descriptions: Iterable[Optional[Text]], account: Account
-) -> Iterator[Answer]:
-    """Yield the answer to each description on a plat. If the plat is missing, so are all answers."""
-    listed = list(descriptions)
-    present = [] if plat is None else [each for each in listed if each is not None]
-    answers = plat.acres_of(present, account) if plat is not None else iter(())
-    for description in listed:
-        yield None if plat is None or description is None else next(answers)
+def _acres_in(answers: Answers) -> Any:
+    """Return the acreage of each answer, as an array: `NaN` if it is refused."""
+    acres = numpy.array(answers.hundredths, dtype="float64") / 100
+    acres[answers.refused] = numpy.nan
+    return acres
 
 
-def _acres_in(answer: Answer) -> Optional[float]:
-    return float(answer) if isinstance(answer, Decimal) else None
-
-
-def _refused_by(name: str) -> Callable[[Answer], Any]:
-    """Return a function that gives the attribute with this name of a refusal, and `None` of other answers."""
-    return lambda answer: getattr(answer, name) if isinstance(answer, Refused) else None
-
-
-#: The columns of `answers`: their types, and what gives their fields.
-_FIELDS: Dict[str, Tuple[str, Callable[[Answer], Any]]] = {
-    "acres": ("float64", _acres_in),
-    "refusal": ("Int64", _refused_by("number")),
-    "at": ("Int64", _refused_by("at")),
-    "sentence": ("string", _refused_by("sentence")),
-}
+#: The columns of `answers` that say what is refused: the attribute of `Refused`, and the column's type.
+_OF_REFUSALS = {"refusal": ("number", "Int64"), "at": ("at", "Int64"), "sentence": ("sentence", "string")}
 
 
 def _present(value: Any) -> Any:
