@@ -152,11 +152,14 @@ while read -r description; do
     ends "offered: $description" 0 "$(grep -x '[0-9]*[.][0-9][0-9] acres' found)"
 done < offered
 
-# Its tables contain the numbers and the names in the code, and no others.
+# Its tables, and that of docs/LOTS-FORMAT.md, contain the numbers and the names in the code, and no others.
 find "$root/crates" -path '*/src/*' -name '*.rt' -exec \
     sed -n 's/^ *[A-Za-z]*Fault::\([A-Za-z]*\).* => (\([0-9][0-9]*\), .*/\2 \1/p' {} + |
     sort > in_code
-sed -n 's/^| \([0-9][0-9]*\) | \([A-Z][A-Za-z]*\) |.*/\1 \2/p' "$docs/REFUSALS.md" | sort > in_tables
+{
+    sed -n 's/^| \([0-9][0-9]*\) | \([A-Z][A-Za-z]*\) |.*/\1 \2/p' "$docs/REFUSALS.md"
+    sed -n 's/^| \([0-9][0-9]*\) `\([A-Z][A-Za-z]*\)` |.*/\1 \2/p' "$docs/LOTS-FORMAT.md"
+} | sort > in_tables
 all_read 'the names of refusals' "$(wc -l < in_code)" "$(wc -l < in_tables)"
 cp in_code wanted
 cp in_tables found

@@ -5,7 +5,7 @@ ghost use Rattle.twp_calls.specs.Figures.{IsFiguresCall};
 ghost use Rattle.twp_calls.specs.ManyAnswers.{IsManyCall};
 
 use std::alloc::Global;
-use twp_calls::{TownshipAnswer, TownshipPlatFigures, TownshipPlat};
+use twp_calls::{TownshipAnswer, TownshipPlat, TownshipPlatFigures};
 
 /// The figures that the printed plat shows: of each lot, of each section, and of the township.
 #[unsafe(no_mangle)]

@@ -144,7 +144,11 @@ fn given<'a>(name: &'a [u8], bytes: &'a [u8]) -> Given<'a>
 }
 
 /// Puts an explanation beside the refusal that it is of.
-fn put_explanation(refused: TownshipAnswer, explained: &Explanation, text: &mut [u8]) -> TownshipAnswer
+fn put_explanation(
+    refused: TownshipAnswer,
+    explained: &Explanation,
+    text: &mut [u8],
+) -> TownshipAnswer
     ensures explained { PutsExplanation refused explained.now text.old text.new result }
     ensures kept { result.verdict ≢ refused.verdict → text.new ≡ text.old }
 {

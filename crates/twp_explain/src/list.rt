@@ -4,7 +4,7 @@ ghost use Rattle.twp_acres.specs.TractFaults.{IsFirstTractFault, refusal_of, ver
 ghost use Rattle.twp_explain.specs.ShownMessages.{ShowsFault, ShowsIn};
 ghost use Rattle.twp_explain.specs.Refusals.{IsListRefusal, HasAccount, first_refusal};
 
-use crate::explaining::{plat_of, explain};
+use crate::explaining::{explain, plat_of};
 use crate::explanation::Explanation;
 use crate::tracts;
 use std::alloc::{AllocError, Global};

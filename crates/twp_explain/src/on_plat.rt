@@ -11,7 +11,7 @@ ghost use Rattle.twp_explain.specs.Findings.{IsOf};
 use crate::explaining::{describe, plat_of};
 use crate::explanation::Explanation;
 use crate::finding::Failure;
-use crate::list::{fault_of, explain_fault};
+use crate::list::{explain_fault, fault_of};
 use std::alloc::{AllocError, Global};
 use twp_acres::TractFault;
 use twp_diagnose::{Given, Origin};

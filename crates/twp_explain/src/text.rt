@@ -75,7 +75,11 @@ fn place(origin: &Origin<'_>, text: &[u8], sight: &Surroundings<'_>, fault: Text
 }
 
 /// Appends what is wrong.
-fn write_sentence(sight: &Surroundings<'_>, fault: TextFault, out: &mut String) -> Result<(), AllocError> {
+fn write_sentence(
+    sight: &Surroundings<'_>,
+    fault: TextFault,
+    out: &mut String,
+) -> Result<(), AllocError> {
     match fault {
         TextFault::TooLarge => out.push_str("the description is longer than 65,536 bytes"),
         TextFault::BadByte { .. } => write_not_allowed(sight.at.bytes, out),
@@ -89,7 +93,11 @@ fn write_sentence(sight: &Surroundings<'_>, fault: TextFault, out: &mut String) 
 }
 
 /// Appends what goes wrong at a token, or where a text ends.
-fn write_syntax(sight: &Surroundings<'_>, expected: Expected, out: &mut String) -> Result<(), AllocError> {
+fn write_syntax(
+    sight: &Surroundings<'_>,
+    expected: Expected,
+    out: &mut String,
+) -> Result<(), AllocError> {
     if !sight.at.bytes.is_empty() {
         out.push_str("unexpected `")?;
         write_quoted(sight.at.bytes, out)?;

@@ -6,8 +6,8 @@
 mod ending;
 mod files;
 mod program;
-mod subcommand;
 mod showing;
+mod subcommand;
 
 pub use ending::{Ended, Ending, Failure};
 pub use program::{run, run_words};

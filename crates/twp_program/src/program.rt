@@ -5,8 +5,8 @@ ghost use Rattle.twp_program.specs.Endings.{IsRunFailure, IsWordsFault};
 ghost use Rattle.twp_program.specs.Statuses.{IsStatusOf, words_fault};
 
 use crate::ending::{Ended, Ending, Failure, NO_ANSWER, outcome_of};
-use crate::subcommand::run_task;
 use crate::showing::show_joined;
+use crate::subcommand::run_task;
 use std::env::Env;
 use std::io::ErrorKind;
 use std::rt::Files;

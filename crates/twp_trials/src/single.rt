@@ -6,8 +6,8 @@
 //! is due to the call.
 
 mod reading;
-mod spelling;
 mod showing;
+mod spelling;
 mod writing;
 
 use std::{fs, io};

@@ -1,6 +1,6 @@
 //! The call that writes the canonical text of land.
 
-use crate::single::showing::{ANSWERED, OUT_OF_MEMORY, start, explain};
+use crate::single::showing::{ANSWERED, OUT_OF_MEMORY, explain, start};
 use std::io;
 use twp_grid::{EastWest, NorthSouth, Township};
 use twp_land::Lanes;

@@ -1,6 +1,6 @@
 //! Calls that write into a vector, which is printed as they leave it.
 
-use crate::single::showing::{ANSWERED, OUT_OF_MEMORY, start, explain};
+use crate::single::showing::{ANSWERED, OUT_OF_MEMORY, explain, start};
 use std::alloc::AllocError;
 use std::{fs, io};
 use twp_grid::Bytes;
