@@ -134,7 +134,7 @@ pub explained_list : (plat : TownshipPlat) (list old new : List ℕ) (explained 
     → AnswersFault plat.township list is → explained ≡ answer_of_fault is
     → IsExplained (IsOfFirstFault plat list) explained old new answer
     → Answers (IsOfAccount plat list old new) (IsExplainedFault plat list old new) answer
-explained_list plat list old new explained answer is refusal same first explained_is explained =
+explained_list plat list old new explained answer is refusal same first explained_is put =
     let known = refused_by is refusal same in
     refused_for (record {
       fault = is;
@@ -144,7 +144,7 @@ explained_list plat list old new explained answer is refusal same first explaine
       verdict_is = known.1;
       explained =
           subst (λ explained. IsExplained (IsOfFirstFault plat list) explained old new answer)
-          (explained_is ∙ ap answer_of_verdict known.1) explained;
+          (explained_is ∙ ap answer_of_verdict known.1) put;
     })
 
 -- so the answer of such a fault has one

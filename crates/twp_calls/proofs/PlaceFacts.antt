@@ -26,7 +26,7 @@ use Rattle.twp_explain.specs.ExplainedPlaces.{IsSpotRefused, IsExplainedWhereRef
 use Rattle.twp_calls.specs.Answers.{refused}
 use Rattle.twp_calls.specs.Calls.{put, not_put}
 use Rattle.twp_calls.specs.Explanations.{PutsExplanation, IsLineAndColumn, IsWhereRefused}
-use Rattle.twp_calls.specs.Explanations.{IsExplainedWhereRefused}
+use Rattle.twp_calls.specs.Explanations.{IsExplainedDescription}
 use Rattle.twp_calls.specs.Explanations.{line_at, column_at, too_large, at_its_place, at_the_end}
 use Rattle.twp_calls.specs.declared.answer.TownshipAnswer.{TownshipAnswer}
 use Rattle.twp_calls.proofs.CallFacts.{refused_on}
@@ -123,7 +123,7 @@ pub refused_where : (township : Designation) (text old new : List ℕ) (file : G
     → file.bytes.now ≡ text → file.first_line ≡ 1
     → IsNoDescription township file.bytes.now explanation.refusal → IsExplainedWhereRefused file explanation
     → explained ≡ refused r → PutsExplanation explained explanation old new answer
-    → IsExplainedWhereRefused township text old new answer
+    → IsExplainedDescription township text old new answer
 refused_where township text old new file stopping r explanation explained answer stops_is stops same first
     such
     place

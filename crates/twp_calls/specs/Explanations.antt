@@ -127,7 +127,7 @@ pub data IsWhereRefused (text : List ℕ) (refusal : Refusal) (line column : ℕ
       → IsWhereRefused text refusal line column
 
 -- the refusal of the description is explained, with the line and the column of its place
-pub record IsExplainedWhereRefused (township : Designation) (description old new : List ℕ)
+pub record IsExplainedDescription (township : Designation) (description old new : List ℕ)
     (answer : TownshipAnswer) : Type 0 where
   pub explained : IsExplainedRefusal (IsNoDescription township description) old new answer
   pub place : IsWhereRefused description explained.refusal answer.line answer.column
@@ -135,7 +135,7 @@ pub record IsExplainedWhereRefused (township : Designation) (description old new
 abbrev pub ExplainsDescription : GivenPlat → List ℕ → List ℕ → List ℕ → TownshipAnswer → Type 0
 ExplainsDescription given description old new = OnPlat given (λ plat.
     Answers (IsOfArea plat description old new)
-    (IsExplainedWhereRefused plat.township description old new))
+    (IsExplainedDescription plat.township description old new))
 
 -- `township_explain_list`: of a list that has an account on the plat, there may be a note
 pub record IsOfAccount (plat : TownshipPlat) (list old new : List ℕ) (answer : TownshipAnswer)
