@@ -144,11 +144,14 @@ static township_answer explain(const township_plat *plat, const test_case *given
                                         sizeof explanation);
 }
 
-/* Whether the explanation is for this answer: for the same refusal, and not for accepted input. */
-static bool is_told_of(township_answer told, township_answer answer) {
-    return told.verdict == answer.verdict && told.number == answer.number && told.at == answer.at &&
-           told.inner_number == answer.inner_number && told.inner_at == answer.inner_at &&
-           (told.length > 0) == (answer.verdict != TOWNSHIP_ACCEPTED);
+/* Whether the explanation is for this answer: for the same refusal; accepted land may have a note, with its place. */
+static bool is_explained(township_answer explained, township_answer answer, bool is_plat) {
+    bool has_text = explained.length > 0;
+    bool has_place = explained.line > 0 && explained.column > 0;
+
+    return explained.verdict == answer.verdict && explained.number == answer.number && explained.at == answer.at &&
+           explained.inner_number == answer.inner_number && explained.inner_at == answer.inner_at &&
+           (answer.verdict == TOWNSHIP_ACCEPTED ? has_text == has_place && !(is_plat && has_text) : has_text);
 }
 
 /* Whether the exact area of the case's land has these hundredths. */
@@ -185,7 +188,7 @@ static void try_case(const test_case *given) {
         show(given, length);
     }
     CHECK(same);
-    CHECK(is_told_of(explain(&plat, given, is_read), answer));
+    CHECK(is_explained(explain(&plat, given, is_read), answer, is_kind(given, "plat")));
     if (answer.verdict == TOWNSHIP_ACCEPTED && is_of_acres(given)) {
         CHECK(is_area_of(&plat, given, answer.hundredths));
     }
