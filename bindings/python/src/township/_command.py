@@ -11,6 +11,7 @@ from ._batch import Options, Status, Stopped, run_batch
 from ._batch.decoding import ENCODINGS
 from ._batch.options import STANDARD
 from ._batch.workbook import is_workbook
+from ._draw import add_draw
 
 #: The most processes that can be asked for.
 _JOBS_MOST = 1024
@@ -47,8 +48,13 @@ exit status:
 
 def main(words: Optional[Sequence[str]] = None) -> int:
     """Run the command line with these arguments, or with those of the process. Return the exit status."""
+    given = sys.argv[1:] if words is None else list(words)
     try:
-        return run_batch(_options_in(sys.argv[1:] if words is None else list(words)))
+        if given[:1] == ["batch"]:
+            return run_batch(_options_in(given))
+        asked = _parsers()[0].parse_args(given)
+        status: int = asked.run(asked)
+        return status
     except Stopped as stopped:
         if str(stopped):
             print(stopped, file=sys.stderr)
@@ -61,11 +67,8 @@ def main(words: Optional[Sequence[str]] = None) -> int:
 
 
 def _options_in(words: Sequence[str]) -> Options:
-    """Return what the command line asks for. If it is not valid, exit with status 2."""
-    parser, batch = _parsers()
-    if list(words[:1]) != ["batch"]:
-        parser.parse_args(words)
-        raise AssertionError("there is no other command")
+    """Return what the command line of a batch asks for. If it is not valid, exit with status 2."""
+    _, batch = _parsers()
     # Options may come between the file names, which subcommands of argparse do not allow.
     asked = batch.parse_intermixed_args(list(words[1:]))
     wanted = 1 if asked.plats is not None else 2
@@ -123,6 +126,7 @@ def _parsers() -> Tuple[argparse.ArgumentParser, argparse.ArgumentParser]:
     )
     _add_inputs(batch)
     _add_outputs(batch)
+    add_draw(commands)
     return parser, batch
 
 

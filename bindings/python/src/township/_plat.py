@@ -336,6 +336,28 @@ write a comma after NE1/4 (320.00 acres)
             raise exception_of(answer, explain, byref(self._parts), given, len(given), source=LIST)
         return report_of(text)
 
+    def svg(self, land: Optional[Text] = None, section: Optional[int] = None) -> str:
+        """Return a drawing of the plat, or of one of its sections, as an SVG document of at most 200 kB.
+
+        The land of a description is shaded, and its acreage is shown by each account. The drawing is schematic,
+        and fits on letter and on A4 paper. Raise `Refused` if the description is refused, and `ValueError` if
+        there is no such section. In a notebook, a plat at the end of a cell is shown as this drawing.
+
+        >>> plat.svg(land="sec. 5, lots 1 and 2, S1/2NE1/4.")[:40]
+        '<svg xmlns="http://www.w3.org/2000/svg" '
+        >>> "39.18 acres" in plat.svg(section=7)
+        True
+        """
+        from ._drawing import svg_of
+        from ._drawing.of_plat import checked, shade_of, subject_of
+
+        shades = [] if land is None else [shade_of(self, land)]
+        return svg_of(subject_of(self, *shades), checked(section))
+
+    def _repr_svg_(self) -> str:
+        """Return the drawing that a notebook shows."""
+        return self.svg()
+
     def _print(self) -> str:
         """Print the plat and cache the text."""
         answer, text = _library.text_by(_library.print_plat, byref(self._parts))

@@ -1,0 +1,109 @@
+"""The title block of a sheet: the land in words, and its acreage by each account."""
+from __future__ import annotations
+
+import textwrap
+from decimal import Decimal
+from typing import Iterator, List, Tuple
+
+from .markup import element, group, text
+from .sheet import HEIGHT, WIDTH, Shading
+from .subject import Shade, Subject
+
+_LEFT = 12.0
+_RIGHT = WIDTH - 12.0
+#: Where the column of figures begins.
+_FIGURES = 133.0
+#: The characters on a line of the land's words, and the lines that all land takes together at most.
+_COLUMNS = 62
+_LINES = 9
+_LEADING = 4.2
+_NOTE = "Schematic, not to scale."
+
+
+def title_block(subject: Subject, shading: Shading, total: Tuple[str, Decimal], y: float, note: str) -> str:
+    """Return the block, whose top is at y: the land at its left, the figures at its right, and a note below."""
+    bottom = HEIGHT - 9.0
+    lines = "".join(
+        [f"M{_LEFT} {y}H{_RIGHT}V{bottom}H{_LEFT}Z", f"M{_FIGURES - 4} {y}V{bottom}"]
+    )
+    parts = [
+        element("path", d=lines, fill="none", stroke="currentColor", stroke_width=0.3),
+        *_land(subject, shading, y + 6.0),
+        *_figures(subject, total, y + 6.0),
+        text(f"{_NOTE} {note}".strip(), _LEFT, HEIGHT - 4.5, 2.6, font_style="italic"),
+    ]
+    return group(parts)
+
+
+def grouped(acres: Decimal) -> str:
+    """Return an acreage with commas.
+
+    >>> grouped(Decimal("23037.57"))
+    '23,037.57'
+    """
+    return f"{acres:,.2f}"
+
+
+def _land(subject: Subject, shading: Shading, y: float) -> Iterator[str]:
+    """Yield the lines on the land: for each shade its hatching, what it is, and its words."""
+    if not subject.shades:
+        yield text(f"{subject.township}", _LEFT + 4, y, 3.4)
+        yield text("No land is shaded.", _LEFT + 4, y + 5, 3.0, font_style="italic")
+        return
+    share = max(1, _LINES // len(subject.shades) - 1)
+    for index, shade in enumerate(subject.shades[:_LINES // 2]):
+        yield element(
+            "rect",
+            x=_LEFT + 4,
+            y=y - 2.9,
+            width=6.0,
+            height=3.6,
+            fill=f"url(#{shading.name(index)}-key)",
+            stroke="currentColor",
+            stroke_width=0.25,
+        )
+        yield text(shade.label, _LEFT + 12.5, y, 3.4, font_weight="bold")
+        y += _LEADING + 0.6
+        for line in _wrapped(shade.words, share):
+            yield text(line, _LEFT + 4, y, 3.0)
+            y += _LEADING
+        y += 0.6
+
+
+def _wrapped(words: str, most: int) -> List[str]:
+    """Return words in at most so many lines. If they do not fit, the last line says so."""
+    # No line needs more of the text than this, and wrapping takes time.
+    lines = textwrap.wrap(words[: _COLUMNS * (most + 1)], _COLUMNS)
+    if len(lines) <= most and len(words) <= _COLUMNS * (most + 1):
+        return lines
+    return [*lines[: most - 1], _last(lines[most - 1])]
+
+
+def _last(line: str) -> str:
+    """Return a line at which the words are cut."""
+    more = " .. (cut here)"
+    return line[: _COLUMNS - len(more)].rstrip() + more
+
+
+def _figures(subject: Subject, total: Tuple[str, Decimal], y: float) -> Iterator[str]:
+    """Yield the lines of figures: the acreage of each shade by each account, and the total."""
+    if subject.figures is None:
+        yield text("No field notes, no acreage", _FIGURES, y, 3.0, font_style="italic")
+        return
+    for shade in subject.shades[:_LINES // 2]:
+        yield text(_name(subject, shade), _FIGURES, y, 3.4, font_weight="bold")
+        y += _LEADING + 0.6
+        for account, acres in shade.acres:
+            yield from _figure(account, acres, y)
+            y += _LEADING
+        y += 0.6
+    yield from _figure(*total, y)
+
+
+def _name(subject: Subject, shade: Shade) -> str:
+    return "Acres" if len(subject.shades) == 1 else shade.label
+
+
+def _figure(name: str, acres: Decimal, y: float) -> Iterator[str]:
+    yield text(name, _FIGURES, y, 3.0)
+    yield text(grouped(acres), _RIGHT - 3, y, 3.2, text_anchor="end")
