@@ -17,6 +17,7 @@ from __future__ import annotations
 
 from . import _library
 from ._account import Account
+from ._field_notes import Notes
 from ._figures import Report, Section, Tract
 from ._many import Answers
 from ._note import Note
@@ -32,6 +33,7 @@ __all__ = [
     "EastWest",
     "NorthSouth",
     "Note",
+    "Notes",
     "Plat",
     "Refusal",
     "Refused",
@@ -44,7 +46,7 @@ __all__ = [
     "version",
 ]
 
-for _public in (Answers, Note, Plat, Refusal, Refused, Report, Section, Township, Tract):
+for _public in (Answers, Note, Notes, Plat, Refusal, Refused, Report, Section, Township, Tract):
     # Tracebacks and pickles name each class as users import it.
     _public.__module__ = __name__
 del _public

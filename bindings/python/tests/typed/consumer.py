@@ -8,7 +8,7 @@ from typing import Iterator, List, Mapping, Optional, Union
 
 import township
 import township.pandas
-from township import Account, EastWest, NorthSouth, Plat, Refusal, Refused, Report, Section, Township, Tract
+from township import Account, EastWest, NorthSouth, Notes, Plat, Refusal, Refused, Report, Section, Township, Tract
 
 
 def answers(plat: Plat, account: Account) -> Iterator[Union[Decimal, Refused]]:
@@ -36,9 +36,17 @@ def refusal(refused: Refused) -> Union[Refusal, int, str, None]:
     return refused.inner or line or refused.sentence + str(error) + refused.source
 
 
+def notes(length: Decimal) -> Plat:
+    notes = Notes((2, "N", 3, "W"))
+    notes["N,4,5"] = (40, "80.20")
+    notes["W,6,7"] = 40.0, length
+    return notes.plat()
+
+
 def wrong(plat: Plat) -> None:
     plat.acres("sec. 14.", account="printed")  # type: ignore[arg-type]
     plat.acres(14)  # type: ignore[arg-type]
+    Notes(14)  # type: ignore[arg-type]
     Plat.read(Path("b1.csv"))  # type: ignore[arg-type]
     plat.total = Decimal(1)  # type: ignore[misc]
     number: str = plat.township.number  # type: ignore[assignment]

@@ -5,13 +5,17 @@ is refused with number 61 on every other plat.
 """
 from __future__ import annotations
 
-import functools
 import re
-from typing import Iterable, Optional, cast
+from ctypes import byref
+from typing import Iterable, Optional, Tuple, Union, cast
 
-from .._plat import Plat
-from .._refused import Refused
-from .._township import EastWest, NorthSouth, Township
+from . import _library
+from ._refused import DESCRIPTION, Refused, exception_of
+from ._text import encoded
+from ._township import EastWest, NorthSouth, Township, checked, nominal_plat_of
+
+#: A township: its spelling, or the parts of its designation.
+Named = Union[str, Tuple[int, str, int, str]]
 
 #: The number of the refusal of a description whose heading is for another township.
 _OTHER_TOWNSHIP = 61
@@ -22,6 +26,22 @@ _USUAL = re.compile(r"([0-9]{1,4})[^0-9]*?([NS])[^0-9]*([0-9]{1,4})[^0-9]*?([EW]
 
 class NotTownship(ValueError):
     """A text is not a township as a description spells it."""
+
+
+def township_named(named: Named) -> Township:
+    """Return a township that is given by its spelling, or by the parts of its designation.
+
+    Raise `ValueError` if it is not a township.
+
+    >>> township_named("T2N R3W") == township_named((2, "N", 3, "W"))
+    True
+    """
+    if not isinstance(named, str):
+        return checked(named)
+    township = township_spelled(named, ())
+    if township is None:
+        raise NotTownship(f"`{named}` is an unusual spelling of a township: write it as in T. 2 N., R. 3 W.")
+    return township
 
 
 def township_spelled(spelling: str, townships: Iterable[Township]) -> Optional[Township]:
@@ -68,14 +88,14 @@ def _guess(spelling: str) -> Optional[Township]:
 
 def _answer(spelling: str, township: Township) -> Optional[Refused]:
     """Return the refusal of a description that begins with a spelling, on a plat of a township, if any."""
-    try:
-        _plat_of(township).acres(f"{spelling} sec. 36.")
-    except Refused as refused:
-        return refused
-    return None
-
-
-@functools.lru_cache(maxsize=1024)
-def _plat_of(township: Township) -> Plat:
-    """Return a plat of a township, on which section 36 is like any other."""
-    return Plat.of_parts(township, [20_000] * 84)
+    # On the nominal plat, as on any other, section 36 has no lots.
+    plat = nominal_plat_of(township)
+    given = encoded(f"{spelling} sec. 36.")
+    answer = _library.acres(byref(plat), given, len(given), _library.EXACT)
+    if answer.verdict == _library.ACCEPTED:
+        return None
+    explain = _library.explain_description
+    exception = exception_of(answer, explain, byref(plat), given, len(given), source=DESCRIPTION)
+    if not isinstance(exception, Refused):
+        raise exception
+    return exception
