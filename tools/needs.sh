@@ -44,6 +44,8 @@ needs='
     qemu-user-static command qemu-x86_64-static
     debootstrap      command debootstrap
     faketime         command faketime
+    postgresql-15    command /usr/lib/postgresql/15/bin/initdb
+    postgresql-server-dev-15  command /usr/lib/postgresql/15/lib/pgxs/src/test/regress/pg_regress
 '
 
 # The packages of all rows, or with the word `missing` of the rows whose command or modules are missing.
