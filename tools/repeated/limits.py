@@ -37,6 +37,11 @@ LIMITS = (
         {"crates/twp_acres/src/tract_fault.rt": r"const TRACTS_LIMIT: u32 = ", HEADER: r"#define TOWNSHIP_LIST_MOST "},
     ),
     Limit(
+        "crates/twp_lots/specs/LotRecords.antt",
+        "LOTS_TEXT_MOST",
+        {"crates/twp_lots/src/fault.rt": r"const MOST_BYTES: u32 = ", HEADER: r"#define TOWNSHIP_LOTS_TEXT_MOST "},
+    ),
+    Limit(
         "crates/twp_acres/specs/Tracts.antt",
         "TRACTS_MOST",
         {"crates/twp_acres/src/tract_fault.rt": r"const TRACTS_MOST: u32 = "},
