@@ -51,6 +51,7 @@ SELECT acres(plat, 'sec. 14, NE1/4 and N1/2.') FROM plats WHERE name = 'even';
 SELECT acres(plat, 'sec. 5, N1/2.') FROM plats WHERE name = 'even';
 SELECT acres(plat, '') FROM plats WHERE name = 'even';
 SELECT acres(plat, repeat(' ', 65537)) FROM plats WHERE name = 'even';
+SELECT acres(plat, 'secs. 14 & 15') FROM plats WHERE name = 'even';
 SELECT acres(plat, 'T. 2 N., R. 3 E., sec. 14.') FROM plats WHERE name = 'even';
 SELECT acres(plat, 'sec. 14.', 'neat') FROM plats WHERE name = 'even';
 SELECT 'line,between,and,quarters,corner'::plat;
@@ -61,8 +62,8 @@ SELECT replace(:'even', E'\nW,6,7,40.00,80.00', '')::plat;
 CREATE TABLE descriptions (id int, description text);
 INSERT INTO descriptions VALUES (1, 'sec. 5, lot 1.'), (2, 'sec. 5, lot 5.'), (3, 'sec. 36.'), (4, NULL),
     (5, 'sec. 14, NE1/4 and N1/2.'), (6, 'sec. 14, NE1/4 SE1/4.');
-SELECT id, acres_or_null(plat, description) AS acres, (refusal(plat, description)).number, (refusal(plat, description)).at
-FROM descriptions, plats WHERE name = 'uneven' ORDER BY id;
+SELECT id, acres_or_null(plat, description) AS acres, refused.number, refused.at
+FROM descriptions, plats, refusal(plat, description) AS refused WHERE name = 'uneven' ORDER BY id;
 \x on
 SELECT r.* FROM plats, refusal(plat, 'sec. 14, NE1/4 and N1/2.') AS r WHERE name = 'even';
 SELECT r.* FROM plats, refusal(plat, E'sec. 14,\n') AS r WHERE name = 'even';
@@ -95,4 +96,5 @@ INSERT INTO plats VALUES ('again', :'even') ON CONFLICT (plat) DO NOTHING;
 SELECT count(*) FROM plats;
 
 -- The binary form.
-SELECT length(plat_send(plat)) AS bytes, encode(substr(plat_send(plat), 1, 9), 'hex') AS first FROM plats WHERE name = 'even';
+SELECT length(plat_send(plat)) AS bytes, encode(substr(plat_send(plat), 1, 9), 'hex') AS first
+FROM plats WHERE name = 'even';

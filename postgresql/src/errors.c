@@ -41,6 +41,8 @@ static const struct {
 } failures[] = {
     {TOWNSHIP_NO_MEMORY, ERRCODE_OUT_OF_MEMORY, "out of memory"},
     {TOWNSHIP_NO_PLAT, ERRCODE_DATA_CORRUPTED, "this plat is not valid"},
+    {TOWNSHIP_NO_LAND, ERRCODE_DATA_CORRUPTED, "this land is not valid"},
+    {TOWNSHIP_NO_LOTS, ERRCODE_DATA_CORRUPTED, "this lot table is not valid"},
 };
 
 void twpg_fail(uint32_t verdict) {

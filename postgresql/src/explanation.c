@@ -79,22 +79,25 @@ static bool continues(const char *before, const char *line) {
     return columns_of(before, strlen(before)) + 1 + columns_of(word, strcspn(word, " ")) > COLUMNS;
 }
 
-/* Joins lines, from the first one to the one before the last, to one line; or NULL if there are none. */
+/* Joins lines, from the first one to the one before the last, or returns NULL if there are none. What was
+   broken because it was too long is on one line again. */
 static char *joined(const twpg_lines *text, int first, int last) {
-    StringInfoData line;
+    StringInfoData whole;
     int index;
 
     if (first >= last) {
         return NULL;
     }
-    initStringInfo(&line);
+    initStringInfo(&whole);
     for (index = first; index < last; index++) {
+        const char *line = text->lines[index];
+
         if (index > first) {
-            appendStringInfoChar(&line, ' ');
+            appendStringInfoChar(&whole, continues(text->lines[index - 1], line) ? ' ' : '\n');
         }
-        appendStringInfoString(&line, after_spaces(text->lines[index]));
+        appendStringInfoString(&whole, after_spaces(line));
     }
-    return twpg_from_utf8(line.data);
+    return twpg_from_utf8(whole.data);
 }
 
 /* The lines of an excerpt as they are. */

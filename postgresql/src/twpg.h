@@ -17,6 +17,9 @@
 
 #include <township.h>
 
+/* The error of what is in two different townships, which is no refusal of a text. */
+#define TWPG_SQLSTATE_OTHER_TOWNSHIP MAKE_SQLSTATE('T', 'W', '1', '0', '0')
+
 /* Bytes that the library reads: a description or a table, in UTF-8. */
 typedef struct twpg_bytes {
     const uint8_t *start;

@@ -1,9 +1,9 @@
 #!/usr/bin/env python3
-"""Writes the cases of a zip as SQL: `cases.py ZIP > SQL`. tests/library/c/case_records.py says what is in such a zip.
+"""Writes the cases of a zip as SQL: `cases.py ZIP > SQL`. tests/library/c/case_records.py says what such a zip is.
 
-The SQL puts them into a table, for tests/postgresql/cases.sql, which answers them. Text of the database has no zero bytes, so
-cases with one are left out; and so are lists of tracts and printed plats, which have no function. A plat that is refused is a
-case, though. The last line, a comment, says how many there are.
+The SQL puts them into a table, for tests/postgresql/cases.sql, which answers them. Text in a database has no zero
+bytes, so cases with one are left out; and so are lists of tracts and printed plats, which have no function. A plat
+that is refused is a case, though. The last line, a comment, says how many there are.
 """
 import sys
 import zipfile
@@ -13,7 +13,12 @@ JOINED_MOST = 131_074
 
 def literal(data):
     """Bytes as a literal of a database without an encoding."""
-    return "E'" + "".join(chr(byte) if 32 <= byte < 127 and byte not in b"'\\" else f"\\x{byte:02x}" for byte in data) + "'"
+    return "E'" + "".join(map(character, data)) + "'"
+
+
+def character(byte):
+    """A byte as it is, or escaped."""
+    return chr(byte) if 32 <= byte < 127 and byte not in b"'\\" else f"\\x{byte:02x}"
 
 
 def parts(kind, account, notes, second):
@@ -48,8 +53,8 @@ def main():
         expected = read(f"{case}/expected")
         if is_wanted(kind, notes, second, expected):
             count += 1
-            row = ", ".join([f"'{case}'", f"'{kind}'", f"'{account}'", *map(literal, (notes, second, expected))])
-            print(f"INSERT INTO cases VALUES ({row});")
+            texts = ", ".join(map(literal, (notes, second, expected)))
+            print(f"INSERT INTO cases VALUES ('{case}', '{kind}', '{account}', {texts});")
     print(f"-- {count}")
 
 

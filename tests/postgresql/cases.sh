@@ -6,7 +6,8 @@ fi
 if [ -n "${TOWNSHIP_CASES:-}" ] && reader=$(python_with sys); then
     new_database cases -E SQL_ASCII
     "$reader" -B "$tests/cases.py" "$TOWNSHIP_CASES" > "$work/cases.sql"
-    sql -d cases -c 'CREATE TABLE cases (name text, kind text, account text, notes text, description text, expected text)'
+    sql -d cases -c 'CREATE TABLE cases
+        (name text, kind text, account text, notes text, description text, expected text)'
     sql -d cases -f "$work/cases.sql" > "$work/inserted"
     number=$(sed -n '$s/^-- //p' "$work/cases.sql")
     all_read 'the worked cases' "$number" "$(sql -d cases -c 'SELECT count(*) FROM cases')"

@@ -4,7 +4,8 @@ sql -d queries -v notes="$(cat "$root/samples/b1.csv")" << 'END' > "$work/lost"
 CREATE TABLE plats (id int PRIMARY KEY, plat plat);
 INSERT INTO plats VALUES (1, :'notes');
 CREATE TABLE descriptions (plat int, description text);
-INSERT INTO descriptions SELECT 1, (ARRAY['sec. 5, lot 1.', 'sec. 14, NE1/4.', 'sec. 7, lots 1 to 4.', 'sec. 36.'])[1 + n % 4]
+INSERT INTO descriptions
+SELECT 1, (ARRAY['sec. 5, lot 1.', 'sec. 14, NE1/4.', 'sec. 7, lots 1 to 4.', 'sec. 36.'])[1 + n % 4]
 FROM generate_series(0, 39999) AS n;
 ANALYZE;
 END
@@ -18,7 +19,8 @@ try 'the query runs in parallel' grep -q 'Workers Planned: 2' "$work/plan"
 try 'the acres are computed by the workers' grep -q 'Partial Aggregate' "$work/plan"
 
 # A long query ends when it is canceled, and when its time is over.
-long="SELECT count(acres(plat, 'sec. 14, NE1/4.' || repeat(' ', n::int % 7))) FROM plats, generate_series(1, 1000000000) AS n"
+long="SELECT count(acres(plat, 'sec. 14, NE1/4.' || repeat(' ', n::int % 7)))
+    FROM plats, generate_series(1, 1000000000) AS n"
 shows 'a statement timeout' 'ERROR:  canceling statement due to statement timeout' \
     timeout 30 psql -X -q -A -t -d queries -c 'SET statement_timeout = 300' -c "$long"
 PGAPPNAME=long psql -X -q -A -t -d queries -c "$long" > "$work/canceled" 2>&1 &

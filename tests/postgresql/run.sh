@@ -46,6 +46,14 @@ try 'the extension is installed' install_server "$library" "$headers"
 nm -D --defined-only "$extension/township.so" | sed 's/.* //' | grep -v '^\(pg_finfo_\)\?twpg_' > "$work/found"
 echo Pg_magic_func > "$work/wanted"
 same 'the names that the module exports'
+# How lands are packed for storage, with a sanitizer that sees each byte beyond them, if the compiler has one.
+headers_of_server=$("$postgres/bin/pg_config" --includedir-server)
+for sanitizer in '-fsanitize=address,undefined -fno-sanitize-recover=all' ''; do
+    "${CC:-cc}" -std=c11 -D_GNU_SOURCE -O1 -g $sanitizer -I"$headers" -isystem "$headers_of_server" -o "$work/packing" \
+        "$tests/packing_test.c" "$root/postgresql/src/packing.c" > "$work/lost" 2>&1 && break
+done
+try 'how lands are packed' "$work/packing"
+
 if ! start_server; then
     fail 'the server starts' "$work/initdb" "$work/started"
     ended
@@ -59,7 +67,7 @@ else
     fail 'the regression tests' "$work/out"
 fi
 
-for part in cases documents encodings queries; do
-    [ ! -f "$tests/$part.sh" ] || . "$tests/$part.sh"
+for part in cases documents encodings queries received races dumps processes memory memcheck; do
+    . "$tests/$part.sh"
 done
 ended
