@@ -29,8 +29,12 @@ def refused_lots(answer: _library.Answer, source: str) -> Refused:
     if answer.verdict == _library.TRACT_REFUSED:
         inner = Refusal(answer.inner_number, answer.inner_at)
         number, at = inner
-    section, lot = divmod(at, 100)
-    sentence = _SENTENCES[number].format(at=at, section=section, lot=lot)
     record = f"record {answer.at}: " if inner else ""
-    explanation = f"township: {source}: {record}{sentence}\n"
+    explanation = f"township: {source}: {record}{_sentence_of(number, at)}\n"
     return Refused(answer.number, answer.at, None, None, explanation, inner, source)
+
+
+def _sentence_of(number: int, at: int) -> str:
+    """Return what is wrong. A library that is newer than this package may refuse for something else."""
+    section, lot = divmod(at, 100)
+    return _SENTENCES.get(number, "refused {number} at {at}").format(number=number, at=at, section=section, lot=lot)
