@@ -18,6 +18,7 @@ if TYPE_CHECKING:
     from ._lots import Lots
     from ._plat import Plat
 
+#: The rows of a section that has no land.
 _NO_ROWS = bytes(4 * _library.PLACES_ACROSS)
 
 
@@ -182,7 +183,9 @@ class Land:
 
     def _numbers(self) -> List[int]:
         """Return the numbers of the sections that have land."""
-        return [number for number, rows in enumerate(self._parts.rows, start=1) if bytes(rows) != _NO_ROWS]
+        rows = bytes(self._parts.rows)
+        starts = range(0, len(rows), len(_NO_ROWS))
+        return [number for number, start in enumerate(starts, start=1) if not rows.startswith(_NO_ROWS, start)]
 
     def _within(self, number: int) -> Land:
         """Return the land in one section."""
@@ -251,6 +254,9 @@ class Land:
 
     def __contains__(self, other: Union[Land, Text]) -> bool:
         return (other if isinstance(other, Land) else Land.of(self.township, other)) <= self
+
+    def __bool__(self) -> bool:
+        return bytes(self._parts.rows) != _NO_ROWS * _library.SECTIONS
 
     def __len__(self) -> int:
         return len(self._numbers())
