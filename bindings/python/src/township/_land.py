@@ -25,9 +25,9 @@ _NO_ROWS = bytes(4 * _library.PLACES_ACROSS)
 class Land:
     """The land that a description names, as a value: a set of places in a township.
 
-    To make land, call `Land.of` with a township and a description, or `Plat.land` with a description. It does not
-    depend on field notes; only its acreage does. Land is immutable, can be pickled, and can be used from several
-    threads at once. Two lands are equal if they are the same places in the same township.
+    To make land, call `Land.of` with a township and a description, or `Plat.land` with a description. It does
+    not depend on field notes; only its acreage does. Land is immutable, can be pickled, and can be used from
+    several threads at once. Two lands are equal if they are the same places in the same township.
 
     Land can be combined and compared like a Python set, exactly:
 
@@ -42,8 +42,9 @@ class Land:
     >>> lease & deed <= lease | deed
     True
 
-    `|`, `&`, `-`, and `^` raise `ValueError` for land in two different townships. Such lands are disjoint, and
-    neither is less than the other. `in` takes land or a description: `a in b` is true if `b` contains all of `a`.
+    `|`, `&`, `-`, and `^` raise `ValueError` for land in two different townships. Such lands are disjoint,
+    and neither is less than the other. `in` takes land or a description: `a in b` is true if `b` contains all
+    of `a`.
 
     Iteration goes by section: it yields the land in each section that has any, and `len` is their number.
     `sections` is a mapping to them from section numbers. Land is true unless it is empty.
@@ -78,7 +79,7 @@ class Land:
 
     @classmethod
     def _read(cls, township: Township, plat: _library.Plat, given: bytes, source: bytes) -> Land:
-        """Make the land of a description, which an explanation calls by this name, and explains on this plat."""
+        """Make the land of a description, which explanations call by this name, and explain on this plat."""
         parts = _library.Land()
         designation = _library.Designation(*codes_of(township))
         answer = _library.land_read(byref(designation), given, len(given), byref(parts))
@@ -150,7 +151,7 @@ class Land:
     def acres(self, by: Lots) -> Decimal: ...
 
     def acres(self, by: Any, *account: Any, **named: Any) -> Decimal:
-        """Return the acreage by a plat and an account, as `Plat.acres` does, or by a lot table, as `Lots.acres`.
+        """Return the acreage by a plat and an account (`Plat.acres`), or by a lot table (`Lots.acres`).
 
         >>> plat.land("sec. 7, lots 1 to 4.").acres(plat, account="plat")
         Decimal('156.42')
@@ -165,7 +166,7 @@ class Land:
     def area(self, by: Lots) -> Fraction: ...
 
     def area(self, by: Any, *account: Any, **named: Any) -> Fraction:
-        """Return the exact area in acres by a plat and an account, or by a lot table. `acres` returns it rounded.
+        """Return the exact area in acres, by a plat and an account, or by a lot table. `acres` rounds it.
 
         >>> plat.land("sec. 5, lot 1.").area(plat)
         Fraction(809, 20)

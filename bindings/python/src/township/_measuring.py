@@ -22,9 +22,9 @@ from ._township import nominal_plat_of
 _INPUT, _OUTPUT = 0, 1
 
 _INPUTS = """\
-NOTES contains the field notes of the township (CSV). With --lots, a lot table (CSV) takes their place: each whole
-lot then counts at the acreage that the approved plat returns for it. A description is a file, or - for standard
-input.
+NOTES contains the field notes of the township (CSV). With --lots, a lot table (CSV) takes their place: each
+whole lot then counts at the acreage that the approved plat returns for it. A description is a file, or - for
+standard input.
 """
 
 _ACRES = """\
@@ -33,8 +33,8 @@ Prints the acreage of the land described.
 """ + _INPUTS
 
 _COMPARE = """\
-Compares the land in two descriptions, A and B. For the land in both, the land only in A, and the land only in B,
-prints the acreage and the canonical description.
+Compares the land in two descriptions, A and B. For the land in both, the land only in A, and the land only in
+B, prints the acreage and the canonical description.
 
 """ + _INPUTS
 
@@ -174,7 +174,8 @@ def _read(name: str, by: Union[Plat, Lots]) -> _Description:
 
 def _bytes_in(name: str, most: int) -> bytes:
     """Return the bytes of a file. One more than the most that are allowed is enough for the refusal."""
-    with reading(_shown(name)), open(_INPUT if name == STANDARD else name, "rb", closefd=name != STANDARD) as file:
+    is_standard = name == STANDARD
+    with reading(_shown(name)), open(_INPUT if is_standard else name, "rb", closefd=not is_standard) as file:
         return file.read(most + 1)
 
 
