@@ -28,6 +28,7 @@ needs='
     mypy             modules mypy
     python3-pandas   modules pandas
     python3-openpyxl modules openpyxl
+    python3-hypothesis modules hypothesis
     python3-rich     modules rich
     python3-tqdm     modules tqdm
     python3-distributed modules distributed

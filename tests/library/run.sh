@@ -19,7 +19,7 @@ fi
 version=$(sed -n 's/^Version: //p' lib/township.pc)
 
 # The worked cases, and a Python that can test all of the package, if there is one.
-if python=$(python_with 'mypy, openpyxl, pandas, rich, tqdm') || python=$(python_with pandas) || python=$(python_with sys); then
+if python=$(python_with 'hypothesis, mypy, openpyxl, pandas, rich, tqdm') || python=$(python_with pandas) || python=$(python_with sys); then
     if [ -z "${TOWNSHIP_CASES:-}" ]; then
         if reader=$(python_with tomllib); then
             TOWNSHIP_CASES=$work/answers.zip

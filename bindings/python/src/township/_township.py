@@ -2,7 +2,7 @@
 from __future__ import annotations
 
 import functools
-from typing import Dict, Literal, NamedTuple, Sequence, Tuple, cast
+from typing import Dict, Literal, NamedTuple, Sequence, Tuple, Union, cast
 
 from . import _library
 
@@ -39,8 +39,8 @@ class Township(NamedTuple):
         return f"T. {self.number} {self.north_south}., R. {self.range} {self.east_west}."
 
 
-def township_of(parts: _library.Plat) -> Township:
-    """Return the designation in a struct that is a plat."""
+def township_of(parts: Union[_library.Plat, _library.Designation]) -> Township:
+    """Return the designation in a struct that is valid."""
     return Township(
         parts.number, _NORTH_SOUTH[parts.north_south], parts.range, _EAST_WEST[parts.east_west]
     )
