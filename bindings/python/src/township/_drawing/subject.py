@@ -7,7 +7,7 @@ from typing import Mapping, NamedTuple, Optional, Sequence, Tuple
 from .._figures import Section
 from .._township import Township
 
-#: Land: for each section that has any, 32 rows of places from the south. Bit k of a row is column k from the east.
+#: Land: for each section that has any, 32 rows from the south. Bit k of a row is the place in column k from the east.
 Rows = Mapping[int, Sequence[int]]
 
 

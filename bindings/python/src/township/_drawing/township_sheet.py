@@ -1,6 +1,7 @@
 """The sheet of a township."""
 from __future__ import annotations
 
+import functools
 from decimal import Decimal
 from typing import Iterator, List
 
@@ -30,9 +31,7 @@ def township_sheet(subject: Subject, targets: bool) -> str:
         heading(_long_name(subject), "Plat of the township, by sections and lots"),
         north_arrow(WIDTH - 9, 26.0),
         *shading.land(LEFT, TOP),
-        _quarter_lines(),
-        _lot_lines(),
-        _section_lines(),
+        _lines(),
         *_numbers(subject),
     ]
     note = ""
@@ -55,7 +54,7 @@ def _long_name(subject: Subject) -> str:
 
 def _described(subject: Subject) -> str:
     """Return what the drawing shows, in words."""
-    words = ["Schematic drawing of a township: 36 sections, with the lots along its north and west boundaries."]
+    words = ["Schematic drawing of 36 sections, with the lots along the north and west boundaries."]
     for shade in subject.shades:
         figures = ", ".join(f"{grouped(acres)} ({account})" for account, acres in shade.acres)
         words.append(f"{shade.label}: {shade.words[:500]} {figures}".strip())
@@ -81,6 +80,12 @@ def _path(moves: str, width: float, **attributes: str) -> str:
         stroke_width=width / PLACE,
         **attributes,
     )
+
+
+@functools.lru_cache(maxsize=1)
+def _lines() -> str:
+    """Return the lines that every drawing of a township has."""
+    return "\n".join([_quarter_lines(), _lot_lines(), _section_lines()])
 
 
 def _quarter_lines() -> str:
