@@ -33,6 +33,6 @@ if [ "$status" != 0 ]; then
     echo
     [ "$failed" != 0 ] || failed=1
 fi
-sed -n 's/^SKIPPED \[\([0-9]*\)\] [^ ]* \(.*\)$/the page, \1 tests: \2/p' "$work/out" > "$work/skipped"
+sed -n 's/^SKIPPED \[\([0-9]*\)\] [^ ]* \(.*\)$/the page: \2 (tests: \1)/p' "$work/out" > "$work/skipped"
 while read -r left; do skip "$left"; done < "$work/skipped"
 ended

@@ -70,7 +70,7 @@ export async function refresh(request) {
       place.replaceChildren(refusalAnswer(refused));
       return answer;
     }
-    place.replaceChildren(`The township has ${grouped(answer.total)} acres.`);
+    place.replaceChildren(`The township contains ${grouped(answer.total)} acres.`);
     showLots(answer.sections);
     byId("where").textContent = answer.township;
     return answer;
