@@ -4,6 +4,7 @@ from __future__ import annotations
 import http.client
 import json
 import os
+import re
 import shutil
 import socket
 import ssl
@@ -63,7 +64,11 @@ def nginx(tmp_path: Path) -> Iterator[int]:
         cwd=tmp_path, check=True, capture_output=True,
     )
     port, behind = free_port(), free_port()
-    site = block("server {")
+    place, passed = "location /plats/", "proxy_pass http://127.0.0.1:8036/;"
+    assert f"`{place}` with `{passed}`" in " ".join(SERVING.split())
+    # The page at the root, as the document shows it, and under a path, as it says.
+    under_a_path = f"    {place} {{\n        {passed}\n        proxy_set_header Host $host;\n    }}\n}}\n"
+    site = block("server {").rstrip().removesuffix("}") + under_a_path
     for old, new in (
         ("listen 443", f"listen 127.0.0.1:{port}"),
         ("127.0.0.1:8036", f"127.0.0.1:{behind}"),
@@ -117,6 +122,9 @@ def test_nginx(nginx: int, tmp_path: Path) -> None:
 
     page = answer("GET", "/")
     assert page.status == 200 and b"<h1>Township plat" in page.read()
+    files = re.findall(r'(?:href|src)="(static/[a-z.]+)"', answer("GET", "/plats/").read().decode())
+    assert [answer("GET", f"/plats/{name}").status for name in files] == [200, 200, 200]
+    assert json.loads(answer("POST", "/plats/api/v1/land", body).read())["acres"]["exact"] == "160.00"
     assert page.headers["Strict-Transport-Security"] == "max-age=31536000"
     assert "frame-ancestors 'none'" in page.headers["Content-Security-Policy"]
     assert json.loads(answer("POST", "/api/v1/land", body).read())["acres"]["exact"] == "160.00"
