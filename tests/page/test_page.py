@@ -269,6 +269,7 @@ def test_a_lot_table(page: Page) -> None:
     page.type("#description", "sec. 5, lots 1 and 2, S1/2NE1/4.")
     # 40.45 + 40.50 + 80
     page.wait_for_text("#land-answer", "160.95 acres")
+    assert "40.45" in page.text("#drawing") and "Acreage by the lot table." in page.text("#drawing")
     page.type("#description", "sec. 5, lots 1 to 3.")
     page.wait_for_text("#land-answer", "the table lacks a lot of this land")
     page.tab("plat")

@@ -106,6 +106,29 @@ class LandAlone(unittest.TestCase):
         self.assertIn("0.00", texts(uneven().svg(land=none)))
 
 
+class LotTable(unittest.TestCase):
+    FIGURES = {(5, 1): "40.45", (5, 2): "40.50", (5, 3): "40.55", (5, 4): "40.60", (6, 1): "41.00"}
+
+    def test_returned_acreage_is_shown(self):
+        lots = township.Lots.of_figures(even().township, self.FIGURES)
+        shown = texts(svg_of(subject_of(even(), lots=lots)))
+        for acres in self.FIGURES.values():
+            self.assertEqual(shown.count(acres), 1)
+        # Section 5: 40.45 + 40.50 + 40.55 + 40.60 = 162.10, and 12 quarter-quarter sections of 40 acres.
+        self.assertEqual(shown.count("642.10"), 1)
+        # Of the 36 sections, 11 have lots; the table has all lots of one of them.
+        self.assertEqual(shown.count("640.00"), 25)
+        self.assertNotIn("40.00", shown)
+        self.assertNotIn("Township", shown)
+        self.assertIn("Acreage by the lot table.", shown[-1])
+
+    def test_in_a_section(self):
+        lots = township.Lots.of_figures(even().township, self.FIGURES)
+        shown = texts(svg_of(subject_of(even(), lots=lots), 6))
+        self.assertEqual([each for each in shown if each.endswith(" acres")], ["41.00 acres"])
+        self.assertEqual(len([each for each in shown if each.startswith("Lot ")]), 7)
+
+
 class SectionAlone(unittest.TestCase):
     def test_lots_and_quarters(self):
         shown = texts(uneven().svg(section=5))

@@ -1,15 +1,18 @@
 """What is drawn of a plat or of land, as the library answers it."""
 from __future__ import annotations
 
+from decimal import Decimal
 from typing import TYPE_CHECKING, Optional, Tuple, Union
 
 from .._account import ACCOUNTS, Account
+from .._refused import Refused
 from .._text import Text
 from . import svg_of
 from .subject import Figures, Shade, Subject
 
 if TYPE_CHECKING:
     from .._land import Land
+    from .._lots import Lots
     from .._plat import Plat
 
 #: What the title block calls each account.
@@ -40,9 +43,29 @@ def shade_of(plat: Plat, land: Land, label: str = "Land") -> Shade:
     return Shade(land.rows, label, words_of(land), acres)
 
 
-def subject_of(plat: Plat, *shades: Shade) -> Subject:
-    """Return a plat with shaded land."""
-    return Subject(plat.township, Figures(plat.sections, plat.total, plat.closing_quarters), shades)
+def subject_of(plat: Plat, *shades: Shade, lots: Optional[Lots] = None) -> Subject:
+    """Return a plat with shaded land. If there is a lot table, its acreage is shown, and not that of the plat."""
+    return Subject(plat.township, _figures_of(plat) if lots is None else _figures_by(lots, plat), shades)
+
+
+def _figures_of(plat: Plat) -> Figures:
+    lots = {(number, lot): acres for number, each in plat.sections.items() for lot, acres in each.lots.items()}
+    sections = {number: each.total for number, each in plat.sections.items()}
+    return Figures(lots, sections, plat.total, plat.closing_quarters)
+
+
+def _figures_by(lots: Lots, plat: Plat) -> Figures:
+    sections = {number: _acres_by(lots, f"sec. {number}.") for number in plat.sections}
+    total = _acres_by(lots, "secs. 1 to 36, all.")
+    return Figures(lots.figures, sections, total, plat.closing_quarters, "Acreage by the lot table.")
+
+
+def _acres_by(lots: Lots, description: str) -> Optional[Decimal]:
+    """Return the acreage by a lot table, if the table has all lots of the land."""
+    try:
+        return lots.acres(description)
+    except Refused:
+        return None
 
 
 def words_of(land: Land) -> str:

@@ -3,7 +3,7 @@ from __future__ import annotations
 
 import textwrap
 from decimal import Decimal
-from typing import Iterator, List, Optional, Tuple
+from typing import Iterator, List, Optional, Sequence, Tuple
 
 from .markup import element, group, number, text
 from .sheet import HEIGHT, WIDTH, Shading
@@ -20,8 +20,12 @@ _LEADING = 4.2
 _NOTE = "Schematic, not to scale."
 
 
-def title_block(subject: Subject, shading: Shading, total: Tuple[str, Decimal], y: float, note: str) -> str:
-    """Return the block with its top at y: the land at the left, the figures at the right, and a note below."""
+#: A figure: its name, and an acreage. If the acreage is `None`, there is nothing to show.
+Figure = Tuple[str, Optional[Decimal]]
+
+
+def title_block(subject: Subject, shading: Shading, total: Figure, y: float, notes: Sequence[str]) -> str:
+    """Return the block with its top at y: the land at the left, the figures at the right, and notes below."""
     bottom = HEIGHT - 9.0
     left, right, top, foot, middle = map(number, (_LEFT, _RIGHT, y, bottom, _FIGURES - 4))
     lines = f"M{left} {top}H{right}V{foot}H{left}ZM{middle} {top}V{foot}"
@@ -29,7 +33,7 @@ def title_block(subject: Subject, shading: Shading, total: Tuple[str, Decimal], 
         element("path", d=lines, fill="none", stroke="currentColor", stroke_width=0.3),
         *_land(subject, shading, y + 6.0),
         *_figures(subject, total, y + 6.0, bottom - 2.0),
-        text(f"{_NOTE} {note}".strip(), _LEFT, HEIGHT - 4.5, 2.6, font_style="italic"),
+        text(" ".join(filter(None, [_NOTE, *notes])), _LEFT, HEIGHT - 4.5, 2.6, font_style="italic"),
     ]
     return group(parts)
 
@@ -84,18 +88,18 @@ def _last(line: str) -> str:
     return line[: _COLUMNS - len(more)].rstrip() + more
 
 
-def _figures(subject: Subject, total: Tuple[str, Decimal], y: float, bottom: float) -> Iterator[str]:
+def _figures(subject: Subject, total: Figure, y: float, bottom: float) -> Iterator[str]:
     """Yield the lines of figures: the acreage of each shade by each account, and the total."""
     if subject.figures is None:
         yield text("No field notes, no acreage", _FIGURES, y, 3.0, font_style="italic")
         return
-    lines: List[Tuple[str, Optional[Decimal]]] = []
+    lines: List[Figure] = []
     for shade in subject.shades[: _LINES // 2]:
         lines.append(("Acres" if len(subject.shades) == 1 else shade.label, None))
         lines.extend(shade.acres)
-    lines.append(total)
+    lines.extend([total] if total[1] is not None else [])
     # Many lines are closer together, so that they end above the bottom.
-    leading = min(_LEADING, (bottom - y) / len(lines))
+    leading = min(_LEADING, (bottom - y) / max(len(lines), 1))
     for name, acres in lines:
         if acres is None:
             yield text(name, _FIGURES, y, 3.2, font_weight="bold")

@@ -2,7 +2,6 @@
 from __future__ import annotations
 
 import functools
-from decimal import Decimal
 from typing import Iterator, List
 
 from .layout import ACROSS, LOT, SECTION, TOWNSHIP, Box, Line, box_of, lines, lots_of
@@ -34,12 +33,11 @@ def township_sheet(subject: Subject, targets: bool) -> str:
         _lines(),
         *_numbers(subject),
     ]
-    note = ""
-    total = Decimal(0)
+    total, notes = None, []
     if subject.figures is not None:
         parts.append(group(_closing_quarters(subject.figures), font_size=2.5, **{"class": "closing"}))
-        total, note = subject.figures.total, _NOTE
-    parts.append(title_block(subject, shading, ("Township", total), TOP + SIDE + 6, note))
+        total, notes = subject.figures.total, [subject.figures.note, _NOTE]
+    parts.append(title_block(subject, shading, ("Township", total), TOP + SIDE + 6, notes))
     if targets:
         parts.append(targets_of(LEFT, TOP, PLACE))
     return document(name, _described(subject), shading.definitions(), parts)
@@ -131,16 +129,18 @@ def _numbers(subject: Subject) -> Iterator[str]:
 def _of_section(figures: "Figures | None", section: int, corner: Box) -> Iterator[str]:
     x, y = _x(corner.x + SECTION / 2), _y(corner.y + SECTION / 2)
     yield text(str(section), x, y + 1.9, 5.4)
-    if figures is not None:
-        yield text(grouped(figures.sections[section].total), x, y + 5.2, 2.1, font_style="italic")
+    acres = None if figures is None else figures.sections[section]
+    if acres is not None:
+        yield text(grouped(acres), x, y + 5.2, 2.1, font_style="italic")
 
 
 def _of_lot(figures: "Figures | None", section: int, lot: int, x: float, y: float) -> Iterator[str]:
-    if figures is None:
+    acres = None if figures is None else figures.lots[section, lot]
+    if acres is None:
         yield text(str(lot), x, y + 0.8, 2.4)
         return
     yield text(str(lot), x, y - 0.3, 2.1)
-    yield text(grouped(figures.sections[section].lots[lot]), x, y + 2.0, 1.7)
+    yield text(grouped(acres), x, y + 2.0, 1.7)
 
 
 def _closing_quarters(figures: Figures) -> Iterator[str]:

@@ -22,7 +22,7 @@ def drawing(given: Given, basis: Basis, lands: Sequence[Tuple[str, Land]] = ()) 
     if not given.flag("draw"):
         return {}
     shades = [_shade_of(basis, label, land) for label, land in lands]
-    return {"svg": svg_of(subject_of(basis.plat, *shades), section, targets)}
+    return {"svg": svg_of(subject_of(basis.plat, *shades, lots=basis.lots), section, targets)}
 
 
 def _shade_of(basis: Basis, label: str, land: Land) -> Shade:
