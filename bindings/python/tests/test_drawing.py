@@ -11,6 +11,7 @@ from samples import TOP, RefusalCase, even, uneven
 from township._drawing import svg_of
 from township._drawing.layout import LINES, box_of, closing_of, line_of, lots_of
 from township._drawing.markup import element, escaped
+from township._drawing.of_plat import subject_of
 from township._drawing.places import boxes_of, outline_of, picture_of_township, strokes_of
 from township._drawing.subject import Shade, Subject
 
@@ -87,6 +88,47 @@ class Township(RefusalCase):
         self.assertFalse(names[0] & names[1])
 
 
+class LandAlone(unittest.TestCase):
+    def test_land_on_a_plat(self):
+        description = "sec. 5, lots 1 and 2, S1/2NE1/4."
+        self.assertEqual(uneven().svg(land=uneven().land(description)), uneven().svg(land=description))
+
+    def test_notebooks_show_land(self):
+        land = township.Land.of("T. 2 N., R. 3 W.", "sec. 14, NE1/4.")
+        self.assertIn('d="m144 72h16" stroke-width="16"', land._repr_svg_())
+        self.assertIn("sec. 14, NE1/4.", texts(land._repr_svg_()))
+        # Without field notes there is no acreage: numbers with two decimal places.
+        self.assertFalse([each for each in texts(land._repr_svg_()) if re.search(r"\.\d\d$", each)])
+
+    def test_no_land(self):
+        none = uneven().land("sec. 14.") - uneven().land("sec. 14.")
+        self.assertEqual(ET.fromstring(uneven().svg(land=none)).tag, f"{SVG}svg")
+        self.assertIn("0.00", texts(uneven().svg(land=none)))
+
+
+class LotTable(unittest.TestCase):
+    FIGURES = {(5, 1): "40.45", (5, 2): "40.50", (5, 3): "40.55", (5, 4): "40.60", (6, 1): "41.00"}
+
+    def test_returned_acreage_is_shown(self):
+        lots = township.Lots.of_figures(even().township, self.FIGURES)
+        shown = texts(svg_of(subject_of(even(), lots=lots)))
+        for acres in self.FIGURES.values():
+            self.assertEqual(shown.count(acres), 1)
+        # Section 5: 40.45 + 40.50 + 40.55 + 40.60 = 162.10, and 12 quarter-quarter sections of 40 acres.
+        self.assertEqual(shown.count("642.10"), 1)
+        # Of the 36 sections, 11 have lots; the table has all lots of one of them.
+        self.assertEqual(shown.count("640.00"), 25)
+        self.assertNotIn("40.00", shown)
+        self.assertNotIn("Township", shown)
+        self.assertIn("Acreage by the lot table.", shown[-1])
+
+    def test_in_a_section(self):
+        lots = township.Lots.of_figures(even().township, self.FIGURES)
+        shown = texts(svg_of(subject_of(even(), lots=lots), 6))
+        self.assertEqual([each for each in shown if each.endswith(" acres")], ["41.00 acres"])
+        self.assertEqual(len([each for each in shown if each.startswith("Lot ")]), 7)
+
+
 class SectionAlone(unittest.TestCase):
     def test_lots_and_quarters(self):
         shown = texts(uneven().svg(section=5))
@@ -125,6 +167,17 @@ class Forms(unittest.TestCase):
         self.assertEqual(set(re.findall(r'https?://[^"]+', drawing)), {"http://www.w3.org/2000/svg"})
         # A strict content security policy allows no style attributes and no scripts.
         self.assertNotRegex(drawing, r"<script|<style| style=| on[a-z]+=")
+
+    def test_the_title_block_ends_on_the_sheet(self):
+        accounts = (("Exact account", 1), ("Plat account", 1), ("Lot table", 1))
+        shades = [Shade({}, "Only in the second", "sec. 14, all; " * 40, accounts)] * 3
+        for section in (None, 5):
+            subject = subject_of(even(), *shades)
+            lines = [each for each in ET.fromstring(svg_of(subject, section)).iter(f"{SVG}text") if "transform" not in each.attrib]
+            # The last line of the sheet is the note below the block, whose bottom is at 246 of 255 millimeters.
+            heights = sorted(float(each.get("y")) for each in lines)
+            self.assertLess(heights[-2], 245.5)
+            self.assertLess(heights[-1], 255)
 
     def test_texts_are_escaped(self):
         self.assertEqual(escaped("<script>&\u202e\x00"), "&lt;script&gt;&amp;\ufffd\ufffd")

@@ -13,6 +13,7 @@ from ._batch.options import STANDARD
 from ._batch.workbook import is_workbook
 from ._draw import add_draw
 from ._measuring import Command, acres_command, compare_command
+from ._serve import add_serve
 
 #: The most processes that can be asked for.
 _JOBS_MOST = 1024
@@ -120,6 +121,7 @@ def _parsers() -> Tuple[argparse.ArgumentParser, Dict[str, Command]]:
     parser.add_argument("--version", action="version", version=f"township {version()}")
     commands = parser.add_subparsers(metavar="COMMAND", required=True)
     add_draw(commands)
+    add_serve(commands)
     return parser, {
         "acres": acres_command(commands),
         "compare": compare_command(commands),

@@ -14,8 +14,8 @@ from ._refused import Refused
 _USAGE = "python -m township draw [--section N] NOTES [DESCRIPTION] > plat.svg"
 
 _DRAW = """\
-Draws the plat of a township, or one of its sections, as SVG on standard output. If there is a description, its
-land is shaded, and its acreage is shown by each account. The drawing fits on letter and on A4 paper.
+Draws the plat of a township, or one of its sections, as SVG on standard output. If there is a description,
+its land is shaded, and its acreage is shown by each account. The drawing fits on letter and on A4 paper.
 """
 
 _STATUS = """\
@@ -44,7 +44,10 @@ def add_draw(commands: Any) -> None:
     )
     draw.add_argument("notes", metavar="NOTES", help="the field notes (CSV)")
     draw.add_argument(
-        "description", metavar="DESCRIPTION", nargs="?", help="a file with a description, or - for standard input"
+        "description",
+        metavar="DESCRIPTION",
+        nargs="?",
+        help="a file with a description, or - for standard input",
     )
     draw.add_argument(
         "--section", metavar="N", type=_section, help="draw this section alone, down to the smallest parts"

@@ -182,6 +182,12 @@ class Land:
         """
         return not self or not other or self._compared_to(other) == _library.DISJOINT
 
+    def _repr_svg_(self) -> str:
+        """Return the drawing that a notebook shows, without acreage, which needs a plat: see `Plat.svg`."""
+        from ._drawing.of_plat import drawing_of_land
+
+        return drawing_of_land(self)
+
     def _numbers(self) -> List[int]:
         """Return the numbers of the sections that have land."""
         rows = bytes(self._parts.rows)

@@ -5,11 +5,12 @@ import os
 from ctypes import byref
 from decimal import Decimal
 from types import MappingProxyType
-from typing import Any, Mapping, Optional, Sequence, Tuple
+from typing import Any, Mapping, Optional, Sequence, Tuple, Union
 
 from . import _library
 from ._answering import Answering
 from ._figures import Section, acres_of_hundredths, sections_of
+from ._land import Land
 from ._refused import NOTES, Refused, exception_of, failure_of, hinted
 from ._text import Path, Text, encoded, names_a_file, shown
 from ._township import Township, struct_of, township_of
@@ -181,23 +182,21 @@ class Plat(Answering):
         """
         return self._printed_figures()[1]
 
-    def svg(self, land: Optional[Text] = None, section: Optional[int] = None) -> str:
+    def svg(self, land: Union[Text, Land, None] = None, section: Optional[int] = None) -> str:
         """Return a drawing of the plat, or of one of its sections, as an SVG document of at most 200 kB.
 
-        The land of a description is shaded, and its acreage is shown by each account. The drawing is schematic,
-        and fits on letter and on A4 paper. Raise `Refused` if the description is refused, and `ValueError` if
-        there is no such section. In a notebook, a plat at the end of a cell is shown as this drawing.
+        The land of a description, or a `Land`, is shaded, and its acreage is shown by each account. The drawing is
+        schematic, and fits on letter and on A4 paper. Raise `Refused` if the description is refused, and
+        `ValueError` if there is no such section. In a notebook, a plat at the end of a cell is shown as this drawing.
 
         >>> plat.svg(land="sec. 5, lots 1 and 2, S1/2NE1/4.")[:40]
         '<svg xmlns="http://www.w3.org/2000/svg" '
         >>> "39.18 acres" in plat.svg(section=7)
         True
         """
-        from ._drawing import svg_of
-        from ._drawing.of_plat import checked, shade_of, subject_of
+        from ._drawing.of_plat import drawing_of
 
-        shades = [] if land is None else [shade_of(self, land)]
-        return svg_of(subject_of(self, *shades), checked(section))
+        return drawing_of(self, land, section)
 
     def _repr_svg_(self) -> str:
         """Return the drawing that a notebook shows."""

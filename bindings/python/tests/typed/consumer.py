@@ -53,7 +53,8 @@ def lands(plat: Plat, lots: Lots) -> Optional[Decimal]:
     acres: List[Decimal] = [land.acres(plat, account="plat"), land.acres(lots), plat.acres(land), lots.acres(land)]
     areas: List[Fraction] = [land.area(plat), land.area(lots), plat.area(land), lots.area(b"sec. 14.")]
     differences: List[Difference] = plat.differences(Lots.of_figures(land.township, lots.figures))
-    return acres[0] + differences[0].by if is_less and areas else None
+    drawings: List[str] = [plat.svg(), plat.svg(land=land, section=14), plat.svg(land=b"sec. 14.")]
+    return acres[0] + differences[0].by if is_less and areas and drawings else None
 
 
 def wrong_lands(plat: Plat, land: Land, lots: Lots) -> None:
@@ -62,6 +63,7 @@ def wrong_lands(plat: Plat, land: Land, lots: Lots) -> None:
     print(land | "sec. 14.")  # type: ignore[operator]
     print(land < 14)  # type: ignore[operator]
     plat.normal(land)  # type: ignore[arg-type]
+    plat.svg(land=14, section="14")  # type: ignore[arg-type]
     Lots.of_figures("T. 2 N., R. 3 W.", {5: "40.45"})  # type: ignore[dict-item]
 
 

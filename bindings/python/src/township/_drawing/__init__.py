@@ -1,8 +1,9 @@
 """Drawings of plats, as SVG: a township on a sheet, or one of its sections.
 
-`subject` says what is drawn. `layout` says where sections, lots, and lines are; `places` turns land into paths,
-and `hatching` shades them. `township_sheet` and `section_sheet` draw the two kinds of sheets, `title_block` the
-block below both, and `markup` writes the elements.
+`subject` says what is drawn, and `of_plat` finds it. `layout` says where sections, lots, and lines are; `places`
+turns land into paths, and `hatching` shades them. `township_sheet` and `section_sheet` draw the two kinds of sheets,
+with the parts in `sheet` that both use, and `title_block` the block below. `targets` adds the shapes that the page
+makes buttons of, and `markup` writes the elements.
 """
 from __future__ import annotations
 

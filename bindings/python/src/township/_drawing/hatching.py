@@ -1,4 +1,4 @@
-"""Hatching, which shades land so that it can be told apart in black and white, with a pale color for screens."""
+"""Hatching, which shades land so that it is legible in black and white, with a pale color for screens."""
 from __future__ import annotations
 
 from typing import List, NamedTuple

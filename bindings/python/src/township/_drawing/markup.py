@@ -9,7 +9,10 @@ from typing import Iterable, Union
 Value = Union[str, int, float]
 
 #: Characters that XML does not allow, and those that change the direction of the text around them.
-_UNFIT = re.compile("[^\t\n -\ud7ff\ue000-\ufdcf\ufdf0-\ufffd\U00010000-\U0010ffff]|[\u0080-\u009f\u061c\u200e\u200f\u202a-\u202e\u2066-\u2069]")
+_UNFIT = re.compile(
+    "[^\t\n -\ud7ff\ue000-\ufdcf\ufdf0-\ufffd\U00010000-\U0010ffff]"
+    "|[\x7f-\x9f\u061c\u200e\u200f\u202a-\u202e\u2066-\u2069]"
+)
 
 
 def number(value: float) -> str:
@@ -32,7 +35,7 @@ def fit(text: str) -> str:
 
 
 def element(name: str, *children: str, **attributes: Value) -> str:
-    """Return an element with these children, which are markup. An underscore in an attribute's name is a hyphen.
+    """Return an element with children, which are markup. An underscore in an attribute's name is a hyphen.
 
     >>> element("text", escaped("R & R"), x=1.5, text_anchor="end")
     '<text x="1.5" text-anchor="end">R &amp; R</text>'

@@ -25,7 +25,9 @@ def picture_of_township(rows: Rows) -> Picture:
 
 
 def picture_of_section(land: Sequence[int]) -> Picture:
-    """Return the land in a section, as a picture of 32 rows. Land has its rows from the south, and bits from the east.
+    """Return the land in a section, as a picture of 32 rows.
+
+    Land has its rows from the south and its bits from the east, pictures from the north and from the west.
 
     >>> picture_of_section([1] + 31 * [0])[31] == 1 << 31
     True
@@ -68,7 +70,7 @@ def _runs(row: int) -> Iterator[Tuple[int, int]]:
 
 
 def strokes_of(boxes: Iterable[Box]) -> Iterator[Tuple[int, str]]:
-    """Yield paths that cover rectangles: a stroke along the middle of each, with the rectangles of one height together.
+    """Yield paths that cover the rectangles of one height each, by a stroke along the middle of each rectangle.
 
     A stroke takes half as many characters as a rectangle, which counts for land in thousands of pieces.
 
@@ -86,7 +88,7 @@ def strokes_of(boxes: Iterable[Box]) -> Iterator[Tuple[int, str]]:
 
 
 def outline_of(picture: Picture, width: int) -> str:
-    """Return the path of the outline of the land in a picture of this width: the sides between land and other land.
+    """Return the path of the outline of the land in a picture of this width.
 
     >>> outline_of([0b01, 0b11], 2)
     'M0 0h1M1 1h1M0 2h2M0 0v2M1 0v1M2 1v1'

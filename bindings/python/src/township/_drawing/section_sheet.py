@@ -1,7 +1,6 @@
 """The sheet of one section."""
 from __future__ import annotations
 
-from decimal import Decimal
 from typing import Iterator, List, Optional
 
 from .layout import LOT, SECTION, Box, Lot, closing_of, lots_of
@@ -46,11 +45,12 @@ def section_sheet(subject: Subject, section: int) -> str:
         *_lots(subject.figures, section),
         halo(list(_aliquot_names(section)), 0.9),
     ]
-    note, total = "", Decimal(0)
+    total, notes = None, []
     if subject.figures is not None:
         parts.extend(_closing_quarters(subject.figures, section))
-        total, note = subject.figures.sections[section].total, _NOTE if _closes(section) else ""
-    parts.append(title_block(subject, shading, (f"Section {section}", total), TOP + SIDE + 6, note))
+        total = subject.figures.sections[section]
+        notes = [subject.figures.note, _NOTE if _closes(section) else ""]
+    parts.append(title_block(subject, shading, (f"Section {section}", total), TOP + SIDE + 6, notes))
     name = f"Section {section} of {subject.township}"
     return document(name, _described(subject, section), shading.definitions(), parts)
 
@@ -115,8 +115,8 @@ def _lots(figures: Optional[Figures], section: int) -> Iterator[str]:
 def _of_lot(figures: Optional[Figures], lot: Lot, box: Box) -> Iterator[str]:
     x, y = _x(box.x + LOT / 2), _y(box.y + LOT / 2)
     yield text(f"Lot {lot.number}", x, y, 5.0)
-    if figures is not None:
-        acres = figures.sections[lot.section].lots[lot.number]
+    acres = None if figures is None else figures.lots[lot.section, lot.number]
+    if acres is not None:
         yield text(f"{grouped(acres)} acres", x, y + 6, 3.6)
 
 

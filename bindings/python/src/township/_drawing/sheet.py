@@ -97,7 +97,9 @@ def weight_of(quarter: int) -> str:
 class Shading:
     """The shaded land of a sheet, and the definitions of its hatchings."""
 
-    def __init__(self, subject: Subject, picture_of: Callable[[Rows], Picture], width: int, side: float) -> None:
+    def __init__(
+        self, subject: Subject, picture_of: Callable[[Rows], Picture], width: int, side: float
+    ) -> None:
         self._pictures = [picture_of(shade.rows) for shade in subject.shades]
         self._width = width
         self._place = side / width

@@ -4,22 +4,25 @@ from __future__ import annotations
 from decimal import Decimal
 from typing import Mapping, NamedTuple, Optional, Sequence, Tuple
 
-from .._figures import Section
 from .._township import Township
 
-#: Land: for each section that has any, 32 rows of places from the south. Bit k of a row is column k from the east.
+#: Land: for each section that has any, 32 rows from the south. Bit k of a row is the place in column k from the east.
 Rows = Mapping[int, Sequence[int]]
 
 
 class Figures(NamedTuple):
-    """The figures of a plat that its drawing shows."""
+    """The figures that a drawing shows. An acreage that is not known is `None`, and is left out."""
 
-    #: The printed figures, by section number.
-    sections: Mapping[int, Section]
+    #: The acreage of each lot, by section and lot.
+    lots: Mapping[Tuple[int, int], Optional[Decimal]]
+    #: The acreage of each section, by its number.
+    sections: Mapping[int, Optional[Decimal]]
     #: The acreage of the township.
-    total: Decimal
+    total: Optional[Decimal]
     #: The last quarter mile of each section line, by line index, in thousandths of a chain.
     closing_quarters: Sequence[int]
+    #: What the note at the foot says of the figures.
+    note: str = ""
 
 
 class Shade(NamedTuple):

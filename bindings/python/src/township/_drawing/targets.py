@@ -1,17 +1,19 @@
 """Transparent shapes over the lines, lots, and sections of a township, which the page makes buttons of."""
 from __future__ import annotations
 
+import functools
 from typing import Iterator
 
 from .layout import ACROSS, LOT, SECTION, Line, box_of, lines, lots_of
 from .markup import element, group, number
 
 
+@functools.lru_cache(maxsize=1)
 def targets_of(left: float, top: float, place: float) -> str:
     """Return the shapes over a township whose northwest corner is at (left, top).
 
-    Each has the attribute `data-section`, `data-lot`, or `data-line`. Lots are over their sections, and lines over
-    both.
+    Each has the attribute `data-section`, `data-lot`, or `data-line`. Lots are above their sections, and lines
+    above both.
     """
     return group(
         [*_sections(), *_lots(), *map(_line, lines())],

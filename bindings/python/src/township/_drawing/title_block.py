@@ -3,11 +3,11 @@ from __future__ import annotations
 
 import textwrap
 from decimal import Decimal
-from typing import Iterator, List, Tuple
+from typing import Iterator, List, Optional, Sequence, Tuple
 
-from .markup import element, group, text
+from .markup import element, group, number, text
 from .sheet import HEIGHT, WIDTH, Shading
-from .subject import Shade, Subject
+from .subject import Subject
 
 _LEFT = 12.0
 _RIGHT = WIDTH - 12.0
@@ -20,17 +20,20 @@ _LEADING = 4.2
 _NOTE = "Schematic, not to scale."
 
 
-def title_block(subject: Subject, shading: Shading, total: Tuple[str, Decimal], y: float, note: str) -> str:
-    """Return the block, whose top is at y: the land at its left, the figures at its right, and a note below."""
+#: A figure: its name, and an acreage. If the acreage is `None`, there is nothing to show.
+Figure = Tuple[str, Optional[Decimal]]
+
+
+def title_block(subject: Subject, shading: Shading, total: Figure, y: float, notes: Sequence[str]) -> str:
+    """Return the block with its top at y: the land at the left, the figures at the right, and notes below."""
     bottom = HEIGHT - 9.0
-    lines = "".join(
-        [f"M{_LEFT} {y}H{_RIGHT}V{bottom}H{_LEFT}Z", f"M{_FIGURES - 4} {y}V{bottom}"]
-    )
+    left, right, top, foot, middle = map(number, (_LEFT, _RIGHT, y, bottom, _FIGURES - 4))
+    lines = f"M{left} {top}H{right}V{foot}H{left}ZM{middle} {top}V{foot}"
     parts = [
         element("path", d=lines, fill="none", stroke="currentColor", stroke_width=0.3),
         *_land(subject, shading, y + 6.0),
-        *_figures(subject, total, y + 6.0),
-        text(f"{_NOTE} {note}".strip(), _LEFT, HEIGHT - 4.5, 2.6, font_style="italic"),
+        *_figures(subject, total, y + 6.0, bottom - 2.0),
+        text(" ".join(filter(None, [_NOTE, *notes])), _LEFT, HEIGHT - 4.5, 2.6, font_style="italic"),
     ]
     return group(parts)
 
@@ -51,7 +54,7 @@ def _land(subject: Subject, shading: Shading, y: float) -> Iterator[str]:
         yield text("No land is shaded.", _LEFT + 4, y + 5, 3.0, font_style="italic")
         return
     share = max(1, _LINES // len(subject.shades) - 1)
-    for index, shade in enumerate(subject.shades[:_LINES // 2]):
+    for index, shade in enumerate(subject.shades[: _LINES // 2]):
         yield element(
             "rect",
             x=_LEFT + 4,
@@ -85,25 +88,22 @@ def _last(line: str) -> str:
     return line[: _COLUMNS - len(more)].rstrip() + more
 
 
-def _figures(subject: Subject, total: Tuple[str, Decimal], y: float) -> Iterator[str]:
+def _figures(subject: Subject, total: Figure, y: float, bottom: float) -> Iterator[str]:
     """Yield the lines of figures: the acreage of each shade by each account, and the total."""
     if subject.figures is None:
         yield text("No field notes, no acreage", _FIGURES, y, 3.0, font_style="italic")
         return
-    for shade in subject.shades[:_LINES // 2]:
-        yield text(_name(subject, shade), _FIGURES, y, 3.4, font_weight="bold")
-        y += _LEADING + 0.6
-        for account, acres in shade.acres:
-            yield from _figure(account, acres, y)
-            y += _LEADING
-        y += 0.6
-    yield from _figure(*total, y)
-
-
-def _name(subject: Subject, shade: Shade) -> str:
-    return "Acres" if len(subject.shades) == 1 else shade.label
-
-
-def _figure(name: str, acres: Decimal, y: float) -> Iterator[str]:
-    yield text(name, _FIGURES, y, 3.0)
-    yield text(grouped(acres), _RIGHT - 3, y, 3.2, text_anchor="end")
+    lines: List[Figure] = []
+    for shade in subject.shades[: _LINES // 2]:
+        lines.append(("Acres" if len(subject.shades) == 1 else shade.label, None))
+        lines.extend(shade.acres)
+    lines.extend([total] if total[1] is not None else [])
+    # Many lines are closer together, so that they end above the bottom.
+    leading = min(_LEADING, (bottom - y) / max(len(lines), 1))
+    for name, acres in lines:
+        if acres is None:
+            yield text(name, _FIGURES, y, 3.2, font_weight="bold")
+        else:
+            yield text(name, _FIGURES, y, 3.0)
+            yield text(grouped(acres), _RIGHT - 3, y, 3.1, text_anchor="end")
+        y += leading

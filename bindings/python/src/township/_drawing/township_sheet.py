@@ -1,7 +1,7 @@
 """The sheet of a township."""
 from __future__ import annotations
 
-from decimal import Decimal
+import functools
 from typing import Iterator, List
 
 from .layout import ACROSS, LOT, SECTION, TOWNSHIP, Box, Line, box_of, lines, lots_of
@@ -30,17 +30,14 @@ def township_sheet(subject: Subject, targets: bool) -> str:
         heading(_long_name(subject), "Plat of the township, by sections and lots"),
         north_arrow(WIDTH - 9, 26.0),
         *shading.land(LEFT, TOP),
-        _quarter_lines(),
-        _lot_lines(),
-        _section_lines(),
+        _lines(),
         *_numbers(subject),
     ]
-    note = ""
-    total = Decimal(0)
+    total, notes = None, []
     if subject.figures is not None:
         parts.append(group(_closing_quarters(subject.figures), font_size=2.5, **{"class": "closing"}))
-        total, note = subject.figures.total, _NOTE
-    parts.append(title_block(subject, shading, ("Township", total), TOP + SIDE + 6, note))
+        total, notes = subject.figures.total, [subject.figures.note, _NOTE]
+    parts.append(title_block(subject, shading, ("Township", total), TOP + SIDE + 6, notes))
     if targets:
         parts.append(targets_of(LEFT, TOP, PLACE))
     return document(name, _described(subject), shading.definitions(), parts)
@@ -55,7 +52,7 @@ def _long_name(subject: Subject) -> str:
 
 def _described(subject: Subject) -> str:
     """Return what the drawing shows, in words."""
-    words = ["Schematic drawing of a township: 36 sections, with the lots along its north and west boundaries."]
+    words = ["Schematic drawing of 36 sections, with the lots along the north and west boundaries."]
     for shade in subject.shades:
         figures = ", ".join(f"{grouped(acres)} ({account})" for account, acres in shade.acres)
         words.append(f"{shade.label}: {shade.words[:500]} {figures}".strip())
@@ -81,6 +78,12 @@ def _path(moves: str, width: float, **attributes: str) -> str:
         stroke_width=width / PLACE,
         **attributes,
     )
+
+
+@functools.lru_cache(maxsize=1)
+def _lines() -> str:
+    """Return the lines that every drawing of a township has."""
+    return "\n".join([_quarter_lines(), _lot_lines(), _section_lines()])
 
 
 def _quarter_lines() -> str:
@@ -126,16 +129,18 @@ def _numbers(subject: Subject) -> Iterator[str]:
 def _of_section(figures: "Figures | None", section: int, corner: Box) -> Iterator[str]:
     x, y = _x(corner.x + SECTION / 2), _y(corner.y + SECTION / 2)
     yield text(str(section), x, y + 1.9, 5.4)
-    if figures is not None:
-        yield text(grouped(figures.sections[section].total), x, y + 5.2, 2.1, font_style="italic")
+    acres = None if figures is None else figures.sections[section]
+    if acres is not None:
+        yield text(grouped(acres), x, y + 5.2, 2.1, font_style="italic")
 
 
 def _of_lot(figures: "Figures | None", section: int, lot: int, x: float, y: float) -> Iterator[str]:
-    if figures is None:
+    acres = None if figures is None else figures.lots[section, lot]
+    if acres is None:
         yield text(str(lot), x, y + 0.8, 2.4)
         return
     yield text(str(lot), x, y - 0.3, 2.1)
-    yield text(grouped(figures.sections[section].lots[lot]), x, y + 2.0, 1.7)
+    yield text(grouped(acres), x, y + 2.0, 1.7)
 
 
 def _closing_quarters(figures: Figures) -> Iterator[str]:
