@@ -20,6 +20,7 @@ if ! has "${CC:-cc}" || ! has make; then
     ended
 fi
 trap 'stop_server; rm -rf "$work"' EXIT
+trap 'exit 1' HUP INT TERM
 cd "$work" || exit 1
 
 # A command whose output must be this text.
