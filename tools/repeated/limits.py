@@ -54,7 +54,7 @@ LIMITS = (
 #: Where sentences for users are. The logs of measurements have numbers of their own.
 SENTENCES = (
     *("README.md", "SECURITY.md", HEADER, "man/township.1.in", "bindings/*/README.md", "docs/*.md"),
-    *("bindings/python/src/**/*.py", "bindings/rust/src/**/*.rs", "crates/twp_explain/src/**/*.rt"),
+    *("bindings/python/src/**/*.py", "bindings/rust/src/**/*.rs", "crates/twp_explain*/src/**/*.rt"),
     *("crates/twp_notes/src/fault.rt", "crates/twp_read/src/fault.rt", "crates/twp_acres/src/tract_fault.rt"),
 )
 NO_SENTENCES = {"docs/BENCHMARKS.md", "docs/PERFORMANCE.md", "docs/TRUST.md"}
