@@ -1,8 +1,8 @@
 /*
  * Makes one call of the library again and again, for bench/library.sh: `library NOTES CALL COUNT`. CALL is `read`
  * (notes to a plat), or a description on the kept plat: `one` part, `two` sections, `fifty` or `hundred` parts; or
- * `land` (one part to land), or `combine` or `compare` (two lands of one section). Prints the sum of the calls'
- * answers, so that no call is optimized away, and their processor time in seconds.
+ * `land` (one part to land), or `combine` or `compare` (land of one section with other land). Prints the sum of the
+ * calls' answers, so that no call is optimized away, and their processor time in seconds.
  */
 #include "township.h"
 

@@ -12,6 +12,7 @@ townships=${3:-1000}
 library=${4:-$root/lib}
 headers=${5:-$root/include}
 trap 'stop_server; rm -rf "$work"' EXIT
+trap 'exit 1' HUP INT TERM
 compile_extension "$library" "$headers" && install_server "$library" "$headers" || exit 1
 start_server || exit 1
 sql -c "ALTER SYSTEM SET shared_buffers = '1GB'" -c "ALTER SYSTEM SET max_wal_size = '8GB'" \

@@ -284,20 +284,20 @@ township_answer township_land_text(const township_land *land, uint8_t *text, siz
 #define TOWNSHIP_INTERSECTION 1u
 #define TOWNSHIP_DIFFERENCE 2u
 
-/* Writes to `land` the land that an operation makes of two. On any verdict other than TOWNSHIP_ACCEPTED, `land` is
-   unchanged. */
+/* Writes to `land` the union, the intersection, or the difference of `first` and `second`. On any verdict other than
+   TOWNSHIP_ACCEPTED, `land` is unchanged. */
 township_answer township_land_combine(const township_land *first, const township_land *second,
                                       uint32_t operation, township_land *land);
 
-/* How one land compares to another. Empty land is contained in all other land. */
+/* How `first` compares to `second`. Empty land is contained in all other land. */
 #define TOWNSHIP_EQUAL 0u
 #define TOWNSHIP_CONTAINS 1u     /* the first contains the second, and more */
 #define TOWNSHIP_IS_CONTAINED 2u /* the second contains the first, and more */
 #define TOWNSHIP_OVERLAPS 3u     /* they share land, and each contains land that the other does not */
 #define TOWNSHIP_DISJOINT 4u     /* they share no land, and neither is empty */
 
-/* Writes to `comparison` how the first land compares to the second. On any verdict other than TOWNSHIP_ACCEPTED,
-   `comparison` is unchanged. */
+/* Writes to `comparison` how `first` compares to `second`. On any verdict other than TOWNSHIP_ACCEPTED, `comparison`
+   is unchanged. */
 township_answer township_land_compare(const township_land *first, const township_land *second,
                                       uint32_t *comparison);
 

@@ -45,7 +45,7 @@ void twpg_land_of(const struct varlena *stored, township_land *land);
 Datum twpg_land_datum(const township_land *land);
 void twpg_fail_of_two(uint32_t verdict, const uint8_t *first, const uint8_t *second) pg_attribute_noreturn();
 
-#define PG_GETARG_LAND(n) ((const struct varlena *)PG_DETOAST_DATUM_PACKED(PG_GETARG_DATUM(n)))
+#define PG_GETARG_LAND(n) PG_DETOAST_DATUM_PACKED(PG_GETARG_DATUM(n))
 
 /* headings.c: headings of descriptions, which name the township. */
 bool twpg_read_heading(twpg_bytes given, township_designation *township, size_t *end);

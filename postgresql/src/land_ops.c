@@ -125,8 +125,15 @@ static int order_of(twpg_packed first, twpg_packed second) {
     return order != 0 ? order : (first.length > second.length) - (first.length < second.length);
 }
 
+/* A sort calls this for many lands before any memory is freed, so copies of compressed lands are freed here. */
 static int compare(FunctionCallInfo fcinfo) {
-    return order_of(twpg_packed_of(PG_GETARG_LAND(0)), twpg_packed_of(PG_GETARG_LAND(1)));
+    struct varlena *first = PG_GETARG_LAND(0);
+    struct varlena *second = PG_GETARG_LAND(1);
+    int order = order_of(twpg_packed_of(first), twpg_packed_of(second));
+
+    PG_FREE_IF_COPY(first, 0);
+    PG_FREE_IF_COPY(second, 1);
+    return order;
 }
 
 PG_FUNCTION_INFO_V1(twpg_land_cmp);
@@ -166,14 +173,20 @@ Datum twpg_land_ge(PG_FUNCTION_ARGS) {
 
 PG_FUNCTION_INFO_V1(twpg_land_hash);
 Datum twpg_land_hash(PG_FUNCTION_ARGS) {
-    twpg_packed packed = twpg_packed_of(PG_GETARG_LAND(0));
+    struct varlena *land = PG_GETARG_LAND(0);
+    twpg_packed packed = twpg_packed_of(land);
+    Datum hash = hash_any(packed.start, (int)packed.length);
 
-    return hash_any(packed.start, (int)packed.length);
+    PG_FREE_IF_COPY(land, 0);
+    return hash;
 }
 
 PG_FUNCTION_INFO_V1(twpg_land_hash_extended);
 Datum twpg_land_hash_extended(PG_FUNCTION_ARGS) {
-    twpg_packed packed = twpg_packed_of(PG_GETARG_LAND(0));
+    struct varlena *land = PG_GETARG_LAND(0);
+    twpg_packed packed = twpg_packed_of(land);
+    Datum hash = hash_any_extended(packed.start, (int)packed.length, (uint64)PG_GETARG_INT64(1));
 
-    return hash_any_extended(packed.start, (int)packed.length, (uint64)PG_GETARG_INT64(1));
+    PG_FREE_IF_COPY(land, 0);
+    return hash;
 }

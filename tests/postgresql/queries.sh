@@ -18,6 +18,17 @@ sql -d queries -c "$workers" -c "EXPLAIN (COSTS OFF) $total" > "$work/plan"
 try 'the query runs in parallel' grep -q 'Workers Planned: 2' "$work/plan"
 try 'the acres are computed by the workers' grep -q 'Partial Aggregate' "$work/plan"
 
+# Aggregates of land, too.
+sql -d queries -f "$tests/made_up.sql" > "$work/lost"
+sql -d queries -c "CREATE TABLE lands AS SELECT land(made_up_township(1, 1), made_up_description(n)) AS land
+    FROM generate_series(1, 5000) AS n" -c 'ANALYZE lands' > "$work/lost"
+united='SELECT union_of(land) FROM lands'
+sql -d queries -c 'SET max_parallel_workers_per_gather = 0' -c "$united" > "$work/wanted"
+sql -d queries -c "$workers" -c "$united" > "$work/found"
+same 'the union of 5,000 lands in parallel'
+sql -d queries -c "$workers" -c "EXPLAIN (COSTS OFF) $united" > "$work/plan"
+try 'the union is made by the workers' grep -q 'Partial Aggregate' "$work/plan"
+
 # A long query ends when it is canceled, and when its time is over.
 long="SELECT count(acres(plat, 'sec. 14, NE1/4.' || repeat(' ', n::int % 7)))
     FROM plats, generate_series(1, 1000000000) AS n"

@@ -20,6 +20,7 @@ if ! has "${CC:-cc}" || ! has make; then
     ended
 fi
 trap 'stop_server; rm -rf "$work"' EXIT
+trap 'exit 1' HUP INT TERM
 cd "$work" || exit 1
 
 # A command whose output must be this text.
@@ -67,7 +68,7 @@ else
     fail 'the regression tests' "$work/out"
 fi
 
-for part in cases documents encodings queries received races dumps processes memory memcheck; do
+for part in extension cases documents encodings queries received races dumps processes memory memcheck; do
     . "$tests/$part.sh"
 done
 ended

@@ -2,6 +2,7 @@
 import copy
 import os
 import pickle
+import re
 import tempfile
 import unittest
 from decimal import Decimal
@@ -9,8 +10,8 @@ from fractions import Fraction
 from pathlib import Path
 
 import township
-from samples import RefusalCase, even, uneven
-from township import Land, Lots
+from samples import TOP, RefusalCase, even, uneven
+from township import Land, Lots, _library, _lot_faults
 
 WHERE = "T. 2 N., R. 3 W."
 OTHER = "T. 3 N., R. 3 W."
@@ -109,6 +110,20 @@ class Refusals(RefusalCase):
                 self.assertEqual(refused.explanation, f"township: {refused}\n")
                 if number not in (86, 87):
                     self.assertIn(f"record {at}", refused.sentence)
+
+    def test_each_refusal_of_the_documents_has_a_sentence(self):
+        documented = re.findall(r"^\| (\d+) `\w+` \|", (TOP / "docs" / "LOTS-FORMAT.md").read_text(), re.MULTILINE)
+        self.assertEqual(list(map(int, documented)), list(_lot_faults._SENTENCES))
+        newer = _library.Answer(verdict=_library.REFUSED, number=95, at=3)
+        self.assertEqual(str(_lot_faults.refused_lots(newer, "lots")), "lots: refused 95 at 3")
+
+    def test_lot_that_a_tract_has_and_the_table_lacks(self):
+        answer = _library.Answer(
+            verdict=_library.TRACT_REFUSED, number=83, at=2, inner_number=94, inner_at=607
+        )
+        refused = _lot_faults.refused_lots(answer, "tracts")
+        self.assertEqual((refused.number, refused.at, refused.inner), (83, 2, (94, 607)))
+        self.assertEqual(refused.sentence, "record 2: the lot table has no record for lot 7 of section 6")
 
     def test_name_of_a_file(self):
         refused = self.refused(Lots.read, "lots.csv")

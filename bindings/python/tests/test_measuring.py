@@ -51,6 +51,21 @@ class Acres(MeasuringCase):
         run = self.run_words("acres", NOTES, "-", input=b"sec. 5, lot 5.")
         self.assertTrue(run.stderr.startswith(b"township: standard input:1:13: section 5 has lots 1 to 4\n"), run.stderr)
 
+    def test_place_that_can_be_read_in_two_ways(self):
+        # A quarter of a quarter has 40 acres, and two quarters have 320.
+        joined = self.put("sec. 14, NE1/4 SE1/4.\n", "joined.txt")
+        note = (f"township: {joined}:1:16: note: NE1/4 SE1/4 is read as one part of 40.00 acres, the NE1/4 of the SE1/4; "
+                "if two parts were meant, write a comma after NE1/4 (320.00 acres)")
+        for words in ((NOTES, joined), ("--lots", self.put(TABLE), joined)):
+            run = self.run_words("acres", *words)
+            self.assertEqual((run.returncode, run.stdout), (0, b"40.00 acres\n"))
+            said, _, excerpt = run.stderr.decode().partition("\n  1 | ")
+            self.assertEqual(" ".join(said.split()), note)
+            self.assertEqual(excerpt.splitlines()[0], "sec. 14, NE1/4 SE1/4.")
+        # A refusal says nothing of what is accepted.
+        run = self.run_words("compare", NOTES, joined, self.put("sec. 37.", "wrong.txt"))
+        self.assertNotIn(b"note", run.stderr)
+
     def test_refused_notes(self):
         run = self.run_words("acres", TRACTS, self.put("sec. 37.", "land.txt"))
         self.assertEqual((run.returncode, run.stdout), (1, b"refused 3 at 1\n"))

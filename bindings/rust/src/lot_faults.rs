@@ -24,7 +24,7 @@ pub(crate) fn refused_lots(fault: Fault, source: &str) -> Refused {
     }
 }
 
-/// Returns what is wrong.
+/// Returns what is wrong. A library that is newer than this crate may refuse for something else.
 fn sentence_of(number: u32, at: u32) -> String {
     match number {
         86 => format!("the lot table is longer than {at} bytes"),
@@ -45,6 +45,37 @@ fn sentence_of(number: u32, at: u32) -> String {
             let (section, lot) = (at / 100, at % 100);
             format!("the lot table has no record for lot {lot} of section {section}")
         }
-        unknown => unreachable!("a lot table is refused {unknown}, which is unknown here"),
+        unknown => format!("refused {unknown} at {at}"),
+    }
+}
+
+#[cfg(test)]
+mod tests {
+    use super::*;
+    use crate::refused::Refusal;
+
+    #[test]
+    fn each_refusal_of_a_lot_table_has_a_sentence() {
+        for number in 86..=94 {
+            assert_ne!(sentence_of(number, 3), format!("refused {number} at 3"));
+        }
+        assert_eq!(sentence_of(95, 3), "refused 95 at 3");
+    }
+
+    #[test]
+    fn lot_that_a_tract_has_and_the_table_lacks() {
+        let fault = Fault {
+            refusal: Refusal { number: 83, at: 2 },
+            inner: Some(Refusal {
+                number: LACKING,
+                at: 607,
+            }),
+        };
+        let refused = refused_lots(fault, "tracts");
+        assert_eq!((refused.number, refused.at), (83, 2));
+        assert_eq!(
+            refused.to_string(),
+            "tracts: record 2: the lot table has no record for lot 7 of section 6"
+        );
     }
 }

@@ -62,7 +62,7 @@ pub extern "C" fn township_land_text(
     twp_calls::township_land_text(alloc, land, text)
 }
 
-/// The land that an operation makes of two.
+/// The land that an operation makes of two sets of land.
 #[unsafe(no_mangle)]
 pub extern "C" fn township_land_combine(
     first: &TownshipLand,
@@ -76,7 +76,7 @@ pub extern "C" fn township_land_combine(
     twp_calls::township_land_combine(first, second, operation, land)
 }
 
-/// How one land compares to another.
+/// How one set of land compares to another.
 #[unsafe(no_mangle)]
 pub extern "C" fn township_land_compare(
     first: &TownshipLand,

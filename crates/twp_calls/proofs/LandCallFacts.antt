@@ -5,7 +5,6 @@ use Rattle.std.proofs.lemmas.Bool.{false≢true}
 use Rattle.twp_grid.specs.Places.{PLACE_DIGITS}
 use Rattle.twp_grid.specs.Townships.{Designation}
 use Rattle.twp_land.specs.Lands.{HasWholeLots}
-use Rattle.twp_land.specs.Laws.{CombinedLotsAreWhole}
 use Rattle.twp_land.proofs.CombinedLots.{combined_lots_are_whole}
 use Rattle.twp_acres.specs.Answers.{IsNoDescription}
 use Rattle.twp_acres.specs.OnPlats.{StopsOn}

@@ -1,7 +1,5 @@
 //! The calls that combine and compare two sets of land.
 ghost use Rattle.std.specs.Prelude.{◌≡◌, ◌≢◌};
-ghost use Rattle.twp_grid.specs.Places.{PLACE_DIGITS};
-ghost use Rattle.twp_land.specs.Lands.{HasWholeLots};
 ghost use Rattle.twp_calls.specs.Answers.{ACCEPTED};
 ghost use Rattle.twp_calls.specs.LandCalls.{IsCombineCall, IsCompareCall, combined, operation_of};
 ghost use Rattle.twp_calls.specs.LandCalls.{code_of_comparison};
@@ -49,7 +47,7 @@ fn operation_of(code: u32) -> Option<Operation>
     }
 }
 
-/// The land that an operation makes of two.
+/// The land that an operation makes of two sets of land.
 pub fn township_land_combine(
     first: &TownshipLand,
     second: &TownshipLand,
@@ -76,7 +74,7 @@ pub fn township_land_combine(
     TownshipAnswer::bare(ACCEPTED)
 }
 
-/// How one land compares to another.
+/// How one set of land compares to another.
 pub fn township_land_compare(
     first: &TownshipLand,
     second: &TownshipLand,

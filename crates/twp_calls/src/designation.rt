@@ -1,6 +1,5 @@
 //! Designations of townships as plain data.
 ghost use Rattle.std.specs.Prelude.{◌≡◌, ◌↔◌, IsTrue, MatchOption};
-ghost use Rattle.twp_grid.specs.Townships.{Designation};
 ghost use Rattle.twp_calls.specs.GivenTownships.{IsGivenTownship, IsNoGivenTownship};
 ghost use Rattle.twp_calls.specs.GivenTownships.{given_designation};
 ghost use Rattle.twp_calls.specs.GivenTownships.{north_south_of, east_west_of};

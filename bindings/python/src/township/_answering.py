@@ -205,7 +205,9 @@ write a comma after NE1/4 (320.00 acres)
         """
         return differences_of(self._parts, lots)
 
-    def _measured(self, call: Callable[..., _library.Answer], land: Land, account: Account, *more: object) -> int:
+    def _measured(
+        self, call: Callable[..., _library.Answer], land: Land, account: Account, *more: object
+    ) -> int:
         """Call a function that measures land. Return the hundredths of an acre in its answer."""
         answer = call(byref(self._parts), byref(land._parts), code_of(account), *more)
         if answer.verdict != _library.ACCEPTED:

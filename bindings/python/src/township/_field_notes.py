@@ -57,8 +57,8 @@ class Notes(Mapping[str, Distances]):
     >>> notes.plat().acres("sec. 4, lot 4.")
     Decimal('40.35')
 
-    A distance is a number or a text: at most 99.999 chains of 66 feet, with up to three decimal places. A `float`
-    counts as the decimal that Python shows for it. `plat` checks whether the distances make a plat.
+    A distance is a number or a text: at most 99.999 chains of 66 feet, with up to three decimal places. A
+    `float` counts as the decimal that Python shows for it. `plat` checks whether the distances make a plat.
     """
 
     __slots__ = ("_township", "_lines")
@@ -145,8 +145,8 @@ def _name_of(line: str) -> str:
     name = _NAME_OF.get(_key(line)) if isinstance(line, str) and line.count(",") == 2 else None
     if name is None:
         raise KeyError(
-            f"no section line is named {line!r}: write its direction, N or W, and the sections on either side, as in "
-            "'N,4,5', or 'W,6,' for a line on the boundary"
+            f"no section line is named {line!r}: write its direction, N or W, and the sections on either side, "
+            "as in 'N,4,5', or 'W,6,' for a line on the boundary"
         )
     return name
 

@@ -18,15 +18,16 @@ if TYPE_CHECKING:
     from ._lots import Lots
     from ._plat import Plat
 
+#: The rows of a section that has no land.
 _NO_ROWS = bytes(4 * _library.PLACES_ACROSS)
 
 
 class Land:
     """The land that a description names, as a value: a set of places in a township.
 
-    To make land, call `Land.of` with a township and a description, or `Plat.land` with a description. It does not
-    depend on field notes; only its acreage does. Land is immutable, can be pickled, and can be used from several
-    threads at once. Two lands are equal if they are the same places in the same township.
+    To make land, call `Land.of` with a township and a description, or `Plat.land` with a description. It does
+    not depend on field notes; only its acreage does. Land is immutable, can be pickled, and can be used from
+    several threads at once. Two lands are equal if they are the same places in the same township.
 
     Land can be combined and compared like a Python set, exactly:
 
@@ -41,8 +42,9 @@ class Land:
     >>> lease & deed <= lease | deed
     True
 
-    `|`, `&`, `-`, and `^` raise `ValueError` for land in two different townships. Such lands are disjoint, and
-    neither is less than the other. `in` takes land or a description: `a in b` is true if `b` contains all of `a`.
+    `|`, `&`, `-`, and `^` raise `ValueError` for land in two different townships. Such lands are disjoint,
+    and neither is less than the other. `in` takes land or a description: `a in b` is true if `b` contains all
+    of `a`.
 
     Iteration goes by section: it yields the land in each section that has any, and `len` is their number.
     `sections` is a mapping to them from section numbers. Land is true unless it is empty.
@@ -77,7 +79,7 @@ class Land:
 
     @classmethod
     def _read(cls, township: Township, plat: _library.Plat, given: bytes, source: bytes) -> Land:
-        """Make the land of a description, which an explanation calls by this name, and explains on this plat."""
+        """Make the land of a description, which explanations call by this name, and explain on this plat."""
         parts = _library.Land()
         designation = _library.Designation(*codes_of(township))
         answer = _library.land_read(byref(designation), given, len(given), byref(parts))
@@ -149,7 +151,7 @@ class Land:
     def acres(self, by: Lots) -> Decimal: ...
 
     def acres(self, by: Any, *account: Any, **named: Any) -> Decimal:
-        """Return the acreage by a plat and an account, as `Plat.acres` does, or by a lot table, as `Lots.acres`.
+        """Return the acreage by a plat and an account (`Plat.acres`), or by a lot table (`Lots.acres`).
 
         >>> plat.land("sec. 7, lots 1 to 4.").acres(plat, account="plat")
         Decimal('156.42')
@@ -164,7 +166,7 @@ class Land:
     def area(self, by: Lots) -> Fraction: ...
 
     def area(self, by: Any, *account: Any, **named: Any) -> Fraction:
-        """Return the exact area in acres by a plat and an account, or by a lot table. `acres` returns it rounded.
+        """Return the exact area in acres, by a plat and an account, or by a lot table. `acres` rounds it.
 
         >>> plat.land("sec. 5, lot 1.").area(plat)
         Fraction(809, 20)
@@ -188,7 +190,9 @@ class Land:
 
     def _numbers(self) -> List[int]:
         """Return the numbers of the sections that have land."""
-        return [number for number, rows in enumerate(self._parts.rows, start=1) if bytes(rows) != _NO_ROWS]
+        rows = bytes(self._parts.rows)
+        starts = range(0, len(rows), len(_NO_ROWS))
+        return [number for number, start in enumerate(starts, start=1) if not rows.startswith(_NO_ROWS, start)]
 
     def _within(self, number: int) -> Land:
         """Return the land in one section."""
@@ -257,6 +261,9 @@ class Land:
 
     def __contains__(self, other: Union[Land, Text]) -> bool:
         return (other if isinstance(other, Land) else Land.of(self.township, other)) <= self
+
+    def __bool__(self) -> bool:
+        return bytes(self._parts.rows) != _NO_ROWS * _library.SECTIONS
 
     def __len__(self) -> int:
         return len(self._numbers())

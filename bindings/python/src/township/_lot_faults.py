@@ -12,8 +12,8 @@ _SENTENCES = {
     86: "the lot table is longer than {at:,} bytes",
     87: "the lot table is empty: it begins with `section,lot,acres`",
     88: "record {at} is not the heading of a lot table, `section,lot,acres`",
-    89: "record {at} does not have the right number of fields: five for the township, as in `T,2,N,3,W`, and three "
-    "for a lot, as in `5,1,40.45`",
+    89: "record {at} does not have the right number of fields: five for the township, as in `T,2,N,3,W`, and "
+    "three for a lot, as in `5,1,40.45`",
     90: "record {at} is not a township, such as `T,2,N,3,W`, or is missing",
     91: "record {at} is not for a lot: the section has no lot with this number",
     92: "record {at} has no acreage: write 0.01 to 999.99 acres with two decimal places, as in `40.45`",
@@ -29,8 +29,13 @@ def refused_lots(answer: _library.Answer, source: str) -> Refused:
     if answer.verdict == _library.TRACT_REFUSED:
         inner = Refusal(answer.inner_number, answer.inner_at)
         number, at = inner
-    section, lot = divmod(at, 100)
-    sentence = _SENTENCES[number].format(at=at, section=section, lot=lot)
     record = f"record {answer.at}: " if inner else ""
-    explanation = f"township: {source}: {record}{sentence}\n"
+    explanation = f"township: {source}: {record}{_sentence_of(number, at)}\n"
     return Refused(answer.number, answer.at, None, None, explanation, inner, source)
+
+
+def _sentence_of(number: int, at: int) -> str:
+    """Return what is wrong. A library that is newer than this package may refuse for something else."""
+    section, lot = divmod(at, 100)
+    sentence = _SENTENCES.get(number, "refused {number} at {at}")
+    return sentence.format(number=number, at=at, section=section, lot=lot)

@@ -30,17 +30,18 @@ _MOST = 99_999
 class Lots:
     """A lot table: the acreage that the approved plat returns for the lots of a township.
 
-    By a lot table, each whole lot counts at its returned acreage, and other land at its nominal area, 40 acres for
-    each quarter-quarter section. No field notes are needed. To make a table, call `Lots.open` with the name of a
-    file, `Lots.read` with the table itself (CSV; see `docs/LOTS-FORMAT.md`), or `Lots.of_figures`.
+    By a lot table, each whole lot counts at its returned acreage, and other land at its nominal area, 40 acres
+    for each quarter-quarter section. No field notes are needed. To make a table, call `Lots.open` with the name
+    of a file, `Lots.read` with the table itself (CSV; see `docs/LOTS-FORMAT.md`), or `Lots.of_figures`.
 
     >>> lots = township.Lots.read("section,lot,acres\\nT,2,N,3,W\\n5,1,40.45\\n5,2,40.55\\n")
     >>> lots.acres("sec. 5, lots 1 and 2, S1/2NE1/4.")
     Decimal('161.00')
 
-    A table is immutable, can be pickled, and can be used from several threads at once. Two tables are equal if their
-    townships and figures are. Methods raise `Refused` if a description is refused, or with the number 94 if the
-    land contains a lot that the table lacks; `at` is then 100 times the section's number plus the lot's.
+    A table is immutable, can be pickled, and can be used from several threads at once. Two tables are equal if
+    their townships and figures are. Methods raise `Refused` if a description is refused, or with the number 94
+    if the land contains a lot that the table lacks; `at` is then 100 times the section's number plus the
+    lot's.
 
     >>> lots.acres("sec. 5, lots 1 to 4.")
     Traceback (most recent call last):
@@ -107,8 +108,8 @@ class Lots:
     def of_figures(cls, township: Named, figures: Mapping[Tuple[int, int], Optional[Number]]) -> Lots:
         """Make a lot table from figures, as in `Lots.figures`: by section and lot, in acres.
 
-        A lot that is left out, or whose figure is `None`, is lacking. Raise `ValueError` if there is no such lot, or
-        if a figure is not 0.01 to 999.99 acres with at most two decimal places.
+        A lot that is left out, or whose figure is `None`, is lacking. Raise `ValueError` if there is no such
+        lot, or if a figure is not 0.01 to 999.99 acres with at most two decimal places.
 
         >>> township.Lots.of_figures("T. 2 N., R. 3 W.", {(5, 1): "40.45", (5, 2): Decimal("40.55")}).area(
         ...     "sec. 5, lots 1 and 2."

@@ -3,6 +3,7 @@ from __future__ import annotations
 
 import argparse
 import sys
+from ctypes import byref
 from decimal import Decimal
 from typing import Any, Callable, List, NamedTuple, Union
 
@@ -13,7 +14,7 @@ from ._batch.stopped import Status, reading, writing
 from ._land import Land
 from ._lots import Lots
 from ._plat import Plat
-from ._refused import Refused
+from ._refused import Refused, failure_of
 from ._text import shown
 from ._township import nominal_plat_of
 
@@ -21,9 +22,9 @@ from ._township import nominal_plat_of
 _INPUT, _OUTPUT = 0, 1
 
 _INPUTS = """\
-NOTES contains the field notes of the township (CSV). With --lots, a lot table (CSV) takes their place: each whole
-lot then counts at the acreage that the approved plat returns for it. A description is a file, or - for standard
-input.
+NOTES contains the field notes of the township (CSV). With --lots, a lot table (CSV) takes their place: each
+whole lot then counts at the acreage that the approved plat returns for it. A description is a file, or - for
+standard input.
 """
 
 _ACRES = """\
@@ -32,8 +33,8 @@ Prints the acreage of the land described.
 """ + _INPUTS
 
 _COMPARE = """\
-Compares the land in two descriptions, A and B. For the land in both, the land only in A, and the land only in B,
-prints the acreage and the canonical description.
+Compares the land in two descriptions, A and B. For the land in both, the land only in A, and the land only in
+B, prints the acreage and the canonical description.
 
 """ + _INPUTS
 
@@ -120,13 +121,14 @@ def _answer(files: List[str], asked: argparse.Namespace, text: Callable[[Measure
     account = {} if asked.account is None else {"account": asked.account}
     try:
         by = _basis_in(basis, asked.lots is not None)
-        lands = [_land_in(name, by) for name in descriptions]
-        answer = text(lambda land: by.acres(land, **account), lands)
+        read = [_read(name, by) for name in descriptions]
+        answer = text(lambda land: by.acres(land, **account), [each.land for each in read])
     except Refused as refused:
         _write(f"refused {refused.number} at {refused.at}\n")
         print(refused.explanation, end="", file=sys.stderr)
         return Status.REFUSED
     _write(answer)
+    print("".join(each.note for each in read), end="", file=sys.stderr)
     return Status.ACCEPTED
 
 
@@ -150,15 +152,30 @@ def _basis_in(name: str, is_lots: bool) -> Union[Plat, Lots]:
     return Plat._of_notes(_bytes_in(name, _library.NOTES_MOST), _source(name))
 
 
-def _land_in(name: str, by: Union[Plat, Lots]) -> Land:
-    """Return the land of the description in a file."""
+class _Description(NamedTuple):
+    """The land of a description, and the note on the first place that can be read in two ways, if any."""
+
+    land: Land
+    note: str
+
+
+def _read(name: str, by: Union[Plat, Lots]) -> _Description:
+    """Return the description in a file."""
+    # The acreage in a note is that of aliquot parts, which is the same by a lot table as on the nominal plat.
     plat = by._parts if isinstance(by, Plat) else nominal_plat_of(by.township)
-    return Land._read(by.township, plat, _bytes_in(name, _library.DESCRIPTION_MOST), _source(name))
+    given, source = _bytes_in(name, _library.DESCRIPTION_MOST), _source(name)
+    land = Land._read(by.township, plat, given, source)
+    explain = _library.explain_description
+    answer, note = _library.text_by(explain, byref(plat), given, len(given), source, len(source))
+    if answer.verdict != _library.ACCEPTED:
+        raise failure_of(answer.verdict)
+    return _Description(land, note)
 
 
 def _bytes_in(name: str, most: int) -> bytes:
     """Return the bytes of a file. One more than the most that are allowed is enough for the refusal."""
-    with reading(_shown(name)), open(_INPUT if name == STANDARD else name, "rb", closefd=name != STANDARD) as file:
+    is_standard = name == STANDARD
+    with reading(_shown(name)), open(_INPUT if is_standard else name, "rb", closefd=not is_standard) as file:
         return file.read(most + 1)
 
 

@@ -5,6 +5,7 @@ is refused with number 61 on every other plat.
 """
 from __future__ import annotations
 
+import functools
 import re
 from ctypes import byref
 from typing import Iterable, Optional, Tuple, Union, cast
@@ -36,11 +37,15 @@ def township_named(named: Named) -> Township:
     >>> township_named("T2N R3W") == township_named((2, "N", 3, "W"))
     True
     """
-    if not isinstance(named, str):
-        return checked(named)
-    township = township_spelled(named, ())
+    return _township_spelled(named) if isinstance(named, str) else checked(named)
+
+
+@functools.lru_cache(maxsize=1024)
+def _township_spelled(spelling: str) -> Township:
+    """Return the township that is spelled so. Raise `NotTownship` if none is."""
+    township = township_spelled(spelling, ())
     if township is None:
-        raise NotTownship(f"`{named}` is an unusual spelling of a township: write it as in T. 2 N., R. 3 W.")
+        raise NotTownship(f"`{spelling}` is an unusual spelling of a township: write it as in T. 2 N., R. 3 W.")
     return township
 
 
