@@ -1,6 +1,6 @@
-//! What is wrong with refused input, and where. This crate finds data and makes no sentences: the bytes of
-//! a token, an aliquot part, or a record's field; where a text is in its file; the land that two items
-//! share; and the lots that a part includes.
+//! What is wrong with refused input, and where, as data: the bytes of a token, an aliquot part, or a record's
+//! field; where a text is in its file; the land that two items share; and the lots that a part includes. No
+//! sentences are written here; `located` makes the message that shows a sentence at a place in a file.
 #![tactic(auto)]
 
 mod explanation;

@@ -1,5 +1,5 @@
 //! The places of accepted descriptions that can be read in two ways, though the grammar reads them in one,
-//! and the notes on them: a note names the reading with its acres, and the way to write the other one.
+//! and the notes on them. A note gives the reading with its acres, and says how to write the other one.
 #![tactic(auto)]
 
 mod doubts;

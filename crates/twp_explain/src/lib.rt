@@ -1,6 +1,6 @@
-//! What is said of refused input, so that its writer can correct it: the stages of the run are gone through
-//! again on the bytes that it read, and the message shows the fault that stops them; of a list of tracts, the
-//! tract that has it.
+//! Explanations of refused input, so that its writer can correct it. The stages of the run are repeated on
+//! the bytes that it read, and the message shows the fault that stops them; for a list of tracts, it shows
+//! the tract with the fault.
 #![tactic(auto)]
 
 mod explaining;

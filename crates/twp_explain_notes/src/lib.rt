@@ -1,5 +1,5 @@
-//! What is wrong with refused field notes, and with notes that make no plat: the fields of a record that are
-//! to blame, a sentence on each fault, and a hint at what corrects it where the record's bytes show that.
+//! Explanations of faults in field notes, and of notes that make no plat: which fields of a record are at
+//! fault, a sentence for each fault, and a hint on how to correct it if the record's bytes show how.
 #![tactic(auto)]
 
 mod blamed;

@@ -1,6 +1,5 @@
-//! What is wrong with a refused description: of a text that isn't read, the sign where it goes wrong; and of
-//! one that names no land on the plat, the item that is to blame. A sentence on each fault, and what corrects
-//! it.
+//! Explanations of faults in descriptions: in a text that cannot be read, the sign at fault; in one that
+//! names no land on the plat, the item at fault; a sentence for each fault, and advice on how to correct it.
 #![tactic(auto)]
 
 mod places;

@@ -5,8 +5,9 @@ ghost use Rattle.std.specs.Prelude.{◌≡◌, ◌≢◌, ◌↔◌, Ok, Some, I
 ghost use Rattle.twp_acres.specs.declared.verdict.Verdict.TheVariants.{Accepted};
 ghost use Rattle.twp_explain.specs.Refusals.{first_refusal};
 ghost use Rattle.twp_input.specs.KeptBytes.{copy_of};
-ghost use Rattle.twp_program.specs.ShownExplanations.{AreJoinedNotes, IsFile, IsJoinedDescription, IsExplanationOf};
-ghost use Rattle.twp_program.specs.ShownExplanations.{ShowsEither, ShowsNoted, ShowsText};
+ghost use Rattle.twp_program.specs.ShownExplanations.{AreJoinedNotes, IsExplanationOf, IsFile};
+ghost use Rattle.twp_program.specs.ShownExplanations.{IsJoinedDescription, ShowsEither, ShowsNoted};
+ghost use Rattle.twp_program.specs.ShownExplanations.{ShowsText};
 
 use crate::ending::Failure;
 use crate::files::{OpenedNotes, OpenedText};

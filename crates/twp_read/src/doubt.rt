@@ -1,5 +1,5 @@
-//! Places that can be read in two ways, though the grammar reads them in one, and what their tokens are known
-//! by.
+//! Places that can be read in two ways, though the grammar reads them in one, and the tokens that can make a
+//! place doubtful.
 ghost use Rattle.std.specs.Prelude.{◌≡◌};
 ghost use Rattle.twp_read.specs.Doubts.{begins_step, is_padded, is_singular};
 
