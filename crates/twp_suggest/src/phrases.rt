@@ -179,8 +179,9 @@ impl<'a> Draft<'a> {
         let is_apart = self.pieces.is(before, "; ,")
             || self.pieces.is_dash(before)
             || self.pieces.begins_line(index);
+        let is_alone = plus(next, 1) >= self.pieces.len();
         if self.pieces.is(next, ":") && (is_first || is_apart) {
-            return Ok(true);
+            return Ok(!is_alone);
         }
         let follows_comma = self.pieces.is(before, ",") && index > 0;
         if last == Some(Names::Heading) && !follows_comma {
@@ -190,7 +191,7 @@ impl<'a> Draft<'a> {
             && self.pieces.bytes(index).len() >= 2
             && (index > 0 || self.pieces.has_digits(index, 3))
         {
-            return Ok(true);
+            return Ok(next < self.pieces.len());
         }
         if last != Some(Names::Part)
             || self.pieces.is_joined(index)
