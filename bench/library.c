@@ -1,7 +1,8 @@
 /*
  * Makes one call of the library again and again, for bench/library.sh: `library NOTES CALL COUNT`. CALL is `read`
- * (notes to a plat), or a description on the kept plat: `one` part, `two` sections, `fifty` or `hundred` parts.
- * Prints the sum of the calls' answers, so that no call is optimized away, and their processor time in seconds.
+ * (notes to a plat), or a description on the kept plat: `one` part, `two` sections, `fifty` or `hundred` parts; or
+ * `land` (one part to land), or `combine` or `compare` (land of one section with other land). Prints the sum of the
+ * calls' answers, so that no call is optimized away, and their processor time in seconds.
  */
 #include "township.h"
 
@@ -34,6 +35,28 @@ static size_t description_of(const char *call) {
     return squares(strcmp(call, "fifty") == 0 ? 50 : 100);
 }
 
+/* One of the calls on land, as often as it is to be made. Returns the sum of the answers. */
+static uint64_t on_land(const char *call, long count) {
+    static const township_designation here = {2, TOWNSHIP_NORTH, 3, TOWNSHIP_WEST};
+    static const uint8_t north[] = "sec. 14, N1/2.", corner[] = "sec. 14, NE1/4.";
+    static township_land first, second, made;
+    uint32_t comparison = 0;
+    uint64_t sum = 0;
+
+    township_land_read(&here, north, sizeof north - 1, &first);
+    township_land_read(&here, corner, sizeof corner - 1, &second);
+    for (long done = 0; done < count; done++) {
+        if (strcmp(call, "land") == 0) {
+            sum += township_land_read(&here, corner, sizeof corner - 1, &made).verdict + made.rows[13][31];
+        } else if (strcmp(call, "combine") == 0) {
+            sum += township_land_combine(&first, &second, TOWNSHIP_DIFFERENCE, &made).verdict + made.rows[13][31];
+        } else {
+            sum += township_land_compare(&first, &second, &comparison).verdict + comparison;
+        }
+    }
+    return sum;
+}
+
 int main(int argc, char **argv) {
     if (argc != 4) {
         fputs("usage: library NOTES CALL COUNT\n", stderr);
@@ -55,6 +78,8 @@ int main(int argc, char **argv) {
         for (long made = 0; made < count; made++) {
             sum += township_read(notes, notes_length, &plat).verdict + plat.number;
         }
+    } else if (argv[2][0] == 'l' || argv[2][0] == 'c') {
+        sum = on_land(argv[2], count);
     } else {
         size_t length = description_of(argv[2]);
         for (long made = 0; made < count; made++) {

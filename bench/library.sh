@@ -1,10 +1,11 @@
 #!/bin/sh
 # Prints how many instructions a call of the library takes: notes to a plat, and on a kept plat descriptions of one
-# part, of a lot or two and a part in two sections, and of 50 and 100 parts. A count is that of 2,000 calls less that
-# of 1,000, by valgrind's callgrind. Beside it are the count in bench/expected-library and the ratio of the two; the
-# status is 1 if a ratio is over 1.02, or if the last 50 parts take over 1.05 times as many as the 49 before them. It
-# then prints how many descriptions are answered per second on one core, from C and from Python. It builds lib/ as
-# `make lib` does, unless the first word is `built`.
+# part, of a lot or two and a part in two sections, and of 50 and 100 parts; a description to land, and land of one
+# section combined with other land and compared to it. A count is that of 2,000 calls less that of 1,000, by valgrind's
+# callgrind. Beside it are the count in bench/expected-library and the ratio of the two; the status is 1 if a ratio is
+# over 1.02, or if the last 50 parts take over 1.05 times as many as the 49 before them. It then prints how many
+# descriptions are answered per second on one core, from C and from Python. It builds lib/ as `make lib` does, unless
+# the first word is `built`.
 set -eu
 [ "${1:-}" = built ] || sh tools/library.sh > /dev/null
 work=$(mktemp -d)
@@ -42,6 +43,9 @@ if [ $((100 * (found - fifty))) -gt $((105 * (fifty - one))) ]; then
     echo 'too much: the last 50 parts'
     too_much=$((too_much + 1))
 fi
+row 'land of one part' land
+row 'land combined with other land' combine
+row 'land compared to other land' compare
 
 "$work/library" samples/b1.csv one 1000000 |
     awk '{ printf "%-48s %10.0f a second\n", "one part, from C", 1000000 / $3 }'

@@ -39,7 +39,7 @@ extern "C" {
 #define TOWNSHIP_VERSION_MINOR 0
 #define TOWNSHIP_VERSION_PATCH 0
 
-/* The numbers of refusals, which docs/REFUSALS.md explains. */
+/* The numbers of refusals, which docs/REFUSALS.md and docs/LOTS-FORMAT.md explain. */
 /* Field notes: */
 #define TOWNSHIP_REFUSAL_NOTES_TOO_LARGE 1u
 #define TOWNSHIP_REFUSAL_NOTES_EMPTY 2u
@@ -76,16 +76,27 @@ extern "C" {
 #define TOWNSHIP_REFUSAL_TRACT_REFUSED 83u
 #define TOWNSHIP_REFUSAL_TRACTS_OVERLAP 84u
 #define TOWNSHIP_REFUSAL_TOO_MANY_TRACTS 85u
+/* A lot table, and land by it: */
+#define TOWNSHIP_REFUSAL_LOTS_TOO_LARGE 86u
+#define TOWNSHIP_REFUSAL_LOTS_EMPTY 87u
+#define TOWNSHIP_REFUSAL_LOTS_HEADING 88u
+#define TOWNSHIP_REFUSAL_LOTS_COLUMNS 89u
+#define TOWNSHIP_REFUSAL_LOTS_TOWNSHIP 90u
+#define TOWNSHIP_REFUSAL_LOTS_NO_LOT 91u
+#define TOWNSHIP_REFUSAL_LOTS_ACRES 92u
+#define TOWNSHIP_REFUSAL_LOTS_REPEATED 93u
+#define TOWNSHIP_REFUSAL_LOTS_LACKING 94u
 /* End of what tools/header_names.py makes. */
 
 /* The number of section lines in a township. */
 #define TOWNSHIP_LINES 84
 
-/* The maximum sizes, in bytes, of field notes, of a description, and of a list of tracts: longer input is
-   refused. */
+/* The maximum sizes, in bytes, of field notes, of a description, of a list of tracts, and of a lot table: longer
+   input is refused. */
 #define TOWNSHIP_NOTES_MOST 65536
 #define TOWNSHIP_DESCRIPTION_MOST 65536
 #define TOWNSHIP_LIST_MOST 1048576
+#define TOWNSHIP_LOTS_TEXT_MOST 65536
 
 /* Verdicts. */
 #define TOWNSHIP_ACCEPTED 0u      /* the call succeeded, and here is the answer */
@@ -95,10 +106,17 @@ extern "C" {
 #define TOWNSHIP_NO_PLAT 3u       /* the plat you passed is not valid */
 #define TOWNSHIP_NO_ACCOUNT 4u    /* the account you passed is not valid */
 #define TOWNSHIP_NO_ROOM 5u       /* the text needs `length` bytes and `room` is smaller: nothing is written */
-#define TOWNSHIP_NO_MEMORY 6u     /* memory ran out, and nothing was written: every function except
-                                     township_version and township_figures may return this;
-                                     township_acres_many, in its answers */
+#define TOWNSHIP_NO_MEMORY 6u     /* memory ran out, and nothing was written: every function may return this
+                                     except township_version, township_figures, and those that take land
+                                     and write no text; township_acres_many, in its answers */
 #define TOWNSHIP_NO_RANGE 7u      /* township_acres_many: no bytes are between these two offsets */
+#define TOWNSHIP_NO_LAND 8u       /* the land you passed is not valid: it has no township, or contains part of a
+                                     lot */
+#define TOWNSHIP_NO_LOTS 9u       /* the lot table you passed is not valid */
+#define TOWNSHIP_NO_TOWNSHIP 10u  /* the designation you passed is not valid */
+#define TOWNSHIP_NO_OPERATION 11u /* township_land_combine: the operation you passed is not valid */
+#define TOWNSHIP_OTHER_TOWNSHIP 12u /* what you passed is in two different townships: land and land, land and
+                                       plat, or land and lot table */
 
 /* Accounts: how whole lots count. */
 #define TOWNSHIP_EXACT 0u   /* at their exact area */
@@ -165,6 +183,41 @@ typedef struct township_plat_figures {
     uint64_t township;
 } township_plat_figures;
 
+/* The number of places along a side of a section, and the number of lots in a township. */
+#define TOWNSHIP_PLACES_ACROSS 32
+#define TOWNSHIP_LOTS 47
+
+/* The designation of a township: its fields are those of a plat. */
+typedef struct township_designation {
+    uint8_t number;      /* the township number, 1 to 99 */
+    uint8_t north_south; /* TOWNSHIP_NORTH or TOWNSHIP_SOUTH */
+    uint8_t range;       /* the range number, 1 to 99 */
+    uint8_t east_west;   /* TOWNSHIP_EAST or TOWNSHIP_WEST */
+} township_designation;
+
+/*
+ * Land: a set of places in a township. A place is a square of 5/8 of an acre, 1/32 of a section's side wide.
+ * `rows[section - 1][row]` is a row of places, counted from 0 in the south of the section; in it, bit `k`,
+ * from the lowest, is the place in column `k`, counted from 0 in the east. Each bit is a place. You may copy
+ * land, store it, compare it byte by byte, or fill it in by hand: each function that takes land checks that it
+ * contains each lot wholly or not at all. It needs no plat: only its area depends on the plat, or on a lot
+ * table.
+ */
+typedef struct township_land {
+    uint32_t rows[TOWNSHIP_SECTIONS][TOWNSHIP_PLACES_ACROSS];
+    township_designation township;
+} township_land;
+
+/*
+ * A lot table: the acreage that the approved plat returns for each lot, in hundredths of an acre: 1 to 99,999,
+ * or 0 if the table lacks the lot. The lots are in the order of their sections' numbers, and in each section
+ * in that of their own.
+ */
+typedef struct township_lots {
+    uint32_t figures[TOWNSHIP_LOTS];
+    township_designation township;
+} township_lots;
+
 /* Makes a plat from field notes. On any verdict other than TOWNSHIP_ACCEPTED, `plat` is unchanged. */
 township_answer township_read(const uint8_t *notes, size_t notes_length, township_plat *plat);
 
@@ -208,6 +261,64 @@ township_answer township_acres_many(const township_plat *plat, const uint8_t *de
                                     size_t descriptions_length, const size_t *offsets,
                                     size_t offsets_length, uint32_t account, township_answer *answers,
                                     size_t room);
+
+/* Writes to `land` the land that a description names in a township. The description is refused exactly if it is
+   refused on the plats of that township. On any verdict other than TOWNSHIP_ACCEPTED, `land` is unchanged. */
+township_answer township_land_read(const township_designation *township, const uint8_t *description,
+                                   size_t description_length, township_land *land);
+
+/* Returns the acres of land on a plat of its township, by an account, in `hundredths`. */
+township_answer township_land_acres(const township_plat *plat, const township_land *land, uint32_t account);
+
+/* Writes to `area` the exact area, which township_land_acres rounds. On any verdict other than
+   TOWNSHIP_ACCEPTED, `area` is unchanged. */
+township_answer township_land_area(const township_plat *plat, const township_land *land, uint32_t account,
+                                   township_fraction *area);
+
+/* Writes the canonical text of land, which is a description of it, if it is no longer than descriptions can be.
+   The text of empty land is empty. */
+township_answer township_land_text(const township_land *land, uint8_t *text, size_t room);
+
+/* Operations: the land in either, the land in both, and the land in the first that is not in the second. */
+#define TOWNSHIP_UNION 0u
+#define TOWNSHIP_INTERSECTION 1u
+#define TOWNSHIP_DIFFERENCE 2u
+
+/* Writes to `land` the union, the intersection, or the difference of `first` and `second`. On any verdict other than
+   TOWNSHIP_ACCEPTED, `land` is unchanged. */
+township_answer township_land_combine(const township_land *first, const township_land *second,
+                                      uint32_t operation, township_land *land);
+
+/* How `first` compares to `second`. Empty land is contained in all other land. */
+#define TOWNSHIP_EQUAL 0u
+#define TOWNSHIP_CONTAINS 1u     /* the first contains the second, and more */
+#define TOWNSHIP_IS_CONTAINED 2u /* the second contains the first, and more */
+#define TOWNSHIP_OVERLAPS 3u     /* they share land, and each contains land that the other does not */
+#define TOWNSHIP_DISJOINT 4u     /* they share no land, and neither is empty */
+
+/* Writes to `comparison` how `first` compares to `second`. On any verdict other than TOWNSHIP_ACCEPTED, `comparison`
+   is unchanged. */
+township_answer township_land_compare(const township_land *first, const township_land *second,
+                                      uint32_t *comparison);
+
+/* Reads a lot table (CSV; see docs/LOTS-FORMAT.md). On any verdict other than TOWNSHIP_ACCEPTED, `lots` is
+   unchanged. */
+township_answer township_lots_read(const uint8_t *table, size_t table_length, township_lots *lots);
+
+/*
+ * Return the acres of the land described, or of land, by a lot table of its township, in `hundredths`; and write to
+ * `area` the exact area, which is rounded for that. Each whole lot counts at its returned acreage, and other land at
+ * its nominal area. If the table lacks a lot of the land, the refusal is TOWNSHIP_REFUSAL_LOTS_LACKING, and its place
+ * is the first such lot: 100 times the section's number, plus the lot's number. On any verdict other than
+ * TOWNSHIP_ACCEPTED, `area` is unchanged.
+ */
+township_answer township_lots_acres(const township_lots *lots, const uint8_t *description,
+                                    size_t description_length);
+township_answer township_lots_area(const township_lots *lots, const uint8_t *description,
+                                   size_t description_length, township_fraction *area);
+township_answer township_lots_land_acres(const township_lots *lots, const township_land *land);
+township_answer township_lots_land_area(const township_lots *lots, const township_land *land,
+                                        township_fraction *area);
 
 /*
  * Explain why field notes, a description, or a list is refused: each returns the same verdict, with the

@@ -23,7 +23,7 @@ sh packaging/counts.sh | sed 's/^/    /'
 echo
 echo 'Made on Debian with:'
 for name in gcc binutils libc6-dev dpkg-dev debhelper dh-python bash-completion python3 python3-build python3-setuptools \
-    python3-wheel tar gzip; do
+    python3-wheel postgresql-server-dev-15 tar gzip; do
     package "$name"
 done | sed 's/^/    /'
 echo "    $(cargo --version)"

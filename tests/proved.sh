@@ -1,6 +1,7 @@
 #!/bin/sh
 # Tests what `rt ci` has just proved: the program and the documents by e2e.sh, beside them the library, and then the
-# packages. The last line counts all tests: 'N passed, 0 failed'.
+# extension for PostgreSQL, over that library, the packages, and the page. The last line counts all tests:
+# 'N passed, 0 failed'.
 # Skipped tests are named and counted before it; if CI is set, a skipped test is a failure.
 . "$(dirname "$0")/lib.sh"
 cd "$root" || exit 1
@@ -9,7 +10,9 @@ cd "$root" || exit 1
     begin library sh tests/library/run.sh proved
     begin program sh tests/e2e.sh crates/twp_cmd/out/twp_cmd
     gather
+    begin postgresql sh tests/postgresql/run.sh
     begin packages sh tests/packages/all.sh
+    begin page sh tests/page/run.sh
     gather
 } > "$work/all"
 cat "$work/all"

@@ -6,7 +6,7 @@
 set -u
 cd "$(dirname "$0")/.." || exit 1
 
-# Each package, with the command, the Python modules, or the crate that shows that it is installed.
+# Each package, with the command, the Python modules, the file, or the crate that shows that it is installed.
 needs='
     gcc              command cc
     g++              command c++
@@ -23,11 +23,22 @@ needs='
     rust-clippy      command cargo-clippy
     python3          modules sys
     python3-pytest   modules pytest, tomllib
+    python3-flask    modules flask, waitress, pytest
+    python3-waitress modules flask, waitress, pytest
+    python3-selenium modules flask, waitress, pytest, selenium, PIL
+    python3-pil      modules flask, waitress, pytest, selenium, PIL
+    chromium         command chromium
+    chromium-driver  command chromedriver
+    nginx-light      command nginx
+    openssl          command openssl
+    systemd          command systemd-analyze
+    fonts-dejavu-core  file /usr/share/fonts/truetype/dejavu/DejaVuSerif.ttf
     librust-serde-dev       crate serde
     librust-serde-json-dev  crate serde_json
     mypy             modules mypy
     python3-pandas   modules pandas
     python3-openpyxl modules openpyxl
+    python3-hypothesis modules hypothesis
     python3-rich     modules rich
     python3-tqdm     modules tqdm
     python3-distributed modules distributed
@@ -44,6 +55,8 @@ needs='
     qemu-user-static command qemu-x86_64-static
     debootstrap      command debootstrap
     faketime         command faketime
+    postgresql-15    command /usr/lib/postgresql/15/bin/initdb
+    postgresql-server-dev-15  command /usr/lib/postgresql/15/lib/pgxs/src/test/regress/pg_regress
 '
 
 # The packages of all rows, or with the word `missing` of the rows whose command or modules are missing.
@@ -54,6 +67,7 @@ packages() {
             case $kind in
                 command) command -v "$names" > /dev/null && continue ;;
                 modules) sh tools/python_with.sh "$names" > /dev/null && continue ;;
+                file) [ -e "$names" ] && continue ;;
                 crate) ls -d "/usr/share/cargo/registry/$names-"[0-9]* > /dev/null 2>&1 && continue ;;
             esac
         fi

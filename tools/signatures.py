@@ -28,6 +28,12 @@ C_TYPES = {
     "township_plat *": "plat to write",
     "township_fraction *": "fraction to write",
     "township_plat_figures *": "figures to write",
+    "const township_designation *": "township",
+    "const township_land *": "land",
+    "township_land *": "land to write",
+    "const township_lots *": "lots",
+    "township_lots *": "lots to write",
+    "uint32_t *": "number to write",
     "const size_t *": OFFSETS,
     "township_answer *": ANSWERS,
     "uint32_t": "number",
@@ -42,6 +48,12 @@ RUST_TYPES = {
     "*mut Answer": ANSWERS,
     "*const u8": BYTES,
     "*mut u8": ROOM,
+    "*const Designation": "township",
+    "*const Land": "land",
+    "*mut Land": "land to write",
+    "*const Lots": "lots",
+    "*mut Lots": "lots to write",
+    "*mut u32": "number to write",
     "u32": "number",
     "usize": LENGTH,
 }
@@ -50,6 +62,12 @@ RATTLE_TYPES = {
     "&mut TownshipPlat": "plat to write",
     "&mut TownshipFraction": "fraction to write",
     "&mut TownshipPlatFigures": "figures to write",
+    "&TownshipDesignation": "township",
+    "&TownshipLand": "land",
+    "&mut TownshipLand": "land to write",
+    "&TownshipLots": "lots",
+    "&mut TownshipLots": "lots to write",
+    "&mut u32": "number to write",
     "&[usize]": OFFSETS,
     "&mut [TownshipAnswer]": ANSWERS,
     "&[u8]": BYTES,
@@ -58,14 +76,22 @@ RATTLE_TYPES = {
 }
 PYTHON_TYPES = {
     "_PLAT": "plat",
-    "POINTER(Area)": "fraction to write",
+    "_AREA": "fraction to write",
     "*_BYTES": BYTES,
     "*_ROOM": ROOM,
     "POINTER(Figures)": "figures to write",
     "*_OFFSETS": OFFSETS,
     "*_ANSWERS": ANSWERS,
+    "_TOWNSHIP": "township",
+    "_LAND": "land",
+    "_LOTS": "lots",
+    "_NUMBER": "number to write",
     "c_uint32": "number",
 }
+
+
+#: Structs that calls write and others read, which are one type in Python.
+READ = {"plat to write": "plat", "land to write": "land", "lots to write": "lots"}
 
 
 def without_lengths(parameters: List[Parameter]) -> List[Parameter]:
@@ -96,7 +122,7 @@ def c_calls(text: str) -> Calls:
 def rust_like_calls(text: str, types: Dict[str, str]) -> Calls:
     """The functions of a file in Rust or in Rattle whose names are those of calls."""
     calls = {}
-    for name, inside in re.findall(r"\bfn (township_\w+)\(([^)]*)\) -> \w+", text):
+    for name, inside in re.findall(r"\bfn (township_\w+)\(([^)]*)\)\s+-> \w+", text):
         parameters = []
         for words in (part.strip() for part in inside.split(",")):
             parameter, _, kind = words.partition(": ")
@@ -113,10 +139,9 @@ def python_calls(text: str) -> Calls:
 
 
 def as_python_has_them(calls: Calls) -> Calls:
-    """The calls without names, and without the difference between a plat that is read and one that is written."""
+    """The calls without names, and without the difference between a struct that is read and one that is written."""
     return {
-        name: [("plat" if kind == "plat to write" else kind, "") for kind, _ in parameters]
-        for name, parameters in calls.items()
+        name: [(READ.get(kind, kind), "") for kind, _ in parameters] for name, parameters in calls.items()
     }
 
 
@@ -135,7 +160,7 @@ def main() -> int:
     header = c_calls(text_of("include/township.h"))
     calls = rust_like_calls(text_of(*paths_of("crates/twp_calls/src")), RATTLE_TYPES)
     exports = rust_like_calls(text_of(*paths_of("crates/twp_c/src")), RATTLE_TYPES)
-    rust = rust_like_calls(text_of("bindings/rust/src/ffi.rs"), RUST_TYPES)
+    rust = rust_like_calls(text_of("bindings/rust/src/ffi.rs", *paths_of("bindings/rust/src/ffi", "rs")), RUST_TYPES)
     python = python_calls(text_of("bindings/python/src/township/_library.py"))
     found = [
         *differences("crates/twp_calls", header, calls),
@@ -149,8 +174,8 @@ def main() -> int:
     return 1 if found else 0
 
 
-def paths_of(folder: str) -> List[str]:
-    return sorted(str(path.relative_to(ROOT)) for path in (ROOT / folder).glob("*.rt"))
+def paths_of(folder: str, suffix: str = "rt") -> List[str]:
+    return sorted(str(path.relative_to(ROOT)) for path in (ROOT / folder).glob(f"*.{suffix}"))
 
 
 if __name__ == "__main__":

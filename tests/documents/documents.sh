@@ -153,9 +153,11 @@ while read -r description; do
 done < offered
 
 # Its tables, and that of docs/LOTS-FORMAT.md, contain the numbers and the names in the code, and no others.
-find "$root/crates" -path '*/src/*' -name '*.rt' -exec \
-    sed -n 's/^ *[A-Za-z]*Fault::\([A-Za-z]*\).* => (\([0-9][0-9]*\), .*/\2 \1/p' {} + |
-    sort > in_code
+{
+    find "$root/crates" -path '*/src/*' -name '*.rt' -exec \
+        sed -n 's/^ *[A-Za-z]*Fault::\([A-Za-z]*\).* => (\([0-9][0-9]*\), .*/\2 \1/p' {} +
+    sed -n 's/^ *Refusal { number: \([0-9][0-9]*\), at }$/\1 Lacking/p' "$root/crates/twp_lots/src/lacking.rt"
+} | sort > in_code
 {
     sed -n 's/^| \([0-9][0-9]*\) | \([A-Z][A-Za-z]*\) |.*/\1 \2/p' "$docs/REFUSALS.md"
     sed -n 's/^| \([0-9][0-9]*\) `\([A-Z][A-Za-z]*\)` |.*/\1 \2/p' "$docs/LOTS-FORMAT.md"

@@ -19,7 +19,7 @@ fi
 version=$(sed -n 's/^Version: //p' lib/township.pc)
 
 # The worked cases, and a Python that can test all of the package, if there is one.
-if python=$(python_with 'mypy, openpyxl, pandas, rich, tqdm') || python=$(python_with pandas) || python=$(python_with sys); then
+if python=$(python_with 'hypothesis, mypy, openpyxl, pandas, rich, tqdm') || python=$(python_with pandas) || python=$(python_with sys); then
     if [ -z "${TOWNSHIP_CASES:-}" ]; then
         if reader=$(python_with tomllib); then
             TOWNSHIP_CASES=$work/answers.zip
@@ -68,7 +68,8 @@ END
 compiler=${CC:-cc}
 if has "$compiler"; then
     flags='-Wall -Wextra -Werror -pedantic -O1 -g -Iinclude'
-    tests="tests/library/c/check.c tests/library/c/given.c tests/library/c/area.c tests/library/c/threads.c"
+    tests=
+    for part in check given area land lots threads; do tests="$tests tests/library/c/$part.c"; done
     try 'the C test compiles' "$compiler" -std=c11 $flags -o "$work/static" tests/library/c/township_test.c $tests \
         lib/libtownship.a -pthread
     try 'the C test compiles for the shared library' "$compiler" -std=c11 $flags -o "$work/shared" \

@@ -13,6 +13,7 @@ for tool in dpkg-buildpackage dh dh_python3 dh_bash-completion cargo; do
 done
 python_with 'build, setuptools, wheel' > "$work/out" || missing="$missing python3-build"
 python_with tomllib > "$work/out" || missing="$missing python3"
+[ -f /usr/lib/postgresql/15/lib/pgxs/src/makefiles/pgxs.mk ] || missing="$missing postgresql-server-dev-15"
 ls -d /usr/share/cargo/registry/serde-[0-9]* > "$work/out" 2>&1 || missing="$missing librust-serde-dev"
 if [ -n "$missing" ]; then
     skip "the packages, since these are missing:$missing"
@@ -28,6 +29,7 @@ BUILDINFO
 SHA256SUMS
 libtownship-dev_${version}_amd64.deb
 libtownship1_${version}_amd64.deb
+postgresql-15-township_${version}_amd64.deb
 python3-township_${version}_amd64.deb
 township-$version-linux-x86_64.tar.gz
 township-$version-py3-none-manylinux2014_x86_64.whl

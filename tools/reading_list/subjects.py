@@ -78,6 +78,36 @@ OTHERS = (
             "twp_calls::explaining::township_version",
         ),
     ),
+    Subject(
+        "Land as a value",
+        (
+            "twp_calls::land_answers::township_land_read",
+            "twp_calls::land_answers::township_land_acres",
+            "twp_calls::land_answers::township_land_area",
+            "twp_calls::land_answers::township_land_text",
+            "twp_calls::combining::township_land_combine",
+            "twp_calls::combining::township_land_compare",
+            "twp_acres::laws::acres_on_are_of_land",
+            "twp_acres::laws::text_of_land_is_its_description",
+            "twp_area::laws::union_and_intersection_add",
+            "twp_area::laws::difference_and_intersection_add",
+            "twp_area::laws::plat_union_and_intersection_add",
+            "twp_area::laws::plat_difference_and_intersection_add",
+        ),
+    ),
+    Subject(
+        "Acres by a lot table",
+        (
+            "twp_calls::lot_answers::township_lots_read",
+            "twp_calls::lot_answers::township_lots_acres",
+            "twp_calls::lot_answers::township_lots_area",
+            "twp_calls::lot_answers::township_lots_land_acres",
+            "twp_calls::lot_answers::township_lots_land_area",
+            "twp_lots::laws::one_lot_area",
+            "twp_lots::laws::lot_areas_add",
+            "twp_lots::laws::lot_area_is_plat_area",
+        ),
+    ),
 )
 
 # What the proofs use of the kit's crates, and where it is stated there.

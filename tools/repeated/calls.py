@@ -7,11 +7,11 @@ from reading import HEADER, PYTHON, Compared, text_of
 
 WHAT = "names of calls in lists and tests"
 
-#: Where each call is named, as in C.
+#: Where each call is named, as in C: a file, or several files that together name each.
 NAMED = (
     "crates/twp_calls/src/lib.rt",
     "packaging/libtownship.map",
-    "tests/library/c/township_test.c",
+    "tests/library/c/township_test.c tests/library/c/land.c tests/library/c/lots.c",
     "tests/library/c/threads.c",
     "tests/library/c/growth_test.c",
     "tools/reading_list/subjects.py",
@@ -42,5 +42,5 @@ def compare() -> Compared:
     return compared, differences
 
 
-def words_of(path: str) -> Set[str]:
-    return set(re.findall(r"\w+", text_of(path)))
+def words_of(paths: str) -> Set[str]:
+    return {word for path in paths.split() for word in re.findall(r"\w+", text_of(path))}

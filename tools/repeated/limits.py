@@ -37,6 +37,11 @@ LIMITS = (
         {"crates/twp_acres/src/tract_fault.rt": r"const TRACTS_LIMIT: u32 = ", HEADER: r"#define TOWNSHIP_LIST_MOST "},
     ),
     Limit(
+        "crates/twp_lots/specs/LotRecords.antt",
+        "LOTS_TEXT_MOST",
+        {"crates/twp_lots/src/fault.rt": r"const MOST_BYTES: u32 = ", HEADER: r"#define TOWNSHIP_LOTS_TEXT_MOST "},
+    ),
+    Limit(
         "crates/twp_acres/specs/Tracts.antt",
         "TRACTS_MOST",
         {"crates/twp_acres/src/tract_fault.rt": r"const TRACTS_MOST: u32 = "},
@@ -54,7 +59,7 @@ LIMITS = (
 #: Where sentences for users are. The logs of measurements have numbers of their own.
 SENTENCES = (
     *("README.md", "SECURITY.md", HEADER, "man/township.1.in", "bindings/*/README.md", "docs/*.md"),
-    *("bindings/python/src/**/*.py", "bindings/rust/src/**/*.rs", "crates/twp_explain/src/**/*.rt"),
+    *("bindings/python/src/**/*.py", "bindings/rust/src/**/*.rs", "crates/twp_explain*/src/**/*.rt"),
     *("crates/twp_notes/src/fault.rt", "crates/twp_read/src/fault.rt", "crates/twp_acres/src/tract_fault.rt"),
 )
 NO_SENTENCES = {"docs/BENCHMARKS.md", "docs/PERFORMANCE.md", "docs/TRUST.md"}

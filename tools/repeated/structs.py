@@ -8,6 +8,9 @@ from reading import CALLS, HEADER, PYTHON, RUST, Compared, text_of
 
 WHAT = "structs in the library and the bindings, with the fields of the header's"
 
+#: The type of a field that is a struct itself, which every language names in its own way.
+STRUCT = "struct"
+
 #: A field's name and its type, as Rust writes it.
 Field = Tuple[str, str]
 #: Structs by the end of their name in C.
@@ -33,11 +36,16 @@ def structs_of_header(text: str) -> Structs:
     found = {}
     form = r"^typedef struct township_(\w+) \{\n((?:    [^\n]*\n)*)\} township_\w+;"
     for name, inside in re.findall(form, text, re.M):
-        fields = re.findall(r"^ +uint(\d+)_t (\w+)((?:\[\w+\])*);", inside, re.M)
-        found[name] = [
-            (field, kind_of(f"u{bits}", re.findall(r"\[(?:TOWNSHIP_)?(\w+)", counts), {})) for bits, field, counts in fields
-        ]
+        found[name] = [field for line in inside.splitlines() for field in header_fields(line)]
     return found
+
+
+def header_fields(line: str) -> List[Field]:
+    """The fields in a line: numbers, as in `uint8_t number, range;`, arrays, or a struct."""
+    declared = re.match(r" +(?:uint(\d+)_t|township_\w+) ([^;]*);", line)
+    fields = re.findall(r"(\w+)((?:\[\w+\])*)", declared.group(2)) if declared else []
+    kind = f"u{declared.group(1)}" if declared and declared.group(1) else STRUCT
+    return [(field, kind_of(kind, re.findall(r"\[(?:TOWNSHIP_)?(\w+)", counts), {})) for field, counts in fields]
 
 
 def structs_of_rattle(text: str) -> Structs:
@@ -62,7 +70,7 @@ def structs_of_python(text: str) -> Structs:
         fields = []
         for field, kind in re.findall(r'\("(\w+)", ([^)]+)\)', inside):
             number, *counts = arrays.get(kind, kind).split(" * ")
-            fields.append((field, kind_of(number.replace("c_uint", "u"), counts, numbers)))
+            fields.append((field, kind_of(number_in(number.replace("c_uint", "u")), counts, numbers)))
         found[name] = fields
     return found
 
@@ -71,9 +79,13 @@ def fields_of(inside: str, visibility: str, text: str) -> List[Field]:
     """The fields of a struct in Rust or in Rattle."""
     numbers = dict(re.findall(r"const (\w+): usize = (\d+)", text))
     fields = re.findall(rf"^ +{visibility} (\w+): (.*),$", inside, re.M)
-    return [
-        (field, kind_of(re.findall(r"u\d+", kind)[0], re.findall(r"; (\w+)", kind), numbers)) for field, kind in fields
-    ]
+    return [(field, kind_of(number_in(kind), re.findall(r"; (\w+)", kind), numbers)) for field, kind in fields]
+
+
+def number_in(kind: str) -> str:
+    """The type of the numbers in a type, such as `u32` of `[u32; 84]`; or that it is a struct."""
+    found = re.search(r"\bu\d+\b", kind)
+    return found.group() if found else STRUCT
 
 
 def kind_of(number: str, counts: List[str], numbers: Dict[str, str]) -> str:

@@ -113,3 +113,24 @@ class BatchCase(unittest.TestCase):
         run = self.run_words("batch", NOTES, self.put(data), *words)
         self.assertEqual(run.returncode, status)
         return run.stderr.decode()
+
+
+class WorkbookCase(BatchCase):
+    """A test with workbooks, which need openpyxl."""
+
+    def workbook(self, *rows, name="list.xlsx"):
+        """A workbook with these rows."""
+        import openpyxl
+
+        book = openpyxl.Workbook()
+        for row in rows:
+            book.active.append(row)
+        path = self.folder / name
+        book.save(path)
+        return path
+
+    def rows_of(self, path):
+        """The rows of a workbook."""
+        import openpyxl
+
+        return [list(row) for row in openpyxl.load_workbook(path).active.iter_rows(values_only=True)]

@@ -7,7 +7,7 @@ from importlib.util import find_spec
 from pathlib import Path
 from unittest import mock
 
-from batches import ADDED, HEADING, NOTES, BatchCase, records
+from batches import ADDED, HEADING, NOTES, BatchCase, WorkbookCase, records
 
 EXCEL = Path(__file__).parent / "excel"
 EXCEL_ROWS = Path(__file__).parent / "excel_rows.csv"
@@ -126,24 +126,7 @@ class Habits(BatchCase):
 
 
 @unittest.skipUnless(find_spec("openpyxl"), "openpyxl isn't installed")
-class Workbooks(BatchCase):
-    def workbook(self, *rows, name="list.xlsx"):
-        """A workbook with these rows."""
-        import openpyxl
-
-        book = openpyxl.Workbook()
-        for row in rows:
-            book.active.append(row)
-        path = self.folder / name
-        book.save(path)
-        return path
-
-    def rows_of(self, path):
-        """The rows of a workbook."""
-        import openpyxl
-
-        return [list(row) for row in openpyxl.load_workbook(path).active.iter_rows(values_only=True)]
-
+class Workbooks(WorkbookCase):
     def test_workbook_to_csv(self):
         listed = self.workbook(*([int(row[0]) if row[0].isdigit() else row[0], *row[1:3]] for row in ANSWERED))
         run = self.run_words("batch", NOTES, listed)

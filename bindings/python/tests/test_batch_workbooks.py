@@ -11,7 +11,7 @@ import zipfile
 from importlib.util import find_spec
 from unittest import mock
 
-from batches import ADDED, HEADING, NOTES, BatchCase, command, records
+from batches import ADDED, HEADING, NOTES, BatchCase, WorkbookCase, command, records
 
 SHEET = "xl/worksheets/sheet1.xml"
 
@@ -23,24 +23,7 @@ def limited():
     resource.setrlimit(resource.RLIMIT_FSIZE, (LIMIT, LIMIT))
 
 
-class WorkbookCase(BatchCase):
-    def workbook(self, *rows, name="list.xlsx"):
-        """A workbook with these rows."""
-        import openpyxl
-
-        book = openpyxl.Workbook()
-        for row in rows:
-            book.active.append(row)
-        path = self.folder / name
-        book.save(path)
-        return path
-
-    def rows_of(self, path):
-        """The rows of a workbook."""
-        import openpyxl
-
-        return [list(row) for row in openpyxl.load_workbook(path).active.iter_rows(values_only=True)]
-
+class DamagedCase(WorkbookCase):
     def changed(self, path, change):
         """A workbook whose sheet's XML is changed, or left out."""
         made = self.folder / "changed.xlsx"
@@ -55,7 +38,7 @@ class WorkbookCase(BatchCase):
 
 
 @unittest.skipUnless(find_spec("openpyxl"), "openpyxl isn't installed")
-class Lists(WorkbookCase):
+class Lists(DamagedCase):
     def test_cells_as_excel_shows_them(self):
         # A number that Excel computed as 0.1 + 0.2, a well's number, a day, and a time of a day.
         cells = [0.1 + 0.2, 30015123450000.0, datetime.date(2026, 1, 31), datetime.datetime(2026, 1, 31, 9, 30), True]

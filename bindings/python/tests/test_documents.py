@@ -14,6 +14,9 @@ README = Path(__file__).resolve().parents[1] / "README.md"
 #: The module that needs pandas.
 PANDAS = "township.pandas"
 
+#: The modules that need other packages, by how their names begin, and the packages.
+NEEDS = {PANDAS: ("pandas",), "township._web.": ("flask", "waitress")}
+
 
 def load_tests(loader, tests, pattern):
     """All examples of all modules, each docstring's as a test of its own."""
@@ -29,11 +32,15 @@ def _modules():
     """The package's modules, except for its command line."""
     yield township
     for found in pkgutil.walk_packages(township.__path__, "township."):
-        if found.name == PANDAS and importlib.util.find_spec("pandas") is None:
+        if any(found.name.startswith(begin) and not _has(packages) for begin, packages in NEEDS.items()):
             continue
         # An installed package contains the library, which is named like a module.
         if not found.name.endswith(("__main__", ".libtownship")):
             yield importlib.import_module(found.name)
+
+
+def _has(packages):
+    return all(importlib.util.find_spec(package) is not None for package in packages)
 
 
 def _enter(test):

@@ -13,6 +13,10 @@ from samples import NOTES, TOP, uneven
 from township import _library
 
 
+LAND = township.Land.of((2, "N", 3, "W"), "sec. 14.")
+LOTS = township.Lots.read("section,lot,acres\nT,2,N,3,W\n")
+
+
 class Found(unittest.TestCase):
     def importing(self, named):
         """The result of an import with this name of the library, or with none."""
@@ -49,6 +53,8 @@ class Declared(unittest.TestCase):
     def test_sizes(self):
         structs = (_library.Plat, _library.Answer, _library.Area, _library.Figures)
         self.assertEqual([ctypes.sizeof(struct) for struct in structs], [340, 48, 24, 2312])
+        structs = (_library.Designation, _library.Land, _library.Lots)
+        self.assertEqual([ctypes.sizeof(struct) for struct in structs], [4, 4612, 192])
 
     def test_fields_are_those_of_the_header(self):
         header = (TOP / "include" / "township.h").read_text()
@@ -57,23 +63,35 @@ class Declared(unittest.TestCase):
             (_library.Answer, "answer"),
             (_library.Area, "fraction"),
             (_library.Figures, "plat_figures"),
+            (_library.Designation, "designation"),
+            (_library.Land, "land"),
+            (_library.Lots, "lots"),
         )
         for struct, name in structs:
             body = header.partition(f"typedef struct township_{name} {{")[2].partition("}")[0]
-            declared = re.findall(r"^ +uint\d+_t (\w+)", body, re.MULTILINE)
+            declared = re.findall(r"^ +(?:uint\d+_t|township_\w+) (\w+)", body, re.MULTILINE)
             self.assertEqual(declared, [field for field, _ in struct._fields_])
 
     def test_limits_are_those_of_the_header(self):
         header = (TOP / "include" / "township.h").read_text()
         self.assertIn(f"#define TOWNSHIP_LINES {_library.LINES}\n", header)
-        self.assertIn(f"#define TOWNSHIP_NOTES_MOST {_library.NOTES_MOST}\n", header)
-        self.assertIn(f"#define TOWNSHIP_SECTIONS {_library.SECTIONS}\n", header)
-        self.assertIn(f"#define TOWNSHIP_LOTS_MOST {_library.LOTS_MOST}\n", header)
+        for name in ("NOTES_MOST", "DESCRIPTION_MOST", "LOTS_TEXT_MOST", "SECTIONS", "LOTS_MOST", "PLACES_ACROSS", "LOTS"):
+            self.assertIn(f"#define TOWNSHIP_{name} {getattr(_library, name)}\n", header)
 
     def test_verdicts_are_those_of_the_header(self):
         header = (TOP / "include" / "township.h").read_text()
-        for name in ("ACCEPTED", "REFUSED", "TRACT_REFUSED", "NO_PLAT", "NO_ACCOUNT", "NO_ROOM", "NO_MEMORY", "NO_RANGE"):
+        for name in (
+            *("ACCEPTED", "REFUSED", "TRACT_REFUSED", "NO_PLAT", "NO_ACCOUNT", "NO_ROOM", "NO_MEMORY", "NO_RANGE"),
+            *("NO_LAND", "NO_LOTS", "NO_TOWNSHIP", "NO_OPERATION", "OTHER_TOWNSHIP"),
+        ):
             self.assertIn(f"#define TOWNSHIP_{name} {getattr(_library, name)}u ", header)
+
+    def test_codes_are_those_of_the_header(self):
+        header = (TOP / "include" / "township.h").read_text()
+        operations = ("UNION", "INTERSECTION", "DIFFERENCE")
+        comparisons = ("EQUAL", "CONTAINS", "IS_CONTAINED", "OVERLAPS", "DISJOINT")
+        for name in ("EXACT", "BY_PLAT", "NORTH", "SOUTH", "EAST", "WEST", *operations, *comparisons):
+            self.assertRegex(header, rf"#define TOWNSHIP_{name} {getattr(_library, name)}u\s")
 
 
 class Verdicts(unittest.TestCase):
@@ -83,6 +101,10 @@ class Verdicts(unittest.TestCase):
         (_library.NO_MEMORY, MemoryError),
         (_library.NO_PLAT, ValueError),
         (_library.NO_ACCOUNT, ValueError),
+        (_library.NO_LAND, ValueError),
+        (_library.NO_LOTS, ValueError),
+        (_library.NO_TOWNSHIP, ValueError),
+        (_library.NO_OPERATION, ValueError),
         (99, RuntimeError),
     )
 
@@ -100,6 +122,17 @@ class Verdicts(unittest.TestCase):
         "explain_notes": lambda: township.Plat.read(b""),
         "explain_description": lambda: uneven().acres(""),
         "explain_list": lambda: uneven().report_csv(b""),
+        "land_read": lambda: uneven().land("sec. 14."),
+        "land_acres": lambda: uneven().acres(LAND),
+        "land_area": lambda: uneven().area(LAND),
+        "land_text": lambda: LAND.text,
+        "land_combine": lambda: LAND | LAND,
+        "land_compare": lambda: LAND <= LAND,
+        "lots_read": lambda: township.Lots.read(b""),
+        "lots_acres": lambda: LOTS.acres("sec. 14."),
+        "lots_area": lambda: LOTS.area("sec. 14."),
+        "lots_land_acres": lambda: LOTS.acres(LAND),
+        "lots_land_area": lambda: LOTS.area(LAND),
     }
 
     def test_notes(self):
@@ -130,6 +163,26 @@ class Verdicts(unittest.TestCase):
         for call in (none.acres, none.area, none.normal, none.notes, none.report_csv):
             with self.subTest(call=call.__name__), self.assertRaises(ValueError):
                 call("sec. 14.")
+
+    def test_land_and_lots_that_are_none(self):
+        # They cannot be made like this, either.
+        no_land = township.Land._of_struct(_library.Land())
+        no_lots = township.Lots._of_struct(_library.Lots())
+        for call in (
+            *(lambda: no_land.text, lambda: no_land | LAND, lambda: LAND <= no_land),
+            *(lambda: uneven().acres(no_land), lambda: LOTS.area(no_land)),
+            *(lambda: no_lots.acres(LAND), lambda: no_lots.area("sec. 14.")),
+        ):
+            with self.assertRaises(ValueError) as caught:
+                call()
+            self.assertNotIsInstance(caught.exception, township.Refused)
+
+    def test_numbers_that_are_none(self):
+        first, made = ctypes.byref(LAND._parts), ctypes.byref(_library.Land())
+        self.assertEqual(_library.land_combine(first, first, 3, made).verdict, _library.NO_OPERATION)
+        self.assertEqual(_library.land_acres(ctypes.byref(uneven()._parts), first, 2).verdict, _library.NO_ACCOUNT)
+        none = ctypes.byref(_library.Designation(100, 0, 3, 1))
+        self.assertEqual(_library.land_read(none, b"sec. 14.", 8, made).verdict, _library.NO_TOWNSHIP)
 
     def test_account_that_is_none(self):
         answer = _library.acres(ctypes.byref(uneven()._parts), b"sec. 14.", 8, 2)

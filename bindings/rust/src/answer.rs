@@ -2,6 +2,9 @@
 
 use crate::ffi::{self, Answer};
 use crate::refused::Refusal;
+use crate::township::Township;
+use std::error::Error;
+use std::fmt;
 
 /// The outcome of a call.
 #[derive(Clone, Copy, Debug, PartialEq, Eq)]
@@ -15,6 +18,33 @@ pub(crate) enum Verdict {
     NoRoom,
     NoMemory,
     NoRange,
+    NoLand,
+    NoLots,
+    NoTownship,
+    NoOperation,
+    OtherTownship,
+}
+
+/// The error for land, plats, and lot tables of two different townships.
+///
+/// ```
+/// let other = township::Land::empty("T. 3 N., R. 3 W.".parse()?);
+/// # let notes = include_bytes!(concat!(env!("CARGO_MANIFEST_DIR"), "/samples/b1.csv"));
+/// # let plat = township::Plat::read(notes)?;
+/// let error = plat.land_acres(&other).unwrap_err();
+/// assert_eq!(
+///     error.to_string(),
+///     "T. 3 N., R. 3 W. and T. 2 N., R. 3 W. are two different townships"
+/// );
+/// # Ok::<(), Box<dyn std::error::Error>>(())
+/// ```
+#[derive(Clone, Copy, Debug, PartialEq, Eq, Hash)]
+#[non_exhaustive]
+pub struct OtherTownship {
+    /// The township of the first land, or of the land.
+    pub first: Township,
+    /// The township of the second land, or of the plat or the lot table.
+    pub second: Township,
 }
 
 /// The reason that an input is refused, before it is explained.
@@ -36,14 +66,20 @@ impl Answer {
             ffi::NO_ROOM => Verdict::NoRoom,
             ffi::NO_MEMORY => Verdict::NoMemory,
             ffi::NO_RANGE => Verdict::NoRange,
+            ffi::NO_LAND => Verdict::NoLand,
+            ffi::NO_LOTS => Verdict::NoLots,
+            ffi::NO_TOWNSHIP => Verdict::NoTownship,
+            ffi::NO_OPERATION => Verdict::NoOperation,
+            ffi::OTHER_TOWNSHIP => Verdict::OtherTownship,
             unknown => panic!("the library answered with verdict {unknown}, which is unknown here"),
         }
     }
 
     /// Returns this answer if it accepts the input, or else the fault for which it refuses it.
     ///
-    /// Panics if memory runs out. The other verdicts cannot occur: the types rule out plats and
-    /// accounts that are not valid, and every text gets the buffer that it needs.
+    /// Panics if memory runs out. The other verdicts cannot occur: the types rule out plats, land, and
+    /// so on that are not valid, every text gets the buffer that it needs, and callers look for
+    /// different townships first.
     pub(crate) fn accepted(self) -> Result<Answer, Fault> {
         match self.verdict() {
             Verdict::Accepted => Ok(self),
@@ -53,13 +89,30 @@ impl Answer {
             verdict @ (Verdict::NoPlat
             | Verdict::NoAccount
             | Verdict::NoRoom
-            | Verdict::NoRange) => {
+            | Verdict::NoRange
+            | Verdict::NoLand
+            | Verdict::NoLots
+            | Verdict::NoTownship
+            | Verdict::NoOperation
+            | Verdict::OtherTownship) => {
                 unreachable!("the library was given what it takes, and answered {verdict:?}")
             }
         }
     }
 
-    /// Returns the length of this answer's text in bytes.
+    /// Returns this answer unless it says that the call was given these two different townships.
+    pub(crate) fn in_one_township(
+        self,
+        first: Township,
+        second: Township,
+    ) -> Result<Answer, OtherTownship> {
+        match self.verdict() {
+            Verdict::OtherTownship => Err(OtherTownship { first, second }),
+            _ => Ok(self),
+        }
+    }
+
+    /// Returns the length of this answer's text in bytes, or the number of its parts.
     pub(crate) fn text_length(&self) -> usize {
         usize::try_from(self.length).expect("a text that was in memory fits there")
     }
@@ -79,6 +132,18 @@ impl Answer {
         }
     }
 }
+
+impl fmt::Display for OtherTownship {
+    fn fmt(&self, f: &mut fmt::Formatter<'_>) -> fmt::Result {
+        write!(
+            f,
+            "{} and {} are two different townships",
+            self.first, self.second
+        )
+    }
+}
+
+impl Error for OtherTownship {}
 
 /// Panics because there is not enough memory.
 pub(crate) fn out_of_memory() -> ! {
@@ -143,6 +208,33 @@ mod tests {
     #[should_panic(expected = "answered NoRoom")]
     fn room_that_is_too_small() {
         let _ = with(ffi::NO_ROOM).accepted();
+    }
+
+    #[test]
+    fn nothing_else_is_valid_that_is_not() {
+        for (verdict, name) in [
+            (ffi::NO_RANGE, "NoRange"),
+            (ffi::NO_LAND, "NoLand"),
+            (ffi::NO_LOTS, "NoLots"),
+            (ffi::NO_TOWNSHIP, "NoTownship"),
+            (ffi::NO_OPERATION, "NoOperation"),
+            (ffi::OTHER_TOWNSHIP, "OtherTownship"),
+        ] {
+            let panic = std::panic::catch_unwind(|| with(verdict).accepted()).unwrap_err();
+            let message = panic.downcast_ref::<String>().unwrap();
+            assert!(message.ends_with(&format!("answered {name}")), "{message}");
+        }
+    }
+
+    #[test]
+    fn different_townships() {
+        let township = |text: &str| text.parse::<Township>().unwrap();
+        let (first, second) = (township("T. 2 N., R. 3 W."), township("T. 3 N., R. 3 W."));
+        let error = OtherTownship { first, second };
+        let answer = with(ffi::OTHER_TOWNSHIP).in_one_township(first, second);
+        assert_eq!(answer, Err(error));
+        let answer = with(ffi::ACCEPTED);
+        assert_eq!(answer.in_one_township(first, second), Ok(answer));
     }
 
     #[test]

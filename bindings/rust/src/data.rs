@@ -1,11 +1,16 @@
 //! The forms in which `serde` writes and reads the types here, with the feature `serde`.
 //!
-//! Acreage, areas, townships, sides, and accounts are the texts that they display. A plat has its
-//! two parts, `township` and `closing_quarters`; what is read is checked as by `Plat::from_parts`.
+//! Acreage, areas, townships, sides, accounts, and lot tables are the texts that they display. A plat
+//! has its two parts, `township` and `closing_quarters`; land has `township` and, for each section
+//! with land, `rows`. They are checked as by `Plat::from_parts` and `Land::from_rows`.
 
-use crate::{Account, Acres, Area, EastWest, NoPlat, NorthSouth, Plat, Township, LINES};
+use crate::ffi::{PLACES_ACROSS, SECTIONS};
+use crate::{
+    Account, Acres, Area, EastWest, Land, Lots, NoLand, NoPlat, NorthSouth, Plat, Township, LINES,
+};
 use serde::de::{self, Visitor};
 use serde::{Deserialize, Deserializer, Serialize, Serializer};
+use std::collections::BTreeMap;
 use std::fmt;
 use std::marker::PhantomData;
 use std::str::FromStr;
@@ -45,7 +50,7 @@ macro_rules! as_text {
     )*};
 }
 
-as_text!(Account, Acres, Area, EastWest, NorthSouth, Township);
+as_text!(Account, Acres, Area, EastWest, Lots, NorthSouth, Township);
 
 /// The parts of a plat, as they are written.
 #[derive(Clone, Serialize, Deserialize)]
@@ -70,5 +75,38 @@ impl TryFrom<PlatData> for Plat {
     fn try_from(data: PlatData) -> Result<Plat, NoPlat> {
         let quarters = <[u32; LINES]>::try_from(data.closing_quarters).map_err(|_| NoPlat)?;
         Plat::from_parts(data.township, quarters)
+    }
+}
+
+/// The parts of land, as they are written.
+#[derive(Clone, Serialize, Deserialize)]
+#[serde(rename = "Land")]
+pub(crate) struct LandData {
+    township: Township,
+    /// By the number of the section.
+    rows: BTreeMap<u8, Vec<u32>>,
+}
+
+impl From<Land> for LandData {
+    fn from(land: Land) -> LandData {
+        let rows_in = |(section, _)| (section, land.rows()[usize::from(section) - 1].to_vec());
+        LandData {
+            township: land.township(),
+            rows: land.sections().map(rows_in).collect(),
+        }
+    }
+}
+
+impl TryFrom<LandData> for Land {
+    type Error = NoLand;
+
+    fn try_from(data: LandData) -> Result<Land, NoLand> {
+        let mut rows = [[0; PLACES_ACROSS]; SECTIONS];
+        for (section, given) in data.rows {
+            let index = usize::from(section).checked_sub(1);
+            let places = index.and_then(|index| rows.get_mut(index)).ok_or(NoLand)?;
+            *places = given.try_into().map_err(|_| NoLand)?;
+        }
+        Land::from_rows(data.township, rows)
     }
 }

@@ -1,11 +1,16 @@
 //! The library's functions and structs, as declared in `include/township.h`. Each function has a
-//! safe wrapper here; the rest of the crate contains no unsafe code.
+//! safe wrapper here or in a module below; the rest of the crate contains no unsafe code.
 
-use crate::plat::LINES;
-use std::mem::{offset_of, size_of};
-
+mod land;
+mod lots;
+mod structs;
 #[cfg(test)]
 mod tests;
+
+pub(crate) use self::land::{land_acres, land_area, land_combine, land_compare};
+pub(crate) use self::land::{land_read, land_text};
+pub(crate) use self::lots::{lots_acres, lots_area, lots_land_acres, lots_land_area, lots_read};
+pub(crate) use self::structs::{Answer, Designation, Figures, Fraction, Land, Lots, Parts};
 
 // Verdicts.
 pub(crate) const ACCEPTED: u32 = 0;
@@ -16,99 +21,43 @@ pub(crate) const NO_ACCOUNT: u32 = 4;
 pub(crate) const NO_ROOM: u32 = 5;
 pub(crate) const NO_MEMORY: u32 = 6;
 pub(crate) const NO_RANGE: u32 = 7;
+pub(crate) const NO_LAND: u32 = 8;
+pub(crate) const NO_LOTS: u32 = 9;
+pub(crate) const NO_TOWNSHIP: u32 = 10;
+pub(crate) const NO_OPERATION: u32 = 11;
+pub(crate) const OTHER_TOWNSHIP: u32 = 12;
 
 /// The most lots of a section, and the number of sections.
 pub(crate) const LOTS_MOST: usize = 7;
 pub(crate) const SECTIONS: usize = 36;
 
+/// The number of rows, and of columns, of the places in a section.
+pub(crate) const PLACES_ACROSS: usize = 32;
+
+/// The number of lots in a township.
+pub(crate) const LOTS: usize = 47;
+
 // Accounts.
 pub(crate) const EXACT: u32 = 0;
 pub(crate) const BY_PLAT: u32 = 1;
+
+// Operations on two lands.
+pub(crate) const UNION: u32 = 0;
+pub(crate) const INTERSECTION: u32 = 1;
+pub(crate) const DIFFERENCE: u32 = 2;
+
+// Comparisons of two lands.
+pub(crate) const EQUAL: u32 = 0;
+pub(crate) const CONTAINS: u32 = 1;
+pub(crate) const IS_CONTAINED: u32 = 2;
+pub(crate) const OVERLAPS: u32 = 3;
+pub(crate) const DISJOINT: u32 = 4;
 
 // Sides of the base line, and of the principal meridian.
 pub(crate) const NORTH: u8 = 0;
 pub(crate) const SOUTH: u8 = 1;
 pub(crate) const EAST: u8 = 0;
 pub(crate) const WEST: u8 = 1;
-
-/// `township_plat`: the parts of a plat, which may or may not be valid.
-#[repr(C)]
-#[derive(Clone, Debug, PartialEq, Eq, Hash)]
-pub(crate) struct Parts {
-    /// The last quarter mile of each section line, in thousandths of a chain.
-    pub(crate) closing_quarters: [u32; LINES],
-    pub(crate) number: u8,
-    /// `NORTH` or `SOUTH`.
-    pub(crate) north_south: u8,
-    pub(crate) range: u8,
-    /// `EAST` or `WEST`.
-    pub(crate) east_west: u8,
-}
-
-impl Parts {
-    /// Parts that are not a valid plat, for a call to overwrite.
-    const BLANK: Parts = Parts {
-        closing_quarters: [0; LINES],
-        number: 0,
-        north_south: NORTH,
-        range: 0,
-        east_west: EAST,
-    };
-}
-
-/// `township_answer`. Fields that do not apply to the verdict are 0.
-#[repr(C)]
-#[derive(Clone, Copy, Debug, Default, PartialEq, Eq)]
-pub(crate) struct Answer {
-    pub(crate) verdict: u32,
-    pub(crate) number: u32,
-    pub(crate) at: u32,
-    pub(crate) inner_number: u32,
-    pub(crate) inner_at: u32,
-    /// The line and column of an explained fault, counted from 1, or both 0.
-    pub(crate) line: u32,
-    pub(crate) column: u32,
-    pub(crate) reserved: u32,
-    /// Hundredths of an acre.
-    pub(crate) hundredths: u64,
-    /// The length of the text in bytes, whether it was written or not.
-    pub(crate) length: u64,
-}
-
-/// `township_fraction`: square thousandths of a chain, as a low and a high half, over a divisor.
-#[repr(C)]
-#[derive(Clone, Copy, Debug, Default, PartialEq, Eq)]
-pub(crate) struct Fraction {
-    pub(crate) units_low: u64,
-    pub(crate) units_high: u64,
-    /// At least 1, once a call has written it.
-    pub(crate) over: u64,
-}
-
-/// `township_plat_figures`: the figures of a printed plat, in hundredths of an acre.
-#[repr(C)]
-#[derive(Clone, Debug, PartialEq, Eq)]
-pub(crate) struct Figures {
-    /// Those of lots, by section and lot: 0 if there is no such lot.
-    pub(crate) lots: [[u64; LOTS_MOST]; SECTIONS],
-    pub(crate) sections: [u64; SECTIONS],
-    pub(crate) township: u64,
-}
-
-impl Figures {
-    /// No figures, for a call to overwrite.
-    const BLANK: Figures = Figures {
-        lots: [[0; LOTS_MOST]; SECTIONS],
-        sections: [0; SECTIONS],
-        township: 0,
-    };
-}
-
-// The library is compiled for these layouts.
-const _: () = assert!(size_of::<Parts>() == 340 && offset_of!(Parts, number) == 336);
-const _: () = assert!(size_of::<Answer>() == 48 && offset_of!(Answer, hundredths) == 32);
-const _: () = assert!(size_of::<Fraction>() == 24 && offset_of!(Fraction, over) == 16);
-const _: () = assert!(size_of::<Figures>() == 2312 && offset_of!(Figures, sections) == 2016);
 
 // The library requires that no pointer be null, that each point to at least as many bytes as its
 // length parameter says, and that the memory a call writes not overlap its other arguments. Slices

@@ -37,10 +37,14 @@ mod answer;
 mod area;
 #[cfg(feature = "serde")]
 mod data;
+mod difference;
 mod explanation;
 #[allow(unsafe_code)]
 mod ffi;
 mod figures;
+mod land;
+mod lot_faults;
+mod lots;
 mod note;
 mod parse;
 mod plat;
@@ -51,8 +55,12 @@ mod township;
 
 pub use self::account::Account;
 pub use self::acres::Acres;
+pub use self::answer::OtherTownship;
 pub use self::area::Area;
+pub use self::difference::Difference;
 pub use self::figures::{Figures, Section};
+pub use self::land::{Comparison, Land, NoLand, Rows};
+pub use self::lots::{Lots, NoLandAcres};
 pub use self::note::Note;
 pub use self::parse::ParseError;
 pub use self::plat::{NoPlat, Plat, LINES};

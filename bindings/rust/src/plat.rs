@@ -10,6 +10,7 @@ use std::fmt;
 use std::str::FromStr;
 
 mod answers;
+mod land;
 
 /// The number of section lines in a township.
 pub const LINES: usize = 84;
@@ -87,13 +88,7 @@ impl Plat {
     /// # Ok::<(), township::NoPlat>(())
     /// ```
     pub fn from_parts(township: Township, closing_quarters: [u32; LINES]) -> Result<Plat, NoPlat> {
-        let parts = Parts {
-            closing_quarters,
-            number: township.number(),
-            north_south: township.north_south().code(),
-            range: township.range(),
-            east_west: township.east_west().code(),
-        };
+        let parts = township.parts(closing_quarters);
         // Every call that takes a plat validates it. This call has little else to do.
         match ffi::acres(&parts, b"", ffi::EXACT).verdict() {
             Verdict::NoPlat => Err(NoPlat),

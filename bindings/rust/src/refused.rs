@@ -11,6 +11,8 @@ use std::fmt;
 pub(crate) const DESCRIPTION: &str = "description";
 pub(crate) const NOTES: &str = "notes";
 pub(crate) const LIST: &str = "tracts";
+pub(crate) const LAND: &str = "land";
+pub(crate) const LOT_TABLE: &str = "lots";
 
 /// The number and location of a refusal, displayed as `refused 67 at 19`.
 #[derive(Clone, Copy, Debug, PartialEq, Eq, Hash)]
@@ -22,7 +24,7 @@ pub struct Refusal {
     pub at: u32,
 }
 
-/// The numbered refusal of field notes, a description, or a list of tracts.
+/// The numbered refusal of field notes, a description, a list of tracts, or a lot table.
 ///
 /// `docs/REFUSALS.md` explains what each number means and how to correct the input. A refusal is
 /// displayed as the place and the sentence of its explanation, on one line.
@@ -47,10 +49,10 @@ pub struct Refusal {
 #[non_exhaustive]
 pub struct Refused {
     /// What is wrong: 1 to 11 and 21 to 23 for field notes, 41 to 44 and 61 to 67 for a
-    /// description, 80 to 85 for a list of tracts.
+    /// description, 80 to 85 for a list of tracts, 86 to 94 for a lot table.
     pub number: u32,
     /// The location. Its meaning depends on the number: a record counted from 1, the index of a
-    /// section line, a byte counted from 0, or, if the text is too long, the limit in bytes.
+    /// section line, a byte counted from 0, a lot, or, if the text is too long, the limit in bytes.
     pub at: u32,
     /// For refusal 83, the refusal of the tract's description. `None` for any other number.
     pub inner: Option<Refusal>,

@@ -1,12 +1,16 @@
 //! The designation of a township.
 
-use crate::ffi::{self, Parts};
+use crate::ffi::{self, Designation, Parts};
 use crate::parse::{number, ParseError};
+use crate::plat::LINES;
 use std::fmt;
 use std::str::FromStr;
 
 /// The largest township or range number.
 const MOST: u8 = 99;
+
+/// A quarter mile, in thousandths of a chain.
+const NOMINAL_QUARTER: u32 = 20_000;
 
 /// The side of the base line on which a township lies. It is displayed as one letter.
 #[derive(Clone, Copy, Debug, PartialEq, Eq, PartialOrd, Ord, Hash)]
@@ -91,12 +95,49 @@ impl Township {
 
     /// Returns the township of a plat's parts, if they are valid.
     pub(crate) fn from_parts(parts: &Parts) -> Option<Township> {
+        Township::from_designation(&Designation {
+            number: parts.number,
+            north_south: parts.north_south,
+            range: parts.range,
+            east_west: parts.east_west,
+        })
+    }
+
+    /// Returns the township of a designation's parts, if they are valid.
+    pub(crate) fn from_designation(parts: &Designation) -> Option<Township> {
         Township::new(
             parts.number,
             NorthSouth::from_code(parts.north_south)?,
             parts.range,
             EastWest::from_code(parts.east_west)?,
         )
+    }
+
+    /// Returns the parts of the designation.
+    pub(crate) fn designation(self) -> Designation {
+        Designation {
+            number: self.number,
+            north_south: self.north_south.code(),
+            range: self.range,
+            east_west: self.east_west.code(),
+        }
+    }
+
+    /// Returns the parts of a plat with these closing quarters, which may or may not be valid.
+    pub(crate) fn parts(self, closing_quarters: [u32; LINES]) -> Parts {
+        Parts {
+            closing_quarters,
+            number: self.number,
+            north_south: self.north_south.code(),
+            range: self.range,
+            east_west: self.east_west.code(),
+        }
+    }
+
+    /// Returns the plat of the township in which every half mile is 40 chains long. A description is
+    /// refused on it if it is refused on any other plat of the township, and for the same fault.
+    pub(crate) fn nominal_plat(self) -> Parts {
+        self.parts([NOMINAL_QUARTER; LINES])
     }
 }
 

@@ -6,7 +6,9 @@ mod samples;
 use samples::{even, uneven};
 use serde::{de::DeserializeOwned, Serialize};
 use std::fmt::Debug;
-use township::{Account, Acres, EastWest, NorthSouth, Plat, Refusal, Refused, Township};
+use township::{
+    Account, Acres, EastWest, Land, Lots, NorthSouth, Plat, Refusal, Refused, Township,
+};
 
 /// A value is written as this text, and read back from it.
 fn both_ways<T: Serialize + DeserializeOwned + PartialEq + Debug>(value: T, json: &str) {
@@ -51,6 +53,41 @@ fn plats() {
         let message = "no plat has these closing quarters";
         assert!(error.to_string().starts_with(message), "{error}");
     }
+}
+
+#[test]
+fn lands() {
+    let land = even().land("sec. 5, lot 2.").unwrap();
+    // The lot is the northern quarter of the rows.
+    let rows = [["0"; 24].join(","), ["65280"; 8].join(",")].join(",");
+    let json = format!(r#"{{"township":"T. 2 N., R. 3 W.","rows":{{"5":[{rows}]}}}}"#);
+    both_ways(land.clone(), &json);
+    both_ways(
+        Land::empty(land.township()),
+        r#"{"township":"T. 2 N., R. 3 W.","rows":{}}"#,
+    );
+    for wrong in [
+        json.replacen("65280", "65281", 1),
+        json.replacen("65280,", "", 1),
+        json.replacen("\"5\"", "\"0\"", 1),
+        json.replacen("\"5\"", "\"37\"", 1),
+    ] {
+        let error = serde_json::from_str::<Land>(&wrong).unwrap_err();
+        let message = "these places contain part of a lot";
+        assert!(error.to_string().starts_with(message), "{error}");
+    }
+}
+
+#[test]
+fn lot_tables() {
+    let table = "section,lot,acres\nT,2,N,3,W\n5,1,40.45\n";
+    let lots: Lots = table.parse().unwrap();
+    both_ways(lots.clone(), &format!("{table:?}"));
+    let differences = even().differences(&lots).unwrap();
+    both_ways(
+        differences[0],
+        r#"{"section":5,"lot":1,"computed":"40.00","returned":"40.45"}"#,
+    );
 }
 
 #[test]

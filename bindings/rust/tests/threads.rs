@@ -5,7 +5,8 @@ mod samples;
 use samples::{uneven, NOTES, TRACTS};
 use std::sync::Barrier;
 use std::thread;
-use township::{Account, Acres, Area, Figures, Note, Plat, Refused, Report, Township};
+use township::{Account, Acres, Area, Comparison, Difference, Figures, Land, Lots, NoLandAcres};
+use township::{Note, OtherTownship, Plat, Refused, Report, Township};
 
 const THREADS: usize = 4;
 const ROUNDS: usize = 200;
@@ -27,12 +28,30 @@ struct Answers {
     figures: Figures,
     written: String,
     report: Result<String, Refused>,
+    land: Result<Land, Refused>,
+    combined: Land,
+    comparison: Comparison,
+    land_text: String,
+    land_acres: Result<Acres, OtherTownship>,
+    land_area: Result<Area, OtherTownship>,
+    lots: Result<Lots, Refused>,
+    lots_acres: Result<Acres, Refused>,
+    lots_area: Result<Area, Refused>,
+    lots_land_acres: Result<Acres, NoLandAcres>,
+    lots_land_area: Result<Area, NoLandAcres>,
+    differences: Result<Vec<Difference>, OtherTownship>,
     refused: Result<Acres, Refused>,
     refused_notes: Result<Plat, Refused>,
     refused_list: Result<String, Refused>,
 }
 
+/// A lot table with one lot.
+const TABLE: &[u8] = b"section,lot,acres\nT,2,N,3,W\n5,1,40.50\n";
+
 fn answers_on(plat: &Plat) -> Answers {
+    let (land, other) = ("sec. 5, lot 1; sec. 14.", "sec. 5; sec. 15.");
+    let (land, other) = (plat.land(land).unwrap(), plat.land(other).unwrap());
+    let lots = Lots::read(TABLE).unwrap();
     Answers {
         read: Plat::read(NOTES).unwrap(),
         acres: plat.acres("sec. 5, lots 1 and 2, S1/2NE1/4."),
@@ -45,6 +64,18 @@ fn answers_on(plat: &Plat) -> Answers {
         figures: plat.figures(),
         written: plat.write_notes(),
         report: plat.report(TRACTS),
+        land: plat.land("sec. 6, lot 7."),
+        combined: (&land & &other) | (&land ^ &other),
+        comparison: land.compare(&other),
+        land_text: land.to_string(),
+        land_acres: plat.land_acres(&land),
+        land_area: plat.land_area_by(&other, Account::Plat),
+        lots: Lots::read(TABLE),
+        lots_acres: lots.acres("sec. 5, lot 1; sec. 14."),
+        lots_area: lots.area("sec. 5, lots 1 and 2."),
+        lots_land_acres: lots.land_acres(&other),
+        lots_land_area: lots.land_area(&land),
+        differences: plat.differences(&lots),
         refused: plat.acres("sec. 14, NE1/4 and N1/2."),
         refused_notes: Plat::read(b"line,between\n"),
         refused_list: plat.report("name,description\nA,sec. 37.\n"),
@@ -57,6 +88,8 @@ fn one_plat_in_four_threads() {
     let wanted = answers_on(&plat);
     assert_eq!(wanted.acres, Ok(Acres::from_hundredths(16_100)));
     assert_eq!(wanted.refused.as_ref().unwrap_err().number, 67);
+    assert_eq!(wanted.lots_acres, Ok(Acres::from_hundredths(68_050)));
+    assert_eq!(wanted.comparison, Comparison::Overlaps);
     let together = Barrier::new(THREADS);
     thread::scope(|scope| {
         for _ in 0..THREADS {
@@ -103,6 +136,8 @@ fn values_go_to_other_threads() {
     goes::<Plat>();
     goes::<Acres>();
     goes::<Area>();
+    goes::<Land>();
+    goes::<Lots>();
     goes::<Report>();
     goes::<Refused>();
     let plat = thread::spawn(uneven).join().unwrap();

@@ -8,6 +8,7 @@ pub mod OneAccountAnswer
 pub mod NameFacts
 pub mod TractFacts
 pub mod TractLands
+pub mod ClearFacts
 pub mod TallyFacts
 pub mod FirstTractFaults
 pub mod TractAreas

@@ -2,6 +2,7 @@ pub mod Answers
 pub mod Runs
 pub mod PlatAnswers
 pub mod Tracts
+pub mod ClearTracts
 pub mod TractFaults
 pub mod ReportAnswers
 pub mod TractLaws

@@ -1,6 +1,7 @@
 //! The answer of the report run.
-ghost use Rattle.std.specs.Prelude.{◌≡◌, ◌≢◌, Some, false, IfOk, IfErr};
+ghost use Rattle.std.specs.Prelude.{◌≡◌, ◌≢◌, ℕ, List, Some, false, IfOk, IfErr};
 ghost use Rattle.twp_acres.specs.Answers.{MakePlat};
+ghost use Rattle.twp_acres.specs.ClearTracts.{IsClearList};
 ghost use Rattle.twp_acres.specs.Tracts.{TRACTS_LIMIT};
 ghost use Rattle.twp_acres.specs.TractFaults.{verdict_of};
 ghost use Rattle.twp_acres.specs.ReportAnswers.{IsReportAnswer, AnswersList, refusal_lines};
@@ -35,6 +36,8 @@ pub fn answer_of<N: Source, T: Source>(
     ensures answer { ReadsTwo (N.remaining notes.old) (T.remaining tracts.old)
         MakePlat (tracts.new ≡ tracts.old)
         (λ n t. IfOk result (λ answer. IsReportAnswer n t answer.text.items answer.verdict)) }
+    ensures clear { (t : List ℕ) → T.remaining tracts.old ≡ Some t
+        → clarity.new ≡ Clarity.Clear → IsClearList t }
 {
     *clarity = Clarity::Unclear;
     match read_plat(alloc, notes) {
@@ -58,7 +61,10 @@ fn report_on<T: Source>(
         result }
     ensures answer { Reads (T.remaining tracts.old) (λ t.
         IfOk result (λ answer. AnswersList plat.now t answer.text.items answer.verdict)) }
+    ensures clear { (t : List ℕ) → T.remaining tracts.old ≡ Some t
+        → clarity.new ≡ Clarity.Clear → IsClearList t }
 {
+    *clarity = Clarity::Unclear;
     let Some(bytes) = read_whole(alloc, tracts, TRACTS_LIMIT as usize)? else {
         return refuse_list(alloc, TractFault::TractsTooLarge);
     };

@@ -13,6 +13,7 @@ ghost use Rattle.twp_acres.specs.AccountAnswers.{IsAcresAnswerBy};
 ghost use Rattle.twp_acres.specs.PlatAnswers.{IsPlatAnswer};
 ghost use Rattle.twp_acres.specs.NormalAnswers.{IsNormalAnswer};
 ghost use Rattle.twp_acres.specs.ReportAnswers.{IsReportAnswer};
+ghost use Rattle.twp_acres.specs.ClearTracts.{IsClearList};
 ghost use Rattle.twp_acres.specs.Tracts.{TRACTS_LIMIT};
 ghost use Rattle.twp_acres.specs.Runs.{AppendsFront, IsAnswered, IsRun, Reads, RunsOnPlat, used};
 
@@ -270,6 +271,10 @@ pub fn run_report_noting<N: Source, T: Source, W: Sink>(
         (used (T.remaining tracts.old) (T.remaining tracts.new) (T.has_failed tracts.new))
         (used (W.contents out.old) (W.contents out.new) (W.has_failed out.new))
         (tracts.new ≡ tracts.old) result }
+
+    // In a list that is noted as clear, no description of a tract has a doubtful place.
+    ensures clear { (t : List ℕ) → T.remaining tracts.old ≡ Some t
+        → clarity.new ≡ Clarity.Clear → IsClearList t }
 {
     let answer = report_answer::answer_of(alloc, notes, tracts, clarity)?;
     write_answer(out, &answer)

@@ -1,6 +1,8 @@
 //! The account of tracts, which grows by one tract at a time.
 ghost use Rattle.std.specs.Prelude.{◌≡◌, ◌++◌, ℕ, List, [], false, OnOk, IfErr};
 ghost use Rattle.csv.specs.Records.{fields_of};
+ghost use Rattle.twp_read.specs.Doubts.{HasNoDoubtfulPlace};
+ghost use Rattle.twp_acres.specs.Tracts.{description_in};
 ghost use Rattle.twp_land.specs.Lands.{no_places};
 ghost use Rattle.twp_acres.specs.steps.Names.{has_name};
 ghost use Rattle.twp_acres.specs.ReportAnswers.{tract_line};
@@ -65,6 +67,9 @@ impl<L: Land> RunningAccount<L> {
             (tally_of L.places self.old) (tally_of L.places self.new)) }
         ensures fault { IfErr result (IsTractRefused plat.now.township (fields_of row.now)
             (tally_of L.places self.old) number) }
+        ensures clear { OnOk result (self.new.clarity ≡ Clarity.Clear
+            → (self.old.clarity ≡ Clarity.Clear)
+            × HasNoDoubtfulPlace (description_in (fields_of row.now))) }
     {
         let Some(tract) = tract_of(row) else {
             return Err(TractFault::TractRow(number));

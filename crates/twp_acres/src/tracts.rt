@@ -1,6 +1,7 @@
 //! The list of tracts, added to an account record by record.
-ghost use Rattle.std.specs.Prelude.{◌≤◌, length, OnOk, IfOk, IfErr};
+ghost use Rattle.std.specs.Prelude.{◌≡◌, ◌≤◌, length, OnOk, IfOk, IfErr};
 ghost use Rattle.twp_notes.specs.Records.{records_left, IsReading};
+ghost use Rattle.twp_acres.specs.ClearTracts.{AreClearTracts, IsClearList};
 ghost use Rattle.twp_acres.specs.Tracts.{TRACTS_LIMIT, TRACTS_MOST};
 ghost use Rattle.twp_acres.specs.ReportAnswers.{IsAccountOf};
 ghost use Rattle.twp_acres.specs.TractFaults.{AnswersFault};
@@ -45,7 +46,9 @@ pub(crate) fn account_noting(
     requires { length bytes.now ≤ TRACTS_LIMIT }
     ensures account { IfOk result (λ text. IsAccountOf plat.now bytes.now text.items) }
     ensures fault { IfErr result (AnswersFault plat.now.township bytes.now) }
+    ensures clear { clarity.new ≡ Clarity.Clear → IsClearList bytes.now }
 {
+    *clarity = Clarity::Unclear;
     // Borrowed where it is made, because moving it would copy its buffers.
     let records = &mut Records::new(alloc, bytes);
     let mut row = ByteRecord::new(alloc);
@@ -62,8 +65,8 @@ pub(crate) fn account_noting(
         min(bytes.len() / BYTES_TO_NAME, TRACTS_MOST as usize),
     )?;
     take_tracts(alloc, plat, records, &mut row, &mut account)?;
-    *clarity = account.clarity;
     account.totals.write(&mut account.text)?;
+    *clarity = account.clarity;
     Ok(account.text)
 }
 
@@ -83,6 +86,8 @@ fn take_tracts<L: Land>(
     ensures few { IfOk result (λ _. length (records_left records.old) ≤ TRACTS_MOST) }
     ensures fault { IfErr result
         (AreTractsRefused plat.now.township (records_left records.old)) }
+    ensures clear { OnOk result (account.new.clarity ≡ Clarity.Clear
+        → AreClearTracts (records_left records.old) (length (records_left records.old))) }
 {
     let mut taken = 0;
     'records: while records.read(row)? {

@@ -5,3 +5,5 @@
 mod explaining;
 mod exports;
 mod figures;
+mod land;
+mod lots;

@@ -1,4 +1,6 @@
 pub mod CallFacts
+pub mod LandCallFacts
+pub mod LotCallFacts
 pub mod FigureFacts
 pub mod ManyFacts
 pub mod NoteFacts

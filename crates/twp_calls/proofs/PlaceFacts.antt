@@ -18,9 +18,9 @@ use Rattle.twp_acres.specs.OnPlats.{StopsOn}
 use Rattle.twp_acres.specs.declared.stop.Stop.{Stop}
 use Rattle.twp_acres.specs.declared.stop.Stop.TheVariants as stop
 use Rattle.twp_acres.proofs.OneAnswer.{one_description_refusal}
-use Rattle.twp_explain.specs.ShownPlaces.{TOO_LARGE}
+use Rattle.twp_explain_text.specs.ShownPlaces.{TOO_LARGE}
 use Rattle.twp_diagnose.specs.Spots.{MOST_BYTES, IsSpotIn}
-use Rattle.twp_explain.specs.declared.explanation.Explanation.{Explanation}
+use Rattle.twp_diagnose.specs.declared.explanation.Explanation.{Explanation}
 use Rattle.twp_diagnose.specs.declared.given.Given.{Given}
 use Rattle.twp_explain.specs.ExplainedPlaces.{IsSpotRefused, IsExplainedWhereRefused}
 use Rattle.twp_calls.specs.Answers.{refused}

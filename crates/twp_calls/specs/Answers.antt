@@ -34,6 +34,21 @@ NO_MEMORY = 6
 abbrev pub NO_RANGE : ℕ
 NO_RANGE = 7
 
+abbrev pub NO_LAND : ℕ
+NO_LAND = 8
+
+abbrev pub NO_LOTS : ℕ
+NO_LOTS = 9
+
+abbrev pub NO_TOWNSHIP : ℕ
+NO_TOWNSHIP = 10
+
+abbrev pub NO_OPERATION : ℕ
+NO_OPERATION = 11
+
+abbrev pub OTHER_TOWNSHIP : ℕ
+OTHER_TOWNSHIP = 12
+
 -- the verdict is one of a refusal
 abbrev pub IsRefused : ℕ → Type 0
 IsRefused verdict = (verdict ≡ REFUSED) ⊎ (verdict ≡ TRACT_REFUSED)
@@ -75,6 +90,11 @@ refused refusal = answer REFUSED refusal.number refusal.at 0 0 0 0
 -- the refusal of a tract, by its record, whose description is refused itself
 abbrev pub tract_refused : ℕ → Refusal → TownshipAnswer
 tract_refused tract inner = answer TRACT_REFUSED 83 tract inner.number inner.at 0 0
+
+-- the answer of a refusal, or that memory ran out
+abbrev pub answer_of_refusal : Option Refusal → TownshipAnswer
+answer_of_refusal (Some refusal) = refused refusal
+answer_of_refusal None = bare NO_MEMORY
 
 -- why there is no answer
 abbrev pub stopped : Stop → TownshipAnswer

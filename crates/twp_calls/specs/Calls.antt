@@ -17,7 +17,7 @@ use Rattle.twp_calls.specs.Answers.{with_text, without_room, refused, verdict_an
 use Rattle.twp_calls.specs.GivenPlats.{IsGivenPlat, IsNoGivenPlat, given_of}
 use Rattle.twp_calls.specs.declared.answer.TownshipAnswer.{TownshipAnswer}
 use Rattle.twp_calls.specs.declared.plat.TownshipPlat.{TownshipPlat as GivenPlat}
-use Rattle.twp_calls.specs.declared.answering.TownshipFraction.{TownshipFraction}
+use Rattle.twp_calls.specs.declared.fraction.TownshipFraction.{TownshipFraction}
 
 -- The given parts are those of a plat, on which the call answers, or of none.
 pub data OnPlat (given : GivenPlat) (Answers : TownshipPlat → TownshipAnswer → Type 0)
@@ -98,13 +98,17 @@ abbrev pub IsAcresCall : GivenPlat → List ℕ → ℕ → TownshipAnswer → T
 IsAcresCall given description code = OfDescriptionBy given description code (λ plat account.
     HasAcres plat description account)
 
+-- the parts of an area: its units in two words of 64 bits, and their denominator
+pub record IsFractionOf (parts : TownshipFraction) (area : Fraction) : Type 0 where
+  pub units : parts.units_low + 2 ^ 64 * parts.units_high ≡ area.units
+  pub over : parts.over ≡ area.over
+
 -- `township_area`: the parts of the exact area of the land described
 pub record HasArea (plat : TownshipPlat) (description : List ℕ) (account : Account)
     (new : TownshipFraction) (answer : TownshipAnswer) : Type 0 where
   pub area : Fraction
   pub has : HasAreaOn plat description account area
-  pub units : new.units_low + 2 ^ 64 * new.units_high ≡ area.units
-  pub over : new.over ≡ area.over
+  pub parts : IsFractionOf new area
   pub answer_is : answer ≡ bare ACCEPTED
 
 abbrev pub IsAreaCall : GivenPlat → List ℕ → ℕ → TownshipFraction → TownshipAnswer → Type 0

@@ -1,28 +1,9 @@
 -- Plats as plain data, which may be a plat's parts or not.
-use Rattle.std.specs.Prelude.{◌≡◌, ◌==◌, ℕ, Option, Some, None, if◌then◌else◌}
-use Rattle.twp_grid.specs.Townships.{Designation, IsTownshipNumber}
-use Rattle.twp_grid.specs.declared.township.NorthSouth.{NorthSouth}
-use Rattle.twp_grid.specs.declared.township.NorthSouth.TheVariants.{N, S}
-use Rattle.twp_grid.specs.declared.township.EastWest.{EastWest}
-use Rattle.twp_grid.specs.declared.township.EastWest.TheVariants.{E, W}
+use Rattle.std.specs.Prelude.{◌≡◌}
 use Rattle.twp_plat.specs.Plats.{TownshipPlat, IsPlat}
+use Rattle.twp_calls.specs.GivenTownships.{IsGivenTownship, code_of_north_south, code_of_east_west}
+use Rattle.twp_calls.specs.declared.designation.TownshipDesignation.{TownshipDesignation}
 use Rattle.twp_calls.specs.declared.plat.TownshipPlat.{TownshipPlat as GivenPlat}
-
--- the side that a number stands for
-abbrev pub north_south_of : ℕ → Option NorthSouth
-north_south_of code = if code == 0 then Some N else if code == 1 then Some S else None
-
-abbrev pub east_west_of : ℕ → Option EastWest
-east_west_of code = if code == 0 then Some E else if code == 1 then Some W else None
-
--- the number of a side
-abbrev pub code_of_north_south : NorthSouth → ℕ
-code_of_north_south N = 0
-code_of_north_south S = 1
-
-abbrev pub code_of_east_west : EastWest → ℕ
-code_of_east_west E = 0
-code_of_east_west W = 1
 
 -- the parts of a plat
 abbrev pub given_of : TownshipPlat → GivenPlat
@@ -34,20 +15,18 @@ given_of plat = record {
   east_west = code_of_east_west plat.township.east_west;
 }
 
--- the township whose parts are given
-pub record IsGivenTownship (given : GivenPlat) (township : Designation) : Type 0 where
-  pub parts : (township.number ≡ given.number) × (township.range ≡ given.range)
-  pub north_south : north_south_of given.north_south ≡ Some township.north_south
-  pub east_west : east_west_of given.east_west ≡ Some township.east_west
-  pub numbers : IsTownshipNumber given.number × IsTownshipNumber given.range
-
--- no township's parts are given
-abbrev pub IsNoGivenTownship : GivenPlat → Type 0
-IsNoGivenTownship given = (township : Designation) → ¬ IsGivenTownship given township
+-- the designation among the parts of a plat
+abbrev pub designation_in : GivenPlat → TownshipDesignation
+designation_in given = record {
+  number = given.number;
+  north_south = given.north_south;
+  range = given.range;
+  east_west = given.east_west;
+}
 
 -- the plat whose parts are given
 pub record IsGivenPlat (given : GivenPlat) (plat : TownshipPlat) : Type 0 where
-  pub township : IsGivenTownship given plat.township
+  pub township : IsGivenTownship (designation_in given) plat.township
   pub closing : plat.closing_quarters ≡ given.closing_quarters
   pub is : IsPlat plat
 

@@ -1,7 +1,12 @@
 pub mod Answers
+pub mod GivenTownships
 pub mod GivenPlats
+pub mod GivenLands
+pub mod GivenLots
 pub mod Calls
 pub mod Figures
+pub mod LandCalls
+pub mod LotCalls
 pub mod ManyAnswers
 pub mod Names
 pub mod ShownTexts

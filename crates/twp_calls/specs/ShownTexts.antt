@@ -1,10 +1,10 @@
 -- The text of an explanation or a note for C: in which text it shows its place, and by which name.
 use Rattle.std.specs.Prelude.{◌≡◌, ℕ, List}
 use Rattle.twp_diagnose.specs.declared.given.Given.{Given}
-use Rattle.twp_explain.specs.ShownMessages.{ShowsIn}
-use Rattle.twp_explain.specs.ShownNotes.{ShowsNoteIn}
-use Rattle.twp_explain.specs.declared.explanation.Explanation.{Explanation}
-use Rattle.twp_explain.specs.declared.explanation.Note.{Note}
+use Rattle.twp_diagnose.specs.ShownMessages.{ShowsIn}
+use Rattle.twp_doubts.specs.ShownNotes.{ShowsNoteIn}
+use Rattle.twp_diagnose.specs.declared.explanation.Explanation.{Explanation}
+use Rattle.twp_doubts.specs.declared.note.Note.{Note}
 use Rattle.twp_calls.specs.Explanations.{IsNotePut, PutsExplanation}
 use Rattle.twp_calls.specs.Names.{IsNameOf}
 use Rattle.twp_calls.specs.declared.answer.TownshipAnswer.{TownshipAnswer}

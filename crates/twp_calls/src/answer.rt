@@ -1,11 +1,13 @@
 //! What a call answers.
 ghost use Rattle.std.specs.Prelude.{◌≡◌};
 ghost use Rattle.twp_calls.specs.Answers.{bare, accepted_acres, refused, tract_refused};
-ghost use Rattle.twp_calls.specs.Answers.{stopped, answer_of_fault};
+ghost use Rattle.twp_calls.specs.Answers.{stopped, answer_of_fault, answer_of_refusal};
+ghost use Rattle.twp_lots.specs.LotsFaults.{refusal_of};
 
 use crate::verdict;
 use twp_acres::{Stop, TractFault};
 use twp_grid::Refusal;
+use twp_lots::LotsFault;
 
 /// What a call answers: what a verdict doesn't speak of is 0, but `NO_ROOM` keeps what there was to
 /// say.
@@ -94,6 +96,16 @@ impl TownshipAnswer {
         match stop {
             Stop::Refused(refusal) => TownshipAnswer::of_refusal(refusal),
             Stop::Failed(_) => TownshipAnswer::bare(verdict::NO_MEMORY),
+        }
+    }
+
+    /// Why bytes are no lot table. They are in memory, so reading them doesn't fail.
+    pub(crate) fn of_lots_fault(fault: LotsFault) -> TownshipAnswer
+        ensures { result ≡ answer_of_refusal (refusal_of fault) }
+    {
+        match fault.refusal() {
+            Some(refusal) => TownshipAnswer::of_refusal(refusal),
+            None => TownshipAnswer::bare(verdict::NO_MEMORY),
         }
     }
 

@@ -6,27 +6,13 @@ ghost use Rattle.twp_calls.specs.Calls.{IsPrintCall, IsReportCall};
 
 use crate::account::account_of;
 use crate::answer::TownshipAnswer;
+use crate::fraction::TownshipFraction;
 use crate::plat::TownshipPlat;
 use crate::reading::plat_of_notes;
 use crate::text::put;
 use crate::verdict::{ACCEPTED, NO_ACCOUNT, NO_MEMORY, NO_PLAT};
 use std::alloc::Global;
 use twp_acres::{account_on, acres_on, area_on, normal_on, print_plat};
-
-/// How many values a word of 64 bits has.
-const WORD: u128 = 1 << 64;
-
-/// An exact area: `units` square thousandths of a chain over `over`, which is at least 1.
-#[repr(C)]
-#[derive(Clone, Copy)]
-pub struct TownshipFraction {
-    /// The low 64 bits of the units.
-    pub units_low: u64,
-    /// And the high ones.
-    pub units_high: u64,
-    /// What they are divided by.
-    pub over: u64,
-}
 
 /// Makes the plat of field notes.
 pub fn township_read(alloc: Global, notes: &[u8], plat: &mut TownshipPlat) -> TownshipAnswer
@@ -82,12 +68,7 @@ pub fn township_area(
     };
     match area_on(alloc, &plat, description, account) {
         Ok(exact) => {
-            let units = exact.units();
-            *area = TownshipFraction {
-                units_low: (units % WORD) as u64,
-                units_high: (units / WORD) as u64,
-                over: exact.over(),
-            };
+            *area = TownshipFraction::of(&exact);
             TownshipAnswer::bare(ACCEPTED)
         }
         Err(stop) => TownshipAnswer::of_stop(stop),

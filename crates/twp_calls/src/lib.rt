@@ -5,8 +5,15 @@
 mod account;
 mod answer;
 mod answering;
+mod combining;
+mod designation;
 mod explaining;
 mod figures;
+mod fraction;
+mod land;
+mod land_answers;
+mod lot_answers;
+mod lots;
 mod many;
 mod plat;
 mod reading;
@@ -17,13 +24,24 @@ mod writing;
 
 pub use answer::TownshipAnswer;
 pub use answering::{
-    TownshipFraction, township_acres, township_area, township_normal, township_print,
-    township_read, township_report,
+    township_acres, township_area, township_normal, township_print, township_read, township_report,
 };
+pub use combining::{township_land_combine, township_land_compare};
+pub use designation::TownshipDesignation;
 pub use explaining::{
     township_explain_description, township_explain_list, township_explain_notes, township_version,
 };
 pub use figures::{TownshipPlatFigures, township_figures};
+pub use fraction::TownshipFraction;
+pub use land::TownshipLand;
+pub use land_answers::{
+    township_land_acres, township_land_area, township_land_read, township_land_text,
+};
+pub use lot_answers::{
+    township_lots_acres, township_lots_area, township_lots_land_acres, township_lots_land_area,
+    township_lots_read,
+};
+pub use lots::TownshipLots;
 pub use many::township_acres_many;
 pub use plat::TownshipPlat;
 pub use writing::township_write_notes;

@@ -9,3 +9,5 @@ pub mod SignFacts
 pub mod OriginFacts
 pub mod RecordFacts
 pub mod AfterFacts
+pub mod FindingFacts
+pub mod SpotFacts

@@ -6,3 +6,5 @@ pub mod Origins
 pub mod Spots
 pub mod steps
 pub mod RecordFields
+pub mod Findings
+pub mod ShownMessages

@@ -40,11 +40,11 @@ pub fn columns_of(text: &str) -> usize {
     columns
 }
 
-/// Appends a text to a line on which some columns are taken, and ends the line. Text that is too
-/// wide is broken at spaces into lines of at most 100 columns, up to a number of lines; those after
-/// the first are indented by two spaces. A word after a space and a line feed begins a new line. If
-/// the text does not fit, the rest is omitted, and two dots mark the omission. The text is escaped. If memory runs out, only a prefix of those lines is
-/// appended.
+/// Appends a text to a line on which some columns are taken, and ends the line. Text that is too wide is
+/// broken at spaces into lines of at most 100 columns, up to a number of lines; those after the first are
+/// indented by two spaces. A word after a space and a line feed begins a new line. If the text does not fit,
+/// the rest is omitted, and two dots mark the omission. The text is escaped. If memory runs out, only a
+/// prefix of those lines is appended.
 #[tactic(auto, using(crate::proofs::ShownFacts::adds_trans))]
 pub fn write_wrapped(
     text: &str,
@@ -69,8 +69,8 @@ pub fn write_wrapped(
     end_line(out)
 }
 
-/// Appends a word at a place, or at the beginning of the next line if it doesn't fit there or a line feed is before
-/// it.
+/// Appends a word at a place, or at the beginning of the next line if it doesn't fit there or a line feed is
+/// before it.
 #[tactic(auto, using(crate::proofs::ShownFacts::adds_trans, crate::proofs::ShownFacts::lines_of_shown))]
 fn write_word(word: &str, place: Place, out: &mut String) -> Result<Place, AllocError>
     ensures safe { AddsLines (string_bytes out.old) (string_bytes out.new) }

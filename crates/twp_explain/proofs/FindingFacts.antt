@@ -21,23 +21,16 @@ use Rattle.twp_acres.specs.declared.verdict.Verdict.{Verdict}
 use Rattle.twp_acres.specs.declared.verdict.Verdict.TheVariants.{Refused}
 use Rattle.twp_acres.proofs.OneAnswer.{not_platted, not_described, one_plat_refusal, one_refusal, one_plat}
 use Rattle.twp_explain.specs.Refusals.{IsOfNone, IsNotOf, DescribeLand}
-use Rattle.twp_explain.specs.Findings.{IfFound}
-use Rattle.twp_explain.specs.declared.explanation.Explanation.{Explanation}
-use Rattle.twp_explain.specs.declared.finding.Failure.{Failure}
-use Rattle.twp_explain.specs.declared.finding.Failure.TheVariants as stop
+use Rattle.twp_diagnose.specs.Findings.{IfFound}
+use Rattle.twp_diagnose.specs.declared.explanation.Explanation.{Explanation}
+use Rattle.twp_diagnose.specs.declared.finding.Failure.{Failure}
+use Rattle.twp_diagnose.specs.declared.finding.Failure.TheVariants as stop
 
 -- what holds where there is a refusal, of one that there is
 pub held : (answered : Option Refusal) (refusal : Refusal) (Held : Type 0)
     → answered ≡ Some refusal → IfSome answered (λ _. Held) → Held
 held None refusal Held is held_if = absurd (cc is)
 held (Some some) refusal Held is held_if = held_if
-
--- what was found of a refusal is of the fault that has it
-pub of_fault : (stopped : Failure) (refusal : Refusal) (answered : Option Refusal)
-    → answered ≡ Some refusal → IfFound stopped (λ found. found ≡ refusal)
-    → IfFound stopped (λ found. answered ≡ Some found)
-of_fault (stop.Found finding) refusal answered is found = cc (is, found)
-of_fault stop.Memory refusal answered is found = tt
 
 -- notes that are refused make no plat
 pub notes_refused : (stopped : Failure) (bytes : List ℕ) (fault : NotesFault)

@@ -10,9 +10,9 @@ use Rattle.twp_acres.specs.declared.tract_fault.TractFault.TheVariants as fault
 use Rattle.twp_acres.specs.declared.verdict.Verdict.{Verdict}
 use Rattle.twp_acres.specs.declared.verdict.Verdict.TheVariants.{Refused, TractRefused}
 use Rattle.twp_explain.specs.Refusals.{first_refusal, IsListRefusal}
-use Rattle.twp_explain.specs.Findings.{IfFound, IsOf}
-use Rattle.twp_explain.specs.declared.finding.Failure.{Failure}
-use Rattle.twp_explain.specs.declared.finding.Failure.TheVariants as stop
+use Rattle.twp_diagnose.specs.Findings.{IfFound, IsOf}
+use Rattle.twp_diagnose.specs.declared.finding.Failure.{Failure}
+use Rattle.twp_diagnose.specs.declared.finding.Failure.TheVariants as stop
 
 -- a fault of a list is its first one
 pub is_first : (township : Designation) (bytes : List ℕ) (is : TractFault) → is ≢ fault.Memory

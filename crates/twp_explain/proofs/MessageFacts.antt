@@ -3,10 +3,11 @@ use Rattle.std.proofs.Common.{ℕ, List, Option, Some, None, Result, Ok, Err}
 use Rattle.std.specs.Prelude.{IfOk, IfSome}
 use Rattle.twp_acres.specs.Answers.{MakePlat, IsNoPlat}
 use Rattle.twp_diagnose.specs.declared.given.Given.{Given}
-use Rattle.twp_explain.specs.Findings.{IfFound, IsOf}
-use Rattle.twp_explain.specs.ShownMessages.{ShowsFault, ShowsIn, in_the_notes, in_the_text}
-use Rattle.twp_explain.specs.declared.explanation.Explanation.{Explanation}
-use Rattle.twp_explain.specs.declared.finding.Failure.{Failure}
+use Rattle.twp_diagnose.specs.Findings.{IfFound, IsOf}
+use Rattle.twp_diagnose.specs.ShownMessages.{ShowsIn}
+use Rattle.twp_explain.specs.ShownFaults.{ShowsFault, in_the_notes, in_the_text}
+use Rattle.twp_diagnose.specs.declared.explanation.Explanation.{Explanation}
+use Rattle.twp_diagnose.specs.declared.finding.Failure.{Failure}
 use Rattle.twp_explain.proofs.ShownFacts.{found_is}
 
 -- a fault of the notes is shown there

@@ -4,12 +4,12 @@ use Rattle.std.specs.List.{AllPass}
 use Rattle.twp_excerpt.specs.Spots.{is_white, end_of}
 use Rattle.twp_excerpt.specs.declared.spot.Spot.{Spot}
 use Rattle.twp_grid.specs.declared.refusal.Refusal.{Refusal}
-use Rattle.twp_explain.specs.ShownPlaces.{TOO_LARGE}
+use Rattle.twp_explain_text.specs.ShownPlaces.{TOO_LARGE}
 use Rattle.twp_diagnose.specs.Spots.{MOST_BYTES, IsSpotIn, IsSpotOf}
-use Rattle.twp_explain.specs.declared.explanation.Explanation.{Explanation}
+use Rattle.twp_diagnose.specs.declared.explanation.Explanation.{Explanation}
 use Rattle.twp_diagnose.specs.declared.given.Given.{Given}
-use Rattle.twp_explain.specs.declared.finding.Failure.{Failure}
-use Rattle.twp_explain.specs.declared.finding.Failure.TheVariants.{Found, Memory}
+use Rattle.twp_diagnose.specs.declared.finding.Failure.{Failure}
+use Rattle.twp_diagnose.specs.declared.finding.Failure.TheVariants.{Found, Memory}
 
 -- the spot is the one of what was found
 abbrev pub IsSpotOfStop : Given → Failure → Explanation → Type 0

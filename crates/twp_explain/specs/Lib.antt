@@ -1,11 +1,5 @@
-pub mod Findings
-pub mod ShownMessages
-pub mod ShownPlaces
-pub mod Underlined
 pub mod Refusals
-pub mod steps
+pub mod ShownFaults
 pub mod ExplainedPlaces
-pub mod ShownNotes
-pub mod Blamed
-pub mod BlamedDistances
 pub mod BlamedTracts
+pub mod steps

@@ -9,8 +9,8 @@ use Rattle.twp_acres.specs.TractFaults.{IsFirstTractFault, refusal_of, verdict_o
 use Rattle.twp_acres.specs.declared.tract_fault.TractFault.{TractFault}
 use Rattle.twp_acres.specs.declared.verdict.Verdict.{Verdict}
 use Rattle.twp_acres.specs.declared.verdict.Verdict.TheVariants.{Accepted, Refused, TractRefused}
-use Rattle.twp_explain.specs.declared.finding.Failure.{Failure}
-use Rattle.twp_explain.specs.declared.finding.Failure.TheVariants.{Found, Memory}
+use Rattle.twp_diagnose.specs.declared.finding.Failure.{Failure}
+use Rattle.twp_diagnose.specs.declared.finding.Failure.TheVariants.{Found, Memory}
 
 -- the verdict is not one of these refusals
 abbrev pub IsOfNone : (Refusal → Type 0) → Verdict → Type 0

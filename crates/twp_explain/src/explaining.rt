@@ -1,30 +1,26 @@
 //! Explanations, by what was asked of a run. Each stage of the run is gone through again on the
 //! bytes that it read, up to its refusal.
 ghost use Rattle.std.specs.Prelude.{◌≡◌, Some, None, IfOk, IfSome, IfErr};
-ghost use Rattle.twp_notes.specs.NotesFaults.{refusal_of as refusal_of_notes};
-ghost use Rattle.twp_plat.specs.PlatFaults.{refusal_of as refusal_of_plat};
-ghost use Rattle.twp_read.specs.TextFaults.{refusal_of as refusal_of_text};
-ghost use Rattle.twp_resolve.specs.PlaceFaults.{refusal_of as refusal_of_places};
 ghost use Rattle.twp_acres.specs.Answers.{ArePlatted, MakePlat, IsNoPlat, IsNoDescription, IsRefusal};
 ghost use Rattle.twp_explain.specs.Refusals.{IsOfNone, IsNotOf, DescribeLand};
 ghost use Rattle.twp_explain.specs.ExplainedPlaces.{IsSpotOfStop, IsExplainedWhereRefused};
-ghost use Rattle.twp_explain.specs.Findings.{IfFound, IsOf};
-ghost use Rattle.twp_explain.specs.ShownMessages.{ShowsFault, ShowsIn};
-ghost use Rattle.twp_explain.specs.ShownPlaces.{IsTextOf, IfShown};
+ghost use Rattle.twp_diagnose.specs.Findings.{IfFound, IsOf};
+ghost use Rattle.twp_diagnose.specs.ShownMessages.{ShowsIn};
+ghost use Rattle.twp_explain.specs.ShownFaults.{ShowsFault};
+ghost use Rattle.twp_explain_text.specs.ShownPlaces.{IsTextOf, IfShown};
 ghost use Rattle.twp_acres.specs.declared.verdict.Verdict.TheVariants.{Refused};
 
-use crate::explanation::Explanation;
-use crate::finding::Failure;
-use crate::{notes, places, plat, text};
 use std::alloc::{AllocError, Global};
 use twp_acres::Verdict;
-use twp_diagnose::{Given, Origin};
+use twp_diagnose::{Explanation, Failure, Given, Origin};
+use twp_explain_notes::{stop_of_notes, stop_of_plat};
+use twp_explain_text::{stop_of_places, stop_of_text};
 use twp_grid::{Bytes, Township};
 use twp_land::Lanes;
-use twp_notes::{Notes, NotesFault};
-use twp_plat::{Plat, PlatFault};
-use twp_read::{Description, TextFault};
-use twp_resolve::{PlaceFault, resolve};
+use twp_notes::Notes;
+use twp_plat::Plat;
+use twp_read::Description;
+use twp_resolve::resolve;
 
 /// The explanation of field notes that a run of them alone refused. None where they don't have the
 /// verdict's fault.
@@ -117,30 +113,6 @@ pub(crate) fn plat_of(alloc: Global, file: &Given<'_>) -> Result<Plat, Failure>
     }
 }
 
-/// What is wrong with notes that have a fault.
-#[tactic(auto, using(crate::proofs::FindingFacts::of_fault))]
-#[inline(never)]
-fn stop_of_notes(alloc: Global, file: &Given<'_>, fault: NotesFault) -> Failure
-    ensures { IfFound result (λ refusal. refusal_of_notes fault ≡ Some refusal) }
-{
-    let Some(refusal) = fault.refusal() else {
-        return Failure::Memory;
-    };
-    Failure::of(refusal, notes::find(alloc, file, fault, refusal))
-}
-
-/// What is wrong with notes that make no plat.
-#[tactic(auto, using(crate::proofs::FindingFacts::of_fault))]
-#[inline(never)]
-fn stop_of_plat(alloc: Global, file: &Given<'_>, notes: &Notes, fault: PlatFault) -> Failure
-    ensures { IfFound result (λ refusal. refusal_of_plat fault ≡ Some refusal) }
-{
-    let Some(refusal) = fault.refusal() else {
-        return Failure::Memory;
-    };
-    Failure::of(refusal, plat::find(alloc, file, notes, fault, refusal))
-}
-
 /// Goes through a text that describes land of a township, or gives what is wrong with it.
 #[tactic(auto, using(crate::proofs::FindingFacts::text_refused, crate::proofs::FindingFacts::items_refused))]
 #[inline(never)]
@@ -162,40 +134,4 @@ pub(crate) fn describe(
         Ok(_) => Ok(()),
         Err(fault) => Err(stop_of_places(alloc, origin, bytes, &description, township, fault)),
     }
-}
-
-/// What is wrong with a text that isn't read.
-#[tactic(auto, using(crate::proofs::FindingFacts::of_fault, crate::proofs::ShownFacts::text_shown))]
-#[inline(never)]
-fn stop_of_text(alloc: Global, origin: &Origin<'_>, bytes: &[u8], fault: TextFault) -> Failure
-    ensures refusal { IfFound result (λ refusal. refusal_of_text fault ≡ Some refusal) }
-    ensures shown { IsTextOf origin.now bytes.now → IfShown bytes.now result }
-{
-    let Some(refusal) = fault.refusal() else {
-        return Failure::Memory;
-    };
-    Failure::of(refusal, text::find(alloc, origin, bytes, fault, refusal))
-}
-
-/// What is wrong with a description that names no land on the plat of the township.
-#[tactic(auto, using(crate::proofs::FindingFacts::of_fault, crate::proofs::ShownFacts::items_shown))]
-#[inline(never)]
-fn stop_of_places(
-    alloc: Global,
-    origin: &Origin<'_>,
-    bytes: &[u8],
-    description: &Description,
-    township: Township,
-    fault: PlaceFault,
-) -> Failure
-    ensures refusal { IfFound result (λ refusal. refusal_of_places fault ≡ Some refusal) }
-    ensures shown { IsTextOf origin.now bytes.now → IfShown bytes.now result }
-{
-    let Some(refusal) = fault.refusal() else {
-        return Failure::Memory;
-    };
-    Failure::of(
-        refusal,
-        places::find(alloc, origin, bytes, description, township, fault, refusal),
-    )
 }

@@ -1,15 +1,15 @@
 //! The explanation of a refused list of tracts.
 ghost use Rattle.std.specs.Prelude.{◌≡◌, ◌<◌, ◌≤◌, Some, None, length, IfOk, IfSome};
 ghost use Rattle.twp_acres.specs.TractFaults.{IsFirstTractFault, refusal_of, verdict_of};
-ghost use Rattle.twp_explain.specs.ShownMessages.{ShowsFault, ShowsIn};
+ghost use Rattle.twp_diagnose.specs.ShownMessages.{ShowsIn};
+ghost use Rattle.twp_explain.specs.ShownFaults.{ShowsFault};
 ghost use Rattle.twp_explain.specs.Refusals.{IsListRefusal, HasAccount, first_refusal};
 
 use crate::explaining::{explain, plat_of};
-use crate::explanation::Explanation;
 use crate::tracts;
 use std::alloc::{AllocError, Global};
 use twp_acres::{TRACTS_LIMIT, TractFault, Verdict, account_of_tracts};
-use twp_diagnose::Given;
+use twp_diagnose::{Explanation, Given};
 use twp_grid::{Refusal, Township};
 use twp_plat::Plat;
 

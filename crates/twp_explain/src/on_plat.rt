@@ -4,17 +4,15 @@ ghost use Rattle.std.specs.Prelude.{◌≡◌, Some, None, IfOk, IfSome};
 ghost use Rattle.twp_acres.specs.Answers.{MakePlat, IsNoPlat, IsNoDescription};
 ghost use Rattle.twp_acres.specs.TractFaults.{IsFirstTractFault, refusal_of};
 ghost use Rattle.twp_explain.specs.Refusals.{DescribeLand, HasAccount};
-ghost use Rattle.twp_explain.specs.ShownMessages.{ShowsIn};
+ghost use Rattle.twp_diagnose.specs.ShownMessages.{ShowsIn};
 ghost use Rattle.twp_explain.specs.ExplainedPlaces.{IsSpotOfStop, IsExplainedWhereRefused};
-ghost use Rattle.twp_explain.specs.Findings.{IsOf};
+ghost use Rattle.twp_diagnose.specs.Findings.{IsOf};
 
 use crate::explaining::{describe, plat_of};
-use crate::explanation::Explanation;
-use crate::finding::Failure;
 use crate::list::{explain_fault, fault_of};
 use std::alloc::{AllocError, Global};
 use twp_acres::TractFault;
-use twp_diagnose::{Given, Origin};
+use twp_diagnose::{Explanation, Failure, Given, Origin};
 use twp_grid::Township;
 use twp_plat::Plat;
 

@@ -3,12 +3,8 @@ ghost use Rattle.std.specs.Prelude.{◌≡◌, ◌<◌, ◌↔◌, length, IsTru
 ghost use Rattle.twp_diagnose.specs.RecordFields.{fields_listed, number_listed};
 ghost use Rattle.twp_explain.specs.BlamedTracts.{IsNotOfHeading, ShowsRow};
 
-use crate::blamed::is_text;
-use crate::finding::Finding;
-use crate::note_faults::write_count;
-use crate::quoted::write_quoted;
 use std::alloc::{AllocError, Global};
-use twp_diagnose::{Listed, Location, Origin};
+use twp_diagnose::{Finding, Listed, Location, Origin, is_text, write_count, write_quoted};
 use twp_excerpt::{Span, write_escaped};
 use twp_read::{Description, TextFault};
 

@@ -8,18 +8,17 @@ ghost use Rattle.twp_diagnose.specs.RecordFields.{fields_listed, listed_span, nu
 ghost use Rattle.twp_diagnose.specs.RecordFields.{start_listed, IsListedAt};
 ghost use Rattle.twp_diagnose.specs.declared.location.Location.TheVariants.{Field, Line, Whole};
 ghost use Rattle.twp_explain.specs.BlamedTracts.{IsFirstNamed, IsShownInRecord, ShowsTractFault};
-ghost use Rattle.twp_explain.specs.Findings.{IfFound};
+ghost use Rattle.twp_diagnose.specs.Findings.{IfFound};
 
 use crate::explaining::describe;
-use crate::finding::{Failure, Finding};
-use crate::places::write_land;
 use crate::rows;
 use crate::sharing::{FIRST_TRACT, first_sharing_record};
 use csv::ByteRecord;
 use std::alloc::{AllocError, Global};
 use twp_acres::TractFault;
-use twp_diagnose::{Given, Listed, Location, Origin, text_in};
+use twp_diagnose::{Failure, Finding, Given, Listed, Location, Origin, text_in};
 use twp_excerpt::write_escaped;
+use twp_explain_text::write_land;
 use twp_grid::{Refusal, Township};
 use twp_land::{Land, Lanes};
 use twp_notes::Records;

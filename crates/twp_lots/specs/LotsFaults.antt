@@ -1,6 +1,6 @@
 -- What can be wrong with a lot table, with each fault as a statement about all its records, and
 -- which fault is reported.
-use Rattle.std.specs.Prelude.{◌≡◌, ◌≢◌, ◌⊎◌, ℕ, ◌≤◌, ◌<◌, List, [], length, Option, Some, None}
+use Rattle.std.specs.Prelude.{◌≡◌, ◌≢◌, ◌⊎◌, ℕ, ◌+◌, ◌*◌, ◌≤◌, ◌<◌, List, [], length, Option, Some, None}
 use Rattle.std.specs.Prelude.{IfSome, Result, Ok, Err}
 use Rattle.std.specs.Option.{option_map_or}
 use Rattle.twp_grid.specs.declared.refusal.Refusal.{Refusal}
@@ -24,6 +24,11 @@ refusal_of (fault.Acres record_number) = Some (record { number = 92; at = record
 refusal_of (fault.Repeated record_number) = Some (record { number = 93; at = record_number })
 refusal_of fault.Read = None
 refusal_of fault.Memory = None
+
+-- the refusal of land with a lot that the table lacks; its place is the lot: 100 times the section's
+-- number, and the lot's number
+abbrev pub lacking_refusal : ℕ → ℕ → Refusal
+lacking_refusal section number = record { number = 94; at = 100 * section + number }
 
 -- a record that names no lot of the township
 abbrev pub NamesNoLot : Fields → Type 0

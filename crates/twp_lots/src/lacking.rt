@@ -5,7 +5,7 @@ ghost use Rattle.twp_lots.specs.LotAreas.{Lacks, HasFigures, IsFirstLacking};
 ghost use Rattle.twp_lots.specs.steps.LackingSteps.{IsFirstIn};
 
 use crate::lot_table::LotTable;
-use twp_grid::{Block, PLACES_TO_POSITION, SECTIONS, Section, lot_count};
+use twp_grid::{Block, PLACES_TO_POSITION, Refusal, SECTIONS, Section, lot_count};
 use twp_land::Land;
 
 /// The number of places in a position.
@@ -18,6 +18,20 @@ pub struct LackingLot {
     pub section: Section,
     /// The lot's number in its section.
     pub number: u8,
+}
+
+impl LackingLot {
+    ghost use Rattle.std.specs.Prelude.{◌≡◌};
+    ghost use Rattle.twp_lots.specs.LotsFaults.{lacking_refusal};
+
+    /// The refusal of the land: 94, at the lot, which is 100 times the section's number plus the
+    /// lot's.
+    pub fn refusal(self) -> Refusal
+        ensures { result ≡ lacking_refusal self.section self.number }
+    {
+        let at = 100 * u32::from(self.section.number()) + u32::from(self.number);
+        Refusal { number: 94, at }
+    }
 }
 
 /// The first lot, by section and number, that the set of places contains and the table lacks.

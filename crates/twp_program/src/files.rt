@@ -8,7 +8,7 @@ use crate::ending::Failure;
 use std::fs;
 use std::rt::Files;
 use twp_command::Name;
-use twp_explain::Given;
+use twp_diagnose::Given;
 use twp_grid::Device;
 use twp_input::Kept;
 

@@ -5,16 +5,17 @@ ghost use Rattle.std.specs.Prelude.{◌≡◌, ◌≢◌, ◌↔◌, Ok, Some, I
 ghost use Rattle.twp_acres.specs.declared.verdict.Verdict.TheVariants.{Accepted};
 ghost use Rattle.twp_explain.specs.Refusals.{first_refusal};
 ghost use Rattle.twp_input.specs.KeptBytes.{copy_of};
-ghost use Rattle.twp_program.specs.ShownExplanations.{AreJoinedNotes, IsFile, IsJoinedDescription, IsExplanationOf};
-ghost use Rattle.twp_program.specs.ShownExplanations.{ShowsEither, ShowsNoted, ShowsText};
+ghost use Rattle.twp_program.specs.ShownExplanations.{AreJoinedNotes, IsExplanationOf, IsFile};
+ghost use Rattle.twp_program.specs.ShownExplanations.{IsJoinedDescription, ShowsEither, ShowsNoted};
+ghost use Rattle.twp_program.specs.ShownExplanations.{ShowsText};
 
 use crate::ending::Failure;
 use crate::files::{OpenedNotes, OpenedText};
 use std::alloc::Global;
 use twp_acres::{Account, Verdict};
-use twp_explain::{
-    Explanation, Given, Note, explain_land, explain_list, explain_plat, note_land, note_list,
-};
+use twp_diagnose::{Explanation, Given};
+use twp_doubts::{Note, note_land, note_list};
+use twp_explain::{explain_land, explain_list, explain_plat};
 use twp_input::{Kept, split_at_line_feed};
 use twp_read::Clarity;
 

@@ -19,5 +19,4 @@ pub mod WatchFacts
 pub mod NoSeveral
 pub mod NoDoubts
 pub mod Watched
-pub mod DoubtFacts
 pub mod QuietFacts

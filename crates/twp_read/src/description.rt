@@ -64,8 +64,8 @@ impl Description {
         }
     }
 
-    /// Reads a description as `read` does, and notes whether a place in it may be doubtful. This takes next to
-    /// no time, while `doubts_in` looks at each token again.
+    /// Reads a description as `read` does, and notes whether a place in it may be doubtful. This takes next
+    /// to no time, while `doubts_in` looks at each token again.
     pub fn read_noting(alloc: Global, text: &[u8]) -> Result<Noted, TextFault>
         ensures read { IfOk result (λ noted. IsReadAs text.now noted.description) }
         ensures clear { IfOk result (λ noted.

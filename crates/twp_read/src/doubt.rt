@@ -1,4 +1,9 @@
-//! Places that can be read in two ways, though the grammar reads them in one.
+//! Places that can be read in two ways, though the grammar reads them in one, and the tokens that can make a
+//! place doubtful.
+ghost use Rattle.std.specs.Prelude.{◌≡◌};
+ghost use Rattle.twp_read.specs.Doubts.{begins_step, is_padded, is_singular};
+
+use twp_grammar::Kind;
 
 /// Why a place of a description can be read in two ways.
 #[derive(Clone, Copy, PartialEq, Eq)]
@@ -39,4 +44,31 @@ pub enum Clarity {
     Clear,
     /// It has one, or one is not ruled out.
     Unclear,
+}
+
+/// Whether a word is in the singular: `sec` and `lot` have three letters, and `section` has seven.
+#[inline(always)]
+pub fn is_singular(word: &[u8]) -> bool
+    ensures { result ≡ is_singular word.now }
+{
+    word.len() == 3 || word.len() == 7
+}
+
+/// Whether the digits of a number are a zero and more.
+#[inline(always)]
+pub fn is_padded(digits: &[u8]) -> bool
+    ensures { result ≡ is_padded digits.now }
+{
+    digits.len() > 1 && digits[0] == b'0'
+}
+
+/// Whether a token is the letters of a step.
+#[inline(always)]
+pub fn begins_step(kind: Kind) -> bool
+    ensures { result ≡ begins_step kind }
+{
+    matches!(
+        kind,
+        Kind::NorthSouth(_) | Kind::EastWest(_) | Kind::Corner(_)
+    )
 }

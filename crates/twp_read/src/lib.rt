@@ -5,7 +5,6 @@
 
 mod description;
 mod doubt;
-mod doubts;
 mod fault;
 mod item_change;
 mod items;
@@ -19,7 +18,6 @@ mod white;
 mod word;
 
 pub use description::{Description, Noted};
-pub use doubt::{Clarity, Doubt, DoubtfulPlace, Doubts};
-pub use doubts::doubts_in;
+pub use doubt::{Clarity, Doubt, DoubtfulPlace, Doubts, begins_step, is_padded, is_singular};
 pub use fault::{TEXT_LIMIT, TextFault};
 pub use token::Tokens;

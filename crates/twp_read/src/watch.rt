@@ -6,8 +6,7 @@ ghost use Rattle.twp_read.specs.steps.Watching.{is_step, is_section, is_heading,
 ghost use Rattle.twp_read.specs.steps.Watching.{word_after, clouds, joins_parts, begins_list, is_quiet};
 ghost use Rattle.twp_read.specs.steps.Watching.{watch_after};
 
-use crate::doubt::Clarity;
-use crate::doubts::{begins_step, is_padded, is_singular};
+use crate::doubt::{Clarity, begins_step, is_padded, is_singular};
 use crate::reached::Reached;
 use twp_grammar::{Kind, State, Token};
 

@@ -6,7 +6,8 @@ ghost use Rattle.twp_suggest.specs.Readings.{MayBeAdded};
 use crate::candidates::candidates_of;
 use crate::change::{Change, are_changes, changed};
 use std::alloc::{AllocError, Global};
-use twp_read::{Clarity, Description, TextFault, doubts_in};
+use twp_doubts::doubts_in;
+use twp_read::{Clarity, Description, TextFault};
 
 /// A reading of a text: the changes, from left to right, and the description that they make.
 #[derive(Drop)]

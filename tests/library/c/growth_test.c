@@ -112,7 +112,14 @@ static township_plat read_to;
 static township_fraction area;
 static township_plat_figures figures;
 static township_answer answers[2];
+static township_land land;
+static township_lots lots;
+static uint32_t comparison;
 static room *texts;
+
+/* Land of the township of the plat, and another. */
+static township_land first, second;
+static const township_designation here = {2, TOWNSHIP_NORTH, 3, TOWNSHIP_WEST};
 
 #define BYTES(text) ((const uint8_t *)(text)), (sizeof(text) - 1)
 
@@ -187,6 +194,54 @@ static township_answer call_note_list(void) {
                                  BYTES("tracts.csv"), room_text(texts), MOST_TEXT);
 }
 
+static township_answer call_land_read(void) {
+    return township_land_read(&here, BYTES("sec. 5, lots 1 and 2, S1/2NE1/4."), &land);
+}
+
+static township_answer call_land_acres(void) {
+    return township_land_acres(&plat, &first, TOWNSHIP_EXACT);
+}
+
+static township_answer call_land_area(void) {
+    return township_land_area(&plat, &first, TOWNSHIP_BY_PLAT, &area);
+}
+
+static township_answer call_land_text(void) {
+    return township_land_text(&first, room_text(texts), MOST_TEXT);
+}
+
+static township_answer call_land_combine(void) {
+    return township_land_combine(&first, &second, TOWNSHIP_DIFFERENCE, &land);
+}
+
+static township_answer call_land_compare(void) {
+    return township_land_compare(&first, &second, &comparison);
+}
+
+#define TABLE "section,lot,acres\nT,2,N,3,W\n5,1,40.45\n5,2,40.55\n"
+
+static township_answer call_lots_read(void) {
+    return township_lots_read(BYTES(TABLE), &lots);
+}
+
+static township_lots table;
+
+static township_answer call_lots_acres(void) {
+    return township_lots_acres(&table, BYTES("sec. 5, lots 1 and 2, S1/2NE1/4."));
+}
+
+static township_answer call_lots_area(void) {
+    return township_lots_area(&table, BYTES("sec. 5, lot 1."), &area);
+}
+
+static township_answer call_lots_land_acres(void) {
+    return township_lots_land_acres(&table, &first);
+}
+
+static township_answer call_lots_land_area(void) {
+    return township_lots_land_area(&table, &first, &area);
+}
+
 static const struct {
     const char *name;
     township_answer (*call)(void);
@@ -206,6 +261,17 @@ static const struct {
     {"township_explain_list, accepted with a note", call_note_list},
     {"township_write_notes", call_write_notes},
     {"township_figures", call_figures},
+    {"township_land_read", call_land_read},
+    {"township_land_acres", call_land_acres},
+    {"township_land_area", call_land_area},
+    {"township_land_text", call_land_text},
+    {"township_land_combine", call_land_combine},
+    {"township_land_compare", call_land_compare},
+    {"township_lots_read", call_lots_read},
+    {"township_lots_acres", call_lots_acres},
+    {"township_lots_area", call_lots_area},
+    {"township_lots_land_acres", call_lots_land_acres},
+    {"township_lots_land_area", call_lots_land_area},
 };
 
 /* Everything that a call can write. */
@@ -213,6 +279,9 @@ typedef struct written {
     township_plat read_to;
     township_fraction area;
     township_plat_figures figures;
+    township_land land;
+    township_lots lots;
+    uint32_t comparison;
     room texts;
 } written;
 
@@ -223,6 +292,9 @@ static void clear(void) {
     memset(&area, 0, sizeof area);
     memset(&figures, 0, sizeof figures);
     memset(answers, 0, sizeof answers);
+    memset(&land, 0, sizeof land);
+    memset(&lots, 0, sizeof lots);
+    comparison = 0;
     room_clear(texts);
 }
 
@@ -230,6 +302,9 @@ static void keep(written *in) {
     in->read_to = read_to;
     in->area = area;
     in->figures = figures;
+    in->land = land;
+    in->lots = lots;
+    in->comparison = comparison;
     in->texts = *texts;
 }
 
@@ -296,6 +371,9 @@ int main(int count, char **words) {
     notes = bytes_of_file(count > 1 ? words[1] : "samples", "b1.csv");
     texts = room_new();
     CHECK_ANSWER(township_read(notes.at, notes.length, &plat), bare(TOWNSHIP_ACCEPTED));
+    CHECK_ANSWER(township_land_read(&here, BYTES("sec. 5, lots 1 and 2; sec. 14."), &first), bare(TOWNSHIP_ACCEPTED));
+    CHECK_ANSWER(township_land_read(&here, BYTES("sec. 14, NE1/4."), &second), bare(TOWNSHIP_ACCEPTED));
+    CHECK_ANSWER(township_lots_read(BYTES(TABLE), &table), bare(TOWNSHIP_ACCEPTED));
     for (size_t i = 0; i < sizeof calls / sizeof *calls; i++) {
         refuse_in_turn(calls[i].name, calls[i].call);
     }

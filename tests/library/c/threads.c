@@ -7,7 +7,7 @@
 #include "check.h"
 
 #define THREADS 4
-#define CALLS 16
+#define CALLS 27
 
 /* The stack that the library requires, and room for the thread's own calls. */
 #define STACK ((256 + 64) * 1024)
@@ -19,6 +19,11 @@ typedef struct round_answers {
     township_fraction area;
     township_plat_figures figures;
     township_answer many[2];
+    township_land land;
+    township_land combined;
+    uint32_t comparison;
+    township_lots lots;
+    township_fraction areas[3];
     uint8_t texts[CALLS][8192];
 } round_answers;
 
@@ -33,6 +38,31 @@ typedef struct job {
 } job;
 
 #define BYTES(text) ((const uint8_t *)(text)), (sizeof(text) - 1)
+
+/* Calls each function on land and by lot tables, for the township of the plat, whose number decides which section
+   is combined with the land described. */
+static void call_on_land(const township_plat *plat, round_answers *to) {
+    const township_designation township = {plat->number, plat->north_south, plat->range, plat->east_west};
+    township_answer *answer = to->answers;
+    township_land other;
+
+    answer[16] = township_land_read(&township, BYTES("sec. 6, lots 1 to 7; sec. 14, N1/2."), &to->land);
+    answer[17] = township_land_acres(plat, &to->land, TOWNSHIP_EXACT);
+    answer[18] = township_land_area(plat, &to->land, TOWNSHIP_BY_PLAT, &to->areas[0]);
+    answer[19] = township_land_text(&to->land, to->texts[19], sizeof to->texts[19]);
+    memset(&other, 0, sizeof other);
+    memset(other.rows[plat->number + 7], 0xFF, sizeof other.rows[0]);
+    other.township = township;
+    answer[20] = township_land_combine(&to->land, &other, TOWNSHIP_UNION, &to->combined);
+    answer[21] = township_land_compare(&to->combined, &to->land, &to->comparison);
+    answer[22] = township_lots_read(BYTES("section,lot,acres\nT,2,N,3,W\n6,1,40.45\n"), &to->lots);
+    to->lots.township = township;
+    to->lots.figures[20] = 4000 + plat->number;
+    answer[23] = township_lots_acres(&to->lots, BYTES("sec. 6, lot 1; sec. 14."));
+    answer[24] = township_lots_area(&to->lots, BYTES("sec. 6, lot 1."), &to->areas[1]);
+    answer[25] = township_lots_land_acres(&to->lots, &other);
+    answer[26] = township_lots_land_area(&to->lots, &other, &to->areas[2]);
+}
 
 /* Calls each function once. */
 static void call_all(bytes notes, const township_plat *plat, round_answers *to) {
@@ -62,6 +92,14 @@ static void call_all(bytes notes, const township_plat *plat, round_answers *to) 
     answer[13] = township_figures(plat, &to->figures);
     answer[14] = township_acres_many(plat, BYTES("sec. 6.sec. 7, lot 5."), offsets, 3, TOWNSHIP_EXACT, to->many, 2);
     answer[15] = township_write_notes(plat, to->texts[15], sizeof to->texts[15]);
+    call_on_land(plat, to);
+}
+
+/* Whether the land, the lot tables, and the areas of two rounds are the same. */
+static bool same_land(const round_answers *a, const round_answers *b) {
+    return memcmp(&a->land, &b->land, sizeof a->land) == 0 && a->comparison == b->comparison &&
+           memcmp(&a->combined, &b->combined, sizeof a->combined) == 0 &&
+           memcmp(&a->lots, &b->lots, sizeof a->lots) == 0 && memcmp(a->areas, b->areas, sizeof a->areas) == 0;
 }
 
 /* Whether the figures and the answers to many descriptions of two rounds are the same. */
@@ -77,7 +115,7 @@ static bool same_round(const round_answers *a, const round_answers *b) {
         }
     }
     return memcmp(&a->read, &b->read, sizeof a->read) == 0 && memcmp(&a->area, &b->area, sizeof a->area) == 0 &&
-           memcmp(a->texts, b->texts, sizeof a->texts) == 0 && same_figures(a, b);
+           memcmp(a->texts, b->texts, sizeof a->texts) == 0 && same_figures(a, b) && same_land(a, b);
 }
 
 static void *run(void *given) {

@@ -8,6 +8,7 @@
 #include "area.h"
 #include "check.h"
 #include "given.h"
+#include "land.h"
 #include "threads.h"
 
 _Static_assert(sizeof(township_plat) == 340, "a plat has 340 bytes");
@@ -657,6 +658,8 @@ int main(int count, char **words) {
     makes_plats(&plat);
     refuses_plats();
     refuses_accounts(&plat);
+    answers_land(&plat);
+    answers_lots();
     call_from_threads(notes, rounds);
     drop(notes);
     return checked();

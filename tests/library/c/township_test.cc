@@ -10,6 +10,8 @@ static_assert(sizeof(township_plat) == 340, "a plat has 340 bytes");
 static_assert(sizeof(township_answer) == 48, "an answer has 48 bytes");
 static_assert(sizeof(township_fraction) == 24, "a fraction has 24 bytes");
 static_assert(sizeof(township_plat_figures) == 2312, "the figures have 7 * 36 + 36 + 1 numbers");
+static_assert(sizeof(township_land) == 4612, "land has 36 * 32 rows of 4 bytes, and a designation");
+static_assert(sizeof(township_lots) == 192, "a lot table has 47 figures and a designation");
 
 static const std::uint8_t *bytes(const std::string &text) {
     return reinterpret_cast<const std::uint8_t *>(text.data());
@@ -35,10 +37,32 @@ static std::uint64_t figure(const std::string &notes) {
     return holds ? figures.lots[5 - 1][1 - 1] : 0;
 }
 
+// Whether the only place of section 14 in this corner is the lowest bit of its northernmost row.
+static bool has_corner() {
+    const township_designation township = {2, TOWNSHIP_NORTH, 3, TOWNSHIP_WEST};
+    const std::string text = "sec. 14, NE1/4NE1/4NE1/4NE1/4NE1/4.";
+    township_land land{};
+
+    return township_land_read(&township, bytes(text), text.size(), &land).verdict == TOWNSHIP_ACCEPTED &&
+           land.rows[14 - 1][TOWNSHIP_PLACES_ACROSS - 1] == 1;
+}
+
+// The acres of a lot by a lot table.
+static std::uint64_t returned(const std::string &table, const std::string &description) {
+    township_lots lots{};
+    township_answer answer = township_lots_read(bytes(table), table.size(), &lots);
+
+    if (answer.verdict == TOWNSHIP_ACCEPTED) {
+        answer = township_lots_acres(&lots, bytes(description), description.size());
+    }
+    return answer.hundredths;
+}
+
 int main(int count, char **words) {
     std::ifstream file(count > 1 ? words[1] : "samples/b1.csv", std::ios::binary);
     const std::string notes((std::istreambuf_iterator<char>(file)), std::istreambuf_iterator<char>());
-    const bool holds = hundredths(notes, "sec. 5, lot 1.") == 4045 && figure(notes) == 4045;
+    const bool holds = hundredths(notes, "sec. 5, lot 1.") == 4045 && figure(notes) == 4045 && has_corner() &&
+                       returned("section,lot,acres\nT,2,N,3,W\n5,1,40.45\n", "sec. 5, lot 1.") == 4045;
 
     std::cout << holds << " passed, " << !holds << " failed\n";
     return !holds;

@@ -17,7 +17,11 @@ from __future__ import annotations
 
 from . import _library
 from ._account import Account
+from ._differences import Difference
+from ._field_notes import Notes
 from ._figures import Report, Section, Tract
+from ._land import Land
+from ._lots import Lots
 from ._many import Answers
 from ._note import Note
 from ._plat import Plat
@@ -29,9 +33,13 @@ from ._version import __version__
 __all__ = [
     "Account",
     "Answers",
+    "Difference",
     "EastWest",
+    "Land",
+    "Lots",
     "NorthSouth",
     "Note",
+    "Notes",
     "Plat",
     "Refusal",
     "Refused",
@@ -44,7 +52,10 @@ __all__ = [
     "version",
 ]
 
-for _public in (Answers, Note, Plat, Refusal, Refused, Report, Section, Township, Tract):
+for _public in (
+    *(Answers, Difference, Land, Lots, Note, Notes, Plat),
+    *(Refusal, Refused, Report, Section, Township, Tract),
+):
     # Tracebacks and pickles name each class as users import it.
     _public.__module__ = __name__
 del _public

@@ -3,7 +3,7 @@ from __future__ import annotations
 
 import argparse
 import sys
-from typing import Optional, Sequence, Tuple
+from typing import Any, Dict, Optional, Sequence, Tuple
 
 from . import version
 from ._account import ACCOUNTS
@@ -11,6 +11,9 @@ from ._batch import Options, Status, Stopped, run_batch
 from ._batch.decoding import ENCODINGS
 from ._batch.options import STANDARD
 from ._batch.workbook import is_workbook
+from ._draw import add_draw
+from ._measuring import Command, acres_command, compare_command
+from ._serve import add_serve
 
 #: The most processes that can be asked for.
 _JOBS_MOST = 1024
@@ -48,7 +51,7 @@ exit status:
 def main(words: Optional[Sequence[str]] = None) -> int:
     """Run the command line with these arguments, or with those of the process. Return the exit status."""
     try:
-        return run_batch(_options_in(sys.argv[1:] if words is None else list(words)))
+        return _run(sys.argv[1:] if words is None else list(words))
     except Stopped as stopped:
         if str(stopped):
             print(stopped, file=sys.stderr)
@@ -60,14 +63,24 @@ def main(words: Optional[Sequence[str]] = None) -> int:
         return Status.INTERRUPTED
 
 
-def _options_in(words: Sequence[str]) -> Options:
-    """Return what the command line asks for. If it is not valid, exit with status 2."""
-    parser, batch = _parsers()
-    if list(words[:1]) != ["batch"]:
-        parser.parse_args(words)
-        raise AssertionError("there is no other command")
+def _run(words: Sequence[str]) -> int:
+    """Run the command line with these arguments. If it is not valid, exit with status 2."""
+    parser, commands = _parsers()
+    command = commands.get(words[0]) if words else None
+    if command is None:
+        asked = parser.parse_args(words)
+        status: int = asked.run(asked)
+        return status
     # Options may come between the file names, which subcommands of argparse do not allow.
-    asked = batch.parse_intermixed_args(list(words[1:]))
+    return command.run(command.parser, command.parser.parse_intermixed_args(words[1:]))
+
+
+def _run_batch(batch: argparse.ArgumentParser, asked: argparse.Namespace) -> int:
+    return run_batch(_options_in(batch, asked))
+
+
+def _options_in(batch: argparse.ArgumentParser, asked: argparse.Namespace) -> Options:
+    """Return what the command line of a batch asks for. If it is not valid, exit with status 2."""
     wanted = 1 if asked.plats is not None else 2
     if len(asked.files) != wanted:
         wrong = "with --plats, name only the list" if asked.plats else "name the field notes and the list"
@@ -102,11 +115,22 @@ def _count(word: str) -> int:
     return int(word)
 
 
-def _parsers() -> Tuple[argparse.ArgumentParser, argparse.ArgumentParser]:
-    """Return the parser of the command line, and that of the command `batch`."""
+def _parsers() -> Tuple[argparse.ArgumentParser, Dict[str, Command]]:
+    """Return the parser of the command line, and by their names the commands that it cannot parse itself."""
     parser = argparse.ArgumentParser(prog="python -m township", description="Acreage of land in a township.")
     parser.add_argument("--version", action="version", version=f"township {version()}")
     commands = parser.add_subparsers(metavar="COMMAND", required=True)
+    add_draw(commands)
+    add_serve(commands)
+    return parser, {
+        "acres": acres_command(commands),
+        "compare": compare_command(commands),
+        "batch": _batch_command(commands),
+    }
+
+
+def _batch_command(commands: Any) -> Command:
+    """Return the command `batch`."""
     batch = commands.add_parser(
         "batch",
         help="give the acreage of each description in a list",
@@ -123,7 +147,7 @@ def _parsers() -> Tuple[argparse.ArgumentParser, argparse.ArgumentParser]:
     )
     _add_inputs(batch)
     _add_outputs(batch)
-    return parser, batch
+    return Command(batch, _run_batch)
 
 
 def _add_inputs(batch: argparse.ArgumentParser) -> None:

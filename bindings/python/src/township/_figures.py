@@ -2,6 +2,7 @@
 from __future__ import annotations
 
 from decimal import Context, Decimal
+from fractions import Fraction
 from typing import Dict, Iterable, List, NamedTuple, Tuple
 
 from . import _library
@@ -14,6 +15,11 @@ _scaleb = Context(prec=28).scaleb
 def acres_of_hundredths(hundredths: int) -> Decimal:
     """Return an acreage with two decimal places."""
     return _scaleb(hundredths, -2)
+
+
+def fraction_of(area: _library.Area) -> Fraction:
+    """Return an exact area in acres."""
+    return Fraction(area.units_high << 64 | area.units_low, area.over * _library.UNITS_IN_ACRE)
 
 
 class Section(NamedTuple):

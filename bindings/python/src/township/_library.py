@@ -14,8 +14,16 @@ LINES = 84
 SECTIONS = 36
 LOTS_MOST = 7
 
-#: The maximum size of field notes, in bytes: longer notes are refused.
+#: The number of rows, and of columns, of the places in a section.
+PLACES_ACROSS = 32
+
+#: The number of lots in a township.
+LOTS = 47
+
+#: The maximum size, in bytes, of field notes, of a description, and of a lot table: longer ones are refused.
 NOTES_MOST = 65_536
+DESCRIPTION_MOST = 65_536
+LOTS_TEXT_MOST = 65_536
 
 # Verdicts.
 ACCEPTED = 0
@@ -26,10 +34,27 @@ NO_ACCOUNT = 4
 NO_ROOM = 5
 NO_MEMORY = 6
 NO_RANGE = 7
+NO_LAND = 8
+NO_LOTS = 9
+NO_TOWNSHIP = 10
+NO_OPERATION = 11
+OTHER_TOWNSHIP = 12
 
 # Accounts.
 EXACT = 0
 BY_PLAT = 1
+
+# Operations on two lands.
+UNION = 0
+INTERSECTION = 1
+DIFFERENCE = 2
+
+# Comparisons of two lands.
+EQUAL = 0
+CONTAINS = 1
+IS_CONTAINED = 2
+OVERLAPS = 3
+DISJOINT = 4
 
 # Sides of the base line, and of the principal meridian.
 NORTH = 0
@@ -96,6 +121,35 @@ class Figures(ctypes.Structure):
     ]
 
 
+class Designation(ctypes.Structure):
+    """`township_designation`: 4 bytes."""
+
+    _fields_ = [
+        ("number", c_uint8),
+        ("north_south", c_uint8),
+        ("range", c_uint8),
+        ("east_west", c_uint8),
+    ]
+
+
+class Land(ctypes.Structure):
+    """`township_land`: 4,612 bytes."""
+
+    _fields_ = [
+        ("rows", c_uint32 * PLACES_ACROSS * SECTIONS),
+        ("township", Designation),
+    ]
+
+
+class Lots(ctypes.Structure):
+    """`township_lots`: 192 bytes."""
+
+    _fields_ = [
+        ("figures", c_uint32 * LOTS),
+        ("township", Designation),
+    ]
+
+
 def _load() -> ctypes.CDLL:
     """Load the library that the environment variable names, or else the one in the package's folder."""
     path = os.environ.get(VARIABLE) or BESIDE
@@ -114,6 +168,11 @@ _BYTES = (c_char_p, c_size_t)
 _ROOM = (POINTER(c_char), c_size_t)
 _OFFSETS = (POINTER(c_size_t), c_size_t)
 _ANSWERS = (POINTER(Answer), c_size_t)
+_TOWNSHIP = POINTER(Designation)
+_LAND = POINTER(Land)
+_LOTS = POINTER(Lots)
+_AREA = POINTER(Area)
+_NUMBER = POINTER(c_uint32)
 
 
 def _call(name: str, *types: Any) -> Callable[..., Answer]:
@@ -128,7 +187,7 @@ def _call(name: str, *types: Any) -> Callable[..., Answer]:
 read = _call("township_read", *_BYTES, _PLAT)
 write_notes = _call("township_write_notes", _PLAT, *_ROOM)
 acres = _call("township_acres", _PLAT, *_BYTES, c_uint32)
-area = _call("township_area", _PLAT, *_BYTES, c_uint32, POINTER(Area))
+area = _call("township_area", _PLAT, *_BYTES, c_uint32, _AREA)
 normal = _call("township_normal", _PLAT, *_BYTES, *_ROOM)
 print_plat = _call("township_print", _PLAT, *_ROOM)
 report = _call("township_report", _PLAT, *_BYTES, *_ROOM)
@@ -138,6 +197,17 @@ explain_notes = _call("township_explain_notes", *_BYTES, *_BYTES, *_ROOM)
 explain_description = _call("township_explain_description", _PLAT, *_BYTES, *_BYTES, *_ROOM)
 explain_list = _call("township_explain_list", _PLAT, *_BYTES, *_BYTES, *_ROOM)
 version = _call("township_version", *_ROOM)
+land_read = _call("township_land_read", _TOWNSHIP, *_BYTES, _LAND)
+land_acres = _call("township_land_acres", _PLAT, _LAND, c_uint32)
+land_area = _call("township_land_area", _PLAT, _LAND, c_uint32, _AREA)
+land_text = _call("township_land_text", _LAND, *_ROOM)
+land_combine = _call("township_land_combine", _LAND, _LAND, c_uint32, _LAND)
+land_compare = _call("township_land_compare", _LAND, _LAND, _NUMBER)
+lots_read = _call("township_lots_read", *_BYTES, _LOTS)
+lots_acres = _call("township_lots_acres", _LOTS, *_BYTES)
+lots_area = _call("township_lots_area", _LOTS, *_BYTES, _AREA)
+lots_land_acres = _call("township_lots_land_acres", _LOTS, _LAND)
+lots_land_area = _call("township_lots_land_area", _LOTS, _LAND, _AREA)
 
 #: The buffer size for a first call, in bytes. It holds all but long canonical texts and long reports.
 USUAL_ROOM = 4096

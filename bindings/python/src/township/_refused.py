@@ -5,14 +5,26 @@ from typing import Callable, NamedTuple, Optional
 
 from . import _library
 from ._explanation import message_of, sentence_of
+from ._township import Township
 
 # The name that the library uses for each text when it explains a refusal.
 DESCRIPTION = b"description"
 NOTES = b"notes"
 LIST = b"tracts"
-
+LAND = b"land"
+LOT_TABLE = b"lots"
 
 _REFUSALS = (_library.REFUSED, _library.TRACT_REFUSED)
+
+# The verdicts on what is not valid.
+_MEANINGS = {
+    _library.NO_PLAT: "these parts do not make a plat",
+    _library.NO_ACCOUNT: "no such account",
+    _library.NO_LAND: "these places are not land: they contain part of a lot, or are not in a township",
+    _library.NO_LOTS: "these figures do not make a lot table",
+    _library.NO_TOWNSHIP: "this is not a township",
+    _library.NO_OPERATION: "no such operation",
+}
 
 
 class Refusal(NamedTuple):
@@ -23,7 +35,7 @@ class Refusal(NamedTuple):
 
 
 class Refused(ValueError):
-    """The numbered refusal of field notes, a description, or a list of tracts.
+    """The numbered refusal of field notes, a description, a list of tracts, or a lot table.
 
     `docs/REFUSALS.md` explains what each number means and how to correct the input. Two refusals are equal if
     all their attributes are.
@@ -46,10 +58,10 @@ class Refused(ValueError):
     """
 
     #: What is wrong: 1 to 11 and 21 to 23 for field notes, 41 to 44 and 61 to 67 for a description, 80 to 85
-    #: for a list of tracts.
+    #: for a list of tracts, 86 to 94 for a lot table.
     number: int
     #: The location. Its meaning depends on the number: a record counted from 1, the index of a section line,
-    #: a byte of the UTF-8 text counted from 0, or, if the text is too long, the limit in bytes.
+    #: a byte of the UTF-8 text counted from 0, a lot, or, if the text is too long, the limit in bytes.
     at: int
     #: The line, counted from 1. None if the error is not on any line: for example, a record is missing.
     line: Optional[int]
@@ -59,7 +71,7 @@ class Refused(ValueError):
     explanation: str
     #: For refusal 83, the refusal of the tract's description. None for any other number.
     inner: Optional[Refusal]
-    #: What is refused: `description`, `notes`, `tracts`, or the name of a file.
+    #: What is refused: `description`, `land`, `notes`, `tracts`, `lots`, or the name of a file.
     source: str
 
     def __init__(
@@ -116,14 +128,18 @@ def hinted(refused: Refused, hint: str) -> Refused:
     return again
 
 
-def failure_of(verdict: int) -> Exception:
-    """Return the exception for a verdict that is neither an answer nor a refusal."""
+def failure_of(verdict: int, *townships: Township) -> Exception:
+    """Return the exception for a verdict that is neither an answer nor a refusal.
+
+    The townships are those of what was given to the call, if they could be different.
+    """
     if verdict == _library.NO_MEMORY:
         return MemoryError("township: out of memory")
-    if verdict == _library.NO_PLAT:
-        return ValueError("these parts do not make a plat")
-    if verdict == _library.NO_ACCOUNT:
-        return ValueError("no such account")
+    if verdict == _library.OTHER_TOWNSHIP:
+        return ValueError(f"these are in two different townships: {' and '.join(map(str, townships))}")
+    meaning = _MEANINGS.get(verdict)
+    if meaning is not None:
+        return ValueError(meaning)
     return RuntimeError(f"the township library answered with verdict {verdict}, which is unknown here")
 
 

@@ -1,7 +1,8 @@
 """The designation of a township, and the library's struct of a plat."""
 from __future__ import annotations
 
-from typing import Dict, Literal, NamedTuple, Sequence, Tuple
+import functools
+from typing import Dict, Literal, NamedTuple, Sequence, Tuple, Union, cast
 
 from . import _library
 
@@ -9,6 +10,9 @@ from . import _library
 NorthSouth = Literal["N", "S"]
 #: The side of the principal meridian.
 EastWest = Literal["E", "W"]
+
+#: A quarter mile, in thousandths of a chain.
+NOMINAL_QUARTER = 20_000
 
 # The sides by the library's codes.
 _NORTH_SOUTH: Dict[int, NorthSouth] = {_library.NORTH: "N", _library.SOUTH: "S"}
@@ -35,28 +39,46 @@ class Township(NamedTuple):
         return f"T. {self.number} {self.north_south}., R. {self.range} {self.east_west}."
 
 
-def township_of(parts: _library.Plat) -> Township:
-    """Return the designation in a struct that is a plat."""
+def township_of(parts: Union[_library.Plat, _library.Designation]) -> Township:
+    """Return the designation in a struct that is valid."""
     return Township(
         parts.number, _NORTH_SOUTH[parts.north_south], parts.range, _EAST_WEST[parts.east_west]
     )
 
 
-def struct_of(township: Tuple[int, str, int, str], closing_quarters: Sequence[int]) -> _library.Plat:
-    """Return the struct of a plat's parts, checking that each fits its field: ctypes would truncate it."""
+def checked(township: Tuple[int, str, int, str]) -> Township:
+    """Return the designation of a township. Raise `ValueError` if it is not one."""
     number, north_south, range_number, east_west = township
-    if len(closing_quarters) != _library.LINES:
-        raise ValueError(f"a township has {_library.LINES} section lines, not {len(closing_quarters)}")
-    if not all(0 <= quarter < 1 << 32 for quarter in closing_quarters):
-        raise ValueError("the last quarter mile of a section line is 5,000 to 25,000 thousandths of a chain")
     if not (0 < number < 100 and 0 < range_number < 100):
         raise ValueError("the numbers of a township and of its range are 1 to 99")
     if north_south not in _NORTH_SOUTH.values() or east_west not in _EAST_WEST.values():
         raise ValueError("a township is 'N' or 'S' of its base line, and 'E' or 'W' of its meridian")
-    return _library.Plat(
-        _library.Quarters(*closing_quarters),
-        number,
-        _library.NORTH if north_south == "N" else _library.SOUTH,
-        range_number,
-        _library.EAST if east_west == "E" else _library.WEST,
+    return Township(number, cast(NorthSouth, north_south), range_number, cast(EastWest, east_west))
+
+
+def codes_of(township: Township) -> Tuple[int, int, int, int]:
+    """Return the parts of a designation, with the library's codes for the sides."""
+    return (
+        township.number,
+        _library.NORTH if township.north_south == "N" else _library.SOUTH,
+        township.range,
+        _library.EAST if township.east_west == "E" else _library.WEST,
     )
+
+
+def struct_of(township: Tuple[int, str, int, str], closing_quarters: Sequence[int]) -> _library.Plat:
+    """Return the struct of a plat's parts, checking that each fits its field: ctypes would truncate it."""
+    if len(closing_quarters) != _library.LINES:
+        raise ValueError(f"a township has {_library.LINES} section lines, not {len(closing_quarters)}")
+    if not all(0 <= quarter < 1 << 32 for quarter in closing_quarters):
+        raise ValueError("the last quarter mile of a section line is 5,000 to 25,000 thousandths of a chain")
+    return _library.Plat(_library.Quarters(*closing_quarters), *codes_of(checked(township)))
+
+
+@functools.lru_cache(maxsize=1024)
+def nominal_plat_of(township: Township) -> _library.Plat:
+    """Return the plat of a township in which every half mile is 40 chains long.
+
+    A description is refused on it if it is refused on any other plat of the township, and for the same fault.
+    """
+    return struct_of(township, [NOMINAL_QUARTER] * _library.LINES)

@@ -8,7 +8,8 @@ from typing import Iterator, List, Mapping, Optional, Union
 
 import township
 import township.pandas
-from township import Account, EastWest, NorthSouth, Plat, Refusal, Refused, Report, Section, Township, Tract
+from township import Account, Difference, EastWest, Land, Lots, NorthSouth, Notes, Plat, Refusal, Refused
+from township import Report, Section, Township, Tract
 
 
 def answers(plat: Plat, account: Account) -> Iterator[Union[Decimal, Refused]]:
@@ -36,9 +37,40 @@ def refusal(refused: Refused) -> Union[Refusal, int, str, None]:
     return refused.inner or line or refused.sentence + str(error) + refused.source
 
 
+def notes(length: Decimal) -> Plat:
+    notes = Notes((2, "N", 3, "W"))
+    notes["N,4,5"] = (40, "80.20")
+    notes["W,6,7"] = 40.0, length
+    return notes.plat()
+
+
+def lands(plat: Plat, lots: Lots) -> Optional[Decimal]:
+    land: Land = plat.land("sec. 14.") - Land.of("T. 2 N., R. 3 W.", b"sec. 14, N1/2.")
+    land |= Land.of(plat.township, "sec. 15.") & land ^ land
+    by_section: Mapping[int, Land] = land.sections
+    pieces: List[Land] = [piece for piece in land if piece in land and "sec. 14." in piece]
+    is_less: bool = land <= by_section[14] and land.isdisjoint(pieces[0]) and bool(land)
+    acres: List[Decimal] = [land.acres(plat, account="plat"), land.acres(lots), plat.acres(land), lots.acres(land)]
+    areas: List[Fraction] = [land.area(plat), land.area(lots), plat.area(land), lots.area(b"sec. 14.")]
+    differences: List[Difference] = plat.differences(Lots.of_figures(land.township, lots.figures))
+    drawings: List[str] = [plat.svg(), plat.svg(land=land, section=14), plat.svg(land=b"sec. 14.")]
+    return acres[0] + differences[0].by if is_less and areas and drawings else None
+
+
+def wrong_lands(plat: Plat, land: Land, lots: Lots) -> None:
+    land.acres(lots, account="plat")  # type: ignore[call-overload]
+    land.acres()  # type: ignore[call-overload]
+    print(land | "sec. 14.")  # type: ignore[operator]
+    print(land < 14)  # type: ignore[operator]
+    plat.normal(land)  # type: ignore[arg-type]
+    plat.svg(land=14, section="14")  # type: ignore[arg-type]
+    Lots.of_figures("T. 2 N., R. 3 W.", {5: "40.45"})  # type: ignore[dict-item]
+
+
 def wrong(plat: Plat) -> None:
     plat.acres("sec. 14.", account="printed")  # type: ignore[arg-type]
     plat.acres(14)  # type: ignore[arg-type]
+    Notes(14)  # type: ignore[arg-type]
     Plat.read(Path("b1.csv"))  # type: ignore[arg-type]
     plat.total = Decimal(1)  # type: ignore[misc]
     number: str = plat.township.number  # type: ignore[assignment]

@@ -1,4 +1,5 @@
 use super::*;
+use crate::plat::LINES;
 
 const HEADER: &str = include_str!(concat!(env!("CARGO_MANIFEST_DIR"), "/include/township.h"));
 
@@ -29,6 +30,19 @@ fn numbers_are_those_of_the_header() {
         ("NO_ROOM", NO_ROOM),
         ("NO_MEMORY", NO_MEMORY),
         ("NO_RANGE", NO_RANGE),
+        ("NO_LAND", NO_LAND),
+        ("NO_LOTS", NO_LOTS),
+        ("NO_TOWNSHIP", NO_TOWNSHIP),
+        ("NO_OPERATION", NO_OPERATION),
+        ("OTHER_TOWNSHIP", OTHER_TOWNSHIP),
+        ("UNION", UNION),
+        ("INTERSECTION", INTERSECTION),
+        ("DIFFERENCE", DIFFERENCE),
+        ("EQUAL", EQUAL),
+        ("CONTAINS", CONTAINS),
+        ("IS_CONTAINED", IS_CONTAINED),
+        ("OVERLAPS", OVERLAPS),
+        ("DISJOINT", DISJOINT),
         ("EXACT", EXACT),
         ("BY_PLAT", BY_PLAT),
         ("NORTH", u32::from(NORTH)),
@@ -39,7 +53,14 @@ fn numbers_are_those_of_the_header() {
         let line = format!("#define TOWNSHIP_{name} {number}u");
         assert!(HEADER.contains(&line), "the header has no line {line}");
     }
-    assert!(HEADER.contains(&format!("#define TOWNSHIP_LINES {LINES}\n")));
+    for (name, number) in [
+        ("LINES", LINES),
+        ("SECTIONS", SECTIONS),
+        ("PLACES_ACROSS", PLACES_ACROSS),
+        ("LOTS", LOTS),
+    ] {
+        assert!(HEADER.contains(&format!("#define TOWNSHIP_{name} {number}\n")));
+    }
 }
 
 #[test]
@@ -61,6 +82,93 @@ fn parts_of_no_plat_are_found_out_by_each_call() {
     );
     assert_eq!(explain_list(&none, b"", "tracts", &mut room), no_plat);
     assert_eq!(room, [0; 64]);
+}
+
+/// T. 2 N., R. 3 W., and the township north of it.
+const TOWNSHIP: Designation = Designation {
+    number: 2,
+    north_south: NORTH,
+    range: 3,
+    east_west: WEST,
+};
+const NORTH_OF_IT: Designation = Designation {
+    number: 3,
+    ..TOWNSHIP
+};
+
+/// The land of a description.
+fn land(township: &Designation, description: &[u8]) -> Box<Land> {
+    let (answer, land) = land_read(township, description);
+    assert_eq!(answer, bare(ACCEPTED));
+    land
+}
+
+/// A lot table without figures.
+fn lots() -> Lots {
+    let (answer, lots) = lots_read(b"section,lot,acres\nT,2,N,3,W\n");
+    assert_eq!(answer, bare(ACCEPTED));
+    lots
+}
+
+#[test]
+fn land_and_lots_that_are_none_are_found_out_by_each_call() {
+    let (none, some) = (Land::BLANK, land(&TOWNSHIP, b"sec. 14."));
+    let no_land = bare(NO_LAND);
+    let mut room = [0; 64];
+    assert_eq!(land_acres(&EVEN, &none, EXACT), no_land);
+    assert_eq!(
+        land_area(&EVEN, &none, EXACT),
+        (no_land, Fraction::default())
+    );
+    assert_eq!(land_text(&none, &mut room), no_land);
+    assert_eq!(land_combine(&none, &some, UNION).0, no_land);
+    assert_eq!(
+        land_combine(&some, &none, UNION),
+        (no_land, Box::new(Land::BLANK))
+    );
+    assert_eq!(land_compare(&none, &some), (no_land, 0));
+    assert_eq!(land_compare(&some, &none), (no_land, 0));
+    assert_eq!(lots_land_acres(&lots(), &none), no_land);
+    assert_eq!(lots_land_area(&lots(), &none).0, no_land);
+
+    assert_eq!(land_acres(&Parts::BLANK, &some, EXACT), bare(NO_PLAT));
+    assert_eq!(land_area(&Parts::BLANK, &some, EXACT).0, bare(NO_PLAT));
+
+    let (none, no_lots) = (Lots::BLANK, bare(NO_LOTS));
+    assert_eq!(lots_acres(&none, b"sec. 14."), no_lots);
+    assert_eq!(
+        lots_area(&none, b"sec. 14."),
+        (no_lots, Fraction::default())
+    );
+    assert_eq!(lots_land_acres(&none, &some), no_lots);
+    assert_eq!(lots_land_area(&none, &some).0, no_lots);
+    assert_eq!(room, [0; 64]);
+}
+
+#[test]
+fn numbers_of_nothing() {
+    let some = land(&TOWNSHIP, b"sec. 14.");
+    let no_operation = (bare(NO_OPERATION), Box::new(Land::BLANK));
+    assert_eq!(land_combine(&some, &some, 3), no_operation);
+    assert_eq!(land_acres(&EVEN, &some, 2), bare(NO_ACCOUNT));
+    assert_eq!(land_area(&EVEN, &some, 2).0, bare(NO_ACCOUNT));
+    let no_township = (bare(NO_TOWNSHIP), Box::new(Land::BLANK));
+    assert_eq!(land_read(&Designation::BLANK, b"sec. 14."), no_township);
+}
+
+#[test]
+fn different_townships() {
+    let (one, other) = (
+        land(&TOWNSHIP, b"sec. 14."),
+        land(&NORTH_OF_IT, b"sec. 14."),
+    );
+    let different = bare(OTHER_TOWNSHIP);
+    assert_eq!(land_combine(&one, &other, UNION).0, different);
+    assert_eq!(land_compare(&one, &other), (different, 0));
+    assert_eq!(land_acres(&EVEN, &other, EXACT), different);
+    assert_eq!(land_area(&EVEN, &other, EXACT).0, different);
+    assert_eq!(lots_land_acres(&lots(), &other), different);
+    assert_eq!(lots_land_area(&lots(), &other).0, different);
 }
 
 #[test]

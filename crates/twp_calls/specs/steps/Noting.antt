@@ -1,6 +1,6 @@
 -- What was put of a note that was asked for. No public contract cites this module.
 use Rattle.std.specs.Prelude.{◌≡◌, ℕ, List, Option, Some, None, Result, Ok, Err}
-use Rattle.twp_explain.specs.declared.explanation.Note.{Note}
+use Rattle.twp_doubts.specs.declared.note.Note.{Note}
 use Rattle.twp_calls.specs.Answers.{NO_MEMORY, bare}
 use Rattle.twp_calls.specs.Explanations.{IsBareAccepted, IsNotePut}
 use Rattle.twp_calls.specs.declared.answer.TownshipAnswer.{TownshipAnswer}

@@ -5,11 +5,11 @@ import functools
 from typing import Any, NamedTuple, Optional, Protocol, Sequence, Union
 
 from .._plat import Plat
+from .._spelling import NotTownship, township_spelled
 from .._text import shown
 from .cells import text_of
 from .folder import NO_MERIDIAN, Folder, Notes, Townships, meridian_key
 from .records import Record
-from .spelling import NotTownship, township_spelled
 from .stopped import Stopped
 
 #: A plat, or the reason that there is none.

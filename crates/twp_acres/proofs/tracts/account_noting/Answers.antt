@@ -1,8 +1,9 @@
 -- The heading was read; the tracts after it were added or refused.
-use Rattle.std.proofs.Common.{sym, ◌∙◌, subst}
+use Rattle.std.proofs.Common.{sym, ◌∙◌, subst, length}
 use Rattle.std.proofs.lemmas.Result.{err_from_is_err_and}
 use Rattle.twp_acres.specs.steps.TractTaking.{AreTractsRefused}
 use Rattle.twp_notes.specs.Records.{records_left}
+use Rattle.twp_acres.specs.ClearTracts.{AreClearTracts}
 use Rattle.twp_acres.proofs.TallyFacts.{no_tally, accepted}
 use Rattle.twp_acres.proofs.FirstTractFaults.{after_of_word, first_refused}
 use Rattle.twp_acres.proofs.tracts.account_noting.Goals as goal
@@ -27,6 +28,13 @@ returns-clause-account c =
     accepted c.args.plat.now c.args.bytes.now _ _ _ c.requires heading_is after.after
     c.in_ok-take_tracts.ensures.few c.in_ok-take_tracts.ensures.taken
     (c.in_ok-write.ensures _ _ c.in_ok-take_tracts.ensures.taken.totals_are)
+
+pub returns-clause-clear : goal.returns-clause-clear
+returns-clause-clear c = λ clear.
+    let one = rw c.if-not-branch.false at c.in_ok-read.ensures in
+    let after = after_of_word c.args.bytes.now _ _ (sym c.new.ensures.all ∙ one.0) in
+    subst (λ rows. AreClearTracts rows (length rows)) (sym after.after)
+    (c.in_ok-take_tracts.ensures.clear clear)
 
 pub take_tracts-requires-clause-empty : goal.take_tracts-requires-clause-empty
 take_tracts-requires-clause-empty c =

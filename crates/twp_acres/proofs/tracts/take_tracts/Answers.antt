@@ -4,6 +4,8 @@ use Rattle.std.proofs.lemmas.Result.{err_from_is_err_and}
 use Rattle.twp_notes.specs.Records.{records_left}
 use Rattle.twp_notes.proofs.Taking.{next_record_is, no_record_left}
 use Rattle.twp_acres.specs.steps.TractTaking.{tally_of, IsTallyOf}
+use Rattle.twp_acres.specs.ClearTracts.{AreClearTracts}
+use Rattle.twp_acres.proofs.ClearFacts.{one_more_clear}
 use Rattle.twp_acres.proofs.TallyFacts.{next_tally}
 use Rattle.twp_acres.proofs.FirstTractFaults.{refused_next}
 use Rattle.twp_acres.proofs.tracts.take_tracts.Goals as goal
@@ -15,6 +17,7 @@ records-init g c = record {
   within = omega arith;
   few = omega arith;
   tally = c.requires.empty;
+  clear = λ clear index below. absurd (omega arith);
 }
 
 pub take-requires : goal.take-requires
@@ -33,6 +36,9 @@ records-preserved g c =
       tally =
           next_tally c.args.plat.now rows c.records.taken _ _ c.records.invariant.tally
           (rw is.is c.in_ok-take.ensures.taken);
+      clear = λ clear.
+          let taken = c.in_ok-take.ensures.clear clear in
+          one_more_clear rows c.records.taken (c.records.invariant.clear taken.0) (rw is.is taken.1);
     }
 
 pub returns-in_err-take-clause-fault : goal.returns-in_err-take-clause-fault
@@ -53,6 +59,14 @@ returns-clause-taken g c =
     let all : c.records.taken ≡ length rows = omega arith in
     subst (λ count. IsTallyOf c.args.plat.now rows count (tally_of g.L.Land.places c.records.account)) all
     c.records.invariant.tally
+
+pub returns-clause-clear : goal.returns-clause-clear
+returns-clause-clear g c =
+    let rows = records_left c.args.records.now in
+    let none = rw c.if-branch.false at c.in_ok-read.ensures in
+    let short = no_record_left rows c.records.taken (sym c.records.invariant.rest ∙ none) in
+    let all : c.records.taken ≡ length rows = omega arith in
+    λ clear. subst (AreClearTracts rows) all (c.records.invariant.clear clear)
 
 pub returns-clause-few : goal.returns-clause-few
 returns-clause-few g c =

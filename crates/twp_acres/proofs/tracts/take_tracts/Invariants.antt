@@ -1,5 +1,7 @@
 use Rattle.std.proofs.Common.{◌≡◌, ◌≤◌, length, drop}
 use Rattle.twp_notes.specs.Records.{records_left, IsReading}
+use Rattle.twp_read.specs.declared.doubt.Clarity.TheVariants.{Clear}
+use Rattle.twp_acres.specs.ClearTracts.{AreClearTracts}
 use Rattle.twp_acres.specs.Tracts.{TRACTS_MOST}
 use Rattle.twp_acres.specs.steps.TractTaking.{tally_of, IsTallyOf}
 use Rattle.twp_acres.proofs.tracts.take_tracts.Given as goal
@@ -12,6 +14,7 @@ invariant-records g l = record {
   within : l.taken ≤ length (records_left l.fn.records);
   few : l.taken ≤ TRACTS_MOST;
   tally : IsTallyOf l.plat (records_left l.fn.records) l.taken (tally_of g.L.Land.places l.account);
+  clear : l.account.clarity ≡ Clear → AreClearTracts (records_left l.fn.records) l.taken;
 }
 
 abbrev pub decreases-records : goal.decreases-records

@@ -2,7 +2,7 @@
 -- refused.
 use Rattle.std.proofs.Common.{sym, ◌∙◌}
 use Rattle.twp_calls.specs.Calls.{HasArea, accepted, on_plat, by_account, by_none}
-use Rattle.twp_calls.proofs.CallFacts.{stops_by, two_words}
+use Rattle.twp_calls.proofs.CallFacts.{stops_by}
 use Rattle.twp_calls.proofs.answering.township_area.Goals as goal
 
 pub returns-in_default-account_of-clause-answer : goal.returns-in_default-account_of-clause-answer
@@ -17,9 +17,7 @@ returns-in-Ok-clause-answer c =
     (accepted (record {
       area = c.in-Ok.exact;
       has = c.in-Ok.ensures;
-      units =
-          two_words c.units-units.result ∙ c.units-units.ensures.value;
-      over = c.over.ensures.value;
+      parts = c.of.ensures;
       answer_is = c.bare-in-Ok.ensures;
     })))
 

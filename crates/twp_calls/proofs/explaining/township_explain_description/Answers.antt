@@ -3,8 +3,8 @@
 use Rattle.std.proofs.Common.{IfOk, subst, ap, inl}
 use Rattle.twp_calls.specs.Calls.{refused_for, no_memory, on_plat}
 use Rattle.twp_acres.specs.Answers.{IsNoDescription}
-use Rattle.twp_explain.specs.ShownMessages.{ShowsIn}
-use Rattle.twp_explain.specs.ShownNotes.{IsNoteOf}
+use Rattle.twp_diagnose.specs.ShownMessages.{ShowsIn}
+use Rattle.twp_doubts.specs.ShownNotes.{IsNoteOf}
 use Rattle.twp_calls.proofs.CallFacts.{held_by}
 use Rattle.twp_calls.proofs.NoteFacts.{noted_on, shown_note, not_accepted}
 use Rattle.twp_calls.proofs.PlaceFacts.{refused_where}

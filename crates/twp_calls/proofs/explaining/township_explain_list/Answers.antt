@@ -3,7 +3,7 @@
 use Rattle.std.proofs.Common.{◌≡◌, Some, sym, subst, ◌∙◌}
 use Rattle.twp_acres.specs.TractFaults.{IsFirstTractFault, refusal_of}
 use Rattle.twp_calls.specs.Calls.{no_memory, on_plat}
-use Rattle.twp_explain.specs.ShownMessages.{ShowsIn}
+use Rattle.twp_diagnose.specs.ShownMessages.{ShowsIn}
 use Rattle.twp_calls.proofs.CallFacts.{explained_list, held_by, kept_list, refused_verdict}
 use Rattle.twp_calls.proofs.NoteFacts.{noted_list_on, shown_note, not_accepted}
 use Rattle.twp_calls.proofs.explaining.township_explain_list.Goals as goal

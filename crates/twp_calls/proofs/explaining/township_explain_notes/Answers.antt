@@ -3,7 +3,7 @@ use Rattle.std.proofs.Common.{subst}
 use Rattle.twp_acres.specs.Answers.{IsNoPlat}
 use Rattle.twp_calls.specs.Calls.{refused_for}
 use Rattle.twp_calls.specs.Explanations.{PutsExplanation}
-use Rattle.twp_explain.specs.ShownMessages.{ShowsIn}
+use Rattle.twp_diagnose.specs.ShownMessages.{ShowsIn}
 use Rattle.twp_calls.proofs.CallFacts.{refused_in, held_by}
 use Rattle.twp_calls.proofs.explaining.township_explain_notes.Goals as goal
 

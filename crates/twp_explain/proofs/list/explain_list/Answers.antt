@@ -1,5 +1,5 @@
 -- A fault of the notes is shown there, and a fault of the list in the list.
-use Rattle.twp_explain.specs.ShownMessages.{in_the_text}
+use Rattle.twp_explain.specs.ShownFaults.{in_the_text}
 use Rattle.twp_explain.proofs.MessageFacts.{shows_notes}
 use Rattle.twp_explain.proofs.list.explain_list.Goals as goal
 

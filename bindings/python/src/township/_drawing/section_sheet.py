@@ -1,0 +1,162 @@
+"""The sheet of one section."""
+from __future__ import annotations
+
+from typing import Iterator, List, Optional
+
+from .layout import LOT, SECTION, Box, Lot, closing_of, lots_of
+from .markup import element, number, text
+from .places import picture_of_section
+from .sheet import WIDTH, Shading, chains, document, halo, heading, north_arrow, weight_of
+from .subject import Figures, Rows, Subject
+from .title_block import grouped, title_block
+
+#: The side of a place and of the section, in millimeters, and where its northwest corner is.
+PLACE = 5.0
+SIDE = PLACE * SECTION
+LEFT = (WIDTH - SIDE) / 2
+TOP = 31.0
+
+#: The lines that divide a section, from the finest: the places between them, their width, and their dashes.
+_DIVISIONS = (
+    (1, 0.05, "0.15 0.6"),
+    (2, 0.06, "0.6 0.6"),
+    (4, 0.08, "2 0.8"),
+    (8, 0.15, "none"),
+    (16, 0.35, "none"),
+)
+#: The distance, in millimeters, of the texts along a closing line from it.
+_APART = 1.8
+_NOTE = "Along each closing line: its last quarter mile, in chains (20.00 if regular)."
+
+
+def section_sheet(subject: Subject, section: int) -> str:
+    """Return the drawing of a section, with the land in it."""
+
+    def picture_of(rows: Rows) -> List[int]:
+        return picture_of_section(rows.get(section, ()))
+
+    shading = Shading(subject, picture_of, SECTION, SIDE)
+    parts = [
+        heading(f"Section {section}", str(subject.township)),
+        north_arrow(WIDTH - 9, 26.0),
+        *shading.land(LEFT, TOP),
+        *(_division(*division, section) for division in _DIVISIONS),
+        _boundary(),
+        *_lots(subject.figures, section),
+        halo(list(_aliquot_names(section)), 0.9),
+    ]
+    total, notes = None, []
+    if subject.figures is not None:
+        parts.extend(_closing_quarters(subject.figures, section))
+        total = subject.figures.sections[section]
+        notes = [subject.figures.note, _NOTE if _closes(section) else ""]
+    parts.append(title_block(subject, shading, (f"Section {section}", total), TOP + SIDE + 6, notes))
+    name = f"Section {section} of {subject.township}"
+    return document(name, _described(subject, section), shading.definitions(), parts)
+
+
+def _described(subject: Subject, section: int) -> str:
+    """Return what the drawing shows, in words."""
+    words = [f"Schematic drawing of section {section}, divided down to the smallest parts."]
+    words += [f"{shade.label}: {shade.words[:500]}" for shade in subject.shades]
+    return " ".join(words)
+
+
+def _x(places: float) -> float:
+    return LEFT + PLACE * places
+
+
+def _y(places: float) -> float:
+    return TOP + PLACE * places
+
+
+def _division(step: int, width: float, dashes: str, section: int) -> str:
+    """Return the lines between parts of one size. Lots are not divided."""
+    taken = {(box.x, box.y) for _, box in lots_of(section)}
+    moves = []
+    for each in range(step, SECTION, step):
+        if step != SECTION // 2 and each % (2 * step) == 0:
+            continue  # A line between larger parts.
+        cell = each - each % LOT
+        for along in range(0, SECTION, LOT):
+            inside = each % LOT != 0
+            if not (inside and (cell, along) in taken):
+                moves.append(f"M{number(_x(each))} {number(_y(along))}v{number(PLACE * LOT)}")
+            if not (inside and (along, cell) in taken):
+                moves.append(f"M{number(_x(along))} {number(_y(each))}h{number(PLACE * LOT)}")
+    return element(
+        "path",
+        d="".join(moves),
+        fill="none",
+        stroke="currentColor",
+        stroke_width=width,
+        stroke_dasharray=dashes,
+    )
+
+
+def _boundary() -> str:
+    """Return the boundary of the section."""
+    box = {"x": LEFT, "y": TOP, "width": SIDE, "height": SIDE}
+    return element("rect", **box, fill="none", stroke="currentColor", stroke_width=0.8)
+
+
+def _lots(figures: Optional[Figures], section: int) -> Iterator[str]:
+    """Yield the lots: their sides, and their numbers and acreage."""
+    lots = list(lots_of(section))
+    moves = "".join(f"M{number(_x(box.x))} {number(_y(box.y))}h40v40h-40z" for _, box in lots)
+    if lots:
+        yield element("path", d=moves, fill="none", stroke="currentColor", stroke_width=0.5)
+    texts: List[str] = []
+    for lot, box in lots:
+        texts.extend(_of_lot(figures, lot, box))
+    yield halo(texts, 0.9)
+
+
+def _of_lot(figures: Optional[Figures], lot: Lot, box: Box) -> Iterator[str]:
+    x, y = _x(box.x + LOT / 2), _y(box.y + LOT / 2)
+    yield text(f"Lot {lot.number}", x, y, 5.0)
+    acres = None if figures is None else figures.lots[lot.section, lot.number]
+    if acres is not None:
+        yield text(f"{grouped(acres)} acres", x, y + 6, 3.6)
+
+
+def _aliquot_names(section: int) -> Iterator[str]:
+    """Yield the name of each quarter-quarter section that is not a lot."""
+    taken = {(box.x, box.y) for _, box in lots_of(section)}
+    for x in range(0, SECTION, LOT):
+        for y in range(0, SECTION, LOT):
+            if (x, y) not in taken:
+                yield text(_aliquot_name(x, y), _x(x + LOT / 2), _y(y + LOT / 2) + 0.9, 2.7)
+
+
+def _aliquot_name(x: int, y: int) -> str:
+    """Return the name of the quarter-quarter section at a place.
+
+    >>> _aliquot_name(0, 24)
+    'SW1/4SW1/4'
+    """
+    steps = [("S" if y & side else "N") + ("E" if x & side else "W") for side in (LOT, 2 * LOT)]
+    return "".join(f"{step}1/4" for step in steps)
+
+
+def _closes(section: int) -> bool:
+    return any(closing_of(section, side) for side in "NESW")
+
+
+def _closing_quarters(figures: Figures, section: int) -> Iterator[str]:
+    """Yield the last quarter mile of each closing line of the section, along it."""
+    for side in "NESW":
+        line = closing_of(section, side)
+        if line is None:
+            continue
+        quarter = figures.closing_quarters[line.index]
+        weight = weight_of(quarter)
+        if line.north:
+            x = _x(SECTION) + 1.9 + _APART if side == "E" else _x(0) - _APART
+            turn = f"rotate(-90 {number(x)} {number(_y(LOT / 2))})"
+            yield text(
+                chains(quarter), x, _y(LOT / 2), 3.4, text_anchor="middle", font_weight=weight, transform=turn
+            )
+        else:
+            y = _y(SECTION) + 2.4 + _APART if side == "S" else _y(0) - _APART
+            yield text(chains(quarter), _x(LOT / 2), y, 3.4, text_anchor="middle", font_weight=weight)

@@ -1,0 +1,279 @@
+"""Land as a value: a set of places in a township."""
+from __future__ import annotations
+
+from ctypes import byref, c_uint32
+from decimal import Decimal
+from fractions import Fraction
+from types import MappingProxyType
+from typing import TYPE_CHECKING, Any, Dict, Iterator, List, Mapping, Sequence, Tuple, Union, overload
+
+from . import _library
+from ._account import Account
+from ._refused import DESCRIPTION, exception_of, failure_of
+from ._spelling import Named, township_named
+from ._text import Text, encoded
+from ._township import Township, codes_of, nominal_plat_of, township_of
+
+if TYPE_CHECKING:
+    from ._lots import Lots
+    from ._plat import Plat
+
+#: The rows of a section that has no land.
+_NO_ROWS = bytes(4 * _library.PLACES_ACROSS)
+
+
+class Land:
+    """The land that a description names, as a value: a set of places in a township.
+
+    To make land, call `Land.of` with a township and a description, or `Plat.land` with a description. It does
+    not depend on field notes; only its acreage does. Land is immutable, can be pickled, and can be used from
+    several threads at once. Two lands are equal if they are the same places in the same township.
+
+    Land can be combined and compared like a Python set, exactly:
+
+    >>> lease = plat.land("sec. 14, all.") - plat.land("sec. 14, NE1/4NE1/4.")
+    >>> print(lease.text, end="")
+    T. 2 N., R. 3 W.,
+    sec. 14, NW1/4NE1/4, S1/2NE1/4, NW1/4, S1/2.
+    >>> deed = plat.land("sec. 14, E1/2; sec. 15, all.")
+    >>> print((lease & deed).text, end="")
+    T. 2 N., R. 3 W.,
+    sec. 14, NW1/4NE1/4, S1/2NE1/4, SE1/4.
+    >>> lease & deed <= lease | deed
+    True
+
+    `|`, `&`, `-`, and `^` raise `ValueError` for land in two different townships. Such lands are disjoint,
+    and neither is less than the other. `in` takes land or a description: `a in b` is true if `b` contains all
+    of `a`.
+
+    Iteration goes by section: it yields the land in each section that has any, and `len` is their number.
+    `sections` is a mapping to them from section numbers. Land is true unless it is empty.
+    """
+
+    __slots__ = ("_parts", "__weakref__")
+
+    _parts: _library.Land
+
+    def __new__(cls, *_: object, **__: object) -> Land:
+        raise TypeError("make land with Land.of, Land.of_rows, or Plat.land")
+
+    @classmethod
+    def _of_struct(cls, parts: _library.Land) -> Land:
+        """Make land of a valid struct, which the land then owns."""
+        land = object.__new__(cls)
+        land._parts = parts
+        return land
+
+    @classmethod
+    def of(cls, township: Named, description: Text) -> Land:
+        """Make the land that a description names in a township.
+
+        The township is given as `T. 2 N., R. 3 W.` or as `(2, "N", 3, "W")`. Raise `Refused`, with a number from
+        41 to 67, if the description is refused, and `ValueError` if the township is not one.
+
+        >>> township.Land.of("T. 2 N., R. 3 W.", "sec. 14, NE1/4, NW1/4.")
+        <township.Land: T. 2 N., R. 3 W., sec. 14, N1/2.>
+        """
+        named = township_named(township)
+        return cls._read(named, nominal_plat_of(named), encoded(description), DESCRIPTION)
+
+    @classmethod
+    def _read(cls, township: Township, plat: _library.Plat, given: bytes, source: bytes) -> Land:
+        """Make the land of a description, which explanations call by this name, and explain on this plat."""
+        parts = _library.Land()
+        designation = _library.Designation(*codes_of(township))
+        answer = _library.land_read(byref(designation), given, len(given), byref(parts))
+        if answer.verdict != _library.ACCEPTED:
+            explain = _library.explain_description
+            raise exception_of(answer, explain, byref(plat), given, len(given), source=source)
+        return cls._of_struct(parts)
+
+    @classmethod
+    def of_rows(cls, township: Named, rows: Mapping[int, Sequence[int]]) -> Land:
+        """Make land of the places in each section, as in `Land.rows`. Sections that are left out are empty.
+
+        Raise `ValueError` if the rows contain part of a lot, or are not valid.
+
+        >>> township.Land.of_rows("T. 2 N., R. 3 W.", {14: [0] * 16 + [0xFFFF] * 16})
+        <township.Land: T. 2 N., R. 3 W., sec. 14, NE1/4.>
+        """
+        parts = _library.Land(township=_library.Designation(*codes_of(township_named(township))))
+        for section, given in rows.items():
+            if not 1 <= section <= _library.SECTIONS:
+                raise ValueError(f"there is no section {section}: sections are numbered from 1 to 36")
+            if len(given) != _library.PLACES_ACROSS or not all(0 <= row < 1 << 32 for row in given):
+                raise ValueError("a section has 32 rows of 32 places, and a row is a number of 32 bits")
+            parts.rows[section - 1][:] = given
+        land = cls._of_struct(parts)
+        land._compared_to(land)
+        return land
+
+    @property
+    def township(self) -> Township:
+        """The township's designation."""
+        return township_of(self._parts.township)
+
+    @property
+    def rows(self) -> Mapping[int, Tuple[int, ...]]:
+        """The places of each section that has land, by section number: 32 rows, from the south.
+
+        In a row, bit `k`, counted from the lowest, is the place in column `k` from the east.
+
+        >>> [hex(row) for row in plat.land("sec. 14, NE1/4.").rows[14][15:18]]
+        ['0x0', '0xffff', '0xffff']
+        """
+        return MappingProxyType({number: tuple(self._parts.rows[number - 1]) for number in self._numbers()})
+
+    @property
+    def text(self) -> str:
+        """The canonical description, which is the same for any two descriptions of the same land.
+
+        The text of empty land is empty.
+        """
+        answer, text = _library.text_by(_library.land_text, byref(self._parts))
+        if answer.verdict != _library.ACCEPTED:
+            raise failure_of(answer.verdict)
+        return text
+
+    @property
+    def sections(self) -> Mapping[int, Land]:
+        """The land in each section that has any, by section number.
+
+        >>> dict(plat.land("sec. 14, N1/2; sec. 5, lot 1.").sections)[14]
+        <township.Land: T. 2 N., R. 3 W., sec. 14, N1/2.>
+        """
+        return MappingProxyType({number: self._within(number) for number in self._numbers()})
+
+    @overload
+    def acres(self, by: Plat, account: Account = ...) -> Decimal: ...
+
+    @overload
+    def acres(self, by: Lots) -> Decimal: ...
+
+    def acres(self, by: Any, *account: Any, **named: Any) -> Decimal:
+        """Return the acreage by a plat and an account (`Plat.acres`), or by a lot table (`Lots.acres`).
+
+        >>> plat.land("sec. 7, lots 1 to 4.").acres(plat, account="plat")
+        Decimal('156.42')
+        """
+        acres: Decimal = by.acres(self, *account, **named)
+        return acres
+
+    @overload
+    def area(self, by: Plat, account: Account = ...) -> Fraction: ...
+
+    @overload
+    def area(self, by: Lots) -> Fraction: ...
+
+    def area(self, by: Any, *account: Any, **named: Any) -> Fraction:
+        """Return the exact area in acres, by a plat and an account, or by a lot table. `acres` rounds it.
+
+        >>> plat.land("sec. 5, lot 1.").area(plat)
+        Fraction(809, 20)
+        """
+        area: Fraction = by.area(self, *account, **named)
+        return area
+
+    def isdisjoint(self, other: Land) -> bool:
+        """Return whether the two have no place in common.
+
+        >>> plat.land("sec. 14, N1/2.").isdisjoint(plat.land("sec. 14, S1/2."))
+        True
+        """
+        return not self or not other or self._compared_to(other) == _library.DISJOINT
+
+    def _repr_svg_(self) -> str:
+        """Return the drawing that a notebook shows, without acreage, which needs a plat: see `Plat.svg`."""
+        from ._drawing.of_plat import drawing_of_land
+
+        return drawing_of_land(self)
+
+    def _numbers(self) -> List[int]:
+        """Return the numbers of the sections that have land."""
+        rows = bytes(self._parts.rows)
+        starts = range(0, len(rows), len(_NO_ROWS))
+        return [number for number, start in enumerate(starts, start=1) if not rows.startswith(_NO_ROWS, start)]
+
+    def _within(self, number: int) -> Land:
+        """Return the land in one section."""
+        parts = _library.Land(township=self._parts.township)
+        parts.rows[number - 1] = self._parts.rows[number - 1]
+        return Land._of_struct(parts)
+
+    def _combined_with(self, other: object, operation: int) -> Land:
+        if not isinstance(other, Land):
+            return NotImplemented
+        parts = _library.Land()
+        answer = _library.land_combine(byref(self._parts), byref(other._parts), operation, byref(parts))
+        if answer.verdict != _library.ACCEPTED:
+            raise failure_of(answer.verdict, self.township, other.township)
+        return Land._of_struct(parts)
+
+    def _compared_to(self, other: Land) -> int:
+        """Return the library's comparison. Lands in different townships are disjoint."""
+        comparison = c_uint32()
+        answer = _library.land_compare(byref(self._parts), byref(other._parts), byref(comparison))
+        if answer.verdict == _library.OTHER_TOWNSHIP:
+            return _library.DISJOINT
+        if answer.verdict != _library.ACCEPTED:
+            raise failure_of(answer.verdict)
+        return comparison.value
+
+    def __or__(self, other: Land) -> Land:
+        return self._combined_with(other, _library.UNION)
+
+    def __and__(self, other: Land) -> Land:
+        return self._combined_with(other, _library.INTERSECTION)
+
+    def __sub__(self, other: Land) -> Land:
+        return self._combined_with(other, _library.DIFFERENCE)
+
+    def __xor__(self, other: Land) -> Land:
+        if not isinstance(other, Land):
+            return NotImplemented
+        return (self | other) - (self & other)
+
+    def __le__(self, other: Land) -> bool:
+        return self._is(other, _library.EQUAL, _library.IS_CONTAINED)
+
+    def __lt__(self, other: Land) -> bool:
+        return self._is(other, _library.IS_CONTAINED)
+
+    def __ge__(self, other: Land) -> bool:
+        return self._is(other, _library.EQUAL, _library.CONTAINS)
+
+    def __gt__(self, other: Land) -> bool:
+        return self._is(other, _library.CONTAINS)
+
+    def _is(self, other: object, *comparisons: int) -> bool:
+        """Return whether the comparison with another land is one of these."""
+        if not isinstance(other, Land):
+            return NotImplemented
+        return self._compared_to(other) in comparisons
+
+    def __eq__(self, other: object) -> bool:
+        if not isinstance(other, Land):
+            return NotImplemented
+        return bytes(self._parts) == bytes(other._parts)
+
+    def __hash__(self) -> int:
+        return hash(bytes(self._parts))
+
+    def __contains__(self, other: Union[Land, Text]) -> bool:
+        return (other if isinstance(other, Land) else Land.of(self.township, other)) <= self
+
+    def __bool__(self) -> bool:
+        return bytes(self._parts.rows) != _NO_ROWS * _library.SECTIONS
+
+    def __len__(self) -> int:
+        return len(self._numbers())
+
+    def __iter__(self) -> Iterator[Land]:
+        return map(self._within, self._numbers())
+
+    def __reduce__(self) -> Tuple[Any, ...]:
+        rows: Dict[int, Tuple[int, ...]] = dict(self.rows)
+        return Land.of_rows, (tuple(self.township), rows)
+
+    def __repr__(self) -> str:
+        return f"<township.Land: {' '.join(self.text.split()) or f'none in {self.township}'}>"

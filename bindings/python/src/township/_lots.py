@@ -1,0 +1,217 @@
+"""Lot tables: the acreage that the approved plat returns for each lot."""
+from __future__ import annotations
+
+from ctypes import byref
+from decimal import Decimal
+from fractions import Fraction
+from types import MappingProxyType
+from typing import Any, List, Mapping, Optional, Tuple, Union
+
+from . import _library
+from ._decimals import Number, scaled
+from ._figures import acres_of_hundredths, fraction_of
+from ._land import Land
+from ._lot_faults import LACKING, refused_lots
+from ._refused import DESCRIPTION, LAND, LOT_TABLE, Refused, exception_of, failure_of, hinted
+from ._spelling import Named, township_named
+from ._text import Path, Text, encoded, names_a_file, shown
+from ._township import Township, codes_of, nominal_plat_of, township_of
+
+#: The number of lots in each section that has any.
+_COUNTS = {1: 4, 2: 4, 3: 4, 4: 4, 5: 4, 6: 7, 7: 4, 18: 4, 19: 4, 30: 4, 31: 4}
+
+#: The section and the number of each lot, in order.
+LOTS = [(section, lot) for section, count in _COUNTS.items() for lot in range(1, count + 1)]
+
+#: The largest figure of a lot, in hundredths of an acre.
+_MOST = 99_999
+
+
+class Lots:
+    """A lot table: the acreage that the approved plat returns for the lots of a township.
+
+    By a lot table, each whole lot counts at its returned acreage, and other land at its nominal area, 40 acres
+    for each quarter-quarter section. No field notes are needed. To make a table, call `Lots.open` with the name
+    of a file, `Lots.read` with the table itself (CSV; see `docs/LOTS-FORMAT.md`), or `Lots.of_figures`.
+
+    >>> lots = township.Lots.read("section,lot,acres\\nT,2,N,3,W\\n5,1,40.45\\n5,2,40.55\\n")
+    >>> lots.acres("sec. 5, lots 1 and 2, S1/2NE1/4.")
+    Decimal('161.00')
+
+    A table is immutable, can be pickled, and can be used from several threads at once. Two tables are equal if
+    their townships and figures are. Methods raise `Refused` if a description is refused, or with the number 94
+    if the land contains a lot that the table lacks; `at` is then 100 times the section's number plus the
+    lot's.
+
+    >>> lots.acres("sec. 5, lots 1 to 4.")
+    Traceback (most recent call last):
+        ...
+    township.Refused: description: the lot table has no record for lot 3 of section 5
+    """
+
+    __slots__ = ("_parts", "__weakref__")
+
+    _parts: _library.Lots
+
+    def __new__(cls, *_: object, **__: object) -> Lots:
+        raise TypeError("make a lot table with Lots.open, Lots.read, or Lots.of_figures")
+
+    @classmethod
+    def _of_struct(cls, parts: _library.Lots) -> Lots:
+        """Make a lot table of a valid struct, which the table then owns."""
+        lots = object.__new__(cls)
+        lots._parts = parts
+        return lots
+
+    @classmethod
+    def open(cls, path: Path) -> Lots:
+        """Read a lot table from a file (CSV, at most 65,536 bytes; see `docs/LOTS-FORMAT.md`).
+
+        Raise `OSError` if the file cannot be read, and `Refused` if it is not a lot table. The explanation then
+        shows the name of the file.
+        """
+        with open(path, "rb") as file:
+            # One byte more than the limit is enough for the refusal of a table that is too large.
+            table = file.read(_library.LOTS_TEXT_MOST + 1)
+        return cls._read(table, shown(path))
+
+    @classmethod
+    def read(cls, table: Text) -> Lots:
+        """Read a lot table (CSV, at most 65,536 bytes; see `docs/LOTS-FORMAT.md`).
+
+        Raise `Refused` if it is not a lot table. To read a file, call `Lots.open`.
+
+        >>> township.Lots.read("section,lot,acres\\nT,2,N,3,W\\n14,1,40.00\\n")
+        Traceback (most recent call last):
+            ...
+        township.Refused: lots: record 3 is not for a lot: the section has no lot with this number
+        """
+        try:
+            return cls._read(encoded(table), LOT_TABLE.decode())
+        except Refused as refused:
+            if not names_a_file(table):
+                raise
+            raise hinted(refused, "this looks like the name of a file: Lots.open reads one") from None
+
+    @classmethod
+    def _read(cls, table: bytes, source: str) -> Lots:
+        """Read a lot table, which an explanation calls by this name."""
+        parts = _library.Lots()
+        answer = _library.lots_read(table, len(table), byref(parts))
+        if answer.verdict == _library.REFUSED:
+            raise refused_lots(answer, source)
+        if answer.verdict != _library.ACCEPTED:
+            raise failure_of(answer.verdict)
+        return cls._of_struct(parts)
+
+    @classmethod
+    def of_figures(cls, township: Named, figures: Mapping[Tuple[int, int], Optional[Number]]) -> Lots:
+        """Make a lot table from figures, as in `Lots.figures`: by section and lot, in acres.
+
+        A lot that is left out, or whose figure is `None`, is lacking. Raise `ValueError` if there is no such
+        lot, or if a figure is not 0.01 to 999.99 acres with at most two decimal places.
+
+        >>> township.Lots.of_figures("T. 2 N., R. 3 W.", {(5, 1): "40.45", (5, 2): Decimal("40.55")}).area(
+        ...     "sec. 5, lots 1 and 2."
+        ... )
+        Fraction(81, 1)
+        """
+        parts = _library.Lots(township=_library.Designation(*codes_of(township_named(township))))
+        for key, figure in figures.items():
+            if key not in LOTS:
+                raise ValueError(f"no lot has the section and the number {key!r}")
+            if figure is not None:
+                parts.figures[LOTS.index(key)] = _hundredths(figure)
+        return cls._of_struct(parts)
+
+    @property
+    def township(self) -> Township:
+        """The township's designation."""
+        return township_of(self._parts.township)
+
+    @property
+    def figures(self) -> Mapping[Tuple[int, int], Optional[Decimal]]:
+        """The returned acreage of each of the 47 lots, by section and lot: `None` if the table lacks it.
+
+        >>> lots = township.Lots.read("section,lot,acres\\nT,2,N,3,W\\n5,1,40.45\\n")
+        >>> lots.figures[5, 1], lots.figures[5, 2]
+        (Decimal('40.45'), None)
+        """
+        acres = [acres_of_hundredths(each) if each else None for each in self._parts.figures]
+        return MappingProxyType(dict(zip(LOTS, acres)))
+
+    def csv(self) -> str:
+        """Return the table (CSV), from which `Lots.read` makes it again.
+
+        >>> print(township.Lots.of_figures((2, "N", 3, "W"), {(5, 1): "40.45"}).csv(), end="")
+        section,lot,acres
+        T,2,N,3,W
+        5,1,40.45
+        """
+        records = ["section,lot,acres", ",".join(map(str, ("T", *self.township)))]
+        records += [f"{section},{lot},{acres}" for (section, lot), acres in self.figures.items() if acres]
+        return "\n".join(records) + "\n"
+
+    def acres(self, description: Union[Text, Land]) -> Decimal:
+        """Return the acreage of the land described, or of a `Land`, rounded once to hundredths, half up."""
+        if isinstance(description, Land):
+            answer = _library.lots_land_acres(byref(self._parts), byref(description._parts))
+            self._check_land(answer, description)
+        else:
+            given = encoded(description)
+            answer = _library.lots_acres(byref(self._parts), given, len(given))
+            self._check_description(answer, given)
+        return acres_of_hundredths(answer.hundredths)
+
+    def area(self, description: Union[Text, Land]) -> Fraction:
+        """Return the exact area of the land described, or of a `Land`, in acres. `acres` returns it rounded."""
+        area = _library.Area()
+        if isinstance(description, Land):
+            answer = _library.lots_land_area(byref(self._parts), byref(description._parts), byref(area))
+            self._check_land(answer, description)
+        else:
+            given = encoded(description)
+            answer = _library.lots_area(byref(self._parts), given, len(given), byref(area))
+            self._check_description(answer, given)
+        return fraction_of(area)
+
+    def _check_description(self, answer: _library.Answer, given: bytes) -> None:
+        """Raise the exception for a description that is not accepted."""
+        if answer.verdict == _library.REFUSED and answer.number == LACKING:
+            raise refused_lots(answer, DESCRIPTION.decode())
+        if answer.verdict != _library.ACCEPTED:
+            explain = _library.explain_description
+            plat = nominal_plat_of(self.township)
+            raise exception_of(answer, explain, byref(plat), given, len(given), source=DESCRIPTION)
+
+    def _check_land(self, answer: _library.Answer, land: Land) -> None:
+        """Raise the exception for land that is not accepted."""
+        if answer.verdict == _library.REFUSED:
+            raise refused_lots(answer, LAND.decode())
+        if answer.verdict != _library.ACCEPTED:
+            raise failure_of(answer.verdict, land.township, self.township)
+
+    def __eq__(self, other: object) -> bool:
+        if not isinstance(other, Lots):
+            return NotImplemented
+        return bytes(self._parts) == bytes(other._parts)
+
+    def __hash__(self) -> int:
+        return hash(bytes(self._parts))
+
+    def __reduce__(self) -> Tuple[Any, ...]:
+        return Lots.read, (self.csv(),)
+
+    def __repr__(self) -> str:
+        lots: List[int] = [each for each in self._parts.figures if each]
+        return f"<township.Lots of {self.township}: {len(lots)} of {_library.LOTS} lots>"
+
+
+def _hundredths(figure: Number) -> int:
+    """Return a figure in hundredths of an acre. Raise `ValueError` if it is not one."""
+    hundredths = scaled(figure, 100, 1, _MOST)
+    if hundredths is None:
+        raise ValueError(
+            f"{figure!r} is not a returned acreage: write 0.01 to 999.99 acres, with at most two decimal places"
+        )
+    return hundredths

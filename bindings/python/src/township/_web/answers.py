@@ -1,0 +1,128 @@
+"""The answers on a plat, on land, on two descriptions, and on many."""
+from __future__ import annotations
+
+from typing import Dict, List
+
+from .._account import ACCOUNTS
+from .._drawing.layout import lines
+from .._drawing.sheet import chains
+from .._figures import Section
+from .._land import Land
+from .._plat import Plat
+from .._refused import Refused
+from . import drawn
+from .basis import Basis
+from .drawn import drawing
+from .given import Given
+from .limits import DESCRIPTIONS_MOST
+from .refusals import Json, note_json, refused_json
+
+#: The fields that give a plat, and a lot table.
+BASIS = frozenset({"notes", "township", "lots"})
+
+
+def plat_answer(body: bytes) -> Json:
+    """Answer with the figures of a plat, and its field notes."""
+    given = Given(body, BASIS | drawn.FIELDS)
+    basis = given.basis()
+    plat = basis.plat
+    return {
+        "township": str(plat.township),
+        "total": str(plat.total),
+        "sections": [_section_json(section) for section in plat.sections.values()],
+        "closing_quarters": _closing_quarters(plat),
+        "notes": plat.write_notes(),
+        **drawing(given, basis),
+    }
+
+
+def land_answer(body: bytes) -> Json:
+    """Answer with the acreage of a description, its canonical form, and its parts."""
+    given = Given(body, BASIS | drawn.FIELDS | {"description"})
+    description = given.text("description")
+    basis = given.basis()
+    plat = basis.plat
+    try:
+        land = plat.land(description)
+        notes = plat.notes(description)
+    except Refused as refused:
+        return {"refused": refused_json(refused, "description", description), **drawing(given, basis)}
+    return {
+        **land_json(basis, land),
+        "area": {account: str(plat.area(land, account)) for account in ACCOUNTS},
+        "notes": [note_json(note, description) for note in notes],
+        **drawing(given, basis, [("Land", land)]),
+    }
+
+
+def compare_answer(body: bytes) -> Json:
+    """Answer with the land that two descriptions share, and with that of each alone."""
+    given = Given(body, BASIS | drawn.FIELDS | {"first", "second"})
+    texts = {name: given.text(name) for name in ("first", "second")}
+    basis = given.basis()
+    lands: Dict[str, Land] = {}
+    refused: Json = {}
+    for name, text in texts.items():
+        try:
+            lands[name] = basis.plat.land(text)
+        except Refused as error:
+            refused[name] = refused_json(error, name, text)
+    if refused:
+        shown = [(f"The {name} description", land) for name, land in lands.items()]
+        return {"refused": refused, **drawing(given, basis, shown)}
+    first, second = lands["first"], lands["second"]
+    kinds = {"both": first & second, "first_only": first - second, "second_only": second - first}
+    labels = {"both": "In both", "first_only": "Only in the first", "second_only": "Only in the second"}
+    return {
+        "comparison": comparison_of(first, second),
+        **{name: land_json(basis, land) for name, land in kinds.items()},
+        **drawing(given, basis, [(labels[name], land) for name, land in kinds.items() if land]),
+    }
+
+
+def batch_answer(body: bytes) -> Json:
+    """Answer with the acreage of each of many descriptions, or its refusal."""
+    given = Given(body, BASIS | {"descriptions", "account"})
+    descriptions = given.texts("descriptions", DESCRIPTIONS_MOST)
+    account = given.account()
+    answers = given.basis().plat.acres_many(descriptions, account)
+    acres: List[object] = [f"{each // 100}.{each % 100:02}" for each in answers.hundredths]
+    refused: List[Json] = []
+    for index in answers.refused:
+        acres[index] = None
+        found = answers[index]
+        if isinstance(found, Refused):
+            refused.append(
+                {"index": index, "number": found.number, "at": found.at, "sentence": found.sentence}
+            )
+    return {"acres": acres, "refused": refused}
+
+
+def land_json(basis: Basis, land: Land) -> Json:
+    """Return the acreage of land, and its canonical description, which is empty for no land."""
+    return {"acres": basis.acres(land), "canonical": land.text}
+
+
+def comparison_of(first: Land, second: Land) -> str:
+    """Return how two lands relate: the first `contains` the second, and so on."""
+    if first == second:
+        return "equal"
+    if first > second:
+        return "contains"
+    if first < second:
+        return "is contained"
+    return "disjoint" if first.isdisjoint(second) else "overlaps"
+
+
+def _section_json(section: Section) -> Json:
+    return {
+        "section": section.number,
+        "total": str(section.total),
+        "lots": [str(acres) for acres in section.lot_acres],
+    }
+
+
+def _closing_quarters(plat: Plat) -> Json:
+    """Return the last quarter mile of each closing line, in chains, by line index."""
+    quarters = plat.closing_quarters
+    return {str(line.index): chains(quarters[line.index]) for line in lines() if line.closes}

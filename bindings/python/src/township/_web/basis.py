@@ -1,0 +1,42 @@
+"""What acreage rests on: a plat, and a lot table if there is one."""
+from __future__ import annotations
+
+import functools
+from typing import Dict, NamedTuple, Optional
+
+from .._account import ACCOUNTS
+from .._field_notes import Notes
+from .._land import Land
+from .._lots import Lots
+from .._plat import Plat
+from .._refused import Refused
+
+#: The name of the acreage by the lot table.
+BY_LOTS = "lots"
+
+
+class Basis(NamedTuple):
+    """A plat, and the lot table of its township."""
+
+    plat: Plat
+    lots: Optional[Lots] = None
+
+    def acres(self, land: Land) -> Dict[str, Optional[str]]:
+        """Return the acreage of land by each account, and by the lot table: `None` if the table lacks a lot."""
+        acres: Dict[str, Optional[str]] = {each: str(self.plat.acres(land, each)) for each in ACCOUNTS}
+        if self.lots is not None:
+            acres[BY_LOTS] = _by_lots(self.lots, land)
+        return acres
+
+
+def _by_lots(lots: Lots, land: Land) -> Optional[str]:
+    try:
+        return str(lots.acres(land))
+    except Refused:
+        return None
+
+
+@functools.lru_cache(maxsize=256)
+def nominal_plat(township: str) -> Plat:
+    """Return the plat of a township whose section lines are regular. Raise `ValueError` for another text."""
+    return Notes(township).plat()

@@ -1,0 +1,32 @@
+"""Drawings in answers."""
+from __future__ import annotations
+
+from decimal import Decimal
+from typing import Sequence, Tuple
+
+from .._drawing import Shade, svg_of
+from .._drawing.of_plat import shade_of, subject_of
+from .._land import Land
+from .basis import BY_LOTS, Basis
+from .given import Given
+from .refusals import Json
+
+#: The fields of a request that ask for a drawing.
+FIELDS = frozenset({"draw", "section", "targets"})
+
+
+def drawing(given: Given, basis: Basis, lands: Sequence[Tuple[str, Land]] = ()) -> Json:
+    """Return the drawing of lands with their labels, if the request asks for it."""
+    section = given.section()
+    targets = given.flag("targets")
+    if not given.flag("draw"):
+        return {}
+    shades = [_shade_of(basis, label, land) for label, land in lands]
+    return {"svg": svg_of(subject_of(basis.plat, *shades, lots=basis.lots), section, targets)}
+
+
+def _shade_of(basis: Basis, label: str, land: Land) -> Shade:
+    """Return the shade of land, with its acreage by the lot table if there is one that has its lots."""
+    shade = shade_of(basis.plat, land, label)
+    by_lots = basis.acres(land).get(BY_LOTS)
+    return shade if by_lots is None else shade._replace(acres=(*shade.acres, ("Lot table", Decimal(by_lots))))

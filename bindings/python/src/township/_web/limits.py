@@ -1,0 +1,22 @@
+"""The limits of the server."""
+from __future__ import annotations
+
+#: The port on which the server listens by default: 36 is the number of sections in a township.
+PORT = 8036
+
+#: The largest body of a request, in bytes.
+BODY_MOST = 2 * 1024 * 1024
+
+#: The most connections at a time, and the threads that answer them.
+CONNECTIONS_MOST = 64
+THREADS = 8
+
+#: The seconds within which a request must arrive.
+SECONDS_MOST = 10
+
+#: The most descriptions of a batch, and tracts of a list.
+DESCRIPTIONS_MOST = 50_000
+TRACTS_MOST = 1_000
+
+#: The most overlapping pairs of tracts that are named.
+PAIRS_MOST = 1_000

@@ -1,0 +1,87 @@
+/** The panel in which two descriptions are compared. */
+
+import { ask } from "./api.js";
+import { failure, figureCells, refusalAnswer } from "./answer.js";
+import { byId, make } from "./dom.js";
+import { follow, mark } from "./marks.js";
+import { basis, kept } from "./store.js";
+
+const NAMES = ["first", "second"];
+const WORDS = {
+  equal: "Both descriptions are of the same land.",
+  contains: "The first contains the second, and more.",
+  "is contained": "The second contains the first, and more.",
+  overlaps: "The two overlap.",
+  disjoint: "The two have no land in common.",
+};
+const KINDS = [
+  ["both", "In both"],
+  ["first_only", "Only in the first (the first, less and except the second)"],
+  ["second_only", "Only in the second (the second, less and except the first)"],
+];
+
+/** Prepares the panel. `onChange(name, text)` is called when a description changes. */
+export function prepare(onChange) {
+  for (const name of NAMES) {
+    follow(byId(name));
+    byId(name).addEventListener("input", () => onChange(name, byId(name).value));
+  }
+}
+
+/** Shows both descriptions. */
+export function fill() {
+  for (const name of NAMES) if (byId(name).value !== kept[name]) byId(name).value = kept[name];
+}
+
+/** Asks for the comparison, and shows it. Returns the answer, or null if it is outdated. */
+export async function refresh(request) {
+  const place = byId("compare-answer");
+  const [first, second] = NAMES.map((name) => kept[name]);
+  if (first.trim() === "" || second.trim() === "") {
+    place.replaceChildren("Write two descriptions to compare their land.");
+    NAMES.forEach((name) => mark(byId(name), []));
+    return undefined;
+  }
+  try {
+    const answer = await ask("compare", { ...basis(), first, second, ...request });
+    if (answer === null) return null;
+    const { refused } = answer;
+    for (const name of NAMES) {
+      const found = refused?.[name];
+      mark(byId(name), found === undefined ? [] : [{ ...found, kind: "wrong" }]);
+    }
+    place.replaceChildren(...(refused === undefined ? comparison(answer) : refusals(refused)));
+    return answer;
+  } catch (error) {
+    place.replaceChildren(failure(error));
+    return null;
+  }
+}
+
+function refusals(refused) {
+  if (refused.number !== undefined) return [refusalAnswer(refused)];
+  return Object.entries(refused).map(([name, each]) => refusalAnswer(each, `The ${name} description: `));
+}
+
+function comparison(answer) {
+  let hatching = 0;
+  const rows = KINDS.map(([name, words]) => {
+    const { acres, canonical } = answer[name];
+    const shown = canonical !== "";
+    const key = make("span", { class: shown ? `key key-${hatching}` : "key" });
+    if (shown) hatching += 1;
+    const land = shown ? canonical.trim().replace(/^.*\n/, "") : "none";
+    return make(
+      "tr",
+      {},
+      make("th", { scope: "row" }, key, ` ${words}`),
+      ...figureCells(acres),
+      make("td", {}, land),
+    );
+  });
+  const figures = ["Acres", "Plat account", ...("lots" in answer.both.acres ? ["Lot table"] : [])];
+  const heads = ["Land", ...figures, "Canonical"].map((each) => make("th", { scope: "col" }, each));
+  const table = make("table", {}, make("thead", {}, make("tr", {}, ...heads)), make("tbody", {}, ...rows));
+  const region = { class: "scroll", role: "region", "aria-label": "Comparison", tabindex: "0" };
+  return [make("p", { class: "comparison" }, WORDS[answer.comparison]), make("div", region, table)];
+}

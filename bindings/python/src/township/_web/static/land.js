@@ -1,0 +1,55 @@
+/** The panel of a description. */
+
+import { ask } from "./api.js";
+import { failure, landAnswer, noteAnswer, refusalAnswer } from "./answer.js";
+import { byId } from "./dom.js";
+import { follow, mark } from "./marks.js";
+import { basis, kept } from "./store.js";
+
+/** Prepares the panel. `onChange(name, text)` is called when the description changes. */
+export function prepare(onChange) {
+  const area = byId("description");
+  follow(area);
+  area.addEventListener("input", () => onChange("description", area.value));
+}
+
+/** Shows the description. */
+export function fill() {
+  const area = byId("description");
+  if (area.value !== kept.description) area.value = kept.description;
+}
+
+/** Adds a lot to the description, such as `5.1`, lot 1 of section 5. */
+export function withLot(description, lot) {
+  const [section, number] = lot.split(".");
+  const words = `sec. ${section}, lot ${number}`;
+  const before = description.trim().replace(/[.;]$/, "");
+  return before === "" ? `${words}.` : `${before}; ${words}.`;
+}
+
+/** Asks for the acreage, and shows it or the refusal. Returns the answer, or null if it is outdated. */
+export async function refresh(request) {
+  const place = byId("land-answer");
+  const area = byId("description");
+  if (kept.description.trim() === "") {
+    place.replaceChildren("Write a description to see its land and acreage.");
+    mark(area, []);
+    return undefined;
+  }
+  try {
+    const answer = await ask("land", { ...basis(), description: kept.description, ...request });
+    if (answer === null) return null;
+    const { refused } = answer;
+    if (refused !== undefined) {
+      place.replaceChildren(refusalAnswer(refused));
+      mark(area, refused.of === "description" ? [{ ...refused, kind: "wrong" }] : []);
+    } else {
+      place.replaceChildren(...landAnswer(answer), ...answer.notes.map(noteAnswer));
+      mark(area, answer.notes.map((note) => ({ ...note, kind: "note" })));
+    }
+    return answer;
+  } catch (error) {
+    place.replaceChildren(failure(error));
+    return null;
+  }
+}

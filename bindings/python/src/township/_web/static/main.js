@@ -1,0 +1,111 @@
+/** The page: puts the panels and the drawing together. */
+
+import * as compare from "./compare.js";
+import { byId, calmly, say } from "./dom.js";
+import * as drawing from "./drawing.js";
+import * as land from "./land.js";
+import * as plat from "./plat.js";
+import { basis, keep, kept, link } from "./store.js";
+import * as tabs from "./tabs.js";
+import * as tracts from "./tracts.js";
+
+const PANELS = { plat, land, compare, tracts };
+
+let changes = 0;
+let platShown = null;
+
+/** Shows new answers. */
+async function refresh() {
+  const seen = changes;
+  await answer();
+  if (seen === changes) byId("work").setAttribute("aria-busy", "false");
+}
+
+/** Asks for the answers of the panel that is open, and shows the drawing that comes with them. */
+async function answer() {
+  const name = kept.panel in PANELS ? kept.panel : "plat";
+  const section = kept.view === "" ? {} : { section: Number(kept.view) };
+  const request = { draw: true, targets: kept.view === "", ...section };
+  const panel = PANELS[name];
+  const [given] = await Promise.all([panel.refresh(request), panel === plat ? null : refreshPlat()]);
+  if (given === null) return;
+  // The drawing of the plat alone is shown where a panel has nothing to shade.
+  const drawn = given?.svg === undefined && panel !== plat ? await plat.refresh(request) : given;
+  if (drawn?.svg !== undefined && name === kept.panel) drawing.show(drawn.svg, labelOf(), open);
+}
+
+/** Asks for the figures of the plat, unless they are shown already. */
+async function refreshPlat() {
+  const text = JSON.stringify(basis());
+  if (text === platShown) return;
+  platShown = text;
+  await plat.refresh({});
+}
+
+const afterPause = calmly(refresh);
+
+/** Asks for new answers soon, and says until then that they are coming. */
+function refreshCalmly() {
+  changes += 1;
+  byId("work").setAttribute("aria-busy", "true");
+  afterPause();
+}
+
+function labelOf() {
+  return kept.view === "" ? "Plat of the township" : `Section ${kept.view}`;
+}
+
+/** Keeps a value, and asks for new answers. */
+function change(name, value) {
+  keep(name, value);
+  refreshCalmly();
+}
+
+/** Opens what was clicked in the drawing: the figures of a line or a lot, or a section. */
+function open(kind, value) {
+  if (kind === "section") {
+    byId("view").value = value;
+    change("view", value);
+    byId("view").focus();
+    return;
+  }
+  openPanel("plat");
+  plat.open(kind, value);
+}
+
+function openNotes(notes) {
+  keep("notes", notes);
+  plat.fill();
+  refreshCalmly();
+}
+
+function useLot(lot) {
+  keep("description", land.withLot(kept.description, lot));
+  land.fill();
+  openPanel("land");
+  byId("description").focus();
+}
+
+async function copyLink() {
+  const address = link();
+  if (address === null) return say("This case is too large for a link. Save the field notes instead.");
+  history.replaceState(null, "", address);
+  try {
+    await navigator.clipboard.writeText(address);
+    say("The link is copied. It carries the plat and the descriptions.");
+  } catch {
+    say("The link is in the address bar. It carries the plat and the descriptions.");
+  }
+}
+
+plat.prepare(openNotes, (table) => change("lots", table), useLot);
+for (const panel of [land, compare]) panel.prepare(change);
+tracts.prepare(change, refreshCalmly);
+for (const panel of Object.values(PANELS)) panel.fill();
+byId("view").value = kept.view;
+byId("view").addEventListener("change", () => change("view", byId("view").value));
+byId("save-drawing").addEventListener("click", () => drawing.saveDrawing("plat.svg"));
+byId("copy-link").addEventListener("click", copyLink);
+byId("print").addEventListener("click", () => print());
+const openPanel = tabs.prepare((name) => change("panel", name));
+openPanel(kept.panel in PANELS ? kept.panel : "plat");

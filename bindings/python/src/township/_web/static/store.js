@@ -1,0 +1,74 @@
+/** What the user has entered: kept in the browser, and carried by links. */
+
+import { lengthsIn, notesOf, townshipIn } from "./notes.js";
+
+const KEY = "township";
+const LINK_MOST = 8_000;
+const FIRST = {
+  notes: notesOf("T,2,N,3,W"),
+  lots: "",
+  description: "",
+  first: "",
+  second: "",
+  tracts: "",
+  panel: "plat",
+  view: "",
+};
+
+/** The values, by their names. */
+export const kept = { ...FIRST, ...inBrowser(), ...inLink() };
+
+/** Sets a value, and keeps it. */
+export function keep(name, value) {
+  kept[name] = value;
+  try {
+    localStorage.setItem(KEY, JSON.stringify(kept));
+  } catch {
+    // The browser keeps nothing, or is full: the page works without.
+  }
+}
+
+/** What all acreage rests on, as the fields of a request. */
+export function basis() {
+  return kept.lots.trim() === "" ? { notes: kept.notes } : { notes: kept.notes, lots: kept.lots };
+}
+
+function inBrowser() {
+  try {
+    return textsIn(JSON.parse(localStorage.getItem(KEY) ?? "{}"));
+  } catch {
+    return {};
+  }
+}
+
+/** Returns the texts of an object that the page knows. */
+function textsIn(found) {
+  const names = Object.keys(FIRST).filter((name) => typeof found[name] === "string");
+  return Object.fromEntries(names.map((name) => [name, found[name]]));
+}
+
+/** Returns a link to the plat and the descriptions, or null if they are too long for one. */
+export function link() {
+  const { notes, lots, description, first, second, panel } = kept;
+  const plat = { township: townshipIn(notes), lengths: lengthsIn(notes) };
+  const carried = { ...plat, lots, description, first, second, panel };
+  const bytes = new TextEncoder().encode(JSON.stringify(carried));
+  if (bytes.length > LINK_MOST) return null;
+  const text = btoa(String.fromCharCode(...bytes)).replaceAll("+", "-").replaceAll("/", "_").replace(/=+$/, "");
+  return `${location.origin}${location.pathname}#case=${text}`;
+}
+
+/** Returns what the link carries that led here. It is not sent to the server. */
+function inLink() {
+  const [, text] = /^#case=([\w-]+)$/.exec(location.hash) ?? [];
+  if (text === undefined) return {};
+  history.replaceState(null, "", location.pathname);
+  try {
+    const bytes = Uint8Array.from(atob(text.replaceAll("-", "+").replaceAll("_", "/")), (each) => each.charCodeAt(0));
+    const found = JSON.parse(new TextDecoder().decode(bytes));
+    const notes = notesOf(["T", ...found.township].join(","), found.lengths);
+    return { ...textsIn(found), notes };
+  } catch {
+    return {};
+  }
+}

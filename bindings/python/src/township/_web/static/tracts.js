@@ -1,0 +1,124 @@
+/** The panel of a list of tracts. */
+
+import { ask } from "./api.js";
+import { failure, figureCells, grouped, refusalAnswer } from "./answer.js";
+import { tractsIn, written } from "./csv.js";
+import { byId, make, opened, save } from "./dom.js";
+import { basis, kept } from "./store.js";
+
+const HEADING = ["name", "description", "acres", "acres_plat", "refusal", "at", "sentence", "canonical"];
+const PAIRS_SHOWN = 50;
+let answered = { tracts: [], answers: [] };
+let selected = null;
+
+/** Prepares the panel. `onChange(name, text)` is called when the list changes, `onSelect()` when a tract is picked. */
+export function prepare(onChange, onSelect) {
+  const area = byId("tracts");
+  area.addEventListener("input", () => {
+    selected = null;
+    onChange("tracts", area.value);
+  });
+  byId("open-tracts").addEventListener("change", async () => {
+    const text = await opened(byId("open-tracts"));
+    if (text === null) return;
+    area.value = text;
+    selected = null;
+    onChange("tracts", text);
+  });
+  byId("save-tracts").addEventListener("click", () => save("tracts.csv", answersAsCsv(), "text/csv"));
+  byId("tracts-table").tBodies[0].addEventListener("click", (event) => {
+    const { tract } = event.target.dataset;
+    if (tract === undefined) return;
+    selected = selected === Number(tract) ? null : Number(tract);
+    onSelect();
+  });
+}
+
+/** Shows the list. */
+export function fill() {
+  if (byId("tracts").value !== kept.tracts) byId("tracts").value = kept.tracts;
+}
+
+/** Asks for the answers on all tracts, and shows them. Returns the answer, or null if it is outdated. */
+export async function refresh(request) {
+  const place = byId("tracts-answer");
+  const tracts = tractsIn(kept.tracts);
+  if (tracts.length === 0) {
+    place.replaceChildren("Paste or open a list to see its tracts.");
+    byId("tracts-table").hidden = true;
+    return undefined;
+  }
+  try {
+    const answer = await ask("report", { ...basis(), tracts, ...request, ...(selected === null ? {} : { selected }) });
+    if (answer === null) return null;
+    if (answer.tracts === undefined) {
+      place.replaceChildren(refusalAnswer(answer.refused));
+      return answer;
+    }
+    answered = { tracts, answers: answer.tracts };
+    place.replaceChildren(...summary(tracts, answer));
+    showTable(answer);
+    return answer;
+  } catch (error) {
+    place.replaceChildren(failure(error));
+    return null;
+  }
+}
+
+function summary(tracts, answer) {
+  const { total, remaining, refused, overlaps, overlapping } = answer;
+  const all = grouped(total.acres.exact);
+  const rest = grouped(remaining.acres.exact);
+  const left = refused > 0 ? ` Not counted: ${refused} refused.` : "";
+  const figures = make("p", {}, `${tracts.length} tracts: ${all} acres in all, ${rest} acres remaining.${left}`);
+  if (overlapping === 0) return [figures];
+  const pairs = overlaps.slice(0, PAIRS_SHOWN).map(({ first, second }) => `${tracts[first].name} and ${tracts[second].name}`);
+  if (overlapping > pairs.length) pairs.push(`and ${overlapping - pairs.length} more`);
+  const heading = make("strong", {}, "Overlapping tracts (shared land is counted once):");
+  const list = make("ul", {}, ...pairs.map((words) => make("li", {}, words)));
+  return [figures, make("div", { class: "note" }, heading, list)];
+}
+
+function showTable(answer) {
+  const overlapping = new Set(answer.overlaps.flatMap(({ first, second }) => [first, second]));
+  const focused = document.activeElement?.dataset?.tract;
+  const byLots = "lots" in answer.remaining.acres;
+  byId("tracts-by-lots").hidden = !byLots;
+  const rows = answer.tracts.map((tract, index) => {
+    const { refused } = tract;
+    const pressed = { "data-tract": String(index), "aria-pressed": String(index === selected) };
+    const pick = make("button", { type: "button", ...pressed }, tract.name);
+    const words = refused === undefined ? withoutHeading(tract.canonical) : refusalWords(refused);
+    return make(
+      "tr",
+      { class: refused === undefined ? (index === selected ? "chosen" : null) : "wrong" },
+      make("th", { scope: "row" }, pick),
+      ...(refused === undefined ? figureCells(tract.acres) : [make("td", { colspan: byLots ? 3 : 2 })]),
+      make("td", {}, overlapping.has(index) ? `${words} (overlaps)` : words),
+    );
+  });
+  byId("tracts-table").tBodies[0].replaceChildren(...rows);
+  byId("tracts-table").hidden = false;
+  if (focused !== undefined) document.querySelector(`button[data-tract="${focused}"]`)?.focus();
+}
+
+/** Returns a canonical description without its first line, which is the township. */
+function withoutHeading(canonical) {
+  return canonical.trim().replace(/^.*\n/, "");
+}
+
+function refusalWords({ number, at, sentence }) {
+  return `refused ${number} at ${at}: ${sentence}`;
+}
+
+function answersAsCsv() {
+  const records = answered.answers.map((answer, index) => {
+    const { name, description } = answered.tracts[index];
+    const { refused } = answer;
+    const added = refused === undefined
+      ? [answer.acres.exact, answer.acres.plat, "", "", "", answer.canonical.trim().replaceAll("\n", " ")]
+      : ["", "", String(refused.number), String(refused.at), refused.sentence, ""];
+    return [name, description, ...added];
+  });
+  return `${[HEADING, ...records].map(written).join("\n")}\n`;
+}

@@ -1,0 +1,242 @@
+"""Lot tables: how they are read, the acreage by them, and how they differ from a plat."""
+import copy
+import os
+import pickle
+import re
+import tempfile
+import unittest
+from decimal import Decimal
+from fractions import Fraction
+from pathlib import Path
+
+import township
+from samples import TOP, RefusalCase, even, uneven
+from township import Land, Lots, _library, _lot_faults
+
+WHERE = "T. 2 N., R. 3 W."
+OTHER = "T. 3 N., R. 3 W."
+HEADING = "section,lot,acres\nT,2,N,3,W\n"
+TABLE = HEADING + "5,1,40.45\n6,7,36.86\n5,2,40.50\n"
+
+
+def table() -> Lots:
+    return Lots.read(TABLE)
+
+
+def printed(plat: township.Plat) -> Lots:
+    """The figures that a plat prints, as a lot table."""
+    figures = {(section.number, lot): acres for section in plat.sections.values() for lot, acres in section.lots.items()}
+    return Lots.of_figures(plat.township, figures)
+
+
+class Made(RefusalCase):
+    def test_read(self):
+        self.assertEqual(table().township, (2, "N", 3, "W"))
+        self.assertEqual(Lots.read(TABLE.encode()), table())
+        self.assertEqual(Lots.read(TABLE.replace("\n", "\r\n")), table())
+
+    def test_figures(self):
+        figures = table().figures
+        self.assertEqual(len(figures), 47)
+        self.assertEqual(list(figures)[19:28], [(5, 4), (6, 1), (6, 2), (6, 3), (6, 4), (6, 5), (6, 6), (6, 7), (7, 1)])
+        has = {lot: acres for lot, acres in figures.items() if acres is not None}
+        self.assertEqual(has, {(5, 1): Decimal("40.45"), (5, 2): Decimal("40.50"), (6, 7): Decimal("36.86")})
+
+    def test_of_figures(self):
+        figures = {(5, 1): "40.45", (5, 2): 40.5, (6, 7): Decimal("36.860"), (5, 3): None}
+        self.assertEqual(Lots.of_figures(WHERE, figures), table())
+        self.assertEqual(Lots.of_figures((2, "N", 3, "W"), table().figures), table())
+        self.assertEqual(Lots.of_figures(WHERE, {(5, 1): 40}).figures[5, 1], Decimal("40.00"))
+
+    def test_figures_at_their_limits(self):
+        for figure in ("0.01", "999.99"):
+            lots = Lots.of_figures(WHERE, {(5, 1): figure})
+            self.assertEqual(lots.csv(), f"{HEADING}5,1,{figure}\n")
+            self.assertEqual(Lots.read(lots.csv()), lots)
+
+    def test_figures_that_are_none(self):
+        for figure in ("0.00", 0, "1000.00", 1000, -1, "40.455", 40.455, "", "40,45", " 40", float("nan"), 1e9):
+            with self.subTest(figure=figure), self.assertRaises(ValueError):
+                Lots.of_figures(WHERE, {(5, 1): figure})
+        # Section 14 has no lots, and section 5 has four.
+        for lot in ((14, 1), (5, 5), (5, 0), (0, 1), (37, 1), 5, "5,1"):
+            with self.subTest(lot=lot), self.assertRaises(ValueError):
+                Lots.of_figures(WHERE, {lot: 40})
+        with self.assertRaises(ValueError):
+            Lots.of_figures("sec. 5", {(5, 1): 40})
+
+    def test_csv(self):
+        self.assertEqual(table().csv(), HEADING + "5,1,40.45\n5,2,40.50\n6,7,36.86\n")
+        self.assertEqual(Lots.read(table().csv()), table())
+
+    def test_open(self):
+        with tempfile.TemporaryDirectory() as folder:
+            path = Path(folder, "lots.csv")
+            path.write_text(TABLE)
+            for name in (path, str(path), os.fsencode(path)):
+                self.assertEqual(Lots.open(name), table())
+            path.write_text("section,lot\n")
+            refused = self.refused(Lots.open, path)
+            self.assertEqual((refused.number, refused.at, refused.source), (88, 1, str(path)))
+            with self.assertRaises(FileNotFoundError):
+                Lots.open(Path(folder, "none.csv"))
+
+    def test_is_not_made_bare(self):
+        with self.assertRaises(TypeError):
+            Lots()
+
+
+class Refusals(RefusalCase):
+    def test_tables(self):
+        for given, number, at in (
+            (HEADING + " " * (65_537 - len(HEADING)), 86, 65_536),
+            ("", 87, 1),
+            ("section,lot\n", 88, 1),
+            ("section,lot,acres\nT,2,N,3\n", 89, 2),
+            (HEADING + "5,1\n", 89, 3),
+            ("section,lot,acres\nT,100,N,3,W\n", 90, 2),
+            ("section,lot,acres\n", 90, 2),
+            (HEADING + "5,1,40.45\n5,5,40.00\n", 91, 4),
+            (HEADING + "14,1,40.00\n", 91, 3),
+            (HEADING + "5,1,40\n", 92, 3),
+            (HEADING + "5,1,0.00\n", 92, 3),
+            (HEADING + "5,1,1000.00\n", 92, 3),
+            (HEADING + "5,1,40.45\n5,2,40.45\n5,1,40.45\n", 93, 5),
+        ):
+            with self.subTest(number=number, at=at):
+                refused = self.refused(Lots.read, given)
+                self.assertEqual((refused.number, refused.at, refused.source), (number, at, "lots"))
+                self.assertEqual(str(refused), f"lots: {refused.sentence}")
+                self.assertEqual(refused.explanation, f"township: {refused}\n")
+                if number not in (86, 87):
+                    self.assertIn(f"record {at}", refused.sentence)
+
+    def test_each_refusal_of_the_documents_has_a_sentence(self):
+        documented = re.findall(r"^\| (\d+) `\w+` \|", (TOP / "docs" / "LOTS-FORMAT.md").read_text(), re.MULTILINE)
+        self.assertEqual(list(map(int, documented)), list(_lot_faults._SENTENCES))
+        newer = _library.Answer(verdict=_library.REFUSED, number=95, at=3)
+        self.assertEqual(str(_lot_faults.refused_lots(newer, "lots")), "lots: refused 95 at 3")
+
+    def test_lot_that_a_tract_has_and_the_table_lacks(self):
+        answer = _library.Answer(
+            verdict=_library.TRACT_REFUSED, number=83, at=2, inner_number=94, inner_at=607
+        )
+        refused = _lot_faults.refused_lots(answer, "tracts")
+        self.assertEqual((refused.number, refused.at, refused.inner), (83, 2, (94, 607)))
+        self.assertEqual(refused.sentence, "record 2: the lot table has no record for lot 7 of section 6")
+
+    def test_name_of_a_file(self):
+        refused = self.refused(Lots.read, "lots.csv")
+        self.assertEqual(refused.number, 88)
+        self.assertTrue(refused.explanation.endswith("Lots.open reads one\n"))
+
+    def test_lacking_lot(self):
+        # Of sections 5 and 6, the table has lots 1 and 2 of the one, and lot 7 of the other.
+        for description, at in (("sec. 5, lots 1 to 4.", 503), ("sec. 6; sec. 5, lot 4.", 504), ("sec. 6, lots 7 and 6.", 606)):
+            for given, source in ((description, "description"), (Land.of(WHERE, description), "land")):
+                for call in (table().acres, table().area):
+                    with self.subTest(description=description, source=source):
+                        refused = self.refused(call, given)
+                        self.assertEqual((refused.number, refused.at, refused.source), (94, at, source))
+                        sentence = f"the lot table has no record for lot {at % 100} of section {at // 100}"
+                        self.assertEqual(str(refused), f"{source}: {sentence}")
+
+    def test_descriptions(self):
+        # They are refused as on a plat, before any lot that is lacking.
+        for description in ("", "sec. 5, lot 5.", "sec. 5, N1/2.", "sec. 7, lots 1 and 1.", f"{OTHER}, sec. 14.", "sec. 14-"):
+            with self.subTest(description=description):
+                refused = self.refused(uneven().acres, description)
+                self.assertEqual(self.refused(table().acres, description), refused)
+                self.assertEqual(self.refused(table().area, description), refused)
+
+    def test_land_in_another_township(self):
+        for call in (table().acres, table().area):
+            with self.assertRaisesRegex(ValueError, r"T\. 3 N\., R\. 3 W\. and T\. 2 N\., R\. 3 W\."):
+                call(Land.of(OTHER, "sec. 14."))
+
+    def test_neither_text_nor_land(self):
+        for given in (None, 14, table()):
+            with self.subTest(given=given), self.assertRaises(TypeError):
+                table().acres(given)
+
+
+class Measured(unittest.TestCase):
+    def test_acres(self):
+        # Two returned lots, and two quarter-quarters of 40 acres.
+        for given in ("sec. 5, lots 1 and 2, S1/2NE1/4.", b"sec. 5, lots 1 and 2, S1/2NE1/4.",
+                      Land.of(WHERE, "sec. 5, lots 1 and 2, S1/2NE1/4.")):
+            self.assertEqual(table().acres(given), Decimal("160.95"))
+            self.assertEqual(table().area(given), Fraction(16095, 100))
+
+    def test_acres_are_rounded_once(self):
+        # 5/8 of an acre.
+        smallest = "sec. 14, NE1/4NE1/4NE1/4NE1/4NE1/4."
+        self.assertEqual((table().area(smallest), table().acres(smallest)), (Fraction(5, 8), Decimal("0.63")))
+
+    def test_land_measures_itself(self):
+        lot = Land.of(WHERE, "sec. 6, lot 7.")
+        self.assertEqual((lot.acres(table()), lot.area(table())), (Decimal("36.86"), Fraction(3686, 100)))
+        with self.assertRaises(TypeError):
+            lot.acres(table(), account="plat")
+
+    def test_figures_of_a_plat_are_its_account(self):
+        for plat in (even(), uneven()):
+            for description in ("secs. 1 to 36.", "sec. 6, lots 1 to 7.", "sec. 7, lots 1 to 4; sec. 14, NE1/4."):
+                self.assertEqual(printed(plat).area(description), plat.area(description, "plat"))
+
+class Differences(unittest.TestCase):
+    def test_each_lot_that_differs(self):
+        # The plat's figures of lots 1 and 2 of section 5 are 40.45 and 40.55.
+        found = uneven().differences(table())
+        self.assertEqual([(one.section, one.lot, one.returned) for one in found],
+                         [(5, 2, Decimal("40.50")), (6, 7, Decimal("36.86"))])
+        for one in found:
+            self.assertEqual(one.computed, uneven().sections[one.section].lots[one.lot])
+            self.assertEqual(one.by, one.returned - one.computed)
+        self.assertEqual(str(found[0].by), "-0.05")
+
+    def test_none(self):
+        for plat in (even(), uneven()):
+            self.assertEqual(plat.differences(printed(plat)), [])
+        self.assertEqual(even().differences(Lots.of_figures(WHERE, {})), [])
+
+    def test_every_lot(self):
+        lots = Lots.of_figures(WHERE, dict.fromkeys(table().figures, "40.01"))
+        found = even().differences(lots)
+        self.assertEqual([(one.section, one.lot) for one in found], list(lots.figures))
+        self.assertEqual({(one.computed, one.by) for one in found}, {(Decimal("40.00"), Decimal("0.01"))})
+
+    def test_in_another_township(self):
+        with self.assertRaisesRegex(ValueError, "two different townships"):
+            even().differences(Lots.of_figures(OTHER, {}))
+
+
+class Values(unittest.TestCase):
+    def test_equal(self):
+        self.assertEqual(Lots.read(TABLE), table())
+        self.assertEqual(hash(Lots.read(TABLE)), hash(table()))
+        others = {table(), Lots.read(HEADING), Lots.of_figures(OTHER, table().figures)}
+        self.assertEqual(len(others), 3)
+        self.assertNotEqual(table(), table().csv())
+
+    def test_pickled(self):
+        for protocol in range(pickle.HIGHEST_PROTOCOL + 1):
+            self.assertEqual(pickle.loads(pickle.dumps(table(), protocol)), table())
+
+    def test_copied(self):
+        self.assertEqual(copy.copy(table()), table())
+        self.assertEqual(copy.deepcopy(table()), table())
+
+    def test_cannot_be_changed(self):
+        for name in ("figures", "township", "other"):
+            with self.subTest(name=name), self.assertRaises(AttributeError):
+                setattr(table(), name, None)
+        with self.assertRaises(TypeError):
+            table().figures[5, 1] = Decimal(40)
+
+    def test_shown(self):
+        self.assertEqual(repr(table()), "<township.Lots of T. 2 N., R. 3 W.: 3 of 47 lots>")
+
+
+if __name__ == "__main__":
+    unittest.main()

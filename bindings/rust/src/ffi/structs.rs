@@ -1,0 +1,141 @@
+//! The library's structs.
+
+use super::{EAST, LOTS, LOTS_MOST, NORTH, PLACES_ACROSS, SECTIONS};
+use crate::plat::LINES;
+use std::mem::{offset_of, size_of};
+
+/// `township_plat`: the parts of a plat, which may or may not be valid.
+#[repr(C)]
+#[derive(Clone, Debug, PartialEq, Eq, Hash)]
+pub(crate) struct Parts {
+    /// The last quarter mile of each section line, in thousandths of a chain.
+    pub(crate) closing_quarters: [u32; LINES],
+    pub(crate) number: u8,
+    /// `NORTH` or `SOUTH`.
+    pub(crate) north_south: u8,
+    pub(crate) range: u8,
+    /// `EAST` or `WEST`.
+    pub(crate) east_west: u8,
+}
+
+impl Parts {
+    /// Parts that are not a valid plat, for a call to overwrite.
+    pub(super) const BLANK: Parts = Parts {
+        closing_quarters: [0; LINES],
+        number: 0,
+        north_south: NORTH,
+        range: 0,
+        east_west: EAST,
+    };
+}
+
+/// `township_answer`. Fields that do not apply to the verdict are 0.
+#[repr(C)]
+#[derive(Clone, Copy, Debug, Default, PartialEq, Eq)]
+pub(crate) struct Answer {
+    pub(crate) verdict: u32,
+    pub(crate) number: u32,
+    pub(crate) at: u32,
+    pub(crate) inner_number: u32,
+    pub(crate) inner_at: u32,
+    /// The line and column of an explained fault, counted from 1, or both 0.
+    pub(crate) line: u32,
+    pub(crate) column: u32,
+    pub(crate) reserved: u32,
+    /// Hundredths of an acre.
+    pub(crate) hundredths: u64,
+    /// The length of the text in bytes, whether it was written or not.
+    pub(crate) length: u64,
+}
+
+/// `township_fraction`: square thousandths of a chain, as a low and a high half, over a divisor.
+#[repr(C)]
+#[derive(Clone, Copy, Debug, Default, PartialEq, Eq)]
+pub(crate) struct Fraction {
+    pub(crate) units_low: u64,
+    pub(crate) units_high: u64,
+    /// At least 1, once a call has written it.
+    pub(crate) over: u64,
+}
+
+/// `township_plat_figures`: the figures of a printed plat, in hundredths of an acre.
+#[repr(C)]
+#[derive(Clone, Debug, PartialEq, Eq)]
+pub(crate) struct Figures {
+    /// Those of lots, by section and lot: 0 if there is no such lot.
+    pub(crate) lots: [[u64; LOTS_MOST]; SECTIONS],
+    pub(crate) sections: [u64; SECTIONS],
+    pub(crate) township: u64,
+}
+
+impl Figures {
+    /// No figures, for a call to overwrite.
+    pub(super) const BLANK: Figures = Figures {
+        lots: [[0; LOTS_MOST]; SECTIONS],
+        sections: [0; SECTIONS],
+        township: 0,
+    };
+}
+
+/// `township_designation`: the parts of a township's designation, which may or may not be valid.
+#[repr(C)]
+#[derive(Clone, Copy, Debug, PartialEq, Eq, Hash)]
+pub(crate) struct Designation {
+    pub(crate) number: u8,
+    pub(crate) north_south: u8,
+    pub(crate) range: u8,
+    pub(crate) east_west: u8,
+}
+
+impl Designation {
+    /// No designation.
+    pub(super) const BLANK: Designation = Designation {
+        number: 0,
+        north_south: NORTH,
+        range: 0,
+        east_west: EAST,
+    };
+}
+
+/// `township_land`: places, which may or may not be valid land.
+#[repr(C)]
+#[derive(Clone, Debug, PartialEq, Eq, Hash)]
+pub(crate) struct Land {
+    /// By section, and from the south. In a row, the lowest bit is the place in the east.
+    pub(crate) rows: [[u32; PLACES_ACROSS]; SECTIONS],
+    pub(crate) township: Designation,
+}
+
+impl Land {
+    /// No land, for a call to overwrite.
+    pub(super) const BLANK: Land = Land {
+        rows: [[0; PLACES_ACROSS]; SECTIONS],
+        township: Designation::BLANK,
+    };
+}
+
+/// `township_lots`: the figures of a lot table, which may or may not be valid.
+#[repr(C)]
+#[derive(Clone, Debug, PartialEq, Eq, Hash)]
+pub(crate) struct Lots {
+    /// In hundredths of an acre, by section and lot: 0 if the table lacks the lot.
+    pub(crate) figures: [u32; LOTS],
+    pub(crate) township: Designation,
+}
+
+impl Lots {
+    /// No lot table, for a call to overwrite.
+    pub(super) const BLANK: Lots = Lots {
+        figures: [0; LOTS],
+        township: Designation::BLANK,
+    };
+}
+
+// The library is compiled for these layouts.
+const _: () = assert!(size_of::<Parts>() == 340 && offset_of!(Parts, number) == 336);
+const _: () = assert!(size_of::<Answer>() == 48 && offset_of!(Answer, hundredths) == 32);
+const _: () = assert!(size_of::<Fraction>() == 24 && offset_of!(Fraction, over) == 16);
+const _: () = assert!(size_of::<Figures>() == 2312 && offset_of!(Figures, sections) == 2016);
+const _: () = assert!(size_of::<Designation>() == 4);
+const _: () = assert!(size_of::<Land>() == 4612 && offset_of!(Land, township) == 4608);
+const _: () = assert!(size_of::<Lots>() == 192 && offset_of!(Lots, township) == 188);

@@ -1,0 +1,270 @@
+//! Lot tables: the acreage that the approved plat returns for each lot.
+
+use crate::acres::Acres;
+use crate::answer::{Fault, OtherTownship};
+use crate::area::Area;
+use crate::ffi;
+use crate::land::Land;
+use crate::lot_faults::{refused_lots, LACKING};
+use crate::refused::{Refused, DESCRIPTION, LAND, LOT_TABLE};
+use crate::township::Township;
+use std::error::Error;
+use std::fmt;
+use std::str::FromStr;
+
+/// The number of lots in each section that has any.
+const COUNTS: [(u8, u8); 11] = [
+    (1, 4),
+    (2, 4),
+    (3, 4),
+    (4, 4),
+    (5, 4),
+    (6, 7),
+    (7, 4),
+    (18, 4),
+    (19, 4),
+    (30, 4),
+    (31, 4),
+];
+
+/// A lot table: the acreage that the approved plat returns for the lots of a township.
+///
+/// By a lot table, each whole lot counts at its returned acreage, and other land at its nominal
+/// area, 40 acres for each quarter-quarter section. No field notes are needed. To make a table, call
+/// [`Lots::read`]. It is displayed as CSV, and parsed from it.
+///
+/// ```
+/// use township::Lots;
+///
+/// let lots: Lots = "section,lot,acres\nT,2,N,3,W\n5,1,40.45\n5,2,40.55\n".parse()?;
+/// assert_eq!(lots.acres("sec. 5, lots 1 and 2, S1/2NE1/4.")?.to_string(), "161.00");
+///
+/// let refused = lots.acres("sec. 5, lots 1 to 4.").unwrap_err();
+/// assert_eq!((refused.number, refused.at), (94, 503));
+/// assert_eq!(refused.sentence(), "the lot table has no record for lot 3 of section 5");
+/// # Ok::<(), township::Refused>(())
+/// ```
+///
+/// # Panics
+///
+/// If memory runs out, these functions panic with the message `township: out of memory`.
+#[derive(Clone, PartialEq, Eq, Hash)]
+pub struct Lots {
+    data: ffi::Lots,
+}
+
+/// The error for land that has no acreage by a lot table.
+#[derive(Clone, Debug, PartialEq, Eq, Hash)]
+#[non_exhaustive]
+pub enum NoLandAcres {
+    /// The land is in another township than the table.
+    OtherTownship(OtherTownship),
+    /// The land contains a lot that the table lacks: a refusal with the number 94.
+    Lacking(Refused),
+}
+
+impl Lots {
+    /// Reads a lot table (CSV, at most 65,536 bytes; see `docs/LOTS-FORMAT.md`).
+    ///
+    /// # Errors
+    ///
+    /// Returns [`Refused`] if it is not a lot table.
+    ///
+    /// ```
+    /// use township::Lots;
+    ///
+    /// let lots = Lots::read(b"section,lot,acres\nT,2,N,3,W\n5,1,40.45\n")?;
+    /// assert_eq!(lots.township().to_string(), "T. 2 N., R. 3 W.");
+    /// assert_eq!(lots.figure(5, 1).unwrap().to_string(), "40.45");
+    ///
+    /// let refused = Lots::read(b"section,lot,acres\nT,2,N,3,W\n14,1,40.00\n").unwrap_err();
+    /// assert_eq!((refused.number, refused.at), (91, 3));
+    /// # Ok::<(), township::Refused>(())
+    /// ```
+    pub fn read(table: &[u8]) -> Result<Lots, Refused> {
+        let (answer, data) = ffi::lots_read(table);
+        match answer.accepted() {
+            Ok(_) => Ok(Lots { data }),
+            Err(fault) => Err(refused_lots(fault, LOT_TABLE)),
+        }
+    }
+
+    /// Returns the township's designation.
+    pub fn township(&self) -> Township {
+        Township::from_designation(&self.data.township).expect("a lot table is of a township")
+    }
+
+    /// Returns the returned acreage of a lot, by section and lot. It is `None` if the table lacks the
+    /// lot, or there is no such lot.
+    pub fn figure(&self, section: u8, lot: u8) -> Option<Acres> {
+        self.figures()
+            .find(|&(its_section, its_lot, _)| (its_section, its_lot) == (section, lot))?
+            .2
+    }
+
+    /// Returns an iterator over all 47 lots of the township: the section and the number of each, and
+    /// its returned acreage, or `None` if the table lacks it.
+    ///
+    /// ```
+    /// let lots = township::Lots::read(b"section,lot,acres\nT,2,N,3,W\n5,1,40.45\n")?;
+    /// assert_eq!(lots.figures().count(), 47);
+    /// assert_eq!(lots.figures().filter_map(|(_, _, acres)| acres).count(), 1);
+    /// # Ok::<(), township::Refused>(())
+    /// ```
+    pub fn figures(&self) -> impl Iterator<Item = (u8, u8, Option<Acres>)> + '_ {
+        let lots = COUNTS
+            .iter()
+            .flat_map(|&(section, count)| (1..=count).map(move |lot| (section, lot)));
+        lots.zip(&self.data.figures)
+            .map(|((section, lot), &hundredths)| {
+                let acres = (hundredths > 0).then(|| Acres::from_hundredths(hundredths.into()));
+                (section, lot, acres)
+            })
+    }
+
+    /// Returns the acreage of the land described, rounded once to hundredths, half up.
+    ///
+    /// # Errors
+    ///
+    /// Returns [`Refused`], with a number from 41 to 67, if the description is refused, or with the
+    /// number 94 if the land contains a lot that the table lacks: `at` is then 100 times the
+    /// section's number, plus the lot's number.
+    pub fn acres(&self, description: impl AsRef<[u8]>) -> Result<Acres, Refused> {
+        let description = description.as_ref();
+        match ffi::lots_acres(&self.data, description).accepted() {
+            Ok(answer) => Ok(Acres::from_hundredths(answer.hundredths)),
+            Err(fault) => Err(self.description_refused(fault, description)),
+        }
+    }
+
+    /// Returns the exact area of the land described, in acres. [`Lots::acres`] returns it rounded.
+    ///
+    /// # Errors
+    ///
+    /// The same as for [`Lots::acres`].
+    pub fn area(&self, description: impl AsRef<[u8]>) -> Result<Area, Refused> {
+        let description = description.as_ref();
+        let (answer, area) = ffi::lots_area(&self.data, description);
+        match answer.accepted() {
+            Ok(_) => Ok(Area::from_fraction(area)),
+            Err(fault) => Err(self.description_refused(fault, description)),
+        }
+    }
+
+    /// Returns the acreage of land, rounded once to hundredths, half up.
+    ///
+    /// # Errors
+    ///
+    /// Returns [`NoLandAcres`] if the land is in another township, or contains a lot that the table
+    /// lacks.
+    ///
+    /// ```
+    /// # use township::{Land, Lots};
+    /// let lots = Lots::read(b"section,lot,acres\nT,2,N,3,W\n5,1,40.45\n")?;
+    /// let land = Land::read(lots.township(), "sec. 5, lot 1; sec. 14.")?;
+    /// assert_eq!(lots.land_acres(&land)?.to_string(), "680.45");
+    /// # Ok::<(), Box<dyn std::error::Error>>(())
+    /// ```
+    pub fn land_acres(&self, land: &Land) -> Result<Acres, NoLandAcres> {
+        let answer = ffi::lots_land_acres(&self.data, land.data());
+        let answer = answer.in_one_township(land.township(), self.township())?;
+        match answer.accepted() {
+            Ok(answer) => Ok(Acres::from_hundredths(answer.hundredths)),
+            Err(fault) => Err(NoLandAcres::Lacking(refused_lots(fault, LAND))),
+        }
+    }
+
+    /// Returns the exact area of land, in acres. [`Lots::land_acres`] returns it rounded.
+    ///
+    /// # Errors
+    ///
+    /// The same as for [`Lots::land_acres`].
+    pub fn land_area(&self, land: &Land) -> Result<Area, NoLandAcres> {
+        let (answer, area) = ffi::lots_land_area(&self.data, land.data());
+        let answer = answer.in_one_township(land.township(), self.township())?;
+        match answer.accepted() {
+            Ok(_) => Ok(Area::from_fraction(area)),
+            Err(fault) => Err(NoLandAcres::Lacking(refused_lots(fault, LAND))),
+        }
+    }
+
+    /// Returns the refusal of a description, with its explanation.
+    fn description_refused(&self, fault: Fault, description: &[u8]) -> Refused {
+        if fault.refusal.number == LACKING {
+            return refused_lots(fault, DESCRIPTION);
+        }
+        let plat = self.township().nominal_plat();
+        Refused::explained(fault, |room| {
+            ffi::explain_description(&plat, description, DESCRIPTION, room)
+        })
+    }
+}
+
+impl TryFrom<&[u8]> for Lots {
+    type Error = Refused;
+
+    /// Reads a lot table: [`Lots::read`].
+    fn try_from(table: &[u8]) -> Result<Lots, Refused> {
+        Lots::read(table)
+    }
+}
+
+impl FromStr for Lots {
+    type Err = Refused;
+
+    /// Reads a lot table: [`Lots::read`].
+    fn from_str(table: &str) -> Result<Lots, Refused> {
+        Lots::read(table.as_bytes())
+    }
+}
+
+impl fmt::Display for Lots {
+    /// Writes the table (CSV), from which [`Lots::read`] makes it again.
+    fn fmt(&self, f: &mut fmt::Formatter<'_>) -> fmt::Result {
+        let township = self.township();
+        let (number, range) = (township.number(), township.range());
+        let (north_south, east_west) = (township.north_south(), township.east_west());
+        writeln!(
+            f,
+            "section,lot,acres\nT,{number},{north_south},{range},{east_west}"
+        )?;
+        for (section, lot, acres) in self.figures() {
+            if let Some(acres) = acres {
+                writeln!(f, "{section},{lot},{acres}")?;
+            }
+        }
+        Ok(())
+    }
+}
+
+impl fmt::Debug for Lots {
+    fn fmt(&self, f: &mut fmt::Formatter<'_>) -> fmt::Result {
+        let has = self
+            .figures()
+            .filter_map(|(section, lot, acres)| Some(((section, lot), acres?.hundredths())));
+        f.debug_struct("Lots")
+            .field("township", &self.township())
+            .field(
+                "hundredths",
+                &has.collect::<std::collections::BTreeMap<_, _>>(),
+            )
+            .finish()
+    }
+}
+
+impl From<OtherTownship> for NoLandAcres {
+    fn from(error: OtherTownship) -> NoLandAcres {
+        NoLandAcres::OtherTownship(error)
+    }
+}
+
+impl fmt::Display for NoLandAcres {
+    fn fmt(&self, f: &mut fmt::Formatter<'_>) -> fmt::Result {
+        match self {
+            NoLandAcres::OtherTownship(error) => fmt::Display::fmt(error, f),
+            NoLandAcres::Lacking(refused) => fmt::Display::fmt(refused, f),
+        }
+    }
+}
+
+impl Error for NoLandAcres {}

@@ -1,0 +1,193 @@
+//! Lot tables: how they are read, the acreage by them, and how they differ from a plat.
+
+mod samples;
+
+use samples::{even, uneven};
+use township::{Account, Acres, Land, Lots, NoLandAcres, Plat};
+
+const HEADING: &str = "section,lot,acres\nT,2,N,3,W\n";
+const TABLE: &str = "section,lot,acres\nT,2,N,3,W\n5,1,40.45\n6,7,36.86\n5,2,40.50\n";
+
+fn table() -> Lots {
+    TABLE.parse().unwrap()
+}
+
+fn land(description: &str) -> Land {
+    Land::read(even().township(), description).unwrap()
+}
+
+fn acres(hundredths: u64) -> Acres {
+    Acres::from_hundredths(hundredths)
+}
+
+/// The figures that a plat prints, as a lot table.
+fn printed(plat: &Plat) -> Lots {
+    let mut table = HEADING.to_owned();
+    for section in plat.figures().sections {
+        for (lot, acres) in (1..).zip(section.lots) {
+            table += &format!("{},{lot},{acres}\n", section.number);
+        }
+    }
+    table.parse().unwrap()
+}
+
+#[test]
+fn read() {
+    assert_eq!(table().township(), even().township());
+    assert_eq!(table().figure(5, 2), Some(acres(4_050)));
+    assert_eq!(table().figure(6, 7), Some(acres(3_686)));
+    for (section, lot) in [(5, 3), (5, 5), (14, 1), (0, 0), (37, 1)] {
+        assert_eq!(table().figure(section, lot), None);
+    }
+    assert_eq!(Lots::try_from(TABLE.as_bytes()), Ok(table()));
+    assert_eq!(TABLE.replace('\n', "\r\n").parse(), Ok(table()));
+}
+
+#[test]
+fn written() {
+    let sorted = format!("{HEADING}5,1,40.45\n5,2,40.50\n6,7,36.86\n");
+    assert_eq!(table().to_string(), sorted);
+    assert_eq!(sorted.parse(), Ok(table()));
+    let shown = format!("{:?}", table());
+    assert!(
+        shown.contains("(5, 1): 4045, (5, 2): 4050, (6, 7): 3686"),
+        "{shown}"
+    );
+}
+
+#[test]
+fn refused_tables() {
+    let too_large = HEADING.to_owned() + &" ".repeat(65_537 - HEADING.len());
+    let records = |records: &str| HEADING.to_owned() + records;
+    for (table, number, at) in [
+        (too_large, 86, 65_536),
+        (String::new(), 87, 1),
+        ("section,lot\n".to_owned(), 88, 1),
+        ("section,lot,acres\nT,2,N,3\n".to_owned(), 89, 2),
+        (records("5,1\n"), 89, 3),
+        ("section,lot,acres\nT,100,N,3,W\n".to_owned(), 90, 2),
+        ("section,lot,acres\n".to_owned(), 90, 2),
+        (records("5,1,40.45\n5,5,40.00\n"), 91, 4),
+        (records("5,1,40\n"), 92, 3),
+        (records("5,1,40.45\n5,2,40.45\n5,1,40.45\n"), 93, 5),
+    ] {
+        let refused = Lots::read(table.as_bytes()).unwrap_err();
+        assert_eq!((refused.number, refused.at), (number, at));
+        assert_eq!(
+            (refused.line, refused.column, refused.inner),
+            (None, None, None)
+        );
+        assert_eq!(refused.to_string(), format!("lots: {}", refused.sentence()));
+        assert_eq!(refused.explanation, format!("township: {refused}\n"));
+    }
+}
+
+#[test]
+fn measured() {
+    // Two returned lots, and two quarter-quarters of 40 acres.
+    let description = "sec. 5, lots 1 and 2, S1/2NE1/4.";
+    assert_eq!(table().acres(description), Ok(acres(16_095)));
+    assert_eq!(table().land_acres(&land(description)), Ok(acres(16_095)));
+    assert_eq!(table().area(description), Ok("3219/20".parse().unwrap()));
+    assert_eq!(
+        table().land_area(&land(description)),
+        Ok("3219/20".parse().unwrap())
+    );
+    // 5/8 of an acre.
+    assert_eq!(
+        table().acres("sec. 14, NE1/4NE1/4NE1/4NE1/4NE1/4."),
+        Ok(acres(63))
+    );
+}
+
+#[test]
+fn lacking_lots() {
+    let sentence = |lot: u32, section: u32| {
+        format!("the lot table has no record for lot {lot} of section {section}")
+    };
+    for (description, section, lot) in [
+        ("sec. 5, lots 1 to 4.", 5, 3),
+        ("sec. 6; sec. 5, lot 4.", 5, 4),
+        ("sec. 6, lots 7 and 6.", 6, 6),
+    ] {
+        for refused in [
+            table().acres(description).unwrap_err(),
+            table().area(description).unwrap_err(),
+        ] {
+            assert_eq!((refused.number, refused.at), (94, 100 * section + lot));
+            assert_eq!(
+                refused.to_string(),
+                format!("description: {}", sentence(lot, section))
+            );
+        }
+        for error in [
+            table().land_acres(&land(description)).unwrap_err(),
+            table().land_area(&land(description)).unwrap_err(),
+        ] {
+            assert_eq!(
+                error.to_string(),
+                format!("land: {}", sentence(lot, section))
+            );
+            assert!(matches!(error, NoLandAcres::Lacking(refused) if refused.number == 94));
+        }
+    }
+}
+
+#[test]
+fn refused_descriptions() {
+    // They are refused as on a plat, before any lot that is lacking.
+    for description in [
+        "",
+        "sec. 5, lot 5.",
+        "sec. 5, N1/2.",
+        "sec. 7, lots 1 and 1.",
+        "T. 3 N., R. 3 W., sec. 14.",
+    ] {
+        let refused = uneven().acres(description).unwrap_err();
+        assert_eq!(table().acres(description), Err(refused.clone()));
+        assert_eq!(table().area(description), Err(refused));
+    }
+}
+
+#[test]
+fn land_in_another_township() {
+    let other = Land::empty("T. 3 N., R. 3 W.".parse().unwrap());
+    let error = table().land_acres(&other).unwrap_err();
+    assert!(matches!(&error, NoLandAcres::OtherTownship(one) if one.first == other.township()));
+    let message = "T. 3 N., R. 3 W. and T. 2 N., R. 3 W. are two different townships";
+    assert_eq!(error.to_string(), message);
+}
+
+#[test]
+fn figures_of_a_plat_are_its_account() {
+    for plat in [even(), uneven()] {
+        for description in [
+            "secs. 1 to 36.",
+            "sec. 6, lots 1 to 7.",
+            "sec. 7, lots 1 to 4; sec. 14, NE1/4.",
+        ] {
+            let wanted = plat.area_by(description, Account::Plat);
+            assert_eq!(printed(&plat).area(description), wanted);
+        }
+    }
+}
+
+#[test]
+fn differences() {
+    let found = uneven().differences(&table()).unwrap();
+    let lots: Vec<_> = found
+        .iter()
+        .map(|one| (one.section, one.lot, one.returned))
+        .collect();
+    assert_eq!(lots, [(5, 2, acres(4_050)), (6, 7, acres(3_686))]);
+    // The plat's figure of lot 2 of section 5 is 40.55.
+    assert_eq!(
+        (found[0].computed, found[0].hundredths()),
+        (acres(4_055), -5)
+    );
+    for plat in [even(), uneven()] {
+        assert_eq!(plat.differences(&printed(&plat)), Ok(vec![]));
+    }
+    let other: Lots = "section,lot,acres\nT,3,N,3,W\n".parse().unwrap();
+    assert!(even().differences(&other).is_err());
+}

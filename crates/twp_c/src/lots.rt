@@ -1,0 +1,71 @@
+//! The calls by a lot table, as C calls them.
+ghost use Rattle.std.specs.Prelude.{◌≡◌, ◌≢◌};
+ghost use Rattle.twp_calls.specs.Answers.{ACCEPTED};
+ghost use Rattle.twp_calls.specs.LotCalls.{IsLotsReadCall, IsLotsAcresCall, IsLotsAreaCall};
+ghost use Rattle.twp_calls.specs.LotCalls.{IsLotsLandAcresCall, IsLotsLandAreaCall};
+
+use std::alloc::Global;
+use twp_calls::{TownshipAnswer, TownshipFraction, TownshipLand, TownshipLots};
+
+/// Reads a lot table.
+#[unsafe(no_mangle)]
+pub extern "C" fn township_lots_read(
+    alloc: Global,
+    table: &[u8],
+    lots: &mut TownshipLots,
+) -> TownshipAnswer
+    ensures answer { IsLotsReadCall table.now lots.new result }
+    ensures kept { result.verdict ≢ ACCEPTED → lots.new ≡ lots.old }
+{
+    twp_calls::township_lots_read(alloc, table, lots)
+}
+
+/// The acres of a description by a lot table.
+#[unsafe(no_mangle)]
+pub extern "C" fn township_lots_acres(
+    alloc: Global,
+    lots: &TownshipLots,
+    description: &[u8],
+) -> TownshipAnswer
+    ensures { IsLotsAcresCall lots.now description.now result }
+{
+    twp_calls::township_lots_acres(alloc, lots, description)
+}
+
+/// The exact area, of which `township_lots_acres` has the hundredths.
+#[unsafe(no_mangle)]
+pub extern "C" fn township_lots_area(
+    alloc: Global,
+    lots: &TownshipLots,
+    description: &[u8],
+    area: &mut TownshipFraction,
+) -> TownshipAnswer
+    ensures answer { IsLotsAreaCall lots.now description.now area.new result }
+    ensures kept { result.verdict ≢ ACCEPTED → area.new ≡ area.old }
+{
+    twp_calls::township_lots_area(alloc, lots, description, area)
+}
+
+/// The acres of land by a lot table.
+#[unsafe(no_mangle)]
+pub extern "C" fn township_lots_land_acres(
+    lots: &TownshipLots,
+    land: &TownshipLand,
+) -> TownshipAnswer
+    ensures { IsLotsLandAcresCall lots.now land.now result }
+{
+    twp_calls::township_lots_land_acres(lots, land)
+}
+
+/// The exact area, of which `township_lots_land_acres` has the hundredths.
+#[unsafe(no_mangle)]
+pub extern "C" fn township_lots_land_area(
+    lots: &TownshipLots,
+    land: &TownshipLand,
+    area: &mut TownshipFraction,
+) -> TownshipAnswer
+    ensures answer { IsLotsLandAreaCall lots.now land.now area.new result }
+    ensures kept { result.verdict ≢ ACCEPTED → area.new ≡ area.old }
+{
+    twp_calls::township_lots_land_area(lots, land, area)
+}

@@ -1,0 +1,54 @@
+-- What the calls on land answer, by what their stages came to; over plain values.
+use Rattle.std.proofs.Common.{◌≡◌, ℕ, Bool, List, sym, subst, ◌∙◌}
+use Rattle.std.proofs.Common.{true, false, ◌↔◌, IsTrue}
+use Rattle.std.proofs.lemmas.Bool.{false≢true}
+use Rattle.twp_grid.specs.Places.{PLACE_DIGITS}
+use Rattle.twp_grid.specs.Townships.{Designation}
+use Rattle.twp_land.specs.Lands.{HasWholeLots}
+use Rattle.twp_land.proofs.CombinedLots.{combined_lots_are_whole}
+use Rattle.twp_acres.specs.Answers.{IsNoDescription}
+use Rattle.twp_acres.specs.OnPlats.{StopsOn}
+use Rattle.twp_acres.specs.declared.stop.Stop.{Stop}
+use Rattle.twp_calls.specs.Answers.{OTHER_TOWNSHIP, bare, stopped}
+use Rattle.twp_calls.specs.Calls.{Answers, IsRefusedFor}
+use Rattle.twp_calls.specs.LandCalls.{InOneTownship, InTownship, combined, in_one, in_two, in_township}
+use Rattle.twp_calls.specs.GivenTownships.{IsGivenTownship}
+use Rattle.twp_calls.specs.declared.answer.TownshipAnswer.{TownshipAnswer}
+use Rattle.twp_calls.specs.declared.combining.Operation.{Operation}
+use Rattle.twp_calls.specs.declared.combining.Operation.TheVariants as operation
+use Rattle.twp_calls.specs.declared.designation.TownshipDesignation.{TownshipDesignation}
+use Rattle.twp_calls.proofs.CallFacts.{stopped_on}
+
+-- the townships differ, or are the same
+pub differ : (Holds : TownshipAnswer → Type 0) (township other found : Designation) (same : Bool)
+    (answer : TownshipAnswer) → found ≡ township → (IsTrue same ↔ (found ≡ other)) → same ≡ false
+    → answer ≡ bare OTHER_TOWNSHIP → InOneTownship township other Holds answer
+differ Holds township other found same answer found_is is false_is answer_is =
+    in_two (λ one. false≢true (sym false_is ∙ is.1 (found_is ∙ one))) answer_is
+
+pub agree : (Holds : TownshipAnswer → Type 0) (township other found : Designation) (same : Bool)
+    (answer : TownshipAnswer) → found ≡ township → (IsTrue same ↔ (found ≡ other)) → same ≡ true
+    → Holds answer → InOneTownship township other Holds answer
+agree Holds township other found same answer found_is is true_is holds =
+    in_one (sym found_is ∙ is.0 true_is) holds
+
+-- a description that is refused in a township, or for which memory ran out
+pub stops_in : (given : TownshipDesignation) (township : Designation) → IsGivenTownship given township
+    → (Accepted : Designation → TownshipAnswer → Type 0) (description : List ℕ) (stopping : Stop)
+    (answer : TownshipAnswer) → answer ≡ stopped stopping → StopsOn township description stopping
+    → InTownship given (λ township. Answers (Accepted township)
+    (IsRefusedFor (IsNoDescription township description))) answer
+stops_in given township is Accepted description stopping answer same stops =
+    in_township township is
+    (subst (Answers (Accepted township) (IsRefusedFor (IsNoDescription township description))) (sym same)
+    (stopped_on (Accepted township) township description stopping stops))
+
+-- the land that an operation makes has whole lots
+pub combined_whole : (by : Operation) (places more : ℕ → ℕ → ℕ → Bool) → HasWholeLots PLACE_DIGITS places
+    → HasWholeLots PLACE_DIGITS more → HasWholeLots PLACE_DIGITS (combined by places more)
+combined_whole operation.Union places more whole other =
+    (combined_lots_are_whole PLACE_DIGITS places more whole other).0
+combined_whole operation.Intersection places more whole other =
+    (combined_lots_are_whole PLACE_DIGITS places more whole other).1
+combined_whole operation.Difference places more whole other =
+    (combined_lots_are_whole PLACE_DIGITS places more whole other).2

@@ -1,0 +1,63 @@
+-- What the calls by a lot table answer, by what their stages came to; over plain values.
+use Rattle.std.proofs.Common.{◌≡◌, ℕ, Bool, List, Option, Some, None, IfSome, refl, sym, subst}
+use Rattle.twp_grid.specs.Places.{PLACE_DIGITS}
+use Rattle.twp_grid.specs.declared.refusal.Refusal.{Refusal}
+use Rattle.twp_lots.specs.LotAreas.{IsFirstLacking}
+use Rattle.twp_lots.specs.LotTables.{ReturnedLots}
+use Rattle.twp_lots.specs.LotsFaults.{IsFirstFault, lacking_refusal, refusal_of}
+use Rattle.twp_lots.specs.declared.fault.LotsFault.{LotsFault}
+use Rattle.twp_acres.specs.declared.stop.Stop.{Stop}
+use Rattle.twp_acres.specs.declared.stop.Stop.TheVariants as stop
+use Rattle.twp_calls.specs.Answers.{answer_of_refusal, refused, stopped}
+use Rattle.twp_calls.specs.Calls.{Answers, IsRefusedFor, no_memory, refused_for}
+use Rattle.twp_calls.specs.LotCalls.{AreNoLots, HasNoLotAreaOf, IsLackingLot}
+use Rattle.twp_calls.specs.declared.answer.TownshipAnswer.{TownshipAnswer}
+use Rattle.twp_calls.specs.steps.LotSteps.{StopsByLots}
+
+-- bytes that are no lot table, or for which memory ran out
+no_lots : (Accepted : TownshipAnswer → Type 0) (bytes : List ℕ) (fault : LotsFault)
+    (found : Option Refusal) → refusal_of fault ≡ found → IfSome found (λ _. IsFirstFault bytes fault)
+    → Answers Accepted (IsRefusedFor (AreNoLots bytes)) (answer_of_refusal found)
+no_lots Accepted bytes fault (Some refusal) same first =
+    refused_for (record {
+      refusal = refusal;
+      first = record { fault = fault; first = first; refusal_is = same };
+      answer_is = refl;
+    })
+no_lots Accepted bytes fault None same first = no_memory refl
+
+pub refused_lots : (Accepted : TownshipAnswer → Type 0) (bytes : List ℕ) (fault : LotsFault)
+    (answer : TownshipAnswer) → answer ≡ answer_of_refusal (refusal_of fault)
+    → IfSome (refusal_of fault) (λ _. IsFirstFault bytes fault)
+    → Answers Accepted (IsRefusedFor (AreNoLots bytes)) answer
+refused_lots Accepted bytes fault answer same first =
+    subst (Answers Accepted (IsRefusedFor (AreNoLots bytes))) (sym same)
+    (no_lots Accepted bytes fault (refusal_of fault) refl first)
+
+-- a description that has no area by the table, or for which memory ran out
+stopped_by_lots : (Accepted : TownshipAnswer → Type 0) (table : ReturnedLots) (description : List ℕ)
+    (stopping : Stop) → StopsByLots table description stopping
+    → Answers Accepted (IsRefusedFor (HasNoLotAreaOf table description)) (stopped stopping)
+stopped_by_lots Accepted table description (stop.Refused refusal) first =
+    refused_for (record { refusal = refusal; first = first; answer_is = refl })
+stopped_by_lots Accepted table description (stop.Failed fault) is = no_memory refl
+
+pub stops_by_lots : (Accepted : TownshipAnswer → Type 0) (table : ReturnedLots) (description : List ℕ)
+    (stopping : Stop) (answer : TownshipAnswer) → answer ≡ stopped stopping
+    → StopsByLots table description stopping
+    → Answers Accepted (IsRefusedFor (HasNoLotAreaOf table description)) answer
+stops_by_lots Accepted table description stopping answer same stops =
+    subst (Answers Accepted (IsRefusedFor (HasNoLotAreaOf table description))) (sym same)
+    (stopped_by_lots Accepted table description stopping stops)
+
+-- land with a lot that the table lacks
+pub lacks_lot : (table : ReturnedLots) (places : ℕ → ℕ → ℕ → Bool) (section number : ℕ)
+    (refusal : Refusal) (answer : TownshipAnswer)
+    → IsFirstLacking PLACE_DIGITS table places section number
+    → refusal ≡ lacking_refusal section number → answer ≡ refused refusal
+    → IsRefusedFor (IsLackingLot table places) answer
+lacks_lot table places section number refusal answer first is answer_is = record {
+  refusal = refusal;
+  first = record { section = section; number = number; first = first; refusal_is = is };
+  answer_is = answer_is;
+}

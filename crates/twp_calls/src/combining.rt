@@ -1,0 +1,110 @@
+//! The calls that combine and compare two sets of land.
+ghost use Rattle.std.specs.Prelude.{◌≡◌, ◌≢◌};
+ghost use Rattle.twp_calls.specs.Answers.{ACCEPTED};
+ghost use Rattle.twp_calls.specs.LandCalls.{IsCombineCall, IsCompareCall, combined, operation_of};
+ghost use Rattle.twp_calls.specs.LandCalls.{code_of_comparison};
+
+use crate::answer::TownshipAnswer;
+use crate::designation::is_same_township;
+use crate::land::TownshipLand;
+use crate::verdict::{ACCEPTED, NO_LAND, NO_OPERATION, OTHER_TOWNSHIP};
+use twp_land::{Comparison, Land, Lanes, compare};
+
+/// How two sets of land are combined.
+#[derive(Clone, Copy)]
+pub enum Operation {
+    /// The places in either.
+    Union,
+    /// The places in both.
+    Intersection,
+    /// The places in the first that are not in the second.
+    Difference,
+}
+
+impl Operation {
+    /// Makes the first land that of the operation.
+    fn combine(self, land: &mut Lanes, other: &Lanes)
+        ensures { ⟦<Lanes as Land>⟧.places land.new ≡ combined self
+            (⟦<Lanes as Land>⟧.places land.old) (⟦<Lanes as Land>⟧.places other.now) }
+    {
+        match self {
+            Operation::Union => land.add_land(other),
+            Operation::Intersection => land.keep_common(other),
+            Operation::Difference => land.take_away(other),
+        }
+    }
+}
+
+/// The operation that a number stands for.
+fn operation_of(code: u32) -> Option<Operation>
+    ensures { result ≡ operation_of code }
+{
+    match code {
+        0 => Some(Operation::Union),
+        1 => Some(Operation::Intersection),
+        2 => Some(Operation::Difference),
+        _ => None,
+    }
+}
+
+/// The land that an operation makes of two sets of land.
+pub fn township_land_combine(
+    first: &TownshipLand,
+    second: &TownshipLand,
+    operation: u32,
+    land: &mut TownshipLand,
+) -> TownshipAnswer
+    ensures answer { IsCombineCall first.now second.now operation land.new result }
+    ensures kept { result.verdict ≢ ACCEPTED → land.new ≡ land.old }
+{
+    let Some(mut first) = first.land() else {
+        return TownshipAnswer::bare(NO_LAND);
+    };
+    let Some(second) = second.land() else {
+        return TownshipAnswer::bare(NO_LAND);
+    };
+    let Some(operation) = operation_of(operation) else {
+        return TownshipAnswer::bare(NO_OPERATION);
+    };
+    if !is_same_township(first.township, second.township) {
+        return TownshipAnswer::bare(OTHER_TOWNSHIP);
+    }
+    operation.combine(&mut first.places, &second.places);
+    *land = TownshipLand::of(first.township, &first.places);
+    TownshipAnswer::bare(ACCEPTED)
+}
+
+/// How one set of land compares to another.
+pub fn township_land_compare(
+    first: &TownshipLand,
+    second: &TownshipLand,
+    comparison: &mut u32,
+) -> TownshipAnswer
+    ensures answer { IsCompareCall first.now second.now comparison.new result }
+    ensures kept { result.verdict ≢ ACCEPTED → comparison.new ≡ comparison.old }
+{
+    let Some(first) = first.land() else {
+        return TownshipAnswer::bare(NO_LAND);
+    };
+    let Some(second) = second.land() else {
+        return TownshipAnswer::bare(NO_LAND);
+    };
+    if !is_same_township(first.township, second.township) {
+        return TownshipAnswer::bare(OTHER_TOWNSHIP);
+    }
+    *comparison = code_of_comparison(compare(&first.places, &second.places));
+    TownshipAnswer::bare(ACCEPTED)
+}
+
+/// The number of a comparison.
+fn code_of_comparison(comparison: Comparison) -> u32
+    ensures { result ≡ code_of_comparison comparison }
+{
+    match comparison {
+        Comparison::Same => 0,
+        Comparison::Contains => 1,
+        Comparison::IsContained => 2,
+        Comparison::Overlaps => 3,
+        Comparison::Disjoint => 4,
+    }
+}

@@ -1,0 +1,52 @@
+//! Land as plain data.
+ghost use Rattle.std.specs.Prelude.{MatchOption};
+ghost use Rattle.twp_grid.specs.Places.{PLACE_DIGITS};
+ghost use Rattle.twp_land.specs.Lands.{HasWholeLots};
+ghost use Rattle.twp_calls.specs.GivenLands.{IsGivenLand, IsNoGivenLand};
+
+use crate::designation::TownshipDesignation;
+use twp_grid::{PLACES_ACROSS, SECTIONS, Township};
+use twp_land::{Land, Lanes};
+
+/// A set of places of a township, whether it is land or not.
+#[repr(C)]
+#[derive(Clone, Copy)]
+pub struct TownshipLand {
+    /// For each section, by number, its rows from the south, and in each row a bit for each column,
+    /// from the east.
+    pub rows: [[u32; PLACES_ACROSS]; SECTIONS as usize],
+    /// The township that the places are in.
+    pub township: TownshipDesignation,
+}
+
+/// Land in a township, which contains each lot wholly or not at all.
+#[derive(Drop)]
+pub(crate) struct LandIn {
+    pub(crate) township: Township,
+    pub(crate) places: Lanes,
+}
+
+impl TownshipLand {
+    /// Land in a township as plain data.
+    pub(crate) fn of(township: Township, places: &Lanes) -> TownshipLand
+        requires { HasWholeLots PLACE_DIGITS (⟦<Lanes as Land>⟧.places places.now) }
+        ensures { IsGivenLand result township (⟦<Lanes as Land>⟧.places places.now) }
+    {
+        TownshipLand {
+            rows: places.rows(),
+            township: TownshipDesignation::of(township),
+        }
+    }
+
+    /// The land, if it is valid.
+    pub(crate) fn land(&self) -> Option<LandIn>
+        ensures { MatchOption result (IsNoGivenLand self.now) (λ land.
+            IsGivenLand self.now land.township (⟦<Lanes as Land>⟧.places land.places)) }
+    {
+        let township = self.township.township()?;
+        let Some(places) = Lanes::from_rows(&self.rows) else {
+            return None;
+        };
+        Some(LandIn { township, places })
+    }
+}

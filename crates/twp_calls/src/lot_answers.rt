@@ -1,0 +1,124 @@
+//! The calls that answer by a lot table, which is plain data.
+ghost use Rattle.std.specs.Prelude.{◌≡◌, ◌≢◌};
+ghost use Rattle.twp_calls.specs.Answers.{ACCEPTED};
+ghost use Rattle.twp_calls.specs.LotCalls.{IsLotsReadCall, IsLotsAcresCall, IsLotsAreaCall};
+ghost use Rattle.twp_calls.specs.LotCalls.{IsLotsLandAcresCall, IsLotsLandAreaCall};
+ghost use Rattle.twp_calls.specs.steps.LotSteps.{AnswersByLots};
+
+use crate::answer::TownshipAnswer;
+use crate::designation::is_same_township;
+use crate::fraction::TownshipFraction;
+use crate::land::TownshipLand;
+use crate::lots::TownshipLots;
+use crate::verdict::{ACCEPTED, NO_LAND, NO_LOTS, OTHER_TOWNSHIP};
+use std::alloc::Global;
+use twp_acres::{Stop, land_of};
+use twp_grid::Bytes;
+use twp_lots::{LotTable, area_by_lots};
+use twp_measure::Area;
+
+/// Reads a lot table.
+pub fn township_lots_read(alloc: Global, table: &[u8], lots: &mut TownshipLots) -> TownshipAnswer
+    ensures answer { IsLotsReadCall table.now lots.new result }
+    ensures kept { result.verdict ≢ ACCEPTED → lots.new ≡ lots.old }
+{
+    match LotTable::read(alloc, &mut Bytes::new(table)) {
+        Ok(read) => {
+            *lots = TownshipLots::of(&read);
+            TownshipAnswer::bare(ACCEPTED)
+        }
+        Err(fault) => TownshipAnswer::of_lots_fault(fault),
+    }
+}
+
+/// The acres of a description by a lot table.
+pub fn township_lots_acres(alloc: Global, lots: &TownshipLots, description: &[u8]) -> TownshipAnswer
+    ensures { IsLotsAcresCall lots.now description.now result }
+{
+    let Some(table) = lots.table() else {
+        return TownshipAnswer::bare(NO_LOTS);
+    };
+    match area_described(alloc, &table, description) {
+        Ok(area) => TownshipAnswer::of_acres(area.hundredths()),
+        Err(stop) => TownshipAnswer::of_stop(stop),
+    }
+}
+
+/// The exact area, of which `township_lots_acres` has the hundredths.
+pub fn township_lots_area(
+    alloc: Global,
+    lots: &TownshipLots,
+    description: &[u8],
+    area: &mut TownshipFraction,
+) -> TownshipAnswer
+    ensures answer { IsLotsAreaCall lots.now description.now area.new result }
+    ensures kept { result.verdict ≢ ACCEPTED → area.new ≡ area.old }
+{
+    let Some(table) = lots.table() else {
+        return TownshipAnswer::bare(NO_LOTS);
+    };
+    match area_described(alloc, &table, description) {
+        Ok(exact) => {
+            *area = TownshipFraction::of(&exact);
+            TownshipAnswer::bare(ACCEPTED)
+        }
+        Err(stop) => TownshipAnswer::of_stop(stop),
+    }
+}
+
+/// The acres of land by a lot table.
+pub fn township_lots_land_acres(lots: &TownshipLots, land: &TownshipLand) -> TownshipAnswer
+    ensures { IsLotsLandAcresCall lots.now land.now result }
+{
+    let Some(table) = lots.table() else {
+        return TownshipAnswer::bare(NO_LOTS);
+    };
+    let Some(land) = land.land() else {
+        return TownshipAnswer::bare(NO_LAND);
+    };
+    if !is_same_township(table.township(), land.township) {
+        return TownshipAnswer::bare(OTHER_TOWNSHIP);
+    }
+    match area_by_lots(&table, &land.places) {
+        Ok(area) => TownshipAnswer::of_acres(area.hundredths()),
+        Err(lot) => TownshipAnswer::of_refusal(lot.refusal()),
+    }
+}
+
+/// The exact area, of which `township_lots_land_acres` has the hundredths.
+pub fn township_lots_land_area(
+    lots: &TownshipLots,
+    land: &TownshipLand,
+    area: &mut TownshipFraction,
+) -> TownshipAnswer
+    ensures answer { IsLotsLandAreaCall lots.now land.now area.new result }
+    ensures kept { result.verdict ≢ ACCEPTED → area.new ≡ area.old }
+{
+    let Some(table) = lots.table() else {
+        return TownshipAnswer::bare(NO_LOTS);
+    };
+    let Some(land) = land.land() else {
+        return TownshipAnswer::bare(NO_LAND);
+    };
+    if !is_same_township(table.township(), land.township) {
+        return TownshipAnswer::bare(OTHER_TOWNSHIP);
+    }
+    match area_by_lots(&table, &land.places) {
+        Ok(exact) => {
+            *area = TownshipFraction::of(&exact);
+            TownshipAnswer::bare(ACCEPTED)
+        }
+        Err(lot) => TownshipAnswer::of_refusal(lot.refusal()),
+    }
+}
+
+/// The area of the land described by a lot table, or why there is none.
+fn area_described(alloc: Global, table: &LotTable, description: &[u8]) -> Result<Area, Stop>
+    ensures { AnswersByLots table.now description.now result }
+{
+    let land = land_of(alloc, table.township(), description)?;
+    match area_by_lots(table, &land) {
+        Ok(area) => Ok(area),
+        Err(lot) => Err(Stop::Refused(lot.refusal())),
+    }
+}

@@ -1,0 +1,2 @@
+pub mod DoubtFacts
+pub mod NoteFacts

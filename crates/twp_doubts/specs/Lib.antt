@@ -1,0 +1,2 @@
+pub mod ShownNotes
+pub mod steps

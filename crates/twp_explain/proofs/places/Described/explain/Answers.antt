@@ -1,5 +1,0 @@
-use Rattle.twp_explain.proofs.places.Described.explain.Goals as goal
-
--- it is land that is named again
-pub returns-in-Overlap : goal.returns-in-Overlap
-returns-in-Overlap c = rw c.in-Overlap.is c.explain_overlap.ensures

@@ -1,0 +1,66 @@
+-- Where a refused description is shown, over plain values.
+use Rattle.std.proofs.Common.{◌≡◌, ℕ, Bool, true, false, cond, List, Option, Some, None}
+use Rattle.std.proofs.Common.{Result, Ok, Err, drop, refl, sym, ap, subst}
+use Rattle.std.specs.Prelude.{IfOk}
+use Rattle.std.specs.List.{list_all}
+use Rattle.std.proofs.lemmas.List.Sums.{AllPass-from_list_all}
+use Rattle.twp_excerpt.specs.Spots.{is_white, end_of}
+use Rattle.twp_grid.specs.declared.refusal.Refusal.{Refusal}
+use Rattle.twp_read.specs.TextFaults as text_faults
+use Rattle.twp_read.specs.declared.fault.TextFault.{TextFault}
+use Rattle.twp_read.specs.declared.fault.TextFault.TheVariants as faults
+use Rattle.twp_diagnose.specs.Findings.{IsStopOf}
+use Rattle.twp_diagnose.specs.Sights.{shown_place}
+use Rattle.twp_diagnose.specs.declared.finding.Finding.{Finding}
+use Rattle.twp_diagnose.specs.declared.finding.Failure.{Failure}
+use Rattle.twp_diagnose.specs.declared.location.Location.{Location}
+use Rattle.twp_explain_text.specs.ShownPlaces.{BeginsAt, ShowsAt, ShowsRefused, as_a_whole, there, at_the_end}
+use Rattle.twp_explain_text.specs.ShownPlaces.{IfShown}
+
+begins_refused : (bytes : List ℕ) (refusal : Refusal) (place : Location) (ends : Bool)
+    → list_all is_white (drop refusal.at bytes) ≡ ends
+    → BeginsAt bytes (cond ends (end_of bytes) refusal.at) place → ShowsRefused bytes refusal place
+begins_refused bytes refusal place true ends begins =
+    at_the_end (AllPass-from_list_all is_white (drop refusal.at bytes) ends) begins
+begins_refused bytes refusal place false ends begins = there begins
+
+-- the number of a refusal, if there is one
+abbrev number_of : Option Refusal → ℕ
+number_of None = 0
+number_of (Some refusal) = refusal.number
+
+shows_refused : (bytes : List ℕ) (fault : TextFault) (refusal : Refusal) (place : Location)
+    → text_faults.refusal_of fault ≡ Some refusal
+    → ShowsAt bytes fault (shown_place bytes refusal.at) place → ShowsRefused bytes refusal place
+shows_refused bytes faults.TooLarge refusal place is shows = as_a_whole (sym (ap number_of is)) shows
+shows_refused bytes (faults.BadByte at_) refusal place is shows =
+    begins_refused bytes refusal place (list_all is_white (drop refusal.at bytes)) refl shows
+shows_refused bytes (faults.BadNumber at_) refusal place is shows =
+    begins_refused bytes refusal place (list_all is_white (drop refusal.at bytes)) refl shows
+shows_refused bytes (faults.Syntax at_ expected) refusal place is shows =
+    begins_refused bytes refusal place (list_all is_white (drop refusal.at bytes)) refl shows
+shows_refused bytes faults.Memory refusal place is shows =
+    begins_refused bytes refusal place (list_all is_white (drop refusal.at bytes)) refl shows
+
+pub text_shown : {Error : Type 0} (Is : Type 0) (found : Result Finding Error) (stopped : Failure)
+    (bytes : List ℕ) (fault : TextFault) (refusal : Refusal)
+    → text_faults.refusal_of fault ≡ Some refusal → IsStopOf found stopped
+    → IfOk found (λ finding. finding.refusal ≡ refusal)
+    → IfOk found (λ finding. Is → ShowsAt bytes fault (shown_place bytes refusal.at) finding.place)
+    → Is → IfShown bytes stopped
+text_shown Is (Ok finding) stopped bytes fault refusal has stop_is same shows is =
+    subst (IfShown bytes) (sym stop_is)
+    (subst (λ (r : Refusal). ShowsRefused bytes r finding.place) (sym same)
+    (shows_refused bytes fault refusal finding.place has (shows is)))
+text_shown Is (Err error) stopped bytes fault refusal has stop_is same shows is =
+    subst (IfShown bytes) (sym stop_is) tt
+
+pub items_shown : {Error : Type 0} (Is : Type 0) (found : Result Finding Error) (stopped : Failure)
+    (bytes : List ℕ) (refusal : Refusal)
+    → IsStopOf found stopped → IfOk found (λ finding. finding.refusal ≡ refusal)
+    → IfOk found (λ finding. Is → BeginsAt bytes refusal.at finding.place) → Is → IfShown bytes stopped
+items_shown Is (Ok finding) stopped bytes refusal stop_is same begins is =
+    subst (IfShown bytes) (sym stop_is)
+    (subst (λ (r : Refusal). ShowsRefused bytes r finding.place) (sym same) (there (begins is)))
+items_shown Is (Err error) stopped bytes refusal stop_is same begins is =
+    subst (IfShown bytes) (sym stop_is) tt

@@ -1,0 +1,2 @@
+pub mod ShownPlaces
+pub mod Underlined

@@ -1,0 +1,49 @@
+//! What stops a run on a description.
+ghost use Rattle.std.specs.Prelude.{◌≡◌, Some};
+ghost use Rattle.twp_read.specs.TextFaults.{refusal_of as refusal_of_text};
+ghost use Rattle.twp_resolve.specs.PlaceFaults.{refusal_of as refusal_of_places};
+ghost use Rattle.twp_diagnose.specs.Findings.{IfFound};
+ghost use Rattle.twp_explain_text.specs.ShownPlaces.{IsTextOf, IfShown};
+
+use crate::{places, text};
+use std::alloc::Global;
+use twp_diagnose::{Failure, Origin};
+use twp_grid::Township;
+use twp_read::{Description, TextFault};
+use twp_resolve::PlaceFault;
+
+/// What is wrong with a text that isn't read.
+#[tactic(auto, using(twp_diagnose::proofs::FindingFacts::of_fault, crate::proofs::ShownFacts::text_shown))]
+#[inline(never)]
+pub fn stop_of_text(alloc: Global, origin: &Origin<'_>, bytes: &[u8], fault: TextFault) -> Failure
+    ensures refusal { IfFound result (λ refusal. refusal_of_text fault ≡ Some refusal) }
+    ensures shown { IsTextOf origin.now bytes.now → IfShown bytes.now result }
+{
+    let Some(refusal) = fault.refusal() else {
+        return Failure::Memory;
+    };
+    Failure::of(refusal, text::find(alloc, origin, bytes, fault, refusal))
+}
+
+/// What is wrong with a description that names no land on the plat of the township.
+#[tactic(auto, using(twp_diagnose::proofs::FindingFacts::of_fault, crate::proofs::ShownFacts::items_shown))]
+#[inline(never)]
+pub fn stop_of_places(
+    alloc: Global,
+    origin: &Origin<'_>,
+    bytes: &[u8],
+    description: &Description,
+    township: Township,
+    fault: PlaceFault,
+) -> Failure
+    ensures refusal { IfFound result (λ refusal. refusal_of_places fault ≡ Some refusal) }
+    ensures shown { IsTextOf origin.now bytes.now → IfShown bytes.now result }
+{
+    let Some(refusal) = fault.refusal() else {
+        return Failure::Memory;
+    };
+    Failure::of(
+        refusal,
+        places::find(alloc, origin, bytes, description, township, fault, refusal),
+    )
+}

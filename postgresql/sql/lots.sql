@@ -1,0 +1,33 @@
+-- Lot tables, and land by them. `plat.sql` has created the extension.
+\set heading 'T. 2 N., R. 3 W.'
+CREATE TABLE lot_tables (name text PRIMARY KEY, lots lots);
+INSERT INTO lot_tables VALUES
+    ('some', E'section,lot,acres\nT,2,N,3,W\n31,4,999.99\n5,1,40.45\n5,2,40.57\n6,7,0.01\n'),
+    ('none', E'section,lot,acres\nT,2,N,3,W\n');
+-- The lots are written in the order of their sections.
+SELECT name, township(lots), replace(lots::text, E'\n', ' ') AS text, lots::text::lots = lots AS again
+FROM lot_tables ORDER BY name;
+
+-- 40.45 + 40.57 + 80 acres; 999.99 + 0.01 + 640.
+SELECT acres(lots, 'sec. 5, lots 1 and 2, S1/2NE1/4.'), acres(lots, 'sec. 31, lot 4; sec. 6, lot 7; sec. 14.'),
+       (area(lots, 'sec. 5, lot 2.')).*, acres(lots, land(:'heading', 'sec. 5, lots 1 and 2.')) AS of_land,
+       (area(lots, land(:'heading', 'sec. 5, lot 2.'))).numerator
+FROM lot_tables WHERE name = 'some';
+SELECT acres(lots, 'sec. 14, NE1/4NE1/4NE1/4NE1/4NE1/4.') FROM lot_tables WHERE name = 'none';
+SELECT acres(lots, 'sec. 5, lots 1 and 3.') FROM lot_tables WHERE name = 'some';
+SELECT acres(lots, land(:'heading', 'sec. 5, lots 1 and 3.')) FROM lot_tables WHERE name = 'some';
+SELECT acres(lots, 'sec. 5, N1/2.') FROM lot_tables WHERE name = 'some';
+SELECT acres(lots, 'T. 2 N., R. 4 W., sec. 14.'::land) FROM lot_tables WHERE name = 'some';
+SELECT name, acres_or_null(lots, 'sec. 5, lot 1.') FROM lot_tables ORDER BY name;
+
+-- Refusals of lot tables.
+SELECT repeat(' ', 65537)::lots;
+SELECT ''::lots;
+SELECT E'section,lot,area\n'::lots;
+SELECT E'section,lot,acres\nT,2,N,3\n'::lots;
+SELECT E'section,lot,acres\nT,2,N,0,W\n'::lots;
+SELECT E'section,lot,acres\nT,2,N,3,W\n5,5,40.00\n'::lots;
+SELECT E'section,lot,acres\nT,2,N,3,W\n5,1,40\n'::lots;
+SELECT E'section,lot,acres\nT,2,N,3,W\n5,1,40.00\n5,1,40.00\n'::lots;
+SELECT a.name, b.name, a.lots = b.lots AS same, a.lots <> b.lots AS different
+FROM lot_tables a, lot_tables b ORDER BY a.name, b.name;

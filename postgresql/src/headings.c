@@ -1,0 +1,112 @@
+/*
+ * Headings of descriptions. The library reads a description for a given township, and refuses the heading of
+ * another one. So the heading is read here first, to know which township that is. Whatever this reads, the
+ * library reads the description again, and decides.
+ */
+#include "land.h"
+
+#define NUMBER_MOST 99
+
+/* Where reading has come. */
+typedef struct twpg_reader {
+    twpg_bytes given;
+    size_t at;
+} twpg_reader;
+
+static void skip_white(twpg_reader *reader) {
+    while (reader->at < reader->given.length && memchr(" \t\n\r", reader->given.start[reader->at], 4) != NULL) {
+        reader->at++;
+    }
+}
+
+/* Takes a character, in lowercase, if it is next. */
+static bool take(twpg_reader *reader, char character) {
+    skip_white(reader);
+    if (reader->at >= reader->given.length || pg_ascii_tolower(reader->given.start[reader->at]) != character) {
+        return false;
+    }
+    reader->at++;
+    return true;
+}
+
+static void take_if_next(twpg_reader *reader, char character) {
+    (void)take(reader, character);
+}
+
+/* Takes a number. One that is too large for a township is more than NUMBER_MOST. */
+static bool take_number(twpg_reader *reader, unsigned *number) {
+    size_t first;
+
+    skip_white(reader);
+    first = reader->at;
+    *number = 0;
+    while (reader->at < reader->given.length && isdigit(reader->given.start[reader->at])) {
+        *number = Min(*number * 10 + (reader->given.start[reader->at] - '0'), NUMBER_MOST + 1);
+        reader->at++;
+    }
+    return reader->at > first;
+}
+
+/* Takes a side: 0 for the first letter, and 1 for the second one. */
+static bool take_side(twpg_reader *reader, char first, char second, uint8_t *side) {
+    if (take(reader, first)) {
+        *side = 0;
+    } else if (take(reader, second)) {
+        *side = 1;
+    } else {
+        return false;
+    }
+    take_if_next(reader, '.');
+    take_if_next(reader, ',');
+    return true;
+}
+
+/* Takes the letter T or R and the number after it. */
+static bool take_letter_and_number(twpg_reader *reader, char letter, unsigned *number) {
+    if (!take(reader, letter)) {
+        return false;
+    }
+    take_if_next(reader, '.');
+    return take_number(reader, number);
+}
+
+static bool is_number_of_township(unsigned number) {
+    return number >= 1 && number <= NUMBER_MOST;
+}
+
+/* Reads the heading with which a description begins, such as `T. 2 N., R. 3 W.,`, and where it ends. Returns
+   whether there is one; if there is one with an impossible number, it is an error. */
+bool twpg_read_heading(twpg_bytes given, township_designation *township, size_t *end) {
+    twpg_reader reader = {given, 0};
+    unsigned number;
+    unsigned range;
+
+    if (!take_letter_and_number(&reader, 't', &number) ||
+        !take_side(&reader, 'n', 's', &township->north_south) ||
+        !take_letter_and_number(&reader, 'r', &range) || !take_side(&reader, 'e', 'w', &township->east_west)) {
+        return false;
+    }
+    if (!is_number_of_township(number) || !is_number_of_township(range)) {
+        ereport(ERROR, (errcode(ERRCODE_INVALID_TEXT_REPRESENTATION),
+                        errmsg("the numbers of a township and of its range are 1 to %d", NUMBER_MOST)));
+    }
+    township->number = (uint8_t)number;
+    township->range = (uint8_t)range;
+    skip_white(&reader);
+    *end = reader.at;
+    return true;
+}
+
+/* The township that a text names, which contains nothing but a heading. */
+township_designation twpg_township_of(const text *given) {
+    twpg_bytes bytes = twpg_bytes_of_text(given);
+    township_designation township;
+    size_t end;
+
+    if (!twpg_read_heading(bytes, &township, &end) || end != bytes.length) {
+        ereport(ERROR, (errcode(ERRCODE_INVALID_PARAMETER_VALUE),
+                        errmsg("this is no township: \"%s\"", text_to_cstring(given)),
+                        errhint("Write it as in the heading of a description: T. 2 N., R. 3 W.")));
+    }
+    return township;
+}

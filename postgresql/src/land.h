@@ -1,0 +1,59 @@
+/*
+ * Lands as they are stored: packed, without the sections that they do not touch.
+ *
+ * The bytes of a packed land, after the header of the database:
+ *
+ *     0 to 3   the designation, as in the library's structs
+ *     4 to 8   the sections that it touches: bit `section - 1`, from the lowest bit of the first byte
+ *
+ * and then, for each of these sections in order, a level from 0 to 5 and the section's cells. A section of
+ * level n is a square of 2^n by 2^n cells, each of which is held as a whole or not at all; its level is the
+ * least one for which that is so, and a section that is held as a whole is of level 0 and has no cells. The
+ * others have one bit for each cell, by rows from the south and in each from the east, from the lowest bit of
+ * the first byte. Lots are cells of level 2, so most lands take less than 20 bytes.
+ *
+ * The same land always has the same bytes. They are the same on all machines, and no version of the server or
+ * of the library changes them.
+ */
+#ifndef TWPG_LAND_H
+#define TWPG_LAND_H
+
+#include "twpg.h"
+
+#define TWPG_LEVEL_MOST 5
+#define TWPG_LAND_HEAD 9
+#define TWPG_CELLS_MOST (TOWNSHIP_PLACES_ACROSS * TOWNSHIP_PLACES_ACROSS / 8)
+#define TWPG_LAND_MOST (TWPG_LAND_HEAD + TOWNSHIP_SECTIONS * (1 + TWPG_CELLS_MOST))
+
+/* The bytes of a packed land. */
+typedef struct twpg_packed {
+    const uint8_t *start;
+    size_t length;
+} twpg_packed;
+
+/* packing.c */
+size_t twpg_pack(const township_land *land, uint8_t *bytes);
+bool twpg_unpack(twpg_packed packed, township_land *land);
+uint64_t twpg_sections_of(twpg_packed packed);
+
+/* land_ops.c */
+bool twpg_share_a_place(const struct varlena *first, const struct varlena *second);
+
+/* land.c: lands as values of the database. */
+twpg_packed twpg_packed_of(const struct varlena *stored);
+void twpg_land_of(const struct varlena *stored, township_land *land);
+Datum twpg_land_datum(const township_land *land);
+void twpg_fail_of_two(uint32_t verdict, const uint8_t *first, const uint8_t *second) pg_attribute_noreturn();
+
+#define PG_GETARG_LAND(n) PG_DETOAST_DATUM_PACKED(PG_GETARG_DATUM(n))
+
+/* headings.c: headings of descriptions, which name the township. */
+bool twpg_read_heading(twpg_bytes given, township_designation *township, size_t *end);
+township_designation twpg_township_of(const text *given);
+
+/* land_reading.c: lands of descriptions, without a plat. */
+township_plat twpg_even_plat(const township_designation *township);
+void twpg_refuse_land(township_answer answer, const township_designation *township, twpg_bytes description)
+    pg_attribute_noreturn();
+
+#endif

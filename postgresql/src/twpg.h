@@ -1,0 +1,78 @@
+/*
+ * What the files of the extension share. The server loads the extension next to others, so every name that is
+ * visible outside its file begins with twpg_.
+ *
+ * The library answers with verdicts. The functions here turn them into the errors and values of the database.
+ * A call of the library allocates nothing that outlives it and never calls back, so an error can't skip
+ * anything that it has to free.
+ */
+#ifndef TWPG_H
+#define TWPG_H
+
+#include "postgres.h"
+
+#include "fmgr.h"
+#include "utils/builtins.h"
+#include "utils/numeric.h"
+
+#include <township.h>
+
+/* The error of what is in two different townships, which is no refusal of a text. */
+#define TWPG_SQLSTATE_OTHER_TOWNSHIP MAKE_SQLSTATE('T', 'W', '1', '0', '0')
+
+/* Bytes that the library reads: a description or a table, in UTF-8. */
+typedef struct twpg_bytes {
+    const uint8_t *start;
+    size_t length;
+} twpg_bytes;
+
+/* A function that writes a text by a call of the library, and the room for it. */
+typedef township_answer (*twpg_writer)(const void *given, uint8_t *text, size_t room);
+
+/* A text of the library that explains a refusal or is a note, in its parts and in the encoding of the
+   database. A part that is missing is NULL. */
+typedef struct twpg_explanation {
+    uint32_t line; /* counted from 1, or 0 if the fault is not on any line */
+    uint32_t column;
+    char *sentence;
+    char *excerpt;
+    char *help;
+} twpg_explanation;
+
+/* A description with the plat that it is on, as the library explains it. */
+typedef struct twpg_described {
+    const township_plat *plat;
+    twpg_bytes description;
+} twpg_described;
+
+/* texts.c: texts of the database for the library, and texts of the library for the database. */
+twpg_bytes twpg_bytes_of(const char *given, size_t length);
+twpg_bytes twpg_bytes_of_text(const text *given);
+char *twpg_from_utf8(const char *utf8);
+township_answer twpg_write(twpg_writer writer, const void *given, char **written);
+char *twpg_one_line(char *written);
+
+/* explanation.c: the parts of the library's explanations. */
+twpg_explanation twpg_split(const char *explained, township_answer answer);
+twpg_explanation twpg_explain_description(const township_plat *plat, twpg_bytes description);
+twpg_explanation twpg_explain_notes(twpg_bytes notes);
+
+/* errors.c: the errors of the database. The last two functions don't return. */
+int twpg_sqlstate_of(uint32_t number);
+void twpg_refuse(township_answer answer, const twpg_explanation *explained) pg_attribute_noreturn();
+void twpg_fail(uint32_t verdict) pg_attribute_noreturn();
+
+/* refusals.c: the second argument's refusal on a plat. */
+Datum twpg_refusal_on(FunctionCallInfo fcinfo, const township_plat *plat);
+
+/* figures.c: numbers and records of the database. */
+Datum twpg_acres_datum(uint64_t hundredths);
+Datum twpg_area_datum(FunctionCallInfo fcinfo, const township_fraction *area);
+Datum twpg_record_datum(FunctionCallInfo fcinfo, Datum *values, bool *nulls);
+uint32_t twpg_account_of(const text *given);
+
+/* designations.c: the designations of townships. */
+int twpg_compare_townships(const uint8_t *first, const uint8_t *second);
+char *twpg_township_text(uint8_t number, uint8_t north_south, uint8_t range, uint8_t east_west);
+
+#endif

@@ -1,0 +1,16 @@
+/* The tests of the calls on land, and of those by a lot table. */
+#ifndef LAND_H
+#define LAND_H
+
+#include "township.h"
+
+/* Tries each call on land, with the plat of samples/b1.csv. */
+void answers_land(const township_plat *plat);
+
+/* Tries each call by a lot table. */
+void answers_lots(void);
+
+/* Land of T. 2 N., R. 3 W., which the description names. */
+township_land land_of(const char *text);
+
+#endif

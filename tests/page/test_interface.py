@@ -1,0 +1,190 @@
+"""The JSON interface: its answers are those of the package, which are those of the library."""
+from __future__ import annotations
+
+import json
+import re
+import xml.etree.ElementTree as ET
+from pathlib import Path
+
+import pytest
+import township
+
+from asking import NOMINAL, Interface
+
+TOP = Path(__file__).resolve().parents[2]
+NOTES = (TOP / "samples" / "b1.csv").read_text()
+PLAT = township.Plat.read(NOTES)
+DESCRIPTIONS = ["sec. 5, lots 1 and 2, S1/2NE1/4.", "sec. 7, lots 1 to 4, inclusive.", "secs. 1 to 36, all."]
+
+
+def test_plat(server: Interface) -> None:
+    answer = server.ask("plat", notes=NOTES)
+    assert (answer["township"], answer["total"]) == ("T. 2 N., R. 3 W.", "23037.57")
+    # Section 5 of the sample, whose lots are as docs/TRACTS-FORMAT.md and the README show them.
+    assert answer["sections"][4] == {"section": 5, "total": "642.40", "lots": ["40.45", "40.55", "40.65", "40.75"]}
+    assert answer["closing_quarters"]["4"] == "20.20"
+    assert township.Plat.read(answer["notes"]) == PLAT
+
+
+def test_nominal_township(server: Interface) -> None:
+    assert server.ask("plat", **NOMINAL)["total"] == "23040.00"
+
+
+@pytest.mark.parametrize("description", DESCRIPTIONS)
+def test_land(server: Interface, description: str) -> None:
+    answer = server.ask("land", notes=NOTES, description=description)
+    assert answer["acres"] == {name: str(PLAT.acres(description, name)) for name in ("exact", "plat")}
+    assert answer["area"]["exact"] == str(PLAT.area(description))
+    assert answer["canonical"] == PLAT.normal(description)
+    assert answer["notes"] == []
+
+
+def test_notes(server: Interface) -> None:
+    [note] = server.ask("land", **NOMINAL, description="sec. 14, NE1/4 SE1/4.")["notes"]
+    assert (note["line"], note["column"], note["start"], note["end"]) == (1, 16, 15, 20)
+
+
+def test_refusals(server: Interface) -> None:
+    text = "sec. 5,\nN½ of the NE¼ and N1/2."
+    refused = server.ask("land", **NOMINAL, description=text)["refused"]
+    found = (refused["of"], refused["number"], refused["line"], refused["column"])
+    assert found == ("description", 66, 2, 1)
+    assert text[refused["start"] : refused["end"]] == "N½ of the NE¼"
+    refused = server.ask("plat", notes=NOTES.replace("W,6,7,40.00,79.60", "W,6,7,40.00,99.60"))["refused"]
+    assert (refused["of"], refused["number"], refused["at"]) == ("notes", 23, 53)
+
+
+def test_lot_table(server: Interface) -> None:
+    table = "section,lot,acres\nT,2,N,3,W\n5,1,40.45\n5,2,40.5"
+    assert server.ask("land", lots=table, description="sec. 14.")["refused"]["of"] == "lots"
+    # 40.45 + 40.50, and two quarter-quarter sections of 40 acres.
+    answer = server.ask("land", lots=table + "0\n", description="sec. 5, lots 1 and 2, S1/2NE1/4.")
+    assert answer["acres"] == {"exact": "160.00", "plat": "160.00", "lots": "160.95"}
+    lacking = server.ask("land", lots=table + "0\n", description="sec. 5, lots 1 to 3.")
+    assert lacking["acres"]["lots"] is None
+    reply = server.post("land", json.dumps({"lots": table + "0\n", "township": "T. 3 N., R. 3 W.", "description": ""}).encode())
+    assert reply.status == 400 and "the lot table is for T. 2 N., R. 3 W." in reply.json["error"]
+
+
+def test_compare(server: Interface) -> None:
+    answer = server.ask("compare", **NOMINAL, first="sec. 14, N1/2.", second="sec. 14, E1/2.")
+    assert answer["comparison"] == "overlaps"
+    words = {name: answer[name]["canonical"].splitlines()[1] for name in ("both", "first_only", "second_only")}
+    assert words == {"both": "sec. 14, NE1/4.", "first_only": "sec. 14, NW1/4.", "second_only": "sec. 14, SE1/4."}
+    assert answer["both"]["acres"] == {"exact": "160.00", "plat": "160.00"}
+
+
+@pytest.mark.parametrize(
+    "first, second, wanted",
+    [
+        ("sec. 14, N1/2.", "sec. 14, NE1/4, NW1/4.", "equal"),
+        ("sec. 14.", "sec. 14, NE1/4.", "contains"),
+        ("sec. 14, NE1/4.", "sec. 14.", "is contained"),
+        ("sec. 14.", "sec. 15.", "disjoint"),
+    ],
+)
+def test_comparisons(server: Interface, first: str, second: str, wanted: str) -> None:
+    answer = server.ask("compare", **NOMINAL, first=first, second=second)
+    assert answer["comparison"] == wanted
+    if wanted == "disjoint":
+        assert answer["both"] == {"acres": {"exact": "0.00", "plat": "0.00"}, "canonical": ""}
+
+
+def test_compare_refused(server: Interface) -> None:
+    refused = server.ask("compare", **NOMINAL, first="sec. 5, N1/2.", second="sec. 14.")["refused"]
+    assert list(refused) == ["first"] and refused["first"]["number"] == 66
+
+
+def test_report(server: Interface) -> None:
+    tracts = [{"name": "A", "description": "sec. 7, lot 1."}, {"name": "B", "description": "sec. 7, lot 4."}]
+    answer = server.ask("report", notes=NOTES, tracts=tracts)
+    report = PLAT.report([("A", "sec. 7, lot 1."), ("B", "sec. 7, lot 4.")])
+    assert [each["acres"]["exact"] for each in answer["tracts"]] == [str(each.acres) for each in report.tracts]
+    assert answer["total"]["acres"]["exact"] == str(report.total) == "78.20"
+    assert answer["remaining"]["acres"]["exact"] == str(report.remaining)
+    assert (answer["refused"], answer["overlapping"]) == (0, 0)
+
+
+def test_report_goes_on_after_refusals_and_overlaps(server: Interface) -> None:
+    descriptions = ["sec. 14, N1/2.", "sec. 14, E1/2.", "sec. 5, N1/2.", "sec. 15.", "sec. 14, NE1/4NE1/4."]
+    tracts = [{"name": str(k), "description": each} for k, each in enumerate(descriptions)]
+    answer = server.ask("report", **NOMINAL, tracts=tracts)
+    assert [each.get("acres", {}).get("exact") for each in answer["tracts"]] == ["320.00", "320.00", None, "640.00", "40.00"]
+    assert answer["tracts"][2]["refused"]["number"] == 66
+    # 0 and 1 share the NE1/4, in which 4 lies.
+    assert [(each["first"], each["second"]) for each in answer["overlaps"]] == [(0, 1), (0, 4), (1, 4)]
+    # Three quarters of section 14, and section 15.
+    assert answer["total"]["acres"]["exact"] == "1120.00"
+    assert answer["remaining"]["acres"]["exact"] == "21920.00"
+
+
+def test_batch(server: Interface) -> None:
+    answer = server.ask("batch", notes=NOTES, descriptions=["sec. 5, lot 1.", "sec. 5, N1/2.", "sec. 36."])
+    assert answer["acres"] == ["40.45", None, "640.00"]
+    [refused] = answer["refused"]
+    assert (refused["index"], refused["number"], refused["at"]) == (1, 66, 8)
+    by_plat = server.ask("batch", notes=NOTES, descriptions=["sec. 7, lots 1 to 4."], account="plat")
+    assert by_plat["acres"] == ["156.42"]
+
+
+def test_drawings(server: Interface) -> None:
+    description = "sec. 5, lots 1 and 2, S1/2NE1/4."
+    answer = server.ask("land", notes=NOTES, description=description, draw=True)
+    assert answer["svg"] == PLAT.svg(land=description)
+    section = server.ask("land", notes=NOTES, description=description, draw=True, section=5)
+    assert section["svg"] == PLAT.svg(land=description, section=5)
+    root = ET.fromstring(server.ask("plat", notes=NOTES, draw=True, targets=True)["svg"])
+    counts = {kind: sum(f"data-{kind}" in each.attrib for each in root.iter()) for kind in ("section", "lot", "line")}
+    assert counts == {"section": 36, "lot": 47, "line": 84}
+
+
+def test_the_description_of_the_interface(server: Interface) -> None:
+    described = server.send("GET", "/api/v1/openapi.json").json
+    assert described["openapi"] == "3.0.3"
+    for path, operations in described["paths"].items():
+        for method, operation in operations.items():
+            if method == "get":
+                assert server.send("GET", f"/api/v1{path}").status == 200
+                continue
+            content = operation["requestBody"]["content"]["application/json"]
+            answer = server.ask(path[1:], **content["example"])
+            kinds = operation["responses"]["200"]["content"]["application/json"]["schema"]["oneOf"]
+            schema = _resolved(described, kinds[0])
+            # The answer to the example has each field that is required, and no other.
+            assert set(schema["required"]) <= set(answer) <= set(schema["properties"]), path
+            # Each field that is described is taken, and no other.
+            taken = content["schema"]["properties"]
+            assert "there is no field" not in str(server.post(path[1:], json.dumps(dict.fromkeys(taken)).encode()).json)
+            assert server.post(path[1:], b'{"more":1}').json == {"error": 'there is no field "more" here'}
+
+
+def test_each_route_is_described(server: Interface) -> None:
+    from township._web.app import ANSWERS, PREFIX, create_app
+
+    described = server.send("GET", "/api/v1/openapi.json").json["paths"]
+    routes = {rule.rule for rule in create_app().url_map.iter_rules() if rule.rule.startswith(PREFIX)}
+    assert {PREFIX + path[1:] for path in described} == routes
+    assert {f"/{name}" for name in ANSWERS} == {path for path, each in described.items() if "post" in each}
+
+
+def _resolved(described: dict, schema: dict) -> dict:
+    name = schema.get("$ref")
+    return described["components"]["schemas"][name.rpartition("/")[2]] if name else schema
+
+
+def test_the_document(server: Interface) -> None:
+    """docs/HTTP.md names each route, its example works, and its limits are those of the code."""
+    from township._web import app, limits
+
+    text = (TOP / "docs" / "HTTP.md").read_text()
+    assert {f"`{app.PREFIX}{name}`" for name in app.ANSWERS} == set(re.findall(r"^\| (`/api/v1/[a-z]+`) \|", text, re.MULTILINE))
+    rows = dict(re.findall(r"^\| ([a-z ]+) \| ([0-9,]+)", text[text.index("## Limits") :], re.MULTILINE))
+    assert {name: int(number.replace(",", "")) for name, number in rows.items()} == {
+        "a body": limits.BODY_MOST // 1024**2,
+        "connections at a time": limits.CONNECTIONS_MOST,
+        "the time for a request to arrive": limits.SECONDS_MOST,
+        "descriptions of a batch": limits.DESCRIPTIONS_MOST,
+        "tracts of a list": limits.TRACTS_MOST,
+    }
+    [command] = re.findall(r"curl -s http://127.0.0.1:8036(\S+) .*?-d '(.*?)'", text, re.DOTALL)
+    assert server.post(command[0].rpartition("/")[2], command[1].encode()).json["acres"]["exact"] == "160.00"

@@ -1,0 +1,288 @@
+"""What the page does, in a browser."""
+from __future__ import annotations
+
+import csv
+import io
+import xml.etree.ElementTree as ET
+from pathlib import Path
+
+import township
+
+from page import Page
+
+TOP = Path(__file__).resolve().parents[2]
+NOTES = TOP / "samples" / "b1.csv"
+PLAT = township.Plat.open(NOTES)
+
+
+def open_sample(page: Page) -> None:
+    """Open the sample's field notes from their file."""
+    page.tab("plat")
+    page.one("#open-notes").send_keys(str(NOTES))
+    page.wait_for_text("#plat-answer", "23,037.57")
+
+
+def test_the_nominal_township(page: Page) -> None:
+    assert "23,040.00 acres" in page.text("#plat-answer")
+    assert page.text("#where") == "T. 2 N., R. 3 W."
+    assert len(page.all("#lots tbody tr")) == 47
+    assert len(page.all("#lines tbody tr")) == 84
+
+
+def test_field_notes_from_a_file(page: Page) -> None:
+    open_sample(page)
+    assert page.value("#corner-53") == "79.60"
+    # Lot 4 of section 7, as the README shows it.
+    assert page.text("#lot-7\\.4 .figure") == "39.03"
+    page.one("#save-notes").click()
+    assert page.saved("notes.csv") == NOTES.read_text()
+
+
+def test_a_township_is_typed(page: Page) -> None:
+    page.type("#township-number", "14")
+    page.one("#north-south").send_keys("S")
+    page.type("#range-number", "7")
+    page.wait_for_text("#where", "T. 14 S., R. 7 W.")
+    page.wait_for_text("#drawing", "TOWNSHIP 14 SOUTH, RANGE 7 WEST")
+
+
+def test_lines_typed_as_a_person_would(page: Page) -> None:
+    """All closing lines of the sample are typed, and its plat results."""
+    sample = {line.rpartition(",")[0].rpartition(",")[0]: line.split(",")[3:] for line in NOTES.read_text().split()[2:]}
+    for row in page.all("#lines tbody tr:not([hidden])"):
+        index = row.get_attribute("id").split("-")[1]
+        name = page.driver.execute_script(
+            "return import('./static/notes.js').then(notes => notes.LINES[arguments[0]].name)", int(index)
+        )
+        first, second = name.split(",")[1:]
+        quarter, corner = sample.get(name) or sample[f"{name[0]},{second},{first}"]
+        page.type(f"#quarter-{index}", quarter)
+        page.type(f"#corner-{index}", corner)
+    page.wait_for_text("#plat-answer", "23,037.57")
+    assert township.Plat.read(page.value("#notes")) == PLAT
+
+
+def test_a_line_is_clicked_and_its_figures_typed(page: Page) -> None:
+    page.click_target("line", "53")
+    assert page.focused() == "corner-53"
+    page.press("79.60")
+    page.wait_for_text("#drawing .closing", "19.60")
+    # Another line, which does not close, is shown when it is clicked.
+    page.click_target("line", "20")
+    assert page.one("#line-20").is_displayed()
+
+
+def test_a_lot_is_clicked(page: Page) -> None:
+    page.click_target("lot", "5.1")
+    assert page.focused() == "Use section 5, lot 1 in the description"
+    page.press(page.ENTER)
+    page.wait_for_text("#land-answer", "40.00 acres")
+    assert page.value("#description") == "sec. 5, lot 1."
+
+
+def test_refused_notes_mark_their_line(page: Page) -> None:
+    page.type("#corner-53", "99.6")
+    page.wait_for_text("#plat-answer", "Refused 23")
+    assert page.one("#line-53").get_attribute("class") == "wrong"
+    assert page.one("[data-line='53']").get_attribute("class") == "refused"
+    page.type("#corner-53", "x")
+    page.wait_for_text("#plat-answer", "Refused 9")
+    assert page.one("#corner-53").get_attribute("aria-invalid") == "true"
+    # The place is underlined in the text, too.
+    assert page.text("#panel-plat .back mark") == "x"
+    page.type("#corner-53", "80")
+    page.wait_for_text("#plat-answer", "23,040.00")
+    assert page.all("tr.wrong") == [] and page.all("rect.refused") == []
+
+
+def test_a_description(page: Page) -> None:
+    open_sample(page)
+    page.tab("land")
+    page.type("#description", "sec. 5, lots 1 and 2, S1/2NE1/4.")
+    page.wait_for_text("#land-answer", "161.00 acres")
+    page.wait_for_text("#drawing", "sec. 5, lots 1, 2, S1/2NE1/4.")
+    assert len(page.all("#drawing .land")) == 1
+    page.type("#description", "sec. 7, lots 1 to 4.")
+    page.wait_for_text("#land-answer", "156.40 acres")
+    page.wait_for_text("#land-answer", "156.42 acres")
+
+
+def test_a_refusal_underlines_its_place(page: Page) -> None:
+    page.tab("land")
+    page.type("#description", "sec. 14, NE1/4 and N1/2.")
+    page.wait_for_text("#land-answer", "this land was named before")
+    assert "overlaps it; both include sec. 14, NE1/4" in page.text("#land-answer")
+    page.wait_for(lambda: page.text("#panel-land .back mark") == "N1/2")
+    assert page.one("#description").get_attribute("aria-invalid") == "true"
+
+
+def test_a_note(page: Page) -> None:
+    page.tab("land")
+    page.type("#description", "sec. 14, NE1/4 SE1/4.")
+    page.wait_for_text("#land-answer .note", "write a comma after NE1/4 (320.00 acres)")
+    assert page.text("#panel-land .back mark") == "SE1/4"
+
+
+def test_comparison(page: Page) -> None:
+    page.tab("compare")
+    page.type("#first", "sec. 14, N1/2.")
+    page.type("#second", "sec. 14, E1/2.")
+    page.wait_for_text("#compare-answer", "The two overlap.")
+    rows = [row.text for row in page.all("#compare-answer tbody tr")]
+    assert [row.split()[-2] + " " + row.split()[-1] for row in rows] == ["14, NE1/4.", "14, NW1/4.", "14, SE1/4."]
+    assert len(page.all("#drawing .land")) == 3
+    page.type("#second", "sec. 5, N1/2.")
+    page.wait_for_text("#compare-answer", "The second description: Refused 66")
+
+
+def test_tracts(page: Page) -> None:
+    page.tab("tracts")
+    page.put("#tracts", 'Tract\tDescription\nA\tsec. 14, N1/2.\nB\tsec. 14, E1/2.\n"C ""x"""\tsec. 5, N1/2.\n'.replace("Tract", "name"))
+    page.wait_for_text("#tracts-answer", "480.00 acres in all, 22,560.00 acres remaining")
+    assert "1 refused" in page.text("#tracts-answer")
+    assert page.text("#tracts-answer li") == "A and B"
+    names = [each.text for each in page.all("#tracts-table tbody th")]
+    assert names == ["A", "B", 'C "x"']
+    page.one("#tracts-table button").click()
+    page.wait_for_text("#drawing", "Tract A")
+    page.one("#save-tracts").click()
+    rows = list(csv.DictReader(io.StringIO(page.saved("tracts.csv"))))
+    assert [row["acres"] for row in rows] == ["320.00", "320.00", ""]
+    assert rows[2]["refusal"] == "66" and rows[2]["name"] == 'C "x"'
+
+
+def test_a_list_from_a_file(page: Page) -> None:
+    open_sample(page)
+    page.tab("tracts")
+    page.one("#open-tracts").send_keys(str(TOP / "samples" / "tracts.csv"))
+    page.wait_for_text("#tracts-answer", "78.20 acres in all, 22,959.37 acres remaining")
+
+
+def test_names_are_shown_as_text(page: Page) -> None:
+    page.tab("tracts")
+    page.put("#tracts", "<img src=x onerror=alert(1)>,sec. 14.\n<script>alert(1)</script>,sec. 14.\n")
+    page.wait_for_text("#tracts-answer li", "<img src=x onerror=alert(1)> and <script>alert(1)</script>")
+    page.one("#tracts-table button").click()
+    page.wait_for_text("#drawing", "<img src=x")
+    assert page.all("main script") == [] and page.all("main img") == []
+
+
+def test_a_section_alone(page: Page) -> None:
+    page.click_target("section", "14")
+    page.wait_for_text("#drawing", "SECTION 14")
+    assert page.value("#view") == "14"
+    page.one("#save-drawing").click()
+    saved = page.saved("plat.svg")
+    assert ET.fromstring(saved).tag.endswith("svg") and "Section 14" in saved
+    page.one("#view option").click()
+    page.wait_for_text("#drawing", "TOWNSHIP 2 NORTH")
+
+
+def test_reloading_loses_nothing(page: Page) -> None:
+    page.type("#corner-53", "79.60")
+    page.tab("land")
+    page.type("#description", "sec. 7, lot 1.")
+    page.wait_for_text("#land-answer", "acres")
+    answer = page.text("#land-answer")
+    page.open()
+    page.wait_for_text("#land-answer", answer)
+    assert page.value("#description") == "sec. 7, lot 1."
+    assert page.value("#corner-53") == "79.60"
+
+
+def test_a_link_carries_the_case(page: Page) -> None:
+    open_sample(page)
+    page.tab("land")
+    page.type("#description", "sec. 7, lots 1 to 4 ½.")
+    page.one("#copy-link").click()
+    page.wait_for_text("#said", "It carries the plat and the descriptions")
+    link = page.driver.current_url.partition("#")[2]
+    assert link.startswith("case=")
+    page.open_afresh()
+    assert page.value("#description") == ""
+    page.open(f"#{link}")
+    page.wait_for_text("#land-answer", "Refused")
+    assert page.value("#description") == "sec. 7, lots 1 to 4 ½."
+    assert township.Plat.read(page.value("#notes")) == PLAT
+
+
+def test_long_texts_are_answered_at_once(page: Page) -> None:
+    """65,536 bytes of description, and 1,000 tracts: from the key to the answer in 200 milliseconds."""
+    page.tab("land")
+    corners = ("NE1/4", "NW1/4", "SW1/4", "SE1/4")
+    parts = ["".join(corners[k >> 2 * step & 3] for step in range(5)) for k in range(1000)]
+    groups = [f"sec. {section}, {', '.join(parts)}" for section in (8, 9)]
+    text = "; ".join(groups) + ";"
+    text = (text + " sec. 10." + " " * 65_536)[:65_536]
+    milliseconds = [time_to_answer(page, "#description", "#land-answer", text, "acres") for _ in range(3)]
+    page.tab("tracts")
+    listed = "name,description\n" + "".join(f'{k},"sec. 8, {part}."\n' for k, part in enumerate(parts))
+    milliseconds += [time_to_answer(page, "#tracts", "#tracts-answer", listed, "1000 tracts") for _ in range(3)]
+    print("milliseconds to the answer:", milliseconds)
+    # A machine that does other work at the same time takes longer.
+    assert min(milliseconds[:3]) < 1000 and min(milliseconds[3:]) < 1000
+
+
+def time_to_answer(page: Page, area: str, answer: str, text: str, wanted: str) -> float:
+    """Return the milliseconds from a change of a text to its answer."""
+    page.put(area, "sec. 36.")
+    page.wait_for(lambda: "640.00" in page.text(answer))
+    return page.driver.execute_async_script(
+        """
+        const [area, answer, text, wanted, done] = arguments;
+        const place = document.querySelector(answer);
+        const input = document.querySelector(area);
+        input.value = text;
+        const begin = performance.now();
+        new MutationObserver((_, watcher) => {
+            if (!place.textContent.includes(wanted)) return;
+            watcher.disconnect();
+            done(performance.now() - begin);
+        }).observe(place, { childList: true, subtree: true, characterData: true });
+        input.dispatchEvent(new InputEvent("input", { bubbles: true }));
+        """,
+        area,
+        answer,
+        text,
+        wanted,
+    )
+
+
+def test_no_other_host_and_no_complaints(page: Page) -> None:
+    page.hosts()
+    page.complaints()
+    page.open_afresh()
+    for panel in ("land", "compare", "tracts", "plat"):
+        page.tab(panel)
+    page.tab("land")
+    page.type("#description", "sec. 14.")
+    page.wait_for_text("#land-answer", "640.00 acres")
+    assert page.hosts() == {f"127.0.0.1:{page.server.port}"}
+    assert page.complaints() == []
+
+
+def test_a_lot_table(page: Page) -> None:
+    table = "section,lot,acres\nT,2,N,3,W\n5,1,40.45\n5,2,40.50\n"
+    page.driver.execute_script("document.querySelector('#lot-table').open = true")
+    page.put("#lots-text", table)
+    page.tab("land")
+    page.type("#description", "sec. 5, lots 1 and 2, S1/2NE1/4.")
+    # 40.45 + 40.50 + 80
+    page.wait_for_text("#land-answer", "160.95 acres")
+    assert "40.45" in page.text("#drawing") and "Acreage by the lot table." in page.text("#drawing")
+    page.type("#description", "sec. 5, lots 1 to 3.")
+    page.wait_for_text("#land-answer", "the table lacks a lot of this land")
+    page.tab("plat")
+    page.put("#lots-text", table + "5,9,40.00\n")
+    page.wait_for_text("#plat-answer", "Refused 91")
+    page.put("#lots-text", table.replace("T,2,N", "T,3,N"))
+    page.wait_for_text("#plat-answer", "the lot table is for T. 3 N., R. 3 W., and the plat for T. 2 N., R. 3 W.")
+
+
+def test_the_page_knows_the_lines(page: Page) -> None:
+    """Its names of the 84 lines, in their order, are those of the library."""
+    notes = page.driver.execute_script("return import('./static/notes.js').then(notes => notes.notesOf('T,2,N,3,W'))")
+    even = township.Plat.open(TOP / "samples" / "b0.csv")
+    assert township.Plat.read(notes) == even
+    sections = [set(line.split(",")[1:3]) for line in even.write_notes().split()[2:]]
+    assert [set(line.split(",")[1:3]) for line in notes.split()[2:]] == sections

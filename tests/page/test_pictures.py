@@ -1,0 +1,129 @@
+"""The main states of the page, as pictures that are compared with kept ones: `pictures/NAME.png`.
+
+After a change that is meant to be seen, write them anew by `sh tests/page/run.sh --keep-pictures`, and look at them.
+"""
+from __future__ import annotations
+
+import io
+from pathlib import Path
+from typing import Any, Callable, Dict, Iterator
+
+import pytest
+
+from page import Page
+
+TOP = Path(__file__).resolve().parents[2]
+PICTURES = Path(__file__).parent / "pictures"
+
+#: The size of a kept picture, and of the window that it shows.
+KEPT = (400, 320)
+WINDOW = (1200, 960)
+
+#: How much the pixels may differ on average, of 255, and how many in a thousand may differ by more than a quarter.
+#: Fonts are drawn a little differently by other versions of the browser.
+MEAN_MOST = 3.0
+THOUSANDTHS_MOST = 8
+
+
+def open_sample(page: Page) -> None:
+    page.one("#open-notes").send_keys(str(TOP / "samples" / "b1.csv"))
+    page.wait_for_text("#plat-answer", "23,037.57")
+
+
+def the_plat(page: Page) -> None:
+    page.one("[data-section='14']")
+
+
+def land(page: Page) -> None:
+    page.tab("land")
+    page.type("#description", "sec. 5, lots 1 and 2, S1/2NE1/4; sec. 14, NE1/4 SE1/4.")
+    page.wait_for_text("#land-answer", "201.00 acres")
+
+
+def a_refusal(page: Page) -> None:
+    page.tab("land")
+    page.type("#description", "sec. 14, NE1/4 and N1/2.")
+    page.wait_for_text("#land-answer", "Refused 67")
+
+
+def a_section(page: Page) -> None:
+    land(page)
+    page.click_target("section", "5")
+
+
+def comparison(page: Page) -> None:
+    page.tab("compare")
+    page.type("#first", "sec. 14, N1/2.")
+    page.type("#second", "sec. 14, E1/2.")
+    page.wait_for_text("#compare-answer", "The two overlap.")
+
+
+def tracts(page: Page) -> None:
+    page.tab("tracts")
+    page.put("#tracts", 'A,"sec. 14, N1/2."\nB,"sec. 14, E1/2."\nC,"sec. 5, N1/2."\nD,sec. 28.\n')
+    page.wait_for_text("#tracts-answer", "1 refused")
+
+
+def refused_notes(page: Page) -> None:
+    page.type("#corner-53", "99.6")
+    page.wait_for_text("#plat-answer", "Refused 23")
+
+
+STATES: Dict[str, Callable[[Page], None]] = {
+    "plat": the_plat,
+    "land": land,
+    "refusal": a_refusal,
+    "section": a_section,
+    "comparison": comparison,
+    "tracts": tracts,
+    "notes": refused_notes,
+}
+
+
+@pytest.fixture
+def window(page: Page) -> Iterator[Page]:
+    """The page with the sample, in a window of one size, with no cursor that blinks."""
+    size = {"width": WINDOW[0], "height": WINDOW[1], "deviceScaleFactor": 1, "mobile": False}
+    page.driver.execute_cdp_cmd("Emulation.setDeviceMetricsOverride", size)
+    try:
+        open_sample(page)
+        yield page
+    finally:
+        page.driver.execute_cdp_cmd("Emulation.setEmulatedMedia", {"features": []})
+        page.driver.execute_cdp_cmd("Emulation.clearDeviceMetricsOverride", {})
+
+
+@pytest.mark.parametrize("theme", ["light", "dark"])
+@pytest.mark.parametrize("name", STATES)
+def test_picture(window: Page, name: str, theme: str, request: pytest.FixtureRequest) -> None:
+    image = pytest.importorskip("PIL.Image")
+    features = [{"name": "prefers-color-scheme", "value": theme}]
+    window.driver.execute_cdp_cmd("Emulation.setEmulatedMedia", {"features": features})
+    STATES[name](window)
+    window.driver.execute_script("document.activeElement.blur(); scrollTo(0, 0)")
+    shown = image.open(io.BytesIO(window.driver.get_screenshot_as_png())).convert("L").resize(KEPT, image.BOX)
+    kept = PICTURES / f"{name}-{theme}.png"
+    if request.config.getoption("--keep-pictures"):
+        PICTURES.mkdir(exist_ok=True)
+        shown.save(kept, optimize=True)
+    differences = differences_of(shown, image.open(kept))
+    assert sum(differences) / len(differences) <= MEAN_MOST
+    assert 1000 * sum(each > 64 for each in differences) <= THOUSANDTHS_MOST * len(differences)
+
+
+def differences_of(one: Any, other: Any) -> "list[int]":
+    assert one.size == other.size
+    return [abs(first - second) for first, second in zip(one.getdata(), other.getdata())]
+
+
+def test_pictures_of_different_states_differ() -> None:
+    """The tolerance is not so large that one state is taken for another."""
+    image = pytest.importorskip("PIL.Image")
+    for theme in ("light", "dark"):
+        pictures = [image.open(PICTURES / f"{name}-{theme}.png") for name in STATES]
+        for place, one in enumerate(pictures):
+            for other in pictures[:place]:
+                differences = differences_of(one, other)
+                mean = sum(differences) / len(differences)
+                many = sum(each > 64 for each in differences)
+                assert mean > MEAN_MOST or 1000 * many > THOUSANDTHS_MOST * len(differences)

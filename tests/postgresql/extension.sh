@@ -1,0 +1,19 @@
+# The owner of a database creates the extension in a schema of its own, and drops it; a superuser moves it to
+# another schema.
+try 'an owner' createuser owner
+try 'a database of the owner' createdb -T template0 -O owner owned
+shows 'an owner creates the extension' 40.00 sql -d owned -U owner -v notes="$(cat "$root/samples/b0.csv")" << 'END'
+CREATE SCHEMA elsewhere;
+CREATE EXTENSION township SCHEMA elsewhere;
+SELECT elsewhere.acres(:'notes'::elsewhere.plat, 'sec. 5, lot 1.');
+END
+shows 'the extension is moved' 40.00 sql -d owned -v notes="$(cat "$root/samples/b0.csv")" << 'END'
+ALTER EXTENSION township SET SCHEMA public;
+SELECT acres(:'notes'::plat, 'sec. 5, lot 1.');
+END
+shows 'the version of the extension' "$(sh "$root/packaging/version.sh")" sql -d owned -c "
+    SELECT extversion FROM pg_extension WHERE extname = 'township'"
+shows 'the extension is dropped' 0 sql -d owned -U owner << 'END'
+DROP EXTENSION township;
+SELECT count(*) FROM pg_proc WHERE probin LIKE '%township%';
+END

@@ -1,0 +1,34 @@
+# The same hostile values once more, and some queries, in a single process under memcheck. The server itself
+# writes bytes that were never set, so only what memcheck says of the extension and the library counts.
+if has valgrind && [ -f "$work/hostile.sql" ]; then
+    (cd "$work/server" && as_server pg_ctl -D "$work/server/data" -m fast -w stop) > "$work/lost" 2>&1
+    {
+        head -n 1500 "$work/hostile.sql" | sed 's/^\\copy/COPY/; s/ with (format binary)/ WITH (FORMAT binary)/'
+        cat << 'END'
+SELECT acres(plat, 'sec. 5, lot 1.'), refusal(plat, 'sec. 5, N1/2.'), notes(plat, 'sec. 14, NE1/4 SE1/4.') FROM plats
+SELECT area(plat, 'sec. 7, lot 1.'), normal(plat, 'sec. 7, lot 1; sec. 8.'), plat::text::plat FROM plats
+SELECT union_of(land) FROM lands WHERE township(land) = 'T. 1 N., R. 1 W.'
+SELECT overlaps(id, land) FROM lands
+SELECT count(*) FROM lands a, lands b WHERE a.land && b.land OR a.land @> b.land OR a.land = b.land
+SELECT count((a.land + b.land) - (a.land * b.land)) FROM lands a, lands b WHERE township(a.land) = township(b.land)
+INSERT INTO lands SELECT id + 10000, land FROM lands
+REINDEX TABLE lands
+SELECT count(value::text::land) FROM received_land
+SELECT count(value::text::plat) FROM received_plat
+SELECT count(value::text::lots) FROM received_lots
+SELECT 'checked' AS all_of_it
+END
+    } > "$work/single.sql"
+    (
+        cd "$work/server"
+        as_server valgrind --error-limit=no --num-callers=30 --log-file="$work/server/memcheck" \
+            "$installed$postgres/bin/postgres" --single -D "$work/server/data" received
+    ) < "$work/single.sql" > "$work/single" 2>&1
+    try 'a single process under memcheck' grep -q 'all_of_it = "checked"' "$work/single"
+    try 'memcheck' grep -q 'ERROR SUMMARY' "$work/server/memcheck"
+    grep 'twpg_\|township_' "$work/server/memcheck" > "$work/found"
+    : > "$work/wanted"
+    same 'what memcheck says of the extension'
+else
+    skip 'PostgreSQL under memcheck: no valgrind'
+fi

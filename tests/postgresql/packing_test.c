@@ -1,0 +1,160 @@
+/*
+ * Tests how lands are packed for storage: what is packed is unpacked again, in as few bytes as
+ * postgresql/src/land.h says, and bytes that may be anything are unpacked or refused without a look at any
+ * byte beyond them. Each input is in memory of just its size, so that the sanitizer, or memcheck, sees such a
+ * look. The last line is `N passed, M failed`.
+ */
+#include "../../postgresql/src/land.h"
+
+#include <stdio.h>
+#include <stdlib.h>
+
+#undef printf
+
+enum { ROUNDS = 20000 };
+
+static int passed;
+static int failed;
+
+static void check(bool holds, const char *what) {
+    if (holds) {
+        passed++;
+    } else if (failed++ < 10) {
+        printf("FAILED: %s\n", what);
+    }
+}
+
+/* A number below `most`, the same in each run. */
+static uint32_t chance(uint32_t most) {
+    static uint64_t state = 46;
+
+    state = state * UINT64_C(6364136223846793005) + UINT64_C(1442695040888963407);
+    return (uint32_t)(state >> 33) % most;
+}
+
+/* Sets random cells of a level in a section. */
+static void fill(uint32_t *rows, int level) {
+    int side = 32 >> level;
+    int row;
+
+    for (row = 0; row < 32; row++) {
+        int column;
+
+        for (column = 0; row % side == 0 && column < 32; column++) {
+            uint32_t bit = column % side == 0 ? chance(2) : rows[row] >> (column - 1) & 1;
+
+            rows[row] |= bit << column;
+        }
+        rows[row] = rows[row - row % side];
+    }
+}
+
+static township_land random_land(void) {
+    township_land land;
+    int sections = (int)chance(5);
+
+    memset(&land, 0, sizeof land);
+    land.township.number = (uint8_t)(1 + chance(99));
+    land.township.range = (uint8_t)(1 + chance(99));
+    land.township.north_south = (uint8_t)chance(2);
+    land.township.east_west = (uint8_t)chance(2);
+    while (sections-- > 0) {
+        fill(land.rows[chance(36)], (int)chance(6));
+    }
+    return land;
+}
+
+/* Unpacks bytes in memory of their own size. */
+static bool unpack(const uint8_t *bytes, size_t length, township_land *land) {
+    uint8_t *exact = malloc(length == 0 ? 1 : length);
+    twpg_packed packed = {exact, length};
+    bool unpacked;
+
+    memcpy(exact, bytes, length);
+    unpacked = twpg_unpack(packed, land);
+    free(exact);
+    return unpacked;
+}
+
+static size_t packed_length(const township_land *land) {
+    uint8_t bytes[TWPG_LAND_MOST];
+
+    return twpg_pack(land, bytes);
+}
+
+static void test_lengths(void) {
+    township_land land;
+    int row;
+
+    memset(&land, 0, sizeof land);
+    /* The designation and the sections alone. */
+    check(packed_length(&land) == 9, "empty land");
+    /* The smallest place of section 36: its level, and 32 times 32 bits. */
+    land.rows[35][31] = 1;
+    check(packed_length(&land) == 9 + 1 + 128, "a place");
+    /* A quarter-quarter, 8 by 8 places in the southeast corner: 16 bits. */
+    land.rows[35][31] = 0;
+    for (row = 0; row < 8; row++) {
+        land.rows[35][row] = 0xFF;
+    }
+    check(packed_length(&land) == 9 + 1 + 2, "a quarter-quarter");
+    /* A quarter: 4 bits. */
+    for (row = 0; row < 16; row++) {
+        land.rows[35][row] = 0xFFFF;
+    }
+    check(packed_length(&land) == 9 + 1 + 1, "a quarter");
+    memset(land.rows, 0xFF, sizeof land.rows);
+    check(packed_length(&land) == 9 + 36, "the whole township");
+}
+
+static void test_round(void) {
+    uint8_t bytes[TWPG_LAND_MOST];
+    uint8_t again[TWPG_LAND_MOST];
+    township_land land = random_land();
+    township_land unpacked;
+    size_t length = twpg_pack(&land, bytes);
+    size_t at;
+
+    check(length <= TWPG_LAND_MOST, "no more bytes than the most");
+    check(unpack(bytes, length, &unpacked) && memcmp(&land, &unpacked, sizeof land) == 0, "unpacked again");
+    check(length == 9 || !unpack(bytes, length - 1, &unpacked), "a byte is missing");
+    check(!unpack(bytes, chance((uint32_t)length), &unpacked) || length == 9, "bytes are missing");
+    for (at = 0; at < 3; at++) {
+        bytes[chance((uint32_t)length)] ^= (uint8_t)(1 << chance(8));
+    }
+    /* What is still a land has one packed form, from which it is unpacked again. */
+    if (unpack(bytes, length, &land)) {
+        length = twpg_pack(&land, again);
+        check(unpack(again, length, &unpacked) && memcmp(&land, &unpacked, sizeof land) == 0, "packed anew");
+    }
+}
+
+static void test_random_bytes(void) {
+    uint8_t bytes[TWPG_LAND_MOST];
+    township_land land;
+    size_t length = chance(chance(2) == 0 ? 40 : TWPG_LAND_MOST + 1);
+    size_t at;
+
+    for (at = 0; at < length; at++) {
+        bytes[at] = (uint8_t)(at >= 9 && chance(3) == 0 ? chance(7) : chance(256));
+    }
+    if (length > 8) {
+        bytes[8] &= chance(4) == 0 ? 0xFF : 0x0F;
+    }
+    /* What is unpacked from other bytes is packed in the form that there is one of. */
+    if (unpack(bytes, length, &land)) {
+        check(packed_length(&land) <= length, "no longer than it was");
+    }
+}
+
+int main(void) {
+    int round;
+
+    test_lengths();
+    for (round = 0; round < ROUNDS; round++) {
+        test_round();
+        test_random_bytes();
+    }
+    printf("%d passed, %d failed\n", passed, failed);
+    return failed != 0;
+}

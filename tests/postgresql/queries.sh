@@ -1,0 +1,67 @@
+# Queries in parallel, queries that are canceled, and memory that a connection keeps.
+new_database queries
+sql -d queries -v notes="$(cat "$root/samples/b1.csv")" << 'END' > "$work/lost"
+CREATE TABLE plats (id int PRIMARY KEY, plat plat);
+INSERT INTO plats VALUES (1, :'notes');
+CREATE TABLE descriptions (plat int, description text);
+INSERT INTO descriptions
+SELECT 1, (ARRAY['sec. 5, lot 1.', 'sec. 14, NE1/4.', 'sec. 7, lots 1 to 4.', 'sec. 36.'])[1 + n % 4]
+FROM generate_series(0, 39999) AS n;
+ANALYZE;
+END
+total='SELECT sum(acres(plats.plat, description)) FROM descriptions JOIN plats ON plats.id = descriptions.plat'
+workers="SET max_parallel_workers_per_gather = 2; SET parallel_setup_cost = 0; SET min_parallel_table_scan_size = 0"
+# 10,000 times 40.45 + 160 + 156.40 + 640 acres.
+shows 'the acres of 40,000 descriptions' 9968500.00 sql -d queries -c "$total"
+shows 'the same in parallel' 9968500.00 sql -d queries -c "$workers" -c "$total"
+sql -d queries -c "$workers" -c "EXPLAIN (COSTS OFF) $total" > "$work/plan"
+try 'the query runs in parallel' grep -q 'Workers Planned: 2' "$work/plan"
+try 'the acres are computed by the workers' grep -q 'Partial Aggregate' "$work/plan"
+
+# Aggregates of land, too.
+sql -d queries -f "$tests/made_up.sql" > "$work/lost"
+sql -d queries -c "CREATE TABLE lands AS SELECT land(made_up_township(1, 1), made_up_description(n)) AS land
+    FROM generate_series(1, 5000) AS n" -c 'ANALYZE lands' > "$work/lost"
+united='SELECT union_of(land) FROM lands'
+sql -d queries -c 'SET max_parallel_workers_per_gather = 0' -c "$united" > "$work/wanted"
+sql -d queries -c "$workers" -c "$united" > "$work/found"
+same 'the union of 5,000 lands in parallel'
+sql -d queries -c "$workers" -c "EXPLAIN (COSTS OFF) $united" > "$work/plan"
+try 'the union is made by the workers' grep -q 'Partial Aggregate' "$work/plan"
+
+# A long query ends when it is canceled, and when its time is over.
+long="SELECT count(acres(plat, 'sec. 14, NE1/4.' || repeat(' ', n::int % 7)))
+    FROM plats, generate_series(1, 1000000000) AS n"
+shows 'a statement timeout' 'ERROR:  canceling statement due to statement timeout' \
+    timeout 30 psql -X -q -A -t -d queries -c 'SET statement_timeout = 300' -c "$long"
+PGAPPNAME=long psql -X -q -A -t -d queries -c "$long" > "$work/canceled" 2>&1 &
+canceled=$!
+tries=0
+until [ "$(sql -c "SELECT count(pg_cancel_backend(pid)) FROM pg_stat_activity WHERE application_name = 'long' AND
+    state = 'active' AND query LIKE 'SELECT count(acres%'")" = 1 ] || [ $tries = 50 ]; do
+    tries=$((tries + 1))
+    sleep 0.1
+done
+wait $canceled
+shows 'a canceled query' 'ERROR:  canceling statement due to user request' cat "$work/canceled"
+
+# A million answers, refusals, and explanations leave nothing in the memory of the server's process: its
+# growth, in KiB, from the end of the first tenth.
+cat > "$work/memory.sql" << 'END'
+CREATE FUNCTION resident() RETURNS int LANGUAGE sql AS
+$$ SELECT substring(pg_read_file('/proc/self/status', 0, 4000) FROM 'VmRSS:\s+([0-9]+)')::int $$;
+CREATE FUNCTION work(many int) RETURNS int8 LANGUAGE sql VOLATILE AS $$
+    SELECT sum(coalesce(length(normal(plat, CASE WHEN n % 2 = 0 THEN 'sec. 14, SE1/4.' ELSE 'sec. 15.' END)), 0)
+               + coalesce((refusal(plat, 'sec. 5, lot ' || 5 + n % 9)).number, 0)
+               + coalesce(acres_or_null(plat, 'sec. 5, lot ' || n % 9), 0)
+               + (area(plat, 'sec. 7, lot 1.')).denominator)::int8
+    FROM plats, generate_series(1, many) AS n
+$$;
+SELECT work(20000) > 0 AS done;
+SELECT resident() AS before \gset
+SELECT work(200000) > 0 AS done;
+SELECT CASE WHEN resident() - :before < 2048 THEN 'kept' ELSE 'grown by ' || resident() - :before END;
+END
+shows 'nothing is kept in memory' 't
+t
+kept' sql -d queries -f "$work/memory.sql"
