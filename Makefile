@@ -1,6 +1,6 @@
 # What each command does, and when to use it, is said in CONTRIBUTING.md. `make help` prints the lines that begin
 # with two number signs: each target has one.
-.PHONY: help run township try test e2e check bugs bench lib dist install install-built install-lib man trust clean
+.PHONY: help run township try test e2e descriptions check bugs bench lib dist install install-built install-lib man trust clean
 
 # Where `make install` puts the program, its man page, the completions, and the library with its header: in the
 # folders bin, share, lib and include. With DESTDIR they are put below another root.
@@ -43,6 +43,11 @@ test:
 e2e: township
 	@cd crates/twp_trials && rt run -- write-acres 3905 2 > /dev/null
 	@sh tests/e2e.sh
+
+## descriptions   build the programs, and measure which descriptions, as people write them, have the right reading
+descriptions: township
+	@cd crates/twp_readings && rt run > /dev/null
+	@python3 tests/descriptions/suggested.py
 
 ## check          prove all crates, and nothing else
 check:

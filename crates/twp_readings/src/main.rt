@@ -1,0 +1,82 @@
+//! Prints the readings of descriptions. Standard input has a description on each line, with `\n` for a line feed and
+//! `\t` for a tab. For each, a line with the number of its readings is printed, and each reading: its text on a line, and
+//! a line for each of its assumptions.
+#![tactic(auto)]
+
+use std::io::{self, Read};
+use twp_excerpt::write_escaped;
+use twp_suggest::{Change, Rule, readings_of};
+
+fn main(rt: HostRuntime) -> io::Result<()> {
+    let input = read_input(&rt)?;
+    let mut line = Vec::new(rt.alloc());
+    let mut is_escape = false;
+    for byte in input.as_slice() {
+        match *byte {
+            b'\n' => {
+                print_readings(&rt, line.as_slice())?;
+                line = Vec::new(rt.alloc());
+            }
+            b'n' if is_escape => line.push(b'\n')?,
+            b't' if is_escape => line.push(b'\t')?,
+            b'\\' if !is_escape => {}
+            other => {
+                if is_escape {
+                    line.push(b'\\')?;
+                }
+                line.push(other)?;
+            }
+        }
+        is_escape = *byte == b'\\' && !is_escape;
+    }
+    Ok(())
+}
+
+/// The bytes of standard input, at most 4 MiB.
+fn read_input(rt: &HostRuntime) -> io::Result<Vec<u8>> {
+    let mut input = Vec::new(rt.alloc());
+    let mut reader = rt.reader();
+    let mut piece = [0; 4_096];
+    for _ in 0..1_024 {
+        let count = reader.read(&mut piece)?;
+        if count == 0 {
+            break;
+        }
+        input.extend_from_slice(&piece[..count])?;
+    }
+    Ok(input)
+}
+
+/// Prints the readings of a description.
+fn print_readings(rt: &HostRuntime, text: &[u8]) -> io::Result<()> {
+    let readings = readings_of(rt.alloc(), text)?;
+    rt.println(readings.len())?;
+    for reading in readings.as_slice() {
+        print_escaped(rt, reading.text.as_slice().trim_ascii())?;
+        for change in reading.changes.as_slice() {
+            print_assumption(rt, text, change)?;
+        }
+    }
+    Ok(())
+}
+
+/// Prints what a change leaves out, if that is an assumption.
+fn print_assumption(rt: &HostRuntime, text: &[u8], change: &Change<'_>) -> io::Result<()> {
+    let what = match change.rule {
+        Rule::Meridian => "of another meridian, this would be other land",
+        Rule::Acreage => "acreage isn't compared",
+        Rule::Label => "this isn't land",
+        _ => return Ok(()),
+    };
+    let mut shown = String::new(rt.alloc());
+    let left_out = text.get(change.start..change.end).unwrap_or(b"");
+    write_escaped(left_out.trim_ascii(), &mut shown)?;
+    println!(rt; "  without `{shown}`: {what}")
+}
+
+/// Prints a text on a line.
+fn print_escaped(rt: &HostRuntime, text: &[u8]) -> io::Result<()> {
+    let mut shown = String::new(rt.alloc());
+    write_escaped(text, &mut shown)?;
+    rt.println(shown.as_str())
+}

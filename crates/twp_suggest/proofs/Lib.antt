@@ -1,0 +1,4 @@
+pub mod SameTexts
+pub mod ChangeFacts
+pub mod ClearFacts
+pub mod ReadingFacts

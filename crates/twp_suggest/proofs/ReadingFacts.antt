@@ -1,0 +1,59 @@
+-- Lists of readings, over plain values.
+use Rattle.std.proofs.Common.{◌≡◌, ◌<◌, ℕ, List, [], ◌∷◌, ◌++◌, length, All, refl, sym}
+use Rattle.std.proofs.Common.{subst, arith}
+use Rattle.std.proofs.Common.{length-append, IsTrue, false, ◌↔◌}
+use Rattle.std.proofs.lemmas.Bool.{false≢true}
+use Rattle.std.proofs.lemmas.List.Elements.{All-nil, All-push, All-cons}
+use Rattle.std.proofs.lemmas.List.Quantifiers.{all_pairs_push}
+use Rattle.twp_suggest.specs.declared.reading.Reading.{Reading}
+use Rattle.twp_suggest.specs.Readings.{AreSomeReadings, AreReadings, IsReading, IsClear, AreOther}
+use Rattle.twp_suggest.specs.Readings.{READINGS_MOST}
+
+-- none
+pub no_readings : (text : List ℕ) → AreSomeReadings text []
+no_readings text = record {
+  each = All-nil (IsReading text);
+  apart = λ i j d before within. absurd (omega arith);
+  few = omega arith;
+}
+
+-- none, of a text that isn't clear
+pub none_of : (text : List ℕ) → (IsTrue false ↔ IsClear text) → AreReadings text []
+none_of text clear =
+    record { some = no_readings text; itself = λ is. absurd (false≢true (clear.1 is)) }
+
+-- some, of a text that isn't clear
+pub some_of : (text : List ℕ) (readings : List Reading) → (IsTrue false ↔ IsClear text)
+    → AreSomeReadings text readings → AreReadings text readings
+some_of text readings clear some =
+    record { some = some; itself = λ is. absurd (false≢true (clear.1 is)) }
+
+-- one more
+pub one_more : (text : List ℕ) (before after : List Reading) (new : Reading)
+    → AreSomeReadings text before → IsReading text new → All (λ reading. AreOther reading new) before
+    → length before < READINGS_MOST → after ≡ before ++ new ∷ [] → AreSomeReadings text after
+one_more text before after new some is other room all =
+    subst (AreSomeReadings text) (sym all) (record {
+      each = All-push (IsReading text) before new some.each is;
+      apart = all_pairs_push AreOther before new some.apart other;
+      few = rw (length-append before (new ∷ [])) (omega arith);
+    })
+
+-- the text itself
+pub only_itself : (text : List ℕ) (readings : List Reading) (reading : Reading) → IsClear text
+    → reading.changes.items ≡ [] → reading.text.items ≡ text → readings ≡ reading ∷ []
+    → AreReadings text readings
+only_itself text readings reading clear unchanged same one =
+    let is : IsReading text reading = record {
+      allowed = rw unchanged (omega arith);
+      made = rw unchanged same;
+      accepted = rw same clear.accepted;
+    } in
+    subst (AreReadings text) (sym one) (record {
+      some = record {
+        each = All-cons (IsReading text) reading [] is (All-nil (IsReading text));
+        apart = λ i j d before within. absurd (omega arith);
+        few = omega arith;
+      };
+      itself = λ _. record { reading = reading; one = refl; unchanged = unchanged; same = same };
+    })

@@ -1,0 +1,294 @@
+//! How the phrases of a text go together: which land belongs to which section, and what is left out or moved.
+
+use crate::draft::{Draft, Form, Names, Phrase};
+use crate::pieces::plus;
+use crate::rule::Rule;
+use std::alloc::{AllocError, Global};
+use twp_grammar::Kind;
+
+/// What becomes of a phrase.
+#[derive(Clone, Copy, PartialEq, Eq)]
+pub(crate) enum Role {
+    /// It stays, in the group of a section, which is counted.
+    Kept(usize),
+    /// It is left out by a rule.
+    LeftOut(Rule),
+}
+
+/// A phrase with what becomes of it.
+#[derive(Clone, Copy)]
+pub(crate) struct Placed {
+    pub(crate) phrase: Phrase,
+    pub(crate) role: Role,
+    /// The phrase that is written before it, which names its section, and is left out where it is.
+    pub(crate) section: Option<Phrase>,
+}
+
+/// A group of land: the section, and what is known of its land so far.
+#[derive(Clone, Copy)]
+struct Group {
+    section: Phrase,
+    has_land: bool,
+    has_part: bool,
+}
+
+impl<'a> Draft<'a> {
+    /// The phrases with what becomes of them.
+    pub(crate) fn arranged(&mut self, alloc: Global) -> Result<Vec<Placed>, AllocError> {
+        let mut list = Vec::new(alloc);
+        for phrase in &self.phrases {
+            let role = match phrase.names {
+                Names::Nothing(rule) => Role::LeftOut(rule),
+                _ => Role::Kept(0),
+            };
+            list.push(Placed {
+                phrase: *phrase,
+                role,
+                section: None,
+            })?;
+        }
+        self.place_headings(&mut list);
+        match self.first_of_land() {
+            Some(Names::Sections) => self.place_land_after(&mut list),
+            Some(_) => self.place_land_before(&mut list),
+            None => self.doubt(),
+        }
+        Ok(list)
+    }
+
+    /// What the first phrase of a section and its land names.
+    fn first_of_land(&self) -> Option<Names> {
+        for phrase in &self.phrases {
+            if !matches!(phrase.names, Names::Nothing(_) | Names::Heading) {
+                return Some(phrase.names);
+            }
+        }
+        None
+    }
+
+    /// Leaves out each township and range but the first phrase, and doubts different ones.
+    fn place_headings(&mut self, list: &mut Vec<Placed>) {
+        let mut first: Option<Phrase> = None;
+        let mut is_first = true;
+        let mut differ = false;
+        for placed in list.iter_mut() {
+            if placed.phrase.names == Names::Heading {
+                match first {
+                    None => first = Some(placed.phrase),
+                    Some(other) => differ = differ || !self.are_same_headings(other, placed.phrase),
+                }
+                if !is_first {
+                    placed.role = Role::LeftOut(Rule::MovedHeading);
+                }
+            }
+            if !matches!(placed.phrase.names, Names::Nothing(_)) {
+                is_first = false;
+            }
+        }
+        if differ {
+            self.doubt();
+        }
+    }
+
+    /// Whether two phrases name the same township and range.
+    fn are_same_headings(&self, one: Phrase, other: Phrase) -> bool {
+        self.tier_of(one, 0) == self.tier_of(other, 0)
+            && self.tier_of(one, 1) == self.tier_of(other, 1)
+    }
+
+    /// A number of a township and range, and the first letter of its side.
+    pub(crate) fn tier_of(&self, heading: Phrase, index: usize) -> Option<(u16, u8)> {
+        let number = self.numbers.get(plus(heading.numbers.first, index))?;
+        let side = self.pieces.bytes(number.end).first()?;
+        Some((number.value, side.to_ascii_uppercase()))
+    }
+
+    /// How many numbers a phrase has.
+    fn count_of(&self, phrase: Phrase) -> usize {
+        phrase.numbers.end.saturating_sub(phrase.numbers.first)
+    }
+
+    /// The number of a phrase, if it has only one.
+    fn only_number(&self, phrase: Phrase) -> Option<u16> {
+        if self.count_of(phrase) != 1 {
+            return None;
+        }
+        self.numbers
+            .get(phrase.numbers.first)
+            .map(|number| number.value)
+    }
+
+    /// Whether a range of numbers is in a phrase.
+    fn has_range(&self, phrase: Phrase) -> bool {
+        for index in phrase.first..phrase.end {
+            if matches!(self.pieces.kind(index), Kind::To) || self.pieces.is_dash(index) {
+                return true;
+            }
+        }
+        false
+    }
+
+    /// Places land after its sections.
+    fn place_land_after(&mut self, list: &mut Vec<Placed>) {
+        let mut group: Option<Group> = None;
+        let mut count: usize = 0;
+        let mut landless: usize = 0;
+        let mut unsure = false;
+        for placed in list.iter_mut() {
+            let phrase = placed.phrase;
+            match (phrase.names, group) {
+                (Names::Nothing(_) | Names::Heading, _) => {}
+                (Names::Sections, Some(before))
+                    if before.has_land && self.is_same_section(before.section, phrase) => {
+                    placed.role = Role::LeftOut(Rule::MovedSection);
+                }
+                (Names::Sections, before) => {
+                    unsure = unsure || !self.is_sure_group(before);
+                    landless = landless.saturating_add(usize::from(is_landless(before)));
+                    count = count.saturating_add(1);
+                    placed.role = Role::Kept(count);
+                    group = Some(Group {
+                        section: phrase,
+                        has_land: false,
+                        has_part: false,
+                    });
+                }
+                (names, Some(before)) => {
+                    placed.role = Role::Kept(count);
+                    group = Some(Group {
+                        has_land: true,
+                        has_part: before.has_part || names != Names::All,
+                        ..before
+                    });
+                }
+                (_, None) => unsure = true,
+            }
+        }
+        unsure = unsure || !self.is_sure_group(group);
+        landless = landless.saturating_add(usize::from(is_landless(group)));
+        if unsure || (landless > 0 && landless < count && !self.are_set_apart(list)) {
+            self.doubt();
+        }
+    }
+
+    /// Whether two phrases name the same section, and no others.
+    fn is_same_section(&self, one: Phrase, other: Phrase) -> bool {
+        let number = self.only_number(one);
+        number.is_some() && number == self.only_number(other)
+    }
+
+    /// Whether it is sure which land a group has: several sections have none, or all of it is said to be theirs.
+    fn is_sure_group(&self, group: Option<Group>) -> bool {
+        let Some(group) = group else {
+            return true;
+        };
+        let is_plain = group.section.form != Form::Plural;
+        let is_several = self.count_of(group.section) > 1;
+        let is_unsure_list = is_plain
+            && is_several
+            && !group.has_land
+            && self.has_range(group.section);
+        !(is_several && group.has_part) && !is_unsure_list
+    }
+
+    /// Whether semicolons separate each section from those before it.
+    fn are_set_apart(&self, list: &[Placed]) -> bool {
+        let mut end: Option<usize> = None;
+        for placed in list {
+            let Role::Kept(_) = placed.role else {
+                continue;
+            };
+            if placed.phrase.names == Names::Sections {
+                if let Some(end) = end {
+                    if !self.has_semicolon(end, placed.phrase.first) {
+                        return false;
+                    }
+                }
+            }
+            end = match placed.phrase.names {
+                Names::Heading => None,
+                _ => Some(placed.phrase.end),
+            };
+        }
+        true
+    }
+
+    /// Whether a semicolon is among some pieces.
+    fn has_semicolon(&self, first: usize, end: usize) -> bool {
+        for index in first..end {
+            if matches!(self.pieces.kind(index), Kind::Semicolon) {
+                return true;
+            }
+        }
+        false
+    }
+
+    /// Whether a comma is among some pieces.
+    fn has_comma(&self, first: usize, end: usize) -> bool {
+        for index in first..end {
+            if matches!(self.pieces.kind(index), Kind::Comma) {
+                return true;
+            }
+        }
+        false
+    }
+
+    /// Places land before which its section is written.
+    fn place_land_before(&mut self, list: &mut Vec<Placed>) {
+        let mut first: Option<usize> = None;
+        let mut last: usize = 0;
+        let mut lands: usize = 0;
+        let mut count: usize = 1;
+        let mut has_comma = false;
+        let mut unsure = false;
+        for index in 0..list.len() {
+            let Some(placed) = list.get_mut(index) else {
+                break;
+            };
+            let phrase = placed.phrase;
+            match phrase.names {
+                Names::Nothing(_) | Names::Heading => {}
+                Names::Sections => {
+                    placed.role = Role::LeftOut(Rule::MovedSection);
+                    has_comma = has_comma || self.has_comma(last, phrase.first);
+                    let is_several = self.count_of(phrase) > 1;
+                    let land = first.and_then(|index| list.get_mut(index));
+                    let is_all = lands == 1 && land_names(&land) == Some(Names::All);
+                    unsure = unsure || (is_several && (!is_all || self.has_range(phrase)));
+                    match land {
+                        Some(land) => land.section = Some(phrase),
+                        None => unsure = true,
+                    }
+                    first = None;
+                    lands = 0;
+                    count = count.saturating_add(1);
+                }
+                _ => {
+                    placed.role = Role::Kept(count);
+                    first = Some(first.unwrap_or(index));
+                    last = phrase.end;
+                    lands = lands.saturating_add(1);
+                }
+            }
+        }
+        if unsure || lands > 0 || (has_comma && count > 2) {
+            self.doubt();
+        }
+    }
+}
+
+/// What a placed phrase names.
+fn land_names(land: &Option<&mut Placed>) -> Option<Names> {
+    match land {
+        Some(land) => Some(land.phrase.names),
+        None => None,
+    }
+}
+
+/// Whether a group has no land.
+fn is_landless(group: Option<Group>) -> bool {
+    match group {
+        Some(group) => !group.has_land,
+        None => false,
+    }
+}

@@ -1,0 +1,202 @@
+//! The endings of what the rules leave out, as code.
+ghost use Rattle.std.specs.Prelude.{◌≡◌};
+ghost use Rattle.std.specs.Str.{str_to_ascii_lowercase};
+ghost use Rattle.twp_suggest.specs.Rules.{begins_with, begins_with_one, ends_with, ends_with_one};
+ghost use Rattle.twp_suggest.specs.Rules.{acreage_ends, corners, digits, heading_ends, label_ends};
+ghost use Rattle.twp_suggest.specs.Rules.{meridian_ends, parenthesis_ends, section_ends, sides};
+ghost use Rattle.twp_suggest.specs.Rules.{state_letters, states, trailers};
+
+use crate::same::is_text;
+
+/// Whether a text ends with another, which is in lowercase.
+fn ends_with(seen: &[u8], end: &[u8]) -> bool
+    requires { str_to_ascii_lowercase end.now ≡ end.now }
+    ensures { result ≡ ends_with seen.now end.now }
+{
+    if seen.len() < end.len() {
+        return false;
+    }
+    let (_, last) = seen.split_at(seen.len() - end.len());
+    is_text(last, end)
+}
+
+/// Whether a text begins with another, which is in lowercase.
+fn begins_with(seen: &[u8], front: &[u8]) -> bool
+    requires { str_to_ascii_lowercase front.now ≡ front.now }
+    ensures { result ≡ begins_with seen.now front.now }
+{
+    if seen.len() < front.len() {
+        return false;
+    }
+    let (first, _) = seen.split_at(front.len());
+    is_text(first, front)
+}
+
+/// The texts `acreage_ends` of the specification.
+pub(crate) fn has_acreage_ends(seen: &[u8]) -> bool
+    ensures { result ≡ ends_with_one seen.now acreage_ends }
+{
+    ends_with(seen, b"acres")
+        || ends_with(seen, b"acre")
+        || ends_with(seen, b"ac")
+        || ends_with(seen, b"acres.")
+        || ends_with(seen, b"ac.")
+        || ends_with(seen, b"less")
+        || ends_with(seen, b"m/l")
+        || ends_with(seen, b")")
+}
+
+/// The texts `corners` of the specification.
+pub(crate) fn has_corners(seen: &[u8]) -> bool
+    ensures { result ≡ ends_with_one seen.now corners }
+{
+    ends_with(seen, b"ne")
+        || ends_with(seen, b"nw")
+        || ends_with(seen, b"se")
+        || ends_with(seen, b"sw")
+        || ends_with(seen, b"northeast")
+        || ends_with(seen, b"northwest")
+        || ends_with(seen, b"southeast")
+        || ends_with(seen, b"southwest")
+        || ends_with(seen, b"north east")
+        || ends_with(seen, b"north west")
+        || ends_with(seen, b"south east")
+        || ends_with(seen, b"south west")
+}
+
+/// The texts `digits` of the specification.
+pub(crate) fn has_digits(seen: &[u8]) -> bool
+    ensures { result ≡ ends_with_one seen.now digits }
+{
+    ends_with(seen, b"0")
+        || ends_with(seen, b"1")
+        || ends_with(seen, b"2")
+        || ends_with(seen, b"3")
+        || ends_with(seen, b"4")
+        || ends_with(seen, b"5")
+        || ends_with(seen, b"6")
+        || ends_with(seen, b"7")
+        || ends_with(seen, b"8")
+        || ends_with(seen, b"9")
+}
+
+/// The texts `heading_ends` of the specification.
+pub(crate) fn has_heading_ends(seen: &[u8]) -> bool
+    ensures { result ≡ ends_with_one seen.now heading_ends }
+{
+    ends_with(seen, b"e")
+        || ends_with(seen, b"w")
+        || ends_with(seen, b"e.")
+        || ends_with(seen, b"w.")
+        || ends_with(seen, b"east")
+        || ends_with(seen, b"west")
+}
+
+/// The texts `label_ends` of the specification.
+pub(crate) fn has_label_ends(seen: &[u8]) -> bool
+    ensures { result ≡ ends_with_one seen.now label_ends }
+{
+    ends_with(seen, b":")
+        || ends_with(seen, b";")
+        || ends_with(seen, b"aliq")
+        || ends_with(seen, b"aliquot")
+        || ends_with(seen, b"subdivision")
+}
+
+/// The texts `meridian_ends` of the specification.
+pub(crate) fn has_meridian_ends(seen: &[u8]) -> bool
+    ensures { result ≡ ends_with_one seen.now meridian_ends }
+{
+    ends_with(seen, b"meridian")
+        || ends_with(seen, b"mer")
+        || ends_with(seen, b"mer.")
+        || ends_with(seen, b"m")
+        || ends_with(seen, b"m.")
+        || ends_with(seen, b"county")
+}
+
+/// The texts `parenthesis_ends` of the specification.
+pub(crate) fn has_parenthesis_ends(seen: &[u8]) -> bool
+    ensures { result ≡ ends_with_one seen.now parenthesis_ends }
+{
+    ends_with(seen, b")")
+}
+
+/// The texts `section_ends` of the specification.
+pub(crate) fn has_section_ends(seen: &[u8]) -> bool
+    ensures { result ≡ ends_with_one seen.now section_ends }
+{
+    ends_with(seen, b")")
+        || ends_with(seen, b"one")
+        || ends_with(seen, b"two")
+        || ends_with(seen, b"three")
+        || ends_with(seen, b"four")
+        || ends_with(seen, b"five")
+        || ends_with(seen, b"six")
+        || ends_with(seen, b"seven")
+        || ends_with(seen, b"eight")
+        || ends_with(seen, b"nine")
+        || ends_with(seen, b"ten")
+        || ends_with(seen, b"eleven")
+        || ends_with(seen, b"twelve")
+        || ends_with(seen, b"teen")
+        || ends_with(seen, b"ty")
+}
+
+/// The texts `sides` of the specification.
+pub(crate) fn has_sides(seen: &[u8]) -> bool
+    ensures { result ≡ ends_with_one seen.now sides }
+{
+    ends_with(seen, b"n")
+        || ends_with(seen, b"s")
+        || ends_with(seen, b"e")
+        || ends_with(seen, b"w")
+        || ends_with(seen, b"north")
+        || ends_with(seen, b"south")
+        || ends_with(seen, b"east")
+        || ends_with(seen, b"west")
+}
+
+/// The texts `state_letters` of the specification.
+pub(crate) fn has_state_letters(seen: &[u8]) -> bool
+    ensures { result ≡ ends_with_one seen.now state_letters }
+{
+    ends_with(seen, b"id")
+        || ends_with(seen, b"wy")
+        || ends_with(seen, b"nv")
+        || ends_with(seen, b"ca")
+        || ends_with(seen, b"ut")
+        || ends_with(seen, b"mt")
+        || ends_with(seen, b"co")
+        || ends_with(seen, b"nm")
+        || ends_with(seen, b"az")
+        || ends_with(seen, b"nd")
+        || ends_with(seen, b"sd")
+        || ends_with(seen, b"ak")
+}
+
+/// The texts `states` of the specification.
+pub(crate) fn has_states(seen: &[u8]) -> bool
+    ensures { result ≡ ends_with_one seen.now states }
+{
+    ends_with(seen, b"idaho")
+        || ends_with(seen, b"wyoming")
+        || ends_with(seen, b"nevada")
+        || ends_with(seen, b"california")
+        || ends_with(seen, b"utah")
+        || ends_with(seen, b"montana")
+        || ends_with(seen, b"oregon")
+        || ends_with(seen, b"colorado")
+        || ends_with(seen, b"mexico")
+        || ends_with(seen, b"arizona")
+        || ends_with(seen, b"dakota")
+        || ends_with(seen, b"alaska")
+        || ends_with(seen, b"washington")
+}
+
+/// The texts `trailers` of the specification.
+pub(crate) fn has_trailers(seen: &[u8]) -> bool
+    ensures { result ≡ begins_with_one seen.now trailers }
+{
+    begins_with(seen, b"subject") || begins_with(seen, b"insofar") || begins_with(seen, b"limited")
+}

@@ -1,0 +1,157 @@
+//! What joins two phrases, and whether it is sure what that means.
+
+use crate::arranging::{Placed, Role};
+use crate::draft::{Draft, Names, Phrase};
+use twp_grammar::Kind;
+
+/// What has to be between two phrases.
+#[derive(Clone, Copy, PartialEq, Eq)]
+pub(crate) enum Between {
+    /// Nothing: one of them is the text's beginning or its end.
+    Nothing,
+    Comma,
+    Semicolon,
+}
+
+/// The pieces between two phrases that are kept.
+#[derive(Clone, Copy)]
+pub(crate) struct Gap {
+    pub(crate) first: usize,
+    pub(crate) end: usize,
+    pub(crate) between: Between,
+}
+
+/// What joins two phrases, in a few words.
+#[derive(Clone, Copy, PartialEq, Eq)]
+pub(crate) enum Joining {
+    Nothing,
+    Comma,
+    And,
+    CommaAnd,
+    Semicolon,
+    SemicolonAnd,
+    Colon,
+    Stop,
+    Other,
+}
+
+impl<'a> Draft<'a> {
+    /// What joins the phrases before a gap and after it.
+    pub(crate) fn joining(&self, gap: Gap, left_out: &[Placed]) -> Joining {
+        let mut joining = Joining::Nothing;
+        let mut next: usize = gap.first;
+        let mut rest = left_out;
+        for index in gap.first..gap.end {
+            if let [placed, more @ ..] = rest {
+                if placed.phrase.first == index {
+                    next = placed.phrase.end;
+                    rest = more;
+                }
+            }
+            if index >= next {
+                joining = joined_with(joining, self.pieces.kind(index));
+            }
+        }
+        joining
+    }
+
+    /// Whether it isn't sure what the pieces between two phrases mean.
+    pub(crate) fn is_unsure_gap(
+        &self,
+        one: Placed,
+        other: Placed,
+        joining: Joining,
+        left_out: &[Placed],
+    ) -> bool {
+        let (before, after) = (one.phrase, other.phrase);
+        if before.names == Names::Heading || before.names == Names::Sections {
+            return false;
+        }
+        if one.role != other.role {
+            return false;
+        }
+        let are_parts = before.names == Names::Part && after.names == Names::Part;
+        match joining {
+            Joining::Nothing => !(are_parts && left_out.is_empty()) && !has_section(left_out),
+            Joining::Stop | Joining::Colon => true,
+            Joining::And => are_parts && before.form != after.form,
+            Joining::Other => self.is_unsure_list(before, after),
+            _ => false,
+        }
+    }
+
+    /// Whether other pieces than commas and semicolons between two lands may mean something else: only an ampersand
+    /// doesn't, between parts that both have an `of`, or none.
+    fn is_unsure_list(&self, before: Phrase, after: Phrase) -> bool {
+        for index in before.end..after.first {
+            if !self.pieces.is(index, "& , ;") {
+                return true;
+            }
+        }
+        before.names == Names::Part && after.names == Names::Part && before.form != after.form
+    }
+}
+
+/// Whether a section is among phrases.
+pub(crate) fn has_section(list: &[Placed]) -> bool {
+    for placed in list {
+        if placed.phrase.names == Names::Sections {
+            return true;
+        }
+    }
+    false
+}
+
+/// What has to be between two phrases.
+pub(crate) fn mark_between(before: Option<Placed>, after: Option<Placed>) -> Between {
+    let (Some(before), Some(after)) = (before, after) else {
+        return Between::Nothing;
+    };
+    if before.phrase.names == Names::Heading || before.role == after.role {
+        return Between::Comma;
+    }
+    Between::Semicolon
+}
+
+/// Whether two phrases are parts of one section.
+pub(crate) fn is_joint(one: Placed, other: Placed) -> bool {
+    one.phrase.names == Names::Part && other.phrase.names == Names::Part && one.role == other.role
+}
+
+/// Whether what joins two phrases is written so in a description.
+pub(crate) fn is_written(
+    before: Option<Placed>,
+    after: Option<Placed>,
+    between: Between,
+    joining: Joining,
+) -> bool {
+    let Some(before) = before else {
+        return joining == Joining::Nothing;
+    };
+    if after.is_none() {
+        return matches!(joining, Joining::Nothing | Joining::Stop);
+    }
+    match (between, before.phrase.names) {
+        (Between::Nothing, _) => true,
+        (Between::Semicolon, _) => matches!(joining, Joining::Semicolon | Joining::SemicolonAnd),
+        (Between::Comma, Names::Heading) => matches!(joining, Joining::Nothing | Joining::Comma),
+        (Between::Comma, Names::Sections) => {
+            matches!(joining, Joining::Nothing | Joining::Comma | Joining::Colon)
+        }
+        (Between::Comma, _) => matches!(joining, Joining::Comma | Joining::And | Joining::CommaAnd),
+    }
+}
+
+/// What joins phrases with one more piece.
+pub(crate) fn joined_with(joining: Joining, kind: Kind) -> Joining {
+    match (joining, kind) {
+        (Joining::Nothing, Kind::Comma) => Joining::Comma,
+        (Joining::Nothing, Kind::And) => Joining::And,
+        (Joining::Comma, Kind::And) => Joining::CommaAnd,
+        (Joining::Nothing, Kind::Semicolon) => Joining::Semicolon,
+        (Joining::Semicolon, Kind::And) => Joining::SemicolonAnd,
+        (Joining::Nothing, Kind::Colon) => Joining::Colon,
+        (Joining::Nothing, Kind::Stop) => Joining::Stop,
+        _ => Joining::Other,
+    }
+}
