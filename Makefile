@@ -42,6 +42,7 @@ test:
 ## e2e            build the program, and test it on files, pipes, and devices
 e2e: township
 	@cd crates/twp_trials && rt run -- write-acres 3905 2 > /dev/null
+	@cd crates/twp_readings && rt run > /dev/null
 	@sh tests/e2e.sh
 
 ## descriptions   build the programs, and measure which descriptions, as people write them, have the right reading

@@ -1,6 +1,7 @@
 #!/bin/sh
 # Tests ./township, or the program that is named, as people use it, and the documents and the installation that go with
-# it; twp_trials is taken from its crate, or is named second. The last line counts all tests: 'N passed, 0 failed'.
+# it; twp_trials is taken from its crate, or is named second; twp_readings is taken from its crate. The last line counts
+# all tests: 'N passed, 0 failed'.
 . "$(dirname "$0")/lib.sh"
 name_programs "$@"
 tests=$root/tests/program
@@ -10,10 +11,11 @@ begin damaged sh "$tests/damaged.sh" "$program"
 begin largest sh "$tests/largest.sh" "$program"
 begin limits env -i PATH="$PATH" sh "$tests/limits.sh" "$program"
 begin growths sh "$tests/growths.sh" "$program" "$calls"
-# Descriptions as people write them: the land that is accepted, and where the advice leads.
+# Descriptions as people write them: the land that is accepted, where the advice leads, and how they are read.
 if python=$(sh "$root/tools/python_with.sh" argparse); then
     begin descriptions "$python" "$root/tests/descriptions/check.py" "$program"
     begin advice "$python" "$root/tests/descriptions/follow.py" "$program"
+    begin readings "$python" "$root/tests/descriptions/suggested.py" "$program"
 else
     skip 'the descriptions, since there is no Python here'
 fi
