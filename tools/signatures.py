@@ -19,9 +19,9 @@ Parameter = Tuple[str, str]
 Calls = Dict[str, List[Parameter]]
 
 BYTES, ROOM, LENGTH = "bytes", "room for bytes", "length"
-OFFSETS, ANSWERS = "offsets", "room for answers"
+OFFSETS, ANSWERS, PARTS = "offsets", "room for answers", "room for parts"
 # Each of these is a pointer, and its length follows it.
-SLICES = (BYTES, ROOM, OFFSETS, ANSWERS)
+SLICES = (BYTES, ROOM, OFFSETS, ANSWERS, PARTS)
 # What each type is, in the languages where a slice is a pointer and a length, and in Rattle.
 C_TYPES = {
     "const township_plat *": "plat",
@@ -36,6 +36,7 @@ C_TYPES = {
     "uint32_t *": "number to write",
     "const size_t *": OFFSETS,
     "township_answer *": ANSWERS,
+    "township_part *": PARTS,
     "uint32_t": "number",
     "size_t": LENGTH,
 }
@@ -46,6 +47,7 @@ RUST_TYPES = {
     "*mut Figures": "figures to write",
     "*const usize": OFFSETS,
     "*mut Answer": ANSWERS,
+    "*mut Part": PARTS,
     "*const u8": BYTES,
     "*mut u8": ROOM,
     "*const Designation": "township",
@@ -70,6 +72,7 @@ RATTLE_TYPES = {
     "&mut u32": "number to write",
     "&[usize]": OFFSETS,
     "&mut [TownshipAnswer]": ANSWERS,
+    "&mut [TownshipPart]": PARTS,
     "&[u8]": BYTES,
     "&mut [u8]": ROOM,
     "u32": "number",
@@ -82,6 +85,7 @@ PYTHON_TYPES = {
     "POINTER(Figures)": "figures to write",
     "*_OFFSETS": OFFSETS,
     "*_ANSWERS": ANSWERS,
+    "*_PARTS": PARTS,
     "_TOWNSHIP": "township",
     "_LAND": "land",
     "_LOTS": "lots",
