@@ -19,9 +19,9 @@ Parameter = Tuple[str, str]
 Calls = Dict[str, List[Parameter]]
 
 BYTES, ROOM, LENGTH = "bytes", "room for bytes", "length"
-OFFSETS, ANSWERS = "offsets", "room for answers"
+OFFSETS, ANSWERS, TRACTS = "offsets", "room for answers", "room for tracts"
 # Each of these is a pointer, and its length follows it.
-SLICES = (BYTES, ROOM, OFFSETS, ANSWERS)
+SLICES = (BYTES, ROOM, OFFSETS, ANSWERS, TRACTS)
 # What each type is, in the languages where a slice is a pointer and a length, and in Rattle.
 C_TYPES = {
     "const township_plat *": "plat",
@@ -30,6 +30,8 @@ C_TYPES = {
     "township_plat_figures *": "figures to write",
     "const size_t *": OFFSETS,
     "township_answer *": ANSWERS,
+    "township_tract *": TRACTS,
+    "township_totals *": "totals to write",
     "uint32_t": "number",
     "size_t": LENGTH,
 }
@@ -40,6 +42,8 @@ RUST_TYPES = {
     "*mut Figures": "figures to write",
     "*const usize": OFFSETS,
     "*mut Answer": ANSWERS,
+    "*mut Tract": TRACTS,
+    "*mut Totals": "totals to write",
     "*const u8": BYTES,
     "*mut u8": ROOM,
     "u32": "number",
@@ -52,6 +56,8 @@ RATTLE_TYPES = {
     "&mut TownshipPlatFigures": "figures to write",
     "&[usize]": OFFSETS,
     "&mut [TownshipAnswer]": ANSWERS,
+    "&mut [TownshipTract]": TRACTS,
+    "&mut TownshipTotals": "totals to write",
     "&[u8]": BYTES,
     "&mut [u8]": ROOM,
     "u32": "number",
@@ -64,6 +70,8 @@ PYTHON_TYPES = {
     "POINTER(Figures)": "figures to write",
     "*_OFFSETS": OFFSETS,
     "*_ANSWERS": ANSWERS,
+    "*_TRACTS": TRACTS,
+    "POINTER(Totals)": "totals to write",
     "c_uint32": "number",
 }
 

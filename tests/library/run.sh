@@ -68,7 +68,8 @@ END
 compiler=${CC:-cc}
 if has "$compiler"; then
     flags='-Wall -Wextra -Werror -pedantic -O1 -g -Iinclude'
-    tests="tests/library/c/check.c tests/library/c/given.c tests/library/c/area.c tests/library/c/threads.c"
+    tests="tests/library/c/check.c tests/library/c/given.c tests/library/c/area.c tests/library/c/lists.c"
+    tests="$tests tests/library/c/threads.c"
     try 'the C test compiles' "$compiler" -std=c11 $flags -o "$work/static" tests/library/c/township_test.c $tests \
         lib/libtownship.a -pthread
     try 'the C test compiles for the shared library' "$compiler" -std=c11 $flags -o "$work/shared" \

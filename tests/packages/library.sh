@@ -6,7 +6,8 @@ version=$(dpkg-query -W -f '${Version}' libtownship1)
 flags="$(pkg-config --cflags --libs township)"
 prints 'pkg-config' "$version
 status 0" pkg-config --modversion township
-tests="tests/library/c/check.c tests/library/c/given.c tests/library/c/area.c tests/library/c/threads.c"
+tests="tests/library/c/check.c tests/library/c/given.c tests/library/c/area.c tests/library/c/lists.c"
+tests="$tests tests/library/c/threads.c"
 try 'a C program compiles' cc -std=c11 -o "$work/shared" tests/library/c/township_test.c $tests $flags -pthread
 try 'it uses the shared library' sh -c 'ldd "$1" | grep -q "libtownship.so.1 => /"' sh "$work/shared"
 count 'the C test' "$work/shared" samples "$version" 5

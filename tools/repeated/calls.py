@@ -7,11 +7,11 @@ from reading import HEADER, PYTHON, Compared, text_of
 
 WHAT = "names of calls in lists and tests"
 
-#: Where each call is named, as in C.
+#: Where each call is named, as in C: in a file, or in one of several.
 NAMED = (
     "crates/twp_calls/src/lib.rt",
     "packaging/libtownship.map",
-    "tests/library/c/township_test.c",
+    "tests/library/c/township_test.c tests/library/c/lists.c",
     "tests/library/c/threads.c",
     "tests/library/c/growth_test.c",
     "tools/reading_list/subjects.py",
@@ -42,5 +42,5 @@ def compare() -> Compared:
     return compared, differences
 
 
-def words_of(path: str) -> Set[str]:
-    return set(re.findall(r"\w+", text_of(path)))
+def words_of(paths: str) -> Set[str]:
+    return {word for path in paths.split() for word in re.findall(r"\w+", text_of(path))}

@@ -10,6 +10,8 @@ WHAT = "structs in the library and the bindings, with the fields of the header's
 
 #: A field's name and its type, as Rust writes it.
 Field = Tuple[str, str]
+#: A character is a byte, which is a number in Rust.
+CHAR_BITS = 8
 #: Structs by the end of their name in C.
 Structs = Dict[str, List[Field]]
 
@@ -33,9 +35,10 @@ def structs_of_header(text: str) -> Structs:
     found = {}
     form = r"^typedef struct township_(\w+) \{\n((?:    [^\n]*\n)*)\} township_\w+;"
     for name, inside in re.findall(form, text, re.M):
-        fields = re.findall(r"^ +uint(\d+)_t (\w+)((?:\[\w+\])*);", inside, re.M)
+        fields = re.findall(r"^ +(?:uint(\d+)_t|char) (\w+)((?:\[\w+\])*);", inside, re.M)
         found[name] = [
-            (field, kind_of(f"u{bits}", re.findall(r"\[(?:TOWNSHIP_)?(\w+)", counts), {})) for bits, field, counts in fields
+            (field, kind_of(f"u{bits or CHAR_BITS}", re.findall(r"\[(?:TOWNSHIP_)?(\w+)", counts), {}))
+            for bits, field, counts in fields
         ]
     return found
 
@@ -62,7 +65,8 @@ def structs_of_python(text: str) -> Structs:
         fields = []
         for field, kind in re.findall(r'\("(\w+)", ([^)]+)\)', inside):
             number, *counts = arrays.get(kind, kind).split(" * ")
-            fields.append((field, kind_of(number.replace("c_uint", "u"), counts, numbers)))
+            number = number.replace("c_char", f"u{CHAR_BITS}").replace("c_uint", "u")
+            fields.append((field, kind_of(number, counts, numbers)))
         found[name] = fields
     return found
 

@@ -47,8 +47,8 @@ class Found(unittest.TestCase):
 
 class Declared(unittest.TestCase):
     def test_sizes(self):
-        structs = (_library.Plat, _library.Answer, _library.Area, _library.Figures)
-        self.assertEqual([ctypes.sizeof(struct) for struct in structs], [340, 48, 24, 2312])
+        structs = (_library.Plat, _library.Answer, _library.Area, _library.Figures, _library.Tract, _library.Totals)
+        self.assertEqual([ctypes.sizeof(struct) for struct in structs], [340, 48, 24, 2312, 80, 16])
 
     def test_fields_are_those_of_the_header(self):
         header = (TOP / "include" / "township.h").read_text()
@@ -57,10 +57,12 @@ class Declared(unittest.TestCase):
             (_library.Answer, "answer"),
             (_library.Area, "fraction"),
             (_library.Figures, "plat_figures"),
+            (_library.Tract, "tract"),
+            (_library.Totals, "totals"),
         )
         for struct, name in structs:
             body = header.partition(f"typedef struct township_{name} {{")[2].partition("}")[0]
-            declared = re.findall(r"^ +uint\d+_t (\w+)", body, re.MULTILINE)
+            declared = re.findall(r"^ +(?:uint\d+_t|char) (\w+)", body, re.MULTILINE)
             self.assertEqual(declared, [field for field, _ in struct._fields_])
 
     def test_limits_are_those_of_the_header(self):
@@ -69,6 +71,8 @@ class Declared(unittest.TestCase):
         self.assertIn(f"#define TOWNSHIP_NOTES_MOST {_library.NOTES_MOST}\n", header)
         self.assertIn(f"#define TOWNSHIP_SECTIONS {_library.SECTIONS}\n", header)
         self.assertIn(f"#define TOWNSHIP_LOTS_MOST {_library.LOTS_MOST}\n", header)
+        self.assertIn(f"#define TOWNSHIP_TRACTS_MOST {_library.TRACTS_MOST}\n", header)
+        self.assertIn(f"#define TOWNSHIP_NAME_ROOM {_library.NAME_ROOM}\n", header)
 
     def test_verdicts_are_those_of_the_header(self):
         header = (TOP / "include" / "township.h").read_text()
@@ -91,7 +95,7 @@ class Verdicts(unittest.TestCase):
         "acres": lambda: uneven().acres("sec. 14."),
         "area": lambda: uneven().area("sec. 14."),
         "normal": lambda: uneven().normal("sec. 14."),
-        "report": lambda: uneven().report([]),
+        "account": lambda: uneven().report([]),
         "print_plat": lambda: uneven()._print(),
         "figures": lambda: township.Plat.read(NOTES).total,
         "write_notes": lambda: uneven().write_notes(),

@@ -21,6 +21,10 @@ pub(crate) const NO_RANGE: u32 = 7;
 pub(crate) const LOTS_MOST: usize = 7;
 pub(crate) const SECTIONS: usize = 36;
 
+/// The most tracts of a list, and the room for a tract's name, in bytes.
+pub(crate) const TRACTS_MOST: usize = 1_000;
+pub(crate) const NAME_ROOM: usize = 68;
+
 // Accounts.
 pub(crate) const EXACT: u32 = 0;
 pub(crate) const BY_PLAT: u32 = 1;
@@ -104,11 +108,44 @@ impl Figures {
     };
 }
 
+/// `township_tract`: a tract in an account.
+#[repr(C)]
+#[derive(Clone, Copy, Debug, PartialEq, Eq)]
+pub(crate) struct Tract {
+    /// Hundredths of an acre.
+    pub(crate) hundredths: u64,
+    /// The length of the name in bytes.
+    pub(crate) name_length: u32,
+    /// The name, and zero bytes after it.
+    pub(crate) name: [u8; NAME_ROOM],
+}
+
+impl Tract {
+    /// No tract, for a call to overwrite.
+    pub(crate) const BLANK: Tract = Tract {
+        hundredths: 0,
+        name_length: 0,
+        name: [0; NAME_ROOM],
+    };
+}
+
+/// `township_totals`: the totals of an account, in hundredths of an acre.
+#[repr(C)]
+#[derive(Clone, Copy, Debug, Default, PartialEq, Eq)]
+pub(crate) struct Totals {
+    /// Of all tracts together.
+    pub(crate) total: u64,
+    /// Of all other land in the township.
+    pub(crate) remaining: u64,
+}
+
 // The library is compiled for these layouts.
 const _: () = assert!(size_of::<Parts>() == 340 && offset_of!(Parts, number) == 336);
 const _: () = assert!(size_of::<Answer>() == 48 && offset_of!(Answer, hundredths) == 32);
 const _: () = assert!(size_of::<Fraction>() == 24 && offset_of!(Fraction, over) == 16);
 const _: () = assert!(size_of::<Figures>() == 2312 && offset_of!(Figures, sections) == 2016);
+const _: () = assert!(size_of::<Tract>() == 80 && offset_of!(Tract, name) == 12);
+const _: () = assert!(size_of::<Totals>() == 16);
 
 // The library requires that no pointer be null, that each point to at least as many bytes as its
 // length parameter says, and that the memory a call writes not overlap its other arguments. Slices
@@ -144,6 +181,14 @@ extern "C" {
         list_length: usize,
         text: *mut u8,
         room: usize,
+    ) -> Answer;
+    fn township_account(
+        plat: *const Parts,
+        list: *const u8,
+        list_length: usize,
+        tracts: *mut Tract,
+        room: usize,
+        totals: *mut Totals,
     ) -> Answer;
     fn township_figures(plat: *const Parts, figures: *mut Figures) -> Answer;
     fn township_acres_many(
@@ -254,6 +299,24 @@ pub(crate) fn report(plat: &Parts, list: &[u8], room: &mut [u8]) -> Answer {
             room.len(),
         )
     }
+}
+
+/// Writes the tracts of an account, and returns its totals. They are valid only if the answer
+/// accepts the list.
+pub(crate) fn account(plat: &Parts, list: &[u8], tracts: &mut [Tract]) -> (Answer, Totals) {
+    let mut totals = Totals::default();
+    // SAFETY: slices and references meet the library's requirements.
+    let answer = unsafe {
+        township_account(
+            plat,
+            list.as_ptr(),
+            list.len(),
+            tracts.as_mut_ptr(),
+            tracts.len(),
+            &mut totals,
+        )
+    };
+    (answer, totals)
 }
 
 /// Returns the figures of the printed plat. They are valid only if the answer accepts the plat.

@@ -9,6 +9,7 @@ pub mod NameFacts
 pub mod TractFacts
 pub mod TractLands
 pub mod TallyFacts
+pub mod FigureLines
 pub mod FirstTractFaults
 pub mod TractAreas
 pub mod TractSums

@@ -4,6 +4,7 @@ pub mod PlatAnswers
 pub mod Tracts
 pub mod TractFaults
 pub mod ReportAnswers
+pub mod AccountFigures
 pub mod TractLaws
 pub mod AccountAnswers
 pub mod NormalAnswers

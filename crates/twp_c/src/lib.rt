@@ -5,3 +5,4 @@
 mod explaining;
 mod exports;
 mod figures;
+mod lists;

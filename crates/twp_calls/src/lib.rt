@@ -3,11 +3,13 @@
 #![tactic(auto)]
 
 mod account;
+mod account_call;
 mod answer;
 mod answering;
 mod explaining;
 mod figures;
 mod many;
+mod name;
 mod plat;
 mod reading;
 mod text;
@@ -15,6 +17,7 @@ mod verdict;
 mod version;
 mod writing;
 
+pub use account_call::{TownshipTotals, TownshipTract, township_account};
 pub use answer::TownshipAnswer;
 pub use answering::{
     TownshipFraction, township_acres, township_area, township_normal, township_print,

@@ -7,7 +7,7 @@
 #include "check.h"
 
 #define THREADS 4
-#define CALLS 16
+#define CALLS 17
 
 /* The stack that the library requires, and room for the thread's own calls. */
 #define STACK ((256 + 64) * 1024)
@@ -19,6 +19,8 @@ typedef struct round_answers {
     township_fraction area;
     township_plat_figures figures;
     township_answer many[2];
+    township_tract tracts[2];
+    township_totals totals;
     uint8_t texts[CALLS][8192];
 } round_answers;
 
@@ -62,11 +64,15 @@ static void call_all(bytes notes, const township_plat *plat, round_answers *to) 
     answer[13] = township_figures(plat, &to->figures);
     answer[14] = township_acres_many(plat, BYTES("sec. 6.sec. 7, lot 5."), offsets, 3, TOWNSHIP_EXACT, to->many, 2);
     answer[15] = township_write_notes(plat, to->texts[15], sizeof to->texts[15]);
+    answer[16] = township_account(plat, BYTES("name,description\nA,\"sec. 7, lot 1.\"\nB,sec. 6.\n"), to->tracts, 2,
+                                  &to->totals);
 }
 
-/* Whether the figures and the answers to many descriptions of two rounds are the same. */
+/* Whether the figures, the accounts, and the answers to many descriptions of two rounds are the same. */
 static bool same_figures(const round_answers *a, const round_answers *b) {
     return memcmp(&a->figures, &b->figures, sizeof a->figures) == 0 &&
+           memcmp(a->tracts, b->tracts, sizeof a->tracts) == 0 &&
+           memcmp(&a->totals, &b->totals, sizeof a->totals) == 0 &&
            same_answer(a->many[0], b->many[0]) && same_answer(a->many[1], b->many[1]);
 }
 

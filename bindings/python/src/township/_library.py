@@ -14,6 +14,10 @@ LINES = 84
 SECTIONS = 36
 LOTS_MOST = 7
 
+#: The most tracts of a list, and the room for a tract's name, in bytes.
+TRACTS_MOST = 1_000
+NAME_ROOM = 68
+
 #: The maximum size of field notes, in bytes: longer notes are refused.
 NOTES_MOST = 65_536
 
@@ -96,6 +100,18 @@ class Figures(ctypes.Structure):
     ]
 
 
+class Tract(ctypes.Structure):
+    """`township_tract`: 80 bytes."""
+
+    _fields_ = [("hundredths", c_uint64), ("name_length", c_uint32), ("name", c_char * NAME_ROOM)]
+
+
+class Totals(ctypes.Structure):
+    """`township_totals`: 16 bytes."""
+
+    _fields_ = [("total", c_uint64), ("remaining", c_uint64)]
+
+
 def _load() -> ctypes.CDLL:
     """Load the library that the environment variable names, or else the one in the package's folder."""
     path = os.environ.get(VARIABLE) or BESIDE
@@ -114,6 +130,7 @@ _BYTES = (c_char_p, c_size_t)
 _ROOM = (POINTER(c_char), c_size_t)
 _OFFSETS = (POINTER(c_size_t), c_size_t)
 _ANSWERS = (POINTER(Answer), c_size_t)
+_TRACTS = (POINTER(Tract), c_size_t)
 
 
 def _call(name: str, *types: Any) -> Callable[..., Answer]:
@@ -132,6 +149,7 @@ area = _call("township_area", _PLAT, *_BYTES, c_uint32, POINTER(Area))
 normal = _call("township_normal", _PLAT, *_BYTES, *_ROOM)
 print_plat = _call("township_print", _PLAT, *_ROOM)
 report = _call("township_report", _PLAT, *_BYTES, *_ROOM)
+account = _call("township_account", _PLAT, *_BYTES, *_TRACTS, POINTER(Totals))
 figures = _call("township_figures", _PLAT, POINTER(Figures))
 acres_many = _call("township_acres_many", _PLAT, *_BYTES, *_OFFSETS, c_uint32, *_ANSWERS)
 explain_notes = _call("township_explain_notes", *_BYTES, *_BYTES, *_ROOM)
@@ -139,7 +157,7 @@ explain_description = _call("township_explain_description", _PLAT, *_BYTES, *_BY
 explain_list = _call("township_explain_list", _PLAT, *_BYTES, *_BYTES, *_ROOM)
 version = _call("township_version", *_ROOM)
 
-#: The buffer size for a first call, in bytes. It holds all but long canonical texts and long reports.
+#: The buffer size for a first call, in bytes. It holds all but long canonical texts and field notes.
 USUAL_ROOM = 4096
 
 

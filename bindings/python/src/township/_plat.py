@@ -10,10 +10,11 @@ from typing import Any, Iterable, Iterator, List, Mapping, Optional, Sequence, T
 
 from . import _library
 from ._account import Account, code_of
-from ._figures import Report, Section, acres_of_hundredths, list_of, report_of, sections_of
+from ._figures import Section, acres_of_hundredths, sections_of
 from ._many import Answers, answers_of
 from ._note import Note, notes_of
 from ._refused import DESCRIPTION, LIST, NOTES, Refused, exception_of, failure_of, hinted
+from ._report import Report, list_of, report_on
 from ._text import Path, Text, encoded, names_a_file, shown
 from ._township import Township, struct_of, township_of
 
@@ -330,11 +331,11 @@ write a comma after NE1/4 (320.00 acres)
         Decimal('78.20')
         """
         given = encoded(tracts)
-        answer, text = _library.text_by(_library.report, byref(self._parts), given, len(given))
+        answer, report = report_on(byref(self._parts), given)
         if answer.verdict != _library.ACCEPTED:
             explain = _library.explain_list
             raise exception_of(answer, explain, byref(self._parts), given, len(given), source=LIST)
-        return report_of(text)
+        return report
 
     def _print(self) -> str:
         """Print the plat and cache the text."""
