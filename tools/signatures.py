@@ -20,8 +20,9 @@ Calls = Dict[str, List[Parameter]]
 
 BYTES, ROOM, LENGTH = "bytes", "room for bytes", "length"
 OFFSETS, ANSWERS, TRACTS = "offsets", "room for answers", "room for tracts"
+TRACT_ANSWERS, OVERLAPS = "room for answers to tracts", "room for overlaps"
 # Each of these is a pointer, and its length follows it.
-SLICES = (BYTES, ROOM, OFFSETS, ANSWERS, TRACTS)
+SLICES = (BYTES, ROOM, OFFSETS, ANSWERS, TRACTS, TRACT_ANSWERS, OVERLAPS)
 # What each type is, in the languages where a slice is a pointer and a length, and in Rattle.
 C_TYPES = {
     "const township_plat *": "plat",
@@ -31,6 +32,8 @@ C_TYPES = {
     "const size_t *": OFFSETS,
     "township_answer *": ANSWERS,
     "township_tract *": TRACTS,
+    "township_tract_answer *": TRACT_ANSWERS,
+    "township_overlap *": OVERLAPS,
     "township_totals *": "totals to write",
     "uint32_t": "number",
     "size_t": LENGTH,
@@ -43,6 +46,8 @@ RUST_TYPES = {
     "*const usize": OFFSETS,
     "*mut Answer": ANSWERS,
     "*mut Tract": TRACTS,
+    "*mut TractAnswer": TRACT_ANSWERS,
+    "*mut Overlap": OVERLAPS,
     "*mut Totals": "totals to write",
     "*const u8": BYTES,
     "*mut u8": ROOM,
@@ -57,6 +62,8 @@ RATTLE_TYPES = {
     "&[usize]": OFFSETS,
     "&mut [TownshipAnswer]": ANSWERS,
     "&mut [TownshipTract]": TRACTS,
+    "&mut [TownshipTractAnswer]": TRACT_ANSWERS,
+    "&mut [TownshipOverlap]": OVERLAPS,
     "&mut TownshipTotals": "totals to write",
     "&[u8]": BYTES,
     "&mut [u8]": ROOM,
@@ -71,6 +78,8 @@ PYTHON_TYPES = {
     "*_OFFSETS": OFFSETS,
     "*_ANSWERS": ANSWERS,
     "*_TRACTS": TRACTS,
+    "*_TRACT_ANSWERS": TRACT_ANSWERS,
+    "*_OVERLAPS": OVERLAPS,
     "POINTER(Totals)": "totals to write",
     "c_uint32": "number",
 }

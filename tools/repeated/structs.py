@@ -35,10 +35,10 @@ def structs_of_header(text: str) -> Structs:
     found = {}
     form = r"^typedef struct township_(\w+) \{\n((?:    [^\n]*\n)*)\} township_\w+;"
     for name, inside in re.findall(form, text, re.M):
-        fields = re.findall(r"^ +(?:uint(\d+)_t|char) (\w+)((?:\[\w+\])*);", inside, re.M)
+        fields = re.findall(r"^ +(?:uint(\d+)_t|township_(\w+)|char) (\w+)((?:\[\w+\])*);", inside, re.M)
         found[name] = [
-            (field, kind_of(f"u{bits or CHAR_BITS}", re.findall(r"\[(?:TOWNSHIP_)?(\w+)", counts), {}))
-            for bits, field, counts in fields
+            (field, other or kind_of(f"u{bits or CHAR_BITS}", re.findall(r"\[(?:TOWNSHIP_)?(\w+)", counts), {}))
+            for bits, other, field, counts in fields
         ]
     return found
 
@@ -65,7 +65,7 @@ def structs_of_python(text: str) -> Structs:
         fields = []
         for field, kind in re.findall(r'\("(\w+)", ([^)]+)\)', inside):
             number, *counts = arrays.get(kind, kind).split(" * ")
-            number = number.replace("c_char", f"u{CHAR_BITS}").replace("c_uint", "u")
+            number = in_lower_case(number) if number.isalpha() else number.replace("c_char", f"u{CHAR_BITS}").replace("c_uint", "u")
             fields.append((field, kind_of(number, counts, numbers)))
         found[name] = fields
     return found
@@ -75,9 +75,15 @@ def fields_of(inside: str, visibility: str, text: str) -> List[Field]:
     """The fields of a struct in Rust or in Rattle."""
     numbers = dict(re.findall(r"const (\w+): usize = (\d+)", text))
     fields = re.findall(rf"^ +{visibility} (\w+): (.*),$", inside, re.M)
-    return [
-        (field, kind_of(re.findall(r"u\d+", kind)[0], re.findall(r"; (\w+)", kind), numbers)) for field, kind in fields
-    ]
+    return [(field, kind_in_rust(kind, numbers)) for field, kind in fields]
+
+
+def kind_in_rust(kind: str, numbers: Dict[str, str]) -> str:
+    """The type of a number, of an array of numbers, or of another struct."""
+    number = re.search(r"u\d+", kind)
+    if not number:
+        return in_lower_case(re.sub("^Township", "", kind))
+    return kind_of(number[0], re.findall(r"; (\w+)", kind), numbers)
 
 
 def kind_of(number: str, counts: List[str], numbers: Dict[str, str]) -> str:

@@ -48,7 +48,8 @@ class Found(unittest.TestCase):
 class Declared(unittest.TestCase):
     def test_sizes(self):
         structs = (_library.Plat, _library.Answer, _library.Area, _library.Figures, _library.Tract, _library.Totals)
-        self.assertEqual([ctypes.sizeof(struct) for struct in structs], [340, 48, 24, 2312, 80, 16])
+        structs += (_library.TractAnswer, _library.Overlap)
+        self.assertEqual([ctypes.sizeof(struct) for struct in structs], [340, 48, 24, 2312, 80, 16, 120, 16])
 
     def test_fields_are_those_of_the_header(self):
         header = (TOP / "include" / "township.h").read_text()
@@ -59,10 +60,12 @@ class Declared(unittest.TestCase):
             (_library.Figures, "plat_figures"),
             (_library.Tract, "tract"),
             (_library.Totals, "totals"),
+            (_library.TractAnswer, "tract_answer"),
+            (_library.Overlap, "overlap"),
         )
         for struct, name in structs:
             body = header.partition(f"typedef struct township_{name} {{")[2].partition("}")[0]
-            declared = re.findall(r"^ +(?:uint\d+_t|char) (\w+)", body, re.MULTILINE)
+            declared = re.findall(r"^ +(?:uint\d+_t|char|township_answer) (\w+)", body, re.MULTILINE)
             self.assertEqual(declared, [field for field, _ in struct._fields_])
 
     def test_limits_are_those_of_the_header(self):
@@ -96,6 +99,8 @@ class Verdicts(unittest.TestCase):
         "area": lambda: uneven().area("sec. 14."),
         "normal": lambda: uneven().normal("sec. 14."),
         "account": lambda: uneven().report([]),
+        "report_each": lambda: uneven().report_each([]),
+        "overlaps": lambda: uneven().overlaps([]),
         "print_plat": lambda: uneven()._print(),
         "figures": lambda: township.Plat.read(NOTES).total,
         "write_notes": lambda: uneven().write_notes(),
@@ -131,7 +136,7 @@ class Verdicts(unittest.TestCase):
     def test_plat_that_is_none(self):
         # A plat cannot be made like this, but the library detects it anyway.
         none = township.Plat._of_struct(_library.Plat())
-        for call in (none.acres, none.area, none.normal, none.notes, none.report_csv):
+        for call in (none.acres, none.area, none.normal, none.notes, none.report_csv, none.report_each_csv, none.overlaps_csv):
             with self.subTest(call=call.__name__), self.assertRaises(ValueError):
                 call("sec. 14.")
 

@@ -139,13 +139,48 @@ pub(crate) struct Totals {
     pub(crate) remaining: u64,
 }
 
+/// `township_tract_answer`: the answer to a tract of a list.
+#[repr(C)]
+#[derive(Clone, Copy, Debug, PartialEq, Eq)]
+pub(crate) struct TractAnswer {
+    pub(crate) answer: Answer,
+    /// The length of the name in bytes.
+    pub(crate) name_length: u32,
+    /// The name, and zero bytes after it.
+    pub(crate) name: [u8; NAME_ROOM],
+}
+
+impl TractAnswer {
+    /// No answer, for a call to overwrite.
+    pub(crate) fn blank() -> TractAnswer {
+        TractAnswer {
+            answer: Answer::default(),
+            name_length: 0,
+            name: [0; NAME_ROOM],
+        }
+    }
+}
+
+/// `township_overlap`: two tracts of a list that overlap.
+#[repr(C)]
+#[derive(Clone, Copy, Debug, Default, PartialEq, Eq)]
+pub(crate) struct Overlap {
+    /// The record of the earlier tract.
+    pub(crate) first: u32,
+    /// The record of the later one.
+    pub(crate) second: u32,
+    /// Hundredths of an acre of the land in both.
+    pub(crate) hundredths: u64,
+}
+
 // The library is compiled for these layouts.
 const _: () = assert!(size_of::<Parts>() == 340 && offset_of!(Parts, number) == 336);
 const _: () = assert!(size_of::<Answer>() == 48 && offset_of!(Answer, hundredths) == 32);
 const _: () = assert!(size_of::<Fraction>() == 24 && offset_of!(Fraction, over) == 16);
 const _: () = assert!(size_of::<Figures>() == 2312 && offset_of!(Figures, sections) == 2016);
 const _: () = assert!(size_of::<Tract>() == 80 && offset_of!(Tract, name) == 12);
-const _: () = assert!(size_of::<Totals>() == 16);
+const _: () = assert!(size_of::<Totals>() == 16 && size_of::<Overlap>() == 16);
+const _: () = assert!(size_of::<TractAnswer>() == 120 && offset_of!(TractAnswer, name) == 52);
 
 // The library requires that no pointer be null, that each point to at least as many bytes as its
 // length parameter says, and that the memory a call writes not overlap its other arguments. Slices
@@ -189,6 +224,20 @@ extern "C" {
         tracts: *mut Tract,
         room: usize,
         totals: *mut Totals,
+    ) -> Answer;
+    fn township_report_each(
+        plat: *const Parts,
+        list: *const u8,
+        list_length: usize,
+        answers: *mut TractAnswer,
+        room: usize,
+    ) -> Answer;
+    fn township_overlaps(
+        plat: *const Parts,
+        list: *const u8,
+        list_length: usize,
+        overlaps: *mut Overlap,
+        room: usize,
     ) -> Answer;
     fn township_figures(plat: *const Parts, figures: *mut Figures) -> Answer;
     fn township_acres_many(
@@ -317,6 +366,34 @@ pub(crate) fn account(plat: &Parts, list: &[u8], tracts: &mut [Tract]) -> (Answe
         )
     };
     (answer, totals)
+}
+
+/// Writes the answers to the tracts of a list.
+pub(crate) fn report_each(plat: &Parts, list: &[u8], answers: &mut [TractAnswer]) -> Answer {
+    // SAFETY: slices and a reference meet the library's requirements.
+    unsafe {
+        township_report_each(
+            plat,
+            list.as_ptr(),
+            list.len(),
+            answers.as_mut_ptr(),
+            answers.len(),
+        )
+    }
+}
+
+/// Writes the overlaps of the tracts of a list.
+pub(crate) fn overlaps(plat: &Parts, list: &[u8], overlaps: &mut [Overlap]) -> Answer {
+    // SAFETY: slices and a reference meet the library's requirements.
+    unsafe {
+        township_overlaps(
+            plat,
+            list.as_ptr(),
+            list.len(),
+            overlaps.as_mut_ptr(),
+            overlaps.len(),
+        )
+    }
 }
 
 /// Returns the figures of the printed plat. They are valid only if the answer accepts the plat.

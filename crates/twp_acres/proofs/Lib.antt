@@ -10,6 +10,8 @@ pub mod TractFacts
 pub mod TractLands
 pub mod TallyFacts
 pub mod FigureLines
+pub mod EachFacts
+pub mod OverlapFacts
 pub mod FirstTractFaults
 pub mod TractAreas
 pub mod TractSums

@@ -5,6 +5,8 @@ pub mod Tracts
 pub mod TractFaults
 pub mod ReportAnswers
 pub mod AccountFigures
+pub mod EachTract
+pub mod Overlaps
 pub mod TractLaws
 pub mod AccountAnswers
 pub mod NormalAnswers

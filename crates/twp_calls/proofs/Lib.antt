@@ -1,7 +1,9 @@
 pub mod AccountFacts
 pub mod CallFacts
+pub mod EachFacts
 pub mod FigureFacts
 pub mod ManyFacts
 pub mod NoteFacts
+pub mod OverlapFacts
 pub mod PlaceFacts
 pub mod WritingFacts

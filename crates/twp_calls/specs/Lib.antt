@@ -3,6 +3,8 @@ pub mod Accounts
 pub mod Answers
 pub mod GivenPlats
 pub mod Calls
+pub mod EachCalls
+pub mod OverlapCalls
 pub mod Figures
 pub mod ManyAnswers
 pub mod Names

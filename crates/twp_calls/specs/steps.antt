@@ -1,4 +1,5 @@
 -- What private functions promise one another.
 pub mod Filling
+pub mod Plain
 pub mod Noting
 pub mod Returning

@@ -6,10 +6,12 @@ mod account;
 mod account_call;
 mod answer;
 mod answering;
+mod each_call;
 mod explaining;
 mod figures;
 mod many;
 mod name;
+mod overlaps_call;
 mod plat;
 mod reading;
 mod text;
@@ -23,10 +25,12 @@ pub use answering::{
     TownshipFraction, township_acres, township_area, township_normal, township_print,
     township_read, township_report,
 };
+pub use each_call::{TownshipTractAnswer, township_report_each};
 pub use explaining::{
     township_explain_description, township_explain_list, township_explain_notes, township_version,
 };
 pub use figures::{TownshipPlatFigures, township_figures};
 pub use many::township_acres_many;
+pub use overlaps_call::{TownshipOverlap, township_overlaps};
 pub use plat::TownshipPlat;
 pub use writing::township_write_notes;

@@ -22,7 +22,7 @@ from ._many import Answers
 from ._note import Note
 from ._plat import Plat
 from ._refused import Refusal, Refused, failure_of
-from ._report import Report, Tract
+from ._report import Overlap, Report, Tract, TractAnswer
 from ._rounding import rounded
 from ._township import EastWest, NorthSouth, Township
 from ._version import __version__
@@ -33,6 +33,7 @@ __all__ = [
     "EastWest",
     "NorthSouth",
     "Note",
+    "Overlap",
     "Plat",
     "Refusal",
     "Refused",
@@ -40,12 +41,13 @@ __all__ = [
     "Section",
     "Township",
     "Tract",
+    "TractAnswer",
     "__version__",
     "rounded",
     "version",
 ]
 
-for _public in (Answers, Note, Plat, Refusal, Refused, Report, Section, Township, Tract):
+for _public in (Answers, Note, Overlap, Plat, Refusal, Refused, Report, Section, Township, Tract, TractAnswer):
     # Tracebacks and pickles name each class as users import it.
     _public.__module__ = __name__
 del _public

@@ -14,7 +14,7 @@ from ._figures import Section, acres_of_hundredths, sections_of
 from ._many import Answers, answers_of
 from ._note import Note, notes_of
 from ._refused import DESCRIPTION, LIST, NOTES, Refused, exception_of, failure_of, hinted
-from ._report import Report, list_of, report_on
+from ._report import Overlap, Report, TractAnswer, answers_on, list_of, overlaps_on, report_on
 from ._text import Path, Text, encoded, names_a_file, shown
 from ._township import Township, struct_of, township_of
 
@@ -333,9 +333,64 @@ write a comma after NE1/4 (320.00 acres)
         given = encoded(tracts)
         answer, report = report_on(byref(self._parts), given)
         if answer.verdict != _library.ACCEPTED:
-            explain = _library.explain_list
-            raise exception_of(answer, explain, byref(self._parts), given, len(given), source=LIST)
+            raise self._list_exception(answer, given)
         return report
+
+    def report_each(self, tracts: Iterable[Tuple[Text, Text]]) -> Tuple[TractAnswer, ...]:
+        """Return the answer to each of the tracts, whatever is wrong with the others: its acreage or its refusal.
+
+        The refusal is the first that the tract has by itself, at its record: the tract with index k is record
+        k + 2. Tracts that overlap are accepted here.
+
+        >>> answers = plat.report_each([("A", "sec. 7, lot 1."), ("B", "sec. 7, lot 5."), ("A", "sec. 14.")])
+        >>> [answer.acres for answer in answers]
+        [Decimal('39.18'), None, None]
+        >>> answers[1].refusal, answers[1].inner, answers[2].refusal
+        (Refusal(number=83, at=3), Refusal(number=64, at=12), Refusal(number=82, at=4))
+        """
+        return self.report_each_csv(list_of(tracts))
+
+    def report_each_csv(self, tracts: Text) -> Tuple[TractAnswer, ...]:
+        """Return the answer to each tract of a list (CSV).
+
+        Raise `Refused` only if the list as a whole is refused: it is too large (80), has no heading (81), or has
+        too many tracts (85).
+
+        >>> plat.report_each_csv(open("samples/tracts.csv", "rb").read())[0]
+        TractAnswer(name='A', acres=Decimal('39.18'), refusal=None, inner=None)
+        """
+        given = encoded(tracts)
+        answer, answers = answers_on(byref(self._parts), given)
+        if answer.verdict != _library.ACCEPTED:
+            raise self._list_exception(answer, given)
+        return answers
+
+    def overlaps(self, tracts: Iterable[Tuple[Text, Text]]) -> Tuple[Overlap, ...]:
+        """Return all overlaps of the tracts, in the order of the later tract, and then of the earlier one.
+
+        A tract that `report_each` refuses as no tract, or for its description, overlaps none.
+
+        >>> plat.overlaps([("A", "sec. 14."), ("B", "sec. 15."), ("C", "sec. 14, NE1/4; sec. 15, N1/2.")])
+        (Overlap(first=0, second=2, acres=Decimal('160.00')), Overlap(first=1, second=2, acres=Decimal('320.00')))
+        """
+        return self.overlaps_csv(list_of(tracts))
+
+    def overlaps_csv(self, tracts: Text) -> Tuple[Overlap, ...]:
+        """Return all overlaps in a list of tracts (CSV). Raise `Refused` as `report_each_csv` does.
+
+        >>> plat.overlaps_csv(open("samples/tracts.csv", "rb").read())
+        ()
+        """
+        given = encoded(tracts)
+        answer, overlaps = overlaps_on(byref(self._parts), given)
+        if answer.verdict != _library.ACCEPTED:
+            raise self._list_exception(answer, given)
+        return overlaps
+
+    def _list_exception(self, answer: _library.Answer, given: bytes) -> Exception:
+        """Return the exception for a list of tracts that is not accepted."""
+        explain = _library.explain_list
+        return exception_of(answer, explain, byref(self._parts), given, len(given), source=LIST)
 
     def _print(self) -> str:
         """Print the plat and cache the text."""

@@ -3,14 +3,17 @@
 use super::Plat;
 use crate::account::Account;
 use crate::acres::Acres;
-use crate::answer::Fault;
+use crate::answer::{Fault, Verdict};
 use crate::area::Area;
 use crate::ffi::{self, Answer, TRACTS_MOST};
 use crate::figures::Figures;
 use crate::note::Note;
 use crate::refused::{Refused, DESCRIPTION, LIST};
-use crate::report::{list_of, Report};
+use crate::report::{list_of, Overlap, Report, TractAnswer};
 use crate::text::{accepted_text_by, text_by};
+
+/// The room for overlaps in a first call.
+const USUAL_OVERLAPS: usize = 64;
 
 impl Plat {
     /// Returns the acreage of the land described, rounded once to hundredths, half up.
@@ -341,12 +344,136 @@ impl Plat {
         self.report_csv(list_of(tracts))
     }
 
+    /// Returns the answer to each tract of a list (CSV), whatever is wrong with the others: its
+    /// acreage, or the first refusal that it has by itself. Tracts that overlap are accepted here.
+    ///
+    /// # Errors
+    ///
+    /// Returns [`Refused`] only if the list as a whole is refused: it is too large (80), has no
+    /// heading (81), or has too many tracts (85).
+    ///
+    /// ```
+    /// # let notes = include_bytes!(concat!(env!("CARGO_MANIFEST_DIR"), "/samples/b1.csv"));
+    /// # let plat = township::Plat::read(notes)?;
+    /// let list = "name,description\nA,\"sec. 7, lot 1.\"\nB,\"sec. 7, lot 5.\"\n";
+    /// let answers = plat.report_each_csv(list)?;
+    /// assert_eq!(answers[0].answer.unwrap().to_string(), "39.18");
+    /// let refused = answers[1].answer.unwrap_err();
+    /// assert_eq!(refused.inner, Some(township::Refusal { number: 64, at: 12 }));
+    /// # Ok::<(), township::Refused>(())
+    /// ```
+    pub fn report_each_csv(&self, list: impl AsRef<[u8]>) -> Result<Vec<TractAnswer>, Refused> {
+        let list = list.as_ref();
+        let mut answers = vec![ffi::TractAnswer::blank(); TRACTS_MOST];
+        match ffi::report_each(&self.parts, list, &mut answers).accepted() {
+            Ok(answer) => {
+                let answers = &answers[..answer.text_length()];
+                Ok(answers.iter().map(TractAnswer::from_data).collect())
+            }
+            Err(fault) => Err(self.whole_list_refused(fault, list)),
+        }
+    }
+
+    /// Returns the answer to each of the tracts, each a name and a description, as
+    /// [`Plat::report_each_csv`] does.
+    ///
+    /// # Errors
+    ///
+    /// The same as for [`Plat::report_each_csv`].
+    ///
+    /// ```
+    /// # let notes = include_bytes!(concat!(env!("CARGO_MANIFEST_DIR"), "/samples/b1.csv"));
+    /// # let plat = township::Plat::read(notes)?;
+    /// let answers = plat.report_each([("A", "sec. 14."), ("A", "sec. 15.")])?;
+    /// let again = answers[1].answer.unwrap_err().refusal;
+    /// assert_eq!((again.number, again.at), (82, 3));
+    /// # Ok::<(), township::Refused>(())
+    /// ```
+    pub fn report_each<N, D>(
+        &self,
+        tracts: impl IntoIterator<Item = (N, D)>,
+    ) -> Result<Vec<TractAnswer>, Refused>
+    where
+        N: AsRef<[u8]>,
+        D: AsRef<[u8]>,
+    {
+        self.report_each_csv(list_of(tracts))
+    }
+
+    /// Returns all overlaps in a list of tracts (CSV), whatever else is wrong with it, in the order
+    /// of the later tract, and then of the earlier one. A record that is not a tract's, or a tract
+    /// whose description is refused, overlaps none.
+    ///
+    /// # Errors
+    ///
+    /// The same as for [`Plat::report_each_csv`].
+    ///
+    /// ```
+    /// # let notes = include_bytes!(concat!(env!("CARGO_MANIFEST_DIR"), "/samples/b1.csv"));
+    /// # let plat = township::Plat::read(notes)?;
+    /// let list = "name,description\nA,sec. 14\nB,\"sec. 14, NE1/4\"\n";
+    /// let overlaps = plat.overlaps_csv(list)?;
+    /// assert_eq!((overlaps[0].first, overlaps[0].second), (0, 1));
+    /// assert_eq!(overlaps[0].acres.to_string(), "160.00");
+    /// # Ok::<(), township::Refused>(())
+    /// ```
+    pub fn overlaps_csv(&self, list: impl AsRef<[u8]>) -> Result<Vec<Overlap>, Refused> {
+        let list = list.as_ref();
+        let mut room = vec![ffi::Overlap::default(); USUAL_OVERLAPS];
+        let mut answer = ffi::overlaps(&self.parts, list, &mut room);
+        if answer.verdict() == Verdict::NoRoom {
+            room = vec![ffi::Overlap::default(); answer.text_length()];
+            answer = ffi::overlaps(&self.parts, list, &mut room);
+        }
+        match answer.accepted() {
+            Ok(answer) => {
+                let found = &room[..answer.text_length()];
+                Ok(found.iter().map(Overlap::from_data).collect())
+            }
+            Err(fault) => Err(self.whole_list_refused(fault, list)),
+        }
+    }
+
+    /// Returns all overlaps of the tracts, each a name and a description, as [`Plat::overlaps_csv`]
+    /// does.
+    ///
+    /// # Errors
+    ///
+    /// The same as for [`Plat::report_each_csv`].
+    ///
+    /// ```
+    /// # let notes = include_bytes!(concat!(env!("CARGO_MANIFEST_DIR"), "/samples/b1.csv"));
+    /// # let plat = township::Plat::read(notes)?;
+    /// assert!(plat.overlaps([("A", "sec. 14."), ("B", "sec. 15.")])?.is_empty());
+    /// # Ok::<(), township::Refused>(())
+    /// ```
+    pub fn overlaps<N, D>(
+        &self,
+        tracts: impl IntoIterator<Item = (N, D)>,
+    ) -> Result<Vec<Overlap>, Refused>
+    where
+        N: AsRef<[u8]>,
+        D: AsRef<[u8]>,
+    {
+        self.overlaps_csv(list_of(tracts))
+    }
+
     /// Returns the acreage in the answer to a description, or its refusal.
     fn acres_in(&self, answer: Answer, description: &[u8]) -> Result<Acres, Refused> {
         match answer.accepted() {
             Ok(answer) => Ok(Acres::from_hundredths(answer.hundredths)),
             Err(fault) => Err(self.description_refused(fault, description)),
         }
+    }
+
+    /// Returns the refusal of a list as a whole. It has no explanation if a tract's fault comes
+    /// before it, since that fault would be explained.
+    fn whole_list_refused(&self, fault: Fault, list: &[u8]) -> Refused {
+        let (explained, _) = text_by(|room| ffi::explain_list(&self.parts, list, LIST, room));
+        if explained.accepted() == Err(fault) {
+            return self.list_refused(fault, list);
+        }
+        Refused::unexplained(fault)
     }
 
     /// Returns the refusal of a list of tracts on this plat, with its explanation.
