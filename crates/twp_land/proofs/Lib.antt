@@ -19,3 +19,7 @@ pub mod TakenLands
 pub mod RowLands
 pub mod CombinedLots
 pub mod CompareFacts
+pub mod RelationFacts
+pub mod LotSections
+pub mod MadeLands
+pub mod WholeDecided

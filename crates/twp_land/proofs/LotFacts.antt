@@ -35,11 +35,11 @@ is_position_tells (Some (c', r')) c r h =
     rw (e, e') refl
 
 -- whether a lot is this one
-abbrev is_lot : Option ℕ → ℕ → Bool
+abbrev pub is_lot : Option ℕ → ℕ → Bool
 is_lot None n = false
 is_lot (Some n') n = n' == n
 
-is_lot_tells : (x : Option ℕ) (n : ℕ) → is_lot x n ≡ true → x ≡ Some n
+pub is_lot_tells : (x : Option ℕ) (n : ℕ) → is_lot x n ≡ true → x ≡ Some n
 is_lot_tells None n h = cc h
 is_lot_tells (Some n') n h = ap (λ k. Some k) (eqb-true n' n h)
 
@@ -72,7 +72,8 @@ pub record Fills (section column row lot : ℕ) : Type 0 where
   pub most : lot ≤ number_of_lots section
   pub position : position_of_lot section lot ≡ Some (column, row)
 
-inside : (s c r n : ℕ) → lot_at_position s c r ≡ Some n → (c < 4) × (r < 4)
+-- a lot's position lies in the section
+pub inside : (s c r n : ℕ) → lot_at_position s c r ≡ Some n → (c < 4) × (r < 4)
 inside s c r n is = elim (cases_lt c 4) [
   | inl in-c ↦ elim (cases_lt r 4) [
     | inl in-r ↦ (in-c, in-r)

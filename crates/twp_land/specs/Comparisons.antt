@@ -1,6 +1,6 @@
--- How two sets of places relate.
+-- How two sets of places relate, and whether both contain each lot wholly or not at all.
 use Rattle.std.specs.Prelude.{ℕ, Bool}
-use Rattle.twp_land.specs.Lands.{SharePlace, SamePlaces, ContainsAll}
+use Rattle.twp_land.specs.Lands.{SharePlace, SamePlaces, ContainsAll, HasWholeLots}
 use Rattle.twp_land.specs.declared.comparing.Comparison.{Comparison}
 use Rattle.twp_land.specs.declared.comparing.Comparison.TheVariants.{Same, Contains, IsContained}
 use Rattle.twp_land.specs.declared.comparing.Comparison.TheVariants.{Overlaps, Disjoint}
@@ -15,3 +15,7 @@ Compares Overlaps places more =
     SharePlace places more × (¬ ContainsAll places more) × (¬ ContainsAll more places)
 Compares Disjoint places more =
     (¬ SharePlace places more) × (¬ ContainsAll places more) × (¬ ContainsAll more places)
+
+-- each of the two sets contains each lot wholly or not at all
+abbrev pub HaveWholeLots : ℕ → (ℕ → ℕ → ℕ → Bool) → (ℕ → ℕ → ℕ → Bool) → Type 0
+HaveWholeLots g places more = HasWholeLots g places × HasWholeLots g more

@@ -3,3 +3,4 @@ pub mod RowTests
 pub mod BitLanes
 pub mod Crossing
 pub mod Exchanges
+pub mod Relating

@@ -33,11 +33,10 @@ impl Sections<LaneRows> {
             HasWholeLots PLACE_DIGITS (land_of_rows rows.now)
             × (⟦<Lanes as Land>⟧.places land ≡ land_of_rows rows.now)) }
     {
-        let land = stored(rows);
-        if !lots_whole(&land) {
+        if !lots_whole(rows) {
             return None;
         }
-        Some(land)
+        Some(stored(rows))
     }
 }
 

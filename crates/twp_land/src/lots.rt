@@ -1,32 +1,50 @@
 ghost use Rattle.std.specs.Prelude.{ℕ, ◌↔◌, IsTrue};
 ghost use Rattle.twp_grid.specs.Places.{PLACE_DIGITS};
 ghost use Rattle.twp_land.specs.Lands.{IsWholeOrNot, HasWholeLots};
+ghost use Rattle.twp_land.specs.Storage.{land_of_rows};
 
-use crate::land::Land;
-use twp_grid::{Block, SECTIONS, Section, lot_count};
+use crate::land_rows::LandRows;
+use crate::lanes::LaneRows;
+use crate::plot::Plot;
+use twp_grid::{Block, Section, lot_count};
+
+/// How many sections have lots.
+const SECTIONS_WITH_LOTS: usize = 11;
+
+/// The sections that have lots, by number.
+const LOT_SECTIONS: [u8; SECTIONS_WITH_LOTS] = [1, 2, 3, 4, 5, 6, 7, 18, 19, 30, 31];
 
 /// Whether the set contains each lot wholly or not at all (a lot is taken whole: Specifications for
 /// Descriptions of Land).
-pub fn lots_whole<L: Land>(land: &L) -> bool
-    ensures { IsTrue result ↔ HasWholeLots PLACE_DIGITS (L.places land.now) }
+pub fn lots_whole(rows: &LandRows) -> bool
+    ensures { IsTrue result ↔ HasWholeLots PLACE_DIGITS (land_of_rows rows.now) }
 {
-    for number in 1..SECTIONS + 1 {
+    for at in 0..SECTIONS_WITH_LOTS {
+        let number = LOT_SECTIONS[at];
         let section = Section::new(number).unwrap();
-        if !has_whole_lots(land, section) {
+        let plot = LaneRows::of_lanes(&rows[usize::from(number - 1)]);
+        if !has_whole_lots(&plot, section) {
             return false;
         }
     }
     true
 }
 
-/// Whether the set contains each lot of a section wholly or not at all.
-fn has_whole_lots<L: Land>(land: &L, section: Section) -> bool
+/// Whether a set of places of one section contains each of the section's lots wholly or not at all.
+/// That is so at once if it is empty, or the whole section.
+pub(crate) fn has_whole_lots<P: Plot>(plot: &P, section: Section) -> bool
     ensures { IsTrue result
-        ↔ ((lot : ℕ) → IsWholeOrNot PLACE_DIGITS section lot (L.places land.now section)) }
+        ↔ ((lot : ℕ) → IsWholeOrNot PLACE_DIGITS section lot (P.held plot.now)) }
 {
+    if plot.same_plot(&P::empty()) {
+        return true;
+    }
+    if plot.full(Block::whole()) {
+        return true;
+    }
     for lot in 1..lot_count(section) + 1 {
         let block = Block::of_lot(section, lot).unwrap();
-        if land.meets(section, block) && !land.full(section, block) {
+        if plot.meets(block) && !plot.full(block) {
             return false;
         }
     }

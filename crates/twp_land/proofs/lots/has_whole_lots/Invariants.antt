@@ -5,4 +5,4 @@ use Rattle.twp_land.proofs.lots.has_whole_lots.Given as goal
 
 abbrev pub invariant-loop-lot : goal.invariant-loop-lot
 invariant-loop-lot g l =
-    (lot : ℕ) → lot < l.lot → IsWholeOrNot PLACE_DIGITS l.section lot (g.L.Land.places l.land l.section)
+    (lot : ℕ) → lot < l.lot → IsWholeOrNot PLACE_DIGITS l.section lot (g.P.Plot.held l.plot)

@@ -1,0 +1,16 @@
+use Rattle.std.proofs.Common.{ℕ, ◌≤◌}
+use Rattle.twp_grid.specs.Places.{PLACE_DIGITS}
+use Rattle.twp_land.specs.Lands.{IsWholeOrNot}
+use Rattle.twp_land.specs.Storage.{land_of_rows}
+use Rattle.twp_land.proofs.RelationFacts.{RelatesTo}
+use Rattle.twp_land.proofs.row_comparing.compare_rows.Given as goal
+
+-- how the sets relate in the sections so far, which contain each lot wholly or not at all
+abbrev pub invariant-loop-index : goal.invariant-loop-index
+invariant-loop-index l = record {
+  relates : RelatesTo l.index l.relation (land_of_rows l.rows) (land_of_rows l.other);
+  whole : (section lot : ℕ) → 1 ≤ section → section ≤ l.index
+      → IsWholeOrNot PLACE_DIGITS section lot (land_of_rows l.rows section);
+  whole_other : (section lot : ℕ) → 1 ≤ section → section ≤ l.index
+      → IsWholeOrNot PLACE_DIGITS section lot (land_of_rows l.other section);
+}

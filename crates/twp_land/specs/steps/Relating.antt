@@ -1,0 +1,10 @@
+-- Three tests of how two sets of places relate.
+use Rattle.std.specs.Prelude.{◌↔◌, ℕ, Bool, IsTrue}
+use Rattle.twp_land.specs.Lands.{SharePlace, ContainsAll}
+use Rattle.twp_land.specs.declared.relation.Relation.{Relation}
+
+-- the tests are those of these two sets
+pub record Relates (relation : Relation) (places more : ℕ → ℕ → ℕ → Bool) : Type 0 where
+  pub contains : IsTrue relation.contains ↔ ContainsAll places more
+  pub is_contained : IsTrue relation.is_contained ↔ ContainsAll more places
+  pub shares : IsTrue relation.shares ↔ SharePlace places more
