@@ -11,3 +11,4 @@ pub mod PlatPieces
 mod WorkedPieces
 pub mod SectionPieces
 pub mod AreaSums
+pub mod QuarterLines
