@@ -1,7 +1,8 @@
 /*
  * Makes one call of the library again and again, for bench/library.sh: `library NOTES CALL COUNT`. CALL is `read`
- * (notes to a plat), or a description on the kept plat: `one` part, `two` sections, `fifty` or `hundred` parts; or
- * `land` (one part to land), or `combine` or `compare` (land of one section with other land). Prints the sum of the
+ * (notes to a plat), or a description on the kept plat: `one` part, `two` sections, `three` sections, three `whole`
+ * sections, an `overlap` that is refused, `fifty` or `hundred` parts; or its canonical text: `text-one`, `text-three`;
+ * or `land` (one part to land), or `combine` or `compare` (land of one section with other land). Prints the sum of the
  * calls' answers, so that no call is optimized away, and their processor time in seconds.
  */
 #include "township.h"
@@ -26,11 +27,19 @@ static size_t squares(unsigned count) {
 }
 
 static size_t description_of(const char *call) {
-    if (strcmp(call, "one") == 0) {
-        return (size_t)sprintf((char *)text, "sec. 14, NE1/4.");
-    }
-    if (strcmp(call, "two") == 0) {
-        return (size_t)sprintf((char *)text, "T. 2 N., R. 3 W., sec. 5, lots 1 and 2, S1/2NE1/4; sec. 14, NE1/4.");
+    static const struct {
+        const char *call, *description;
+    } named[] = {
+        {"one", "sec. 14, NE1/4."},
+        {"two", "T. 2 N., R. 3 W., sec. 5, lots 1 and 2, S1/2NE1/4; sec. 14, NE1/4."},
+        {"three", "T. 2 N., R. 3 W., sec. 8, SE1/4SE1/4; sec. 14, N1/2, SE1/4; sec. 23, N1/2NE1/4, SW1/4."},
+        {"whole", "secs. 14, 15, and 23."},
+        {"overlap", "sec. 14, NE1/4 and N1/2."},
+    };
+    for (size_t row = 0; row < sizeof named / sizeof named[0]; row++) {
+        if (strcmp(call, named[row].call) == 0) {
+            return (size_t)sprintf((char *)text, "%s", named[row].description);
+        }
     }
     return squares(strcmp(call, "fifty") == 0 ? 50 : 100);
 }
@@ -80,11 +89,18 @@ int main(int argc, char **argv) {
         }
     } else if (argv[2][0] == 'l' || argv[2][0] == 'c') {
         sum = on_land(argv[2], count);
+    } else if (strncmp(argv[2], "text-", 5) == 0) {
+        static uint8_t written[4096];
+        size_t length = description_of(argv[2] + 5);
+        for (long made = 0; made < count; made++) {
+            answer = township_normal(&plat, text, length, written, sizeof written);
+            sum += answer.length + written[0];
+        }
     } else {
         size_t length = description_of(argv[2]);
         for (long made = 0; made < count; made++) {
             answer = township_acres(&plat, text, length, TOWNSHIP_EXACT);
-            sum += answer.hundredths;
+            sum += answer.hundredths + answer.at;
         }
     }
     double taken = (double)(clock() - begun) / CLOCKS_PER_SEC;

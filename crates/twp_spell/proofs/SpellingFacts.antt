@@ -10,7 +10,7 @@ use Rattle.std.proofs.lemmas.List.{append-nil, append_assoc, flat_map_more, take
 use Rattle.std.proofs.lemmas.List.Folds.{flat_map-map}
 use Rattle.twp_grid.specs.Townships.{Designation}
 use Rattle.twp_grid.specs.Winding.{IsSection}
-use Rattle.twp_land.specs.Lands.{lot_of_place}
+use Rattle.twp_land.specs.Lands.{lot_of_place, LieWithin}
 use Rattle.twp_spell.specs.Listing.{AreListed}
 use Rattle.twp_spell.specs.WrittenParts.{Part, AreWrittenParts}
 use Rattle.twp_land.specs.Lands.{off_lots}
@@ -236,12 +236,14 @@ zip_more R (x' ∷ xs) [] x y are is = absurd are
 zip_more R (x' ∷ xs) (y' ∷ ys) x y are is = (are.0, zip_more R xs ys x y are.1 is)
 
 -- the sections below a number
-pub begun_none : (g : ℕ) (township : Designation) (places : ℕ → ℕ → ℕ → Bool) (text : List ℕ) → text ≡ []
-    → AreBegun g township places 1 text
-begun_none g township places text none = record {
+-- the land lies in the sections from a number on, none of which was written
+pub begun_from : (g : ℕ) (township : Designation) (places : ℕ → ℕ → ℕ → Bool) (first last : ℕ) (text : List ℕ)
+    → LieWithin places first last → text ≡ [] → AreBegun g township places first text
+begun_from g township places first last text lie none = record {
   sections = [];
   lines = [];
-  sections_are = below_none (IsSectionOfLand g places) 1 (λ n it. it.0.0);
+  sections_are = below_none (IsSectionOfLand g places) first (λ n it.
+      (lie n it.1.column it.1.row it.1.is_held).0);
   lines_are = tt;
   text_is = none;
 }
@@ -281,15 +283,16 @@ lines_end township (line ∷ lines) old new begun none some =
     some (begun_more township line lines old begun) ∙ ap (λ t. t ++ (codes "." ++ line_end)) begun
     ∙ sym (append_assoc (lines_begun township (line ∷ lines)) (codes ".") line_end)
 
-pub begun_all : (g : ℕ) (township : Designation) (places : ℕ → ℕ → ℕ → Bool) (number : ℕ) (old new : List ℕ)
-    → AreBegun g township places number old → 36 < number
+pub begun_all : (g : ℕ) (township : Designation) (places : ℕ → ℕ → ℕ → Bool) (first last number : ℕ)
+    (old new : List ℕ)
+    → LieWithin places first last → AreBegun g township places number old → last < number
     → (old ≡ [] → new ≡ []) → (¬ (old ≡ []) → new ≡ old ++ (codes "." ++ line_end))
     → IsCanonicalText g township places new
-begun_all g township places number old new begun all_below none some = record {
+begun_all g township places first last number old new lie begun all_below none some = record {
   sections = begun.sections;
   lines = begun.lines;
   sections_are = below_all (IsSectionOfLand g places) number begun.sections begun.sections_are (λ n it.
-      let most = it.0.1 in omega arith);
+      let most = (lie n it.1.column it.1.row it.1.is_held).1 in omega arith);
   lines_are = begun.lines_are;
   text_is = lines_end township begun.lines old new begun.text_is none some;
 }

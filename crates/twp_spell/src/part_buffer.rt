@@ -111,7 +111,7 @@ impl PartBuffer {
 
 /// The half toward a side, as it is written after a comma.
 #[inline(always)]
-fn half_step(side: Side) -> &'static [u8; HALF_BYTES]
+pub(crate) fn half_step(side: Side) -> &'static [u8; HALF_BYTES]
     ensures { result.now ≡ codes ", " ++ step_text (Half side) }
 {
     match side {
@@ -124,7 +124,7 @@ fn half_step(side: Side) -> &'static [u8; HALF_BYTES]
 
 /// The quarter at a corner, as it is written after a comma.
 #[inline(always)]
-fn quarter_step(corner: Corner) -> &'static [u8; QUARTER_BYTES]
+pub(crate) fn quarter_step(corner: Corner) -> &'static [u8; QUARTER_BYTES]
     ensures { result.now ≡ codes ", " ++ step_text (Quarter corner) }
 {
     match corner {

@@ -6,7 +6,7 @@ ghost use Rattle.twp_spell.specs.WrittenParts.{IsOnSide};
 ghost use Rattle.twp_spell.specs.CanonicalText.{step_text};
 ghost use Rattle.twp_spell.specs.steps.Spelling.{PART_MOST, BUFFER_MOST, quarter_on};
 
-use crate::part_buffer::PartBuffer;
+use crate::part_buffer::{PartBuffer, half_step, quarter_step};
 use crate::path::Path;
 use std::alloc::AllocError;
 use twp_grid::{Corner, Side};
@@ -53,9 +53,11 @@ pub(crate) fn write_half_if_first(
         (text.new.items ≡ text.old.items ++ (codes ", " ++ (step_text (Half side) ++ path.now))) }
     ensures second { ¬ (quarter_on side ≡ corner) → OnOk result (text.new.items ≡ text.old.items) }
 {
-    let mut buffer = PartBuffer::new();
-    push_half_if_first(side, corner, path, &mut buffer);
-    buffer.append_to(text)
+    if first_quarter(side) != corner {
+        return Ok(());
+    }
+    text.extend_from_slice(half_step(side))?;
+    text.extend_from_slice(path.written())
 }
 
 /// Appends a quarter that is full.
@@ -68,9 +70,8 @@ pub(crate) fn write_full_quarter(
     ensures { OnOk result (text.new.items
         ≡ text.old.items ++ ((codes ", " ++ step_text (Quarter corner)) ++ path.now)) }
 {
-    let mut buffer = PartBuffer::new();
-    buffer.push_quarter(corner, path);
-    buffer.append_to(text)
+    text.extend_from_slice(quarter_step(corner))?;
+    text.extend_from_slice(path.written())
 }
 
 /// Whether a square's quarter lies in its half.

@@ -64,6 +64,14 @@ impl Path {
         self.len
     }
 
+    /// The path's bytes.
+    #[inline(always)]
+    pub(crate) fn written(&self) -> &[u8]
+        ensures { result.now ≡ self.now }
+    {
+        &self.text[..self.len]
+    }
+
     /// The path's bytes, with other bytes after them.
     #[inline(always)]
     pub(crate) fn bytes(&self) -> &[u8; PATH_BYTES]

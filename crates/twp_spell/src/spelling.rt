@@ -10,8 +10,11 @@ ghost use Rattle.twp_spell.specs.steps.SpellingSteps.{entries_text, HasLots, Has
 use crate::written_parts::write_parts;
 use itoa::Buffer;
 use std::alloc::{AllocError, Global};
-use twp_grid::{Block, EastWest, NorthSouth, SECTIONS, Section, Township, lot_count};
+use twp_grid::{Block, EastWest, NorthSouth, Section, Township, lot_count};
 use twp_land::Land;
+
+/// There is room from the start for the text of some ten parts, in bytes.
+const ROOM: usize = 256;
 
 /// The canonical text of land in a township, such as `T. 2 N., R. 3 W.,` and, on the next line,
 /// `sec. 14, N1/2, SE1/4.`: its sections by ascending number, each with `all` or with the lots and
@@ -21,8 +24,11 @@ pub fn spell<L: Land>(alloc: Global, land: &L, township: Township) -> Result<Vec
     ensures text { IfOk result
         (λ text. IsCanonicalText PLACE_DIGITS township (L.places land.now) text.items) }
 {
-    let mut text = Vec::new(alloc);
-    for number in 1..SECTIONS + 1 {
+    let Some((first, last)) = land.sections() else {
+        return Ok(Vec::new(alloc));
+    };
+    let mut text = Vec::with_capacity(alloc, ROOM)?;
+    for number in first.number()..last.number() + 1 {
         let section = Section::new(number).unwrap();
         write_if_held(alloc, land, township, section, &mut text)?;
     }
