@@ -1,22 +1,27 @@
 -- What the calls on land answer, by what their stages came to; over plain values.
-use Rattle.std.proofs.Common.{◌≡◌, ℕ, Bool, List, sym, subst, ◌∙◌}
+use Rattle.std.proofs.Common.{◌≡◌, ◌⊎◌, ℕ, Bool, List, sym, subst, ◌∙◌, refl, inl, inr}
 use Rattle.std.proofs.Common.{true, false, ◌↔◌, IsTrue}
 use Rattle.std.proofs.lemmas.Bool.{false≢true}
 use Rattle.twp_grid.specs.Places.{PLACE_DIGITS}
 use Rattle.twp_grid.specs.Townships.{Designation}
 use Rattle.twp_land.specs.Lands.{HasWholeLots}
+use Rattle.twp_land.specs.Storage.{land_of_rows}
 use Rattle.twp_land.proofs.CombinedLots.{combined_lots_are_whole}
+use Rattle.twp_land.proofs.WholeDecided.{whole_lots_decided}
 use Rattle.twp_acres.specs.Answers.{IsNoDescription}
 use Rattle.twp_acres.specs.OnPlats.{StopsOn}
 use Rattle.twp_acres.specs.declared.stop.Stop.{Stop}
-use Rattle.twp_calls.specs.Answers.{OTHER_TOWNSHIP, bare, stopped}
+use Rattle.twp_calls.specs.Answers.{NO_LAND, OTHER_TOWNSHIP, bare, stopped}
 use Rattle.twp_calls.specs.Calls.{Answers, IsRefusedFor}
-use Rattle.twp_calls.specs.LandCalls.{InOneTownship, InTownship, combined, in_one, in_two, in_township}
-use Rattle.twp_calls.specs.GivenTownships.{IsGivenTownship}
+use Rattle.twp_calls.specs.LandCalls.{InOneTownship, InTownship, OnLand, combined, in_one, in_two}
+use Rattle.twp_calls.specs.LandCalls.{in_township, on_land, on_no_land}
+use Rattle.twp_calls.specs.GivenLands.{IsGivenLand, IsNoGivenLand}
+use Rattle.twp_calls.specs.GivenTownships.{IsGivenTownship, IsNoGivenTownship}
 use Rattle.twp_calls.specs.declared.answer.TownshipAnswer.{TownshipAnswer}
 use Rattle.twp_calls.specs.declared.combining.Operation.{Operation}
 use Rattle.twp_calls.specs.declared.combining.Operation.TheVariants as operation
 use Rattle.twp_calls.specs.declared.designation.TownshipDesignation.{TownshipDesignation}
+use Rattle.twp_calls.specs.declared.land.TownshipLand.{TownshipLand as GivenLand}
 use Rattle.twp_calls.proofs.CallFacts.{stopped_on}
 
 -- the townships differ, or are the same
@@ -52,3 +57,34 @@ combined_whole operation.Intersection places more whole other =
     (combined_lots_are_whole PLACE_DIGITS places more whole other).1
 combined_whole operation.Difference places more whole other =
     (combined_lots_are_whole PLACE_DIGITS places more whole other).2
+
+-- the data is land where it stands
+pub given_land : (given : GivenLand) (township : Designation) → IsGivenTownship given.township township
+    → HasWholeLots PLACE_DIGITS (land_of_rows given.rows)
+    → IsGivenLand given township (land_of_rows given.rows)
+given_land given township is whole = record { township_is = is; places_are = refl; whole = whole }
+
+-- the data has no township, or contains part of a lot
+pub without_township : (given : GivenLand) → IsNoGivenTownship given.township → IsNoGivenLand given
+without_township given none township places is = none township is.township_is
+
+pub with_cut_lot : (given : GivenLand) → ¬ HasWholeLots PLACE_DIGITS (land_of_rows given.rows)
+    → IsNoGivenLand given
+with_cut_lot given cut township places is = cut (subst (HasWholeLots PLACE_DIGITS) is.places_are is.whole)
+
+-- The data has a township, and the call answers that some data is no land: this data, if it contains part
+-- of a lot.
+pub no_land_unless : (given : GivenLand) (township : Designation) → IsGivenTownship given.township township
+    → (Answers : Designation → (ℕ → ℕ → ℕ → Bool) → TownshipAnswer → Type 0) (answer : TownshipAnswer)
+    → answer ≡ bare NO_LAND
+    → (HasWholeLots PLACE_DIGITS (land_of_rows given.rows)
+    → Answers township (land_of_rows given.rows) answer)
+    → OnLand given Answers answer
+no_land_unless given township is Answers answer none other = go (whole_lots_decided (land_of_rows given.rows))
+  where
+    go : HasWholeLots PLACE_DIGITS (land_of_rows given.rows)
+        ⊎ ¬ HasWholeLots PLACE_DIGITS (land_of_rows given.rows)
+        → OnLand given Answers answer
+    go (inl whole) =
+        on_land township (land_of_rows given.rows) (given_land given township is whole) (other whole)
+    go (inr cut) = on_no_land (with_cut_lot given cut) none

@@ -1,5 +1,6 @@
 //! The calls that combine and compare two sets of land.
 ghost use Rattle.std.specs.Prelude.{◌≡◌, ◌≢◌};
+ghost use Rattle.twp_land.specs.Storage.{land_of_rows};
 ghost use Rattle.twp_calls.specs.Answers.{ACCEPTED};
 ghost use Rattle.twp_calls.specs.LandCalls.{IsCombineCall, IsCompareCall, combined, operation_of};
 ghost use Rattle.twp_calls.specs.LandCalls.{code_of_comparison};
@@ -8,7 +9,9 @@ use crate::answer::TownshipAnswer;
 use crate::designation::is_same_township;
 use crate::land::TownshipLand;
 use crate::verdict::{ACCEPTED, NO_LAND, NO_OPERATION, OTHER_TOWNSHIP};
-use twp_land::{Comparison, Land, Lanes, compare};
+use twp_land::{
+    Comparison, LandRows, compare_rows, write_difference, write_intersection, write_union,
+};
 
 /// How two sets of land are combined.
 #[derive(Clone, Copy)]
@@ -22,15 +25,15 @@ pub enum Operation {
 }
 
 impl Operation {
-    /// Makes the first land that of the operation.
-    fn combine(self, land: &mut Lanes, other: &Lanes)
-        ensures { ⟦<Lanes as Land>⟧.places land.new ≡ combined self
-            (⟦<Lanes as Land>⟧.places land.old) (⟦<Lanes as Land>⟧.places other.now) }
+    /// Writes the land that the operation makes of two sets.
+    fn write(self, first: &LandRows, second: &LandRows, made: &mut LandRows)
+        ensures { land_of_rows made.new
+            ≡ combined self (land_of_rows first.now) (land_of_rows second.now) }
     {
         match self {
-            Operation::Union => land.add_land(other),
-            Operation::Intersection => land.keep_common(other),
-            Operation::Difference => land.take_away(other),
+            Operation::Union => write_union(first, second, made),
+            Operation::Intersection => write_intersection(first, second, made),
+            Operation::Difference => write_difference(first, second, made),
         }
     }
 }
@@ -57,20 +60,20 @@ pub fn township_land_combine(
     ensures answer { IsCombineCall first.now second.now operation land.new result }
     ensures kept { result.verdict ≢ ACCEPTED → land.new ≡ land.old }
 {
-    let Some(mut first) = first.land() else {
+    let Some(township) = first.township_of_land() else {
         return TownshipAnswer::bare(NO_LAND);
     };
-    let Some(second) = second.land() else {
+    let Some(other) = second.township_of_land() else {
         return TownshipAnswer::bare(NO_LAND);
     };
     let Some(operation) = operation_of(operation) else {
         return TownshipAnswer::bare(NO_OPERATION);
     };
-    if !is_same_township(first.township, second.township) {
+    if !is_same_township(township, other) {
         return TownshipAnswer::bare(OTHER_TOWNSHIP);
     }
-    operation.combine(&mut first.places, &second.places);
-    *land = TownshipLand::of(first.township, &first.places);
+    operation.write(&first.rows, &second.rows, &mut land.rows);
+    land.township = first.township;
     TownshipAnswer::bare(ACCEPTED)
 }
 
@@ -83,16 +86,19 @@ pub fn township_land_compare(
     ensures answer { IsCompareCall first.now second.now comparison.new result }
     ensures kept { result.verdict ≢ ACCEPTED → comparison.new ≡ comparison.old }
 {
-    let Some(first) = first.land() else {
+    let Some(township) = first.township.township() else {
         return TownshipAnswer::bare(NO_LAND);
     };
-    let Some(second) = second.land() else {
+    let Some(other) = second.township.township() else {
         return TownshipAnswer::bare(NO_LAND);
     };
-    if !is_same_township(first.township, second.township) {
+    let Some(compared) = compare_rows(&first.rows, &second.rows) else {
+        return TownshipAnswer::bare(NO_LAND);
+    };
+    if !is_same_township(township, other) {
         return TownshipAnswer::bare(OTHER_TOWNSHIP);
     }
-    *comparison = code_of_comparison(compare(&first.places, &second.places));
+    *comparison = code_of_comparison(compared);
     TownshipAnswer::bare(ACCEPTED)
 }
 

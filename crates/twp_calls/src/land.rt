@@ -2,11 +2,12 @@
 ghost use Rattle.std.specs.Prelude.{MatchOption};
 ghost use Rattle.twp_grid.specs.Places.{PLACE_DIGITS};
 ghost use Rattle.twp_land.specs.Lands.{HasWholeLots};
+ghost use Rattle.twp_land.specs.Storage.{land_of_rows};
 ghost use Rattle.twp_calls.specs.GivenLands.{IsGivenLand, IsNoGivenLand};
 
 use crate::designation::TownshipDesignation;
 use twp_grid::{PLACES_ACROSS, SECTIONS, Township};
-use twp_land::{Land, Lanes};
+use twp_land::{Land, Lanes, lots_whole};
 
 /// A set of places of a township, whether it is land or not.
 #[repr(C)]
@@ -48,5 +49,17 @@ impl TownshipLand {
             return None;
         };
         Some(LandIn { township, places })
+    }
+
+    /// The township that the land is in, if it is valid. The places stay where they are.
+    pub(crate) fn township_of_land(&self) -> Option<Township>
+        ensures { MatchOption result (IsNoGivenLand self.now) (λ township.
+            IsGivenLand self.now township (land_of_rows self.now.rows)) }
+    {
+        let township = self.township.township()?;
+        if !lots_whole(&self.rows) {
+            return None;
+        }
+        Some(township)
     }
 }
