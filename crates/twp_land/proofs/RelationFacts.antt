@@ -1,6 +1,6 @@
 -- How two sets of places relate in the sections up to one.
 use Rattle.std.proofs.Common.{◌≡◌, ◌↔◌, IsTrue, ℕ, ◌+◌, ◌≤◌, ◌||◌, ◌⊎◌, Bool, true, false, List, nat_le}
-use Rattle.std.proofs.Common.{ap, sym, ◌∙◌, refl, inl, inr, arith}
+use Rattle.std.proofs.Common.{ap, sym, subst, ◌∙◌, refl, inl, inr, arith}
 use Rattle.std.proofs.lemmas.Bool.{cases_eq, and_parts}
 use Rattle.std.proofs.lemmas.Bool.Decides.{nat_tests}
 use Rattle.twp_grid.specs.Winding.{SECTION_COUNT, IsSection}
@@ -222,3 +222,12 @@ relates_all held plots others most relation all is = record {
     }),
   );
 }
+
+-- one set contains another, each under another name
+pub contains_as : (after before : Bool) (held held' other other' : ℕ → ℕ → Bool) → held ≡ held'
+    → other ≡ other'
+    → (IsTrue after ↔ (IsTrue before × ContainsHeld held other))
+    → (IsTrue after ↔ (IsTrue before × ContainsHeld held' other'))
+contains_as after before held held' other other' part more is =
+    subst (λ o. IsTrue after ↔ (IsTrue before × ContainsHeld held' o)) more
+    (subst (λ h. IsTrue after ↔ (IsTrue before × ContainsHeld h other)) part is)

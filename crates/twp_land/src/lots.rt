@@ -1,12 +1,14 @@
 ghost use Rattle.std.specs.Prelude.{ℕ, ◌↔◌, IsTrue};
 ghost use Rattle.twp_grid.specs.Places.{PLACE_DIGITS};
 ghost use Rattle.twp_land.specs.Lands.{IsWholeOrNot, HasWholeLots};
-ghost use Rattle.twp_land.specs.Storage.{land_of_rows};
+ghost use Rattle.twp_land.specs.Storage.{land_of_rows, held_by_lane};
+ghost use Rattle.twp_land.specs.steps.Relating.{HoldsWholeLots};
 
+use crate::bits::Lane;
 use crate::land_rows::LandRows;
 use crate::lanes::LaneRows;
 use crate::plot::Plot;
-use twp_grid::{Block, Section, lot_count};
+use twp_grid::{Block, PLACES_ACROSS, Section, lot_count};
 
 /// How many sections have lots.
 const SECTIONS_WITH_LOTS: usize = 11;
@@ -22,12 +24,31 @@ pub fn lots_whole(rows: &LandRows) -> bool
     for at in 0..SECTIONS_WITH_LOTS {
         let number = LOT_SECTIONS[at];
         let section = Section::new(number).unwrap();
-        let plot = LaneRows::of_lanes(&rows[usize::from(number - 1)]);
-        if !has_whole_lots(&plot, section) {
+        if !holds_whole_lots(&rows[usize::from(number - 1)], section) {
             return false;
         }
     }
     true
+}
+
+/// Whether the places of one section contain each of its lots wholly or not at all. Most sections
+/// are empty, which is seen at once.
+#[inline(always)]
+fn holds_whole_lots(lanes: &[Lane; PLACES_ACROSS], section: Section) -> bool
+    ensures { IsTrue result ↔ HoldsWholeLots PLACE_DIGITS section (held_by_lane lanes.now) }
+{
+    if LaneRows::of_lanes(lanes).same_plot(&LaneRows::empty()) {
+        return true;
+    }
+    some_hold_whole_lots(lanes, section)
+}
+
+/// The same, for places of which there are some.
+#[inline(never)]
+fn some_hold_whole_lots(lanes: &[Lane; PLACES_ACROSS], section: Section) -> bool
+    ensures { IsTrue result ↔ HoldsWholeLots PLACE_DIGITS section (held_by_lane lanes.now) }
+{
+    has_whole_lots(&LaneRows::of_lanes(lanes), section)
 }
 
 /// Whether a set of places of one section contains each of the section's lots wholly or not at all.

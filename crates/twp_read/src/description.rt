@@ -19,6 +19,9 @@ use twp_grammar::{Expected, Item, Kind, State};
 /// some twenty.
 const BYTES_TO_ITEM: usize = 16;
 
+/// There is room for this many items besides, so that a short text needs no more.
+const ITEMS_BESIDES: usize = 4;
+
 /// A description of land, as the items that it names, from left to right.
 #[derive(Drop)]
 pub struct Description {
@@ -94,7 +97,7 @@ impl Description {
             (λ fault. IfSome (refusal_of fault) (λ _. IsFirstTextFault text.now fault)) }
         ensures helps { IfErr result (Helps text.now) }
     {
-        let mut items = Items::with_room(alloc, text.len() / BYTES_TO_ITEM)?;
+        let mut items = Items::with_room(alloc, text.len() / BYTES_TO_ITEM + ITEMS_BESIDES)?;
         let mut reached = Reached {
             at: 0,
             state: State::Start,

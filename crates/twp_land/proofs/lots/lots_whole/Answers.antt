@@ -10,23 +10,24 @@ use Rattle.twp_land.proofs.LotFacts.{section_is}
 use Rattle.twp_land.proofs.LotSections.{lot_sections, is_lot_section, whole_if_in_each, whole_part}
 use Rattle.twp_land.proofs.lots.lots_whole.Goals as goal
 
-pub returns-then-not-has_whole_lots : goal.returns-then-not-has_whole_lots
-returns-then-not-has_whole_lots c =
+pub returns-then-not-holds_whole_lots : goal.returns-then-not-holds_whole_lots
+returns-then-not-holds_whole_lots c =
     let number : ℕ = get_or lot_sections c.loop-at.at 0 in
     let range : IsSection number = is_lot_section c.loop-at.at (omega arith) in
     let back : number - 1 + 1 ≡ number = omega (arith, range.0) in
     let is : c.unwrap-section.result ≡ number =
     section_is number c.unwrap-section.result _ c.new.ensures c.unwrap-section.ensures in
-    let part : held_by_lane c.of_lanes-plot.result.lanes ≡ land_of_rows c.args.rows.now number =
-    rw c.from.ensures at c.of_lanes-plot.ensures
-    ∙ sym (kept_at held_by_lane c.args.rows.now (number - 1) [] (omega (arith, range.1)) (omega arith))
+    let part : held_by_lane (get_or c.args.rows.now (number - 1) []) ≡ land_of_rows c.args.rows.now number =
+    sym (kept_at held_by_lane c.args.rows.now (number - 1) [] (omega (arith, range.1)) (omega arith))
     ∙ ap (λ n. land_of_rows c.args.rows.now n) back in (
       λ h. cc h,
       λ whole.
           let here =
           whole_part number c.unwrap-section.result (land_of_rows c.args.rows.now number)
-          (held_by_lane c.of_lanes-plot.result.lanes) (sym is) (sym part) (λ lot. whole number lot range) in
-          absurd (cc (c.has_whole_lots.ensures.1 here, c.if-not-has_whole_lots.true)),
+          (held_by_lane (get_or c.args.rows.now (number - 1) [])) (sym is) (sym part)
+          (λ lot. whole number lot range) in
+          absurd
+          (cc ((rw c.from.ensures at c.holds_whole_lots.ensures).1 here, c.if-not-holds_whole_lots.true)),
     )
 
 pub loop-at-preserved : goal.loop-at-preserved
@@ -36,14 +37,13 @@ loop-at-preserved c =
     let back : number - 1 + 1 ≡ number = omega (arith, range.0) in
     let is : c.unwrap-section.result ≡ number =
     section_is number c.unwrap-section.result _ c.new.ensures c.unwrap-section.ensures in
-    let part : held_by_lane c.of_lanes-plot.result.lanes ≡ land_of_rows c.args.rows.now number =
-    rw c.from.ensures at c.of_lanes-plot.ensures
-    ∙ sym (kept_at held_by_lane c.args.rows.now (number - 1) [] (omega (arith, range.1)) (omega arith))
+    let part : held_by_lane (get_or c.args.rows.now (number - 1) []) ≡ land_of_rows c.args.rows.now number =
+    sym (kept_at held_by_lane c.args.rows.now (number - 1) [] (omega (arith, range.1)) (omega arith))
     ∙ ap (λ n. land_of_rows c.args.rows.now n) back in
     let here : (lot : ℕ) → IsWholeOrNot PLACE_DIGITS number lot (land_of_rows c.args.rows.now number) =
-    whole_part c.unwrap-section.result number (held_by_lane c.of_lanes-plot.result.lanes)
+    whole_part c.unwrap-section.result number (held_by_lane (get_or c.args.rows.now (number - 1) []))
     (land_of_rows c.args.rows.now number) is part
-    (c.has_whole_lots.ensures.0 c.if-not-has_whole_lots.false) in
+    ((rw c.from.ensures at c.holds_whole_lots.ensures).0 c.if-not-holds_whole_lots.false) in
     λ at lot below. elim (cases_lt at c.loop-at.at) [
       | inl before ↦ c.loop-at.invariant at lot before
       | inr last ↦ let same : at ≡ c.loop-at.at = omega arith in rw same (here lot)

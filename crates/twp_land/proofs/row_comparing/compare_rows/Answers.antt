@@ -1,5 +1,5 @@
 -- One more section, in which neither set has a place, or which contains part of a lot, or neither.
-use Rattle.std.proofs.Common.{◌≡◌, ℕ, ◌+◌, [], refl, sym, ◌∙◌, arith}
+use Rattle.std.proofs.Common.{◌≡◌, ℕ, ◌+◌, [], get_or, refl, sym, arith}
 use Rattle.twp_grid.specs.Winding.{IsSection}
 use Rattle.twp_land.specs.Storage.{held_by_lane, land_of_rows}
 use Rattle.twp_land.proofs.LandFacts.{kept_at}
@@ -19,12 +19,10 @@ pub loop-index-preserved-then-are_empty : goal.loop-index-preserved-then-are_emp
 loop-index-preserved-then-are_empty c =
     let at = c.loop-index.invariant in
     let index : ℕ = c.loop-index.index in
-    let part : held_by_lane c.of_lanes-plot.result.lanes ≡ land_of_rows c.args.rows.now (index + 1) =
-    c.of_lanes-plot.ensures
-    ∙ sym (kept_at held_by_lane c.args.rows.now index [] (omega arith) (omega arith)) in
-    let other : held_by_lane c.of_lanes-more.result.lanes ≡ land_of_rows c.args.other.now (index + 1) =
-    c.of_lanes-more.ensures
-    ∙ sym (kept_at held_by_lane c.args.other.now index [] (omega arith) (omega arith)) in
+    let part : held_by_lane (get_or c.args.rows.now index []) ≡ land_of_rows c.args.rows.now (index + 1) =
+    sym (kept_at held_by_lane c.args.rows.now index [] (omega arith) (omega arith)) in
+    let other : held_by_lane (get_or c.args.other.now index []) ≡ land_of_rows c.args.other.now (index + 1) =
+    sym (kept_at held_by_lane c.args.other.now index [] (omega arith) (omega arith)) in
     let none = c.are_empty.ensures.0 c.if-are_empty.true in
     let empty = both_empty _ _ none in
     record {
@@ -33,45 +31,35 @@ loop-index-preserved-then-are_empty c =
           c.loop-index.relation _ _ part other none at.relates;
       whole =
           whole_next (land_of_rows c.args.rows.now) index at.whole
-          (whole_part (index + 1) (index + 1) (held_by_lane c.of_lanes-plot.result.lanes)
+          (whole_part (index + 1) (index + 1) (held_by_lane (get_or c.args.rows.now index []))
           (land_of_rows c.args.rows.now (index + 1)) refl part
           (λ lot. whole_of_none (index + 1) lot _ empty.0));
       whole_other =
           whole_next (land_of_rows c.args.other.now) index at.whole_other
-          (whole_part (index + 1) (index + 1) (held_by_lane c.of_lanes-more.result.lanes)
+          (whole_part (index + 1) (index + 1) (held_by_lane (get_or c.args.other.now index []))
           (land_of_rows c.args.other.now (index + 1)) refl other
           (λ lot. whole_of_none (index + 1) lot _ empty.1));
     }
 
-pub returns-then-not-has_whole_lots : goal.returns-then-not-has_whole_lots
-returns-then-not-has_whole_lots c = λ whole.
+pub returns-then-not-take_section : goal.returns-then-not-take_section
+returns-then-not-take_section c = λ whole.
     let index : ℕ = c.loop-index.index in
     let range : IsSection (index + 1) = (omega arith, omega arith) in
     let is : c.unwrap-section.result ≡ index + 1 =
     section_is (index + 1) c.unwrap-section.result _ c.new.ensures c.unwrap-section.ensures in
-    let part : held_by_lane c.of_lanes-plot.result.lanes ≡ land_of_rows c.args.rows.now (index + 1) =
-    c.of_lanes-plot.ensures
-    ∙ sym (kept_at held_by_lane c.args.rows.now index [] (omega arith) (omega arith)) in
+    let part : held_by_lane (get_or c.args.rows.now index []) ≡ land_of_rows c.args.rows.now (index + 1) =
+    sym (kept_at held_by_lane c.args.rows.now index [] (omega arith) (omega arith)) in
+    let other : held_by_lane (get_or c.args.other.now index []) ≡ land_of_rows c.args.other.now (index + 1) =
+    sym (kept_at held_by_lane c.args.other.now index [] (omega arith) (omega arith)) in
     let here =
     whole_part (index + 1) c.unwrap-section.result (land_of_rows c.args.rows.now (index + 1))
-    (held_by_lane c.of_lanes-plot.result.lanes) (sym is) (sym part)
+    (held_by_lane (get_or c.args.rows.now index [])) (sym is) (sym part)
     (λ lot. whole.0 (index + 1) lot range) in
-    cc (c.has_whole_lots.ensures.1 here, c.if-not-has_whole_lots.true)
-
-pub returns-then-not-has_whole_lots-2 : goal.returns-then-not-has_whole_lots-2
-returns-then-not-has_whole_lots-2 c = λ whole.
-    let index : ℕ = c.loop-index.index in
-    let range : IsSection (index + 1) = (omega arith, omega arith) in
-    let is : c.unwrap-section.result ≡ index + 1 =
-    section_is (index + 1) c.unwrap-section.result _ c.new.ensures c.unwrap-section.ensures in
-    let other : held_by_lane c.of_lanes-more.result.lanes ≡ land_of_rows c.args.other.now (index + 1) =
-    c.of_lanes-more.ensures
-    ∙ sym (kept_at held_by_lane c.args.other.now index [] (omega arith) (omega arith)) in
-    let here =
+    let there =
     whole_part (index + 1) c.unwrap-section.result (land_of_rows c.args.other.now (index + 1))
-    (held_by_lane c.of_lanes-more.result.lanes) (sym is) (sym other)
+    (held_by_lane (get_or c.args.other.now index [])) (sym is) (sym other)
     (λ lot. whole.1 (index + 1) lot range) in
-    cc (c.has_whole_lots-in-loop-index.ensures.1 here, c.if-not-has_whole_lots-2.true)
+    cc (c.take_section.ensures.whole.1 (here, there), c.if-not-take_section.true)
 
 pub loop-index-preserved : goal.loop-index-preserved
 loop-index-preserved c =
@@ -79,27 +67,24 @@ loop-index-preserved c =
     let index : ℕ = c.loop-index.index in
     let is : c.unwrap-section.result ≡ index + 1 =
     section_is (index + 1) c.unwrap-section.result _ c.new.ensures c.unwrap-section.ensures in
-    let part : held_by_lane c.of_lanes-plot.result.lanes ≡ land_of_rows c.args.rows.now (index + 1) =
-    c.of_lanes-plot.ensures
-    ∙ sym (kept_at held_by_lane c.args.rows.now index [] (omega arith) (omega arith)) in
-    let other : held_by_lane c.of_lanes-more.result.lanes ≡ land_of_rows c.args.other.now (index + 1) =
-    c.of_lanes-more.ensures
-    ∙ sym (kept_at held_by_lane c.args.other.now index [] (omega arith) (omega arith)) in
+    let part : held_by_lane (get_or c.args.rows.now index []) ≡ land_of_rows c.args.rows.now (index + 1) =
+    sym (kept_at held_by_lane c.args.rows.now index [] (omega arith) (omega arith)) in
+    let other : held_by_lane (get_or c.args.other.now index []) ≡ land_of_rows c.args.other.now (index + 1) =
+    sym (kept_at held_by_lane c.args.other.now index [] (omega arith) (omega arith)) in
+    let whole = c.take_section.ensures.whole.0 c.if-not-take_section.false in
     record {
       relates =
           relates_next (land_of_rows c.args.rows.now) (land_of_rows c.args.other.now) index
-          c.loop-index.relation c.add.new.self _ _ part other c.add.ensures.contains
-          c.add.ensures.is_contained c.add.ensures.shares at.relates;
+          c.loop-index.relation c.take_section.new.relation _ _ part other c.take_section.ensures.contains
+          c.take_section.ensures.is_contained c.take_section.ensures.shares at.relates;
       whole =
           whole_next (land_of_rows c.args.rows.now) index at.whole
-          (whole_part c.unwrap-section.result (index + 1) (held_by_lane c.of_lanes-plot.result.lanes)
-          (land_of_rows c.args.rows.now (index + 1)) is part
-          (c.has_whole_lots.ensures.0 c.if-not-has_whole_lots.false));
+          (whole_part c.unwrap-section.result (index + 1) (held_by_lane (get_or c.args.rows.now index []))
+          (land_of_rows c.args.rows.now (index + 1)) is part whole.0);
       whole_other =
           whole_next (land_of_rows c.args.other.now) index at.whole_other
-          (whole_part c.unwrap-section.result (index + 1) (held_by_lane c.of_lanes-more.result.lanes)
-          (land_of_rows c.args.other.now (index + 1)) is other
-          (c.has_whole_lots-in-loop-index.ensures.0 c.if-not-has_whole_lots-2.false));
+          (whole_part c.unwrap-section.result (index + 1) (held_by_lane (get_or c.args.other.now index []))
+          (land_of_rows c.args.other.now (index + 1)) is other whole.1);
     }
 
 pub returns : goal.returns

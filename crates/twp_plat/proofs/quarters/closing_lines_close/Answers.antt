@@ -5,8 +5,6 @@ use Rattle.twp_plat.specs.Closing.{CLOSING_LEAST, CLOSING_MOST}
 use Rattle.twp_plat.proofs.QuarterLines.{closing_lines, listed_closes, closing_is_listed, place_of_line}
 use Rattle.twp_plat.proofs.QuarterLines.{not_below}
 use Rattle.twp_plat.proofs.quarters.closing_lines_close.Goals as goal
-use Rattle.twp_plat.proofs.quarters.closing_lines_close.Goals.{then-quarter-lt-CLOSING_LEAST-via-then-quarter-lt-CLOSING_LEAST}
-use Rattle.twp_plat.proofs.quarters.closing_lines_close.Goals.{then-quarter-lt-CLOSING_LEAST-via-else-quarter-lt-CLOSING_LEAST+then-quarter-gt-CLOSING_MOST}
 
 pub returns-then-quarter-lt-CLOSING_LEAST : goal.returns-then-quarter-lt-CLOSING_LEAST
 returns-then-quarter-lt-CLOSING_LEAST c = (
@@ -17,9 +15,10 @@ returns-then-quarter-lt-CLOSING_LEAST c = (
       let is = listed_closes c.loop-at.at (omega arith) in
       let limits = all line is.0 is.1 in
       elim c.then-quarter-lt-CLOSING_LEAST.branch [
-        | then-quarter-lt-CLOSING_LEAST-via-then-quarter-lt-CLOSING_LEAST w ↦
+        | goal.then-quarter-lt-CLOSING_LEAST-via-then-quarter-lt-CLOSING_LEAST w ↦
             absurd (not_below quarter CLOSING_LEAST w.if-quarter-lt-CLOSING_LEAST.true limits.0)
-        | then-quarter-lt-CLOSING_LEAST-via-else-quarter-lt-CLOSING_LEAST+then-quarter-gt-CLOSING_MOST w ↦
+        | goal.then-quarter-lt-CLOSING_LEAST-via-else-quarter-lt-CLOSING_LEAST+then-quarter-gt-CLOSING_MOST
+            w ↦
             absurd (not_below CLOSING_MOST quarter w.if-quarter-gt-CLOSING_MOST.true limits.1)
       ],
 )

@@ -2,8 +2,6 @@
 use Rattle.std.proofs.Common.{arith}
 use Rattle.twp_plat.proofs.QuarterLines.{count_fits, count_few, counted_quarter, counted_other}
 use Rattle.twp_plat.proofs.quarters.others_are_quarter_miles.Goals as goal
-use Rattle.twp_plat.proofs.quarters.others_are_quarter_miles.Goals.{then-closing_quarters-index-ne-QUARTER_MILE}
-use Rattle.twp_plat.proofs.quarters.others_are_quarter_miles.Goals.{else-closing_quarters-index-ne-QUARTER_MILE}
 
 pub overflow_add-irregular : goal.overflow_add-irregular
 overflow_add-irregular c =
@@ -13,7 +11,7 @@ pub loop-index-preserved : goal.loop-index-preserved
 loop-index-preserved c =
     let before = c.loop-index.invariant in
     elim c.if-closing_quarters-index-ne-QUARTER_MILE.branch [
-      | then-closing_quarters-index-ne-QUARTER_MILE w ↦ record {
+      | goal.then-closing_quarters-index-ne-QUARTER_MILE w ↦ record {
         few =
             count_few c.loop-index.irregular c.if-closing_quarters-index-ne-QUARTER_MILE.irregular
             c.loop-index.index (omega arith) before.few w.irregular-is;
@@ -22,7 +20,7 @@ loop-index-preserved c =
             c.if-closing_quarters-index-ne-QUARTER_MILE.irregular (omega arith)
             w.if-closing_quarters-index-ne-QUARTER_MILE.true w.irregular-is before.none;
       }
-      | else-closing_quarters-index-ne-QUARTER_MILE w ↦ record {
+      | goal.else-closing_quarters-index-ne-QUARTER_MILE w ↦ record {
         few = omega arith;
         none =
             rw w.irregular-is
