@@ -60,10 +60,10 @@ pub fn township_land_combine(
     ensures answer { IsCombineCall first.now second.now operation land.new result }
     ensures kept { result.verdict ≢ ACCEPTED → land.new ≡ land.old }
 {
-    let Some(township) = first.township_of_land() else {
+    let Some(township) = first.valid_township() else {
         return TownshipAnswer::bare(NO_LAND);
     };
-    let Some(other) = second.township_of_land() else {
+    let Some(other) = second.valid_township() else {
         return TownshipAnswer::bare(NO_LAND);
     };
     let Some(operation) = operation_of(operation) else {

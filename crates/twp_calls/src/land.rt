@@ -52,7 +52,7 @@ impl TownshipLand {
     }
 
     /// The township that the land is in, if it is valid. The places stay where they are.
-    pub(crate) fn township_of_land(&self) -> Option<Township>
+    pub(crate) fn valid_township(&self) -> Option<Township>
         ensures { MatchOption result (IsNoGivenLand self.now) (λ township.
             IsGivenLand self.now township (land_of_rows self.now.rows)) }
     {

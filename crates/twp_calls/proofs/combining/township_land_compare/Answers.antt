@@ -11,7 +11,8 @@ returns-in_default-clause-answer c =
 
 pub returns-in_default-township-clause-answer : goal.returns-in_default-township-clause-answer
 returns-in_default-township-clause-answer c =
-    no_land_unless c.args.first.now c.in-Some.township c.in-Some.ensures _ _ c.bare-in_default-township.ensures
+    no_land_unless c.args.first.now c.in-Some.township c.in-Some.ensures _ _
+    c.bare-in_default-township.ensures
     (λ whole. on_no_land (without_township c.args.second.now c.in_default-township.ensures)
     c.bare-in_default-township.ensures)
 

@@ -2,7 +2,7 @@
 use Rattle.std.proofs.Common.{refl, subst}
 use Rattle.twp_grid.specs.Places.{PLACE_DIGITS}
 use Rattle.twp_land.specs.Lands.{HasWholeLots}
-use Rattle.twp_calls.proofs.land.TownshipLand.township_of_land.Goals as goal
+use Rattle.twp_calls.proofs.land.TownshipLand.valid_township.Goals as goal
 
 pub returns-then-not-lots_whole : goal.returns-then-not-lots_whole
 returns-then-not-lots_whole c = λ township places is.
