@@ -155,7 +155,7 @@ typedef struct township_answer {
     uint32_t column;
     uint32_t reserved;     /* 0 */
     uint64_t hundredths;   /* of an acre, rounded once, half up */
-    uint64_t length;       /* the number of bytes in the text, written or not */
+    uint64_t length;       /* the number of bytes in the text, or of elements, written or not */
 } township_answer;
 
 /*
@@ -182,6 +182,26 @@ typedef struct township_plat_figures {
     uint64_t sections[TOWNSHIP_SECTIONS];
     uint64_t township;
 } township_plat_figures;
+
+/* The most tracts of a list, the most bytes of a tract's name, and the room for a name. */
+#define TOWNSHIP_TRACTS_MOST 1000
+#define TOWNSHIP_NAME_MOST 64
+#define TOWNSHIP_NAME_ROOM 68
+
+/* A tract in an account. Its name is printable ASCII, without the quotation marks that it may have in the
+   list; all bytes after it are 0, so it is also a C string. */
+typedef struct township_tract {
+    uint64_t hundredths;  /* of an acre: the tract's exact area, rounded once, half up */
+    uint32_t name_length; /* 1 to TOWNSHIP_NAME_MOST */
+    char name[TOWNSHIP_NAME_ROOM];
+} township_tract;
+
+/* The totals of an account, in hundredths of an acre. Each is an exact area, rounded once, half up, so `total`
+   may differ from the sum of the tracts' figures. */
+typedef struct township_totals {
+    uint64_t total;     /* of all tracts together */
+    uint64_t remaining; /* of all other land in the township */
+} township_totals;
 
 /* The number of places along a side of a section, and the number of lots in a township. */
 #define TOWNSHIP_PLACES_ACROSS 32
@@ -244,6 +264,15 @@ township_answer township_print(const township_plat *plat, uint8_t *text, size_t 
 /* Writes the account of a list of tracts (CSV; see docs/TRACTS-FORMAT.md). */
 township_answer township_report(const township_plat *plat, const uint8_t *list, size_t list_length,
                                 uint8_t *text, size_t room);
+
+/*
+ * Writes the figures that township_report prints: to `tracts` a tract for each record after the heading, in the
+ * order of the list, and to `totals` the totals. `length` is the number of tracts; if `room`, the number of
+ * elements of `tracts`, is smaller, the verdict is TOWNSHIP_NO_ROOM. On any verdict other than
+ * TOWNSHIP_ACCEPTED, `tracts` and `totals` are unchanged. Room for TOWNSHIP_TRACTS_MOST tracts always suffices.
+ */
+township_answer township_account(const township_plat *plat, const uint8_t *list, size_t list_length,
+                                 township_tract *tracts, size_t room, township_totals *totals);
 
 /* Writes to `figures` the figures that township_print prints. On any verdict other than TOWNSHIP_ACCEPTED,
    `figures` is unchanged. */

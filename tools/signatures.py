@@ -19,9 +19,9 @@ Parameter = Tuple[str, str]
 Calls = Dict[str, List[Parameter]]
 
 BYTES, ROOM, LENGTH = "bytes", "room for bytes", "length"
-OFFSETS, ANSWERS = "offsets", "room for answers"
+OFFSETS, ANSWERS, TRACTS = "offsets", "room for answers", "room for tracts"
 # Each of these is a pointer, and its length follows it.
-SLICES = (BYTES, ROOM, OFFSETS, ANSWERS)
+SLICES = (BYTES, ROOM, OFFSETS, ANSWERS, TRACTS)
 # What each type is, in the languages where a slice is a pointer and a length, and in Rattle.
 C_TYPES = {
     "const township_plat *": "plat",
@@ -36,6 +36,8 @@ C_TYPES = {
     "uint32_t *": "number to write",
     "const size_t *": OFFSETS,
     "township_answer *": ANSWERS,
+    "township_tract *": TRACTS,
+    "township_totals *": "totals to write",
     "uint32_t": "number",
     "size_t": LENGTH,
 }
@@ -46,6 +48,8 @@ RUST_TYPES = {
     "*mut Figures": "figures to write",
     "*const usize": OFFSETS,
     "*mut Answer": ANSWERS,
+    "*mut Tract": TRACTS,
+    "*mut Totals": "totals to write",
     "*const u8": BYTES,
     "*mut u8": ROOM,
     "*const Designation": "township",
@@ -70,6 +74,8 @@ RATTLE_TYPES = {
     "&mut u32": "number to write",
     "&[usize]": OFFSETS,
     "&mut [TownshipAnswer]": ANSWERS,
+    "&mut [TownshipTract]": TRACTS,
+    "&mut TownshipTotals": "totals to write",
     "&[u8]": BYTES,
     "&mut [u8]": ROOM,
     "u32": "number",
@@ -86,6 +92,8 @@ PYTHON_TYPES = {
     "_LAND": "land",
     "_LOTS": "lots",
     "_NUMBER": "number to write",
+    "*_TRACTS": TRACTS,
+    "POINTER(Totals)": "totals to write",
     "c_uint32": "number",
 }
 

@@ -69,6 +69,7 @@ OTHERS = (
             "twp_calls::answering::township_normal",
             "twp_calls::answering::township_print",
             "twp_calls::answering::township_report",
+            "twp_calls::account_call::township_account",
             "twp_calls::figures::township_figures",
             "twp_calls::many::township_acres_many",
             "twp_calls::writing::township_write_notes",

@@ -51,8 +51,8 @@ class Found(unittest.TestCase):
 
 class Declared(unittest.TestCase):
     def test_sizes(self):
-        structs = (_library.Plat, _library.Answer, _library.Area, _library.Figures)
-        self.assertEqual([ctypes.sizeof(struct) for struct in structs], [340, 48, 24, 2312])
+        structs = (_library.Plat, _library.Answer, _library.Area, _library.Figures, _library.Tract, _library.Totals)
+        self.assertEqual([ctypes.sizeof(struct) for struct in structs], [340, 48, 24, 2312, 80, 16])
         structs = (_library.Designation, _library.Land, _library.Lots)
         self.assertEqual([ctypes.sizeof(struct) for struct in structs], [4, 4612, 192])
 
@@ -63,19 +63,24 @@ class Declared(unittest.TestCase):
             (_library.Answer, "answer"),
             (_library.Area, "fraction"),
             (_library.Figures, "plat_figures"),
+            (_library.Tract, "tract"),
+            (_library.Totals, "totals"),
             (_library.Designation, "designation"),
             (_library.Land, "land"),
             (_library.Lots, "lots"),
         )
         for struct, name in structs:
             body = header.partition(f"typedef struct township_{name} {{")[2].partition("}")[0]
-            declared = re.findall(r"^ +(?:uint\d+_t|township_\w+) (\w+)", body, re.MULTILINE)
+            declared = re.findall(r"^ +(?:uint\d+_t|char|township_\w+) (\w+)", body, re.MULTILINE)
             self.assertEqual(declared, [field for field, _ in struct._fields_])
 
     def test_limits_are_those_of_the_header(self):
         header = (TOP / "include" / "township.h").read_text()
         self.assertIn(f"#define TOWNSHIP_LINES {_library.LINES}\n", header)
-        for name in ("NOTES_MOST", "DESCRIPTION_MOST", "LOTS_TEXT_MOST", "SECTIONS", "LOTS_MOST", "PLACES_ACROSS", "LOTS"):
+        for name in (
+            *("NOTES_MOST", "DESCRIPTION_MOST", "LOTS_TEXT_MOST", "SECTIONS", "LOTS_MOST", "PLACES_ACROSS", "LOTS"),
+            *("TRACTS_MOST", "NAME_ROOM"),
+        ):
             self.assertIn(f"#define TOWNSHIP_{name} {getattr(_library, name)}\n", header)
 
     def test_verdicts_are_those_of_the_header(self):
@@ -113,7 +118,7 @@ class Verdicts(unittest.TestCase):
         "acres": lambda: uneven().acres("sec. 14."),
         "area": lambda: uneven().area("sec. 14."),
         "normal": lambda: uneven().normal("sec. 14."),
-        "report": lambda: uneven().report([]),
+        "account": lambda: uneven().report([]),
         "print_plat": lambda: uneven()._print(),
         "figures": lambda: township.Plat.read(NOTES).total,
         "write_notes": lambda: uneven().write_notes(),

@@ -1,9 +1,24 @@
 """Reports of tracts."""
+import ctypes
 import pickle
 import unittest
 from decimal import Decimal
 
+from township import _library
+
 from samples import TRACTS, even, uneven
+
+
+def report_text(listed):
+    """The text of the report that the library writes for a list."""
+    answer, text = _library.text_by(_library.report, ctypes.byref(uneven()._parts), listed, len(listed))
+    return text if answer.verdict == _library.ACCEPTED else None
+
+
+def printed(report):
+    """The text of a report, from its figures."""
+    lines = [f"tract {tract.name}: {tract.acres} acres" for tract in report.tracts]
+    return "\n".join([*lines, f"total: {report.total} acres", f"remaining: {report.remaining} acres", ""])
 
 
 class Reports(unittest.TestCase):
@@ -17,6 +32,11 @@ class Reports(unittest.TestCase):
     def test_the_same_of_a_list(self):
         self.assertEqual(uneven().report_csv(TRACTS), uneven().report([("A", "sec. 7, lot 1."), ("B", "sec. 7, lot 4.")]))
         self.assertEqual(uneven().report_csv(TRACTS.decode()), uneven().report_csv(TRACTS))
+
+    def test_the_same_as_the_text(self):
+        odd = 'name,description\n"the ""old"" place: 1.00 acres",sec. 14\ntotal,sec. 15\n" ",sec. 7\n'
+        for listed in (TRACTS, b"name,description\n", odd.encode()):
+            self.assertEqual(printed(uneven().report_csv(listed)), report_text(listed))
 
     def test_any_iterable_of_text_or_bytes(self):
         report = uneven().report({"A": b"sec. 7, lot 1.", b"B": "sec. 14, N½."}.items())

@@ -33,7 +33,7 @@ fn tracts() {
     assert_eq!(report.total.hundredths(), 7_820);
     assert_eq!(report.remaining.hundredths(), 2_295_937);
     assert_eq!(report.to_string(), TWO_LOTS_TEXT);
-    assert_eq!(TWO_LOTS_TEXT.parse(), Ok(report));
+    assert_eq!(uneven().report_csv(TRACTS), Ok(report));
 }
 
 #[test]

@@ -10,6 +10,7 @@ pub mod TractFacts
 pub mod TractLands
 pub mod ClearFacts
 pub mod TallyFacts
+pub mod FigureLines
 pub mod FirstTractFaults
 pub mod TractAreas
 pub mod TractSums

@@ -5,6 +5,7 @@ pub mod Tracts
 pub mod ClearTracts
 pub mod TractFaults
 pub mod ReportAnswers
+pub mod AccountFigures
 pub mod TractLaws
 pub mod AccountAnswers
 pub mod NormalAnswers

@@ -2,6 +2,7 @@
 //! finds the answer, and writes it. The areas of land come from `twp_area`.
 #![tactic(auto)]
 
+mod account_figures;
 mod acres_answer;
 mod answer;
 pub mod laws;
@@ -22,6 +23,7 @@ mod tracts;
 mod verdict;
 mod writing;
 
+pub use account_figures::{AccountFigures, TractFigure, figures_on};
 pub use on_land::{acres_of, land_of};
 pub use on_plat::{account_on, acres_on, area_on, normal_on};
 pub use plat_answer::print_plat;

@@ -1,3 +1,4 @@
+pub mod AccountFacts
 pub mod CallFacts
 pub mod LandCallFacts
 pub mod LotCallFacts

@@ -1,3 +1,5 @@
+pub mod TractNames
+pub mod Accounts
 pub mod Answers
 pub mod GivenTownships
 pub mod GivenPlats

@@ -3,6 +3,7 @@
 #![tactic(auto)]
 
 mod account;
+mod account_call;
 mod answer;
 mod answering;
 mod combining;
@@ -15,6 +16,7 @@ mod land_answers;
 mod lot_answers;
 mod lots;
 mod many;
+mod name;
 mod plat;
 mod reading;
 mod text;
@@ -22,6 +24,7 @@ mod verdict;
 mod version;
 mod writing;
 
+pub use account_call::{TownshipTotals, TownshipTract, township_account};
 pub use answer::TownshipAnswer;
 pub use answering::{
     township_acres, township_area, township_normal, township_print, township_read, township_report,

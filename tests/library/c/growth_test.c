@@ -111,6 +111,8 @@ static township_plat plat;
 static township_plat read_to;
 static township_fraction area;
 static township_plat_figures figures;
+static township_tract tracts[2];
+static township_totals totals;
 static township_answer answers[2];
 static township_land land;
 static township_lots lots;
@@ -150,6 +152,10 @@ static township_answer call_print(void) {
 static township_answer call_report(void) {
     return township_report(&plat, BYTES("name,description\nA,\"sec. 7, lot 1.\"\nB,sec. 6.\n"), room_text(texts),
                            MOST_TEXT);
+}
+
+static township_answer call_account(void) {
+    return township_account(&plat, BYTES("name,description\nA,\"sec. 7, lot 1.\"\nB,sec. 6.\n"), tracts, 2, &totals);
 }
 
 static township_answer call_refused(void) {
@@ -254,6 +260,7 @@ static const struct {
     {"township_print", call_print},
     {"township_report", call_report},
     {"township_report, refused", call_refused},
+    {"township_account", call_account},
     {"township_explain_notes", call_explain_notes},
     {"township_explain_description", call_explain_description},
     {"township_explain_list", call_explain_list},
@@ -279,6 +286,8 @@ typedef struct written {
     township_plat read_to;
     township_fraction area;
     township_plat_figures figures;
+    township_tract tracts[2];
+    township_totals totals;
     township_land land;
     township_lots lots;
     uint32_t comparison;
@@ -291,6 +300,8 @@ static void clear(void) {
     memset(&read_to, 0, sizeof read_to);
     memset(&area, 0, sizeof area);
     memset(&figures, 0, sizeof figures);
+    memset(tracts, 0, sizeof tracts);
+    memset(&totals, 0, sizeof totals);
     memset(answers, 0, sizeof answers);
     memset(&land, 0, sizeof land);
     memset(&lots, 0, sizeof lots);
@@ -302,6 +313,8 @@ static void keep(written *in) {
     in->read_to = read_to;
     in->area = area;
     in->figures = figures;
+    memcpy(in->tracts, tracts, sizeof tracts);
+    in->totals = totals;
     in->land = land;
     in->lots = lots;
     in->comparison = comparison;

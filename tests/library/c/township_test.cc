@@ -58,11 +58,24 @@ static std::uint64_t returned(const std::string &table, const std::string &descr
     return answer.hundredths;
 }
 
+// The name and the figure of the one tract of a list.
+static std::string tract(const std::string &notes, const std::string &list) {
+    township_plat plat{};
+    township_tract tracts[1]{};
+    township_totals totals{};
+    const bool holds = township_read(bytes(notes), notes.size(), &plat).verdict == TOWNSHIP_ACCEPTED &&
+                       township_account(&plat, bytes(list), list.size(), tracts, 1, &totals).verdict ==
+                           TOWNSHIP_ACCEPTED;
+
+    return holds ? tracts[0].name + (": " + std::to_string(tracts[0].hundredths)) : "";
+}
+
 int main(int count, char **words) {
     std::ifstream file(count > 1 ? words[1] : "samples/b1.csv", std::ios::binary);
     const std::string notes((std::istreambuf_iterator<char>(file)), std::istreambuf_iterator<char>());
     const bool holds = hundredths(notes, "sec. 5, lot 1.") == 4045 && figure(notes) == 4045 && has_corner() &&
-                       returned("section,lot,acres\nT,2,N,3,W\n5,1,40.45\n", "sec. 5, lot 1.") == 4045;
+                       returned("section,lot,acres\nT,2,N,3,W\n5,1,40.45\n", "sec. 5, lot 1.") == 4045 &&
+                       tract(notes, "name,description\nA,\"sec. 5, lot 1.\"\n") == "A: 4045";
 
     std::cout << holds << " passed, " << !holds << " failed\n";
     return !holds;

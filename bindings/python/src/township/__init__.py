@@ -19,13 +19,14 @@ from . import _library
 from ._account import Account
 from ._differences import Difference
 from ._field_notes import Notes
-from ._figures import Report, Section, Tract
+from ._figures import Section
 from ._land import Land
 from ._lots import Lots
 from ._many import Answers
 from ._note import Note
 from ._plat import Plat
 from ._refused import Refusal, Refused, failure_of
+from ._report import Report, Tract
 from ._rounding import rounded
 from ._township import EastWest, NorthSouth, Township
 from ._version import __version__

@@ -9,12 +9,13 @@ from typing import Callable, Iterable, Iterator, List, Sequence, Tuple, Union
 from . import _library
 from ._account import Account, code_of
 from ._differences import Difference, differences_of
-from ._figures import Report, acres_of_hundredths, fraction_of, list_of, report_of
+from ._figures import acres_of_hundredths, fraction_of
 from ._land import Land
 from ._lots import Lots
 from ._many import Answers, answers_of
 from ._note import Note, notes_of
 from ._refused import DESCRIPTION, LIST, Refused, exception_of, failure_of
+from ._report import Report, list_of, report_on
 from ._text import Text, encoded
 from ._township import township_of
 
@@ -186,11 +187,11 @@ write a comma after NE1/4 (320.00 acres)
         Decimal('78.20')
         """
         given = encoded(tracts)
-        answer, text = _library.text_by(_library.report, byref(self._parts), given, len(given))
+        answer, report = report_on(byref(self._parts), given)
         if answer.verdict != _library.ACCEPTED:
             explain = _library.explain_list
             raise exception_of(answer, explain, byref(self._parts), given, len(given), source=LIST)
-        return report_of(text)
+        return report
 
     def differences(self, lots: Lots) -> List[Difference]:
         """Return the lots whose acreage on the printed plat differs from the one in a lot table.

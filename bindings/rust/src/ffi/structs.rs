@@ -1,6 +1,6 @@
 //! The library's structs.
 
-use super::{EAST, LOTS, LOTS_MOST, NORTH, PLACES_ACROSS, SECTIONS};
+use super::{EAST, LOTS, LOTS_MOST, NAME_ROOM, NORTH, PLACES_ACROSS, SECTIONS};
 use crate::plat::LINES;
 use std::mem::{offset_of, size_of};
 
@@ -77,6 +77,37 @@ impl Figures {
     };
 }
 
+/// `township_tract`: a tract in an account.
+#[repr(C)]
+#[derive(Clone, Copy, Debug, PartialEq, Eq)]
+pub(crate) struct Tract {
+    /// Hundredths of an acre.
+    pub(crate) hundredths: u64,
+    /// The length of the name in bytes.
+    pub(crate) name_length: u32,
+    /// The name, and zero bytes after it.
+    pub(crate) name: [u8; NAME_ROOM],
+}
+
+impl Tract {
+    /// No tract, for a call to overwrite.
+    pub(crate) const BLANK: Tract = Tract {
+        hundredths: 0,
+        name_length: 0,
+        name: [0; NAME_ROOM],
+    };
+}
+
+/// `township_totals`: the totals of an account, in hundredths of an acre.
+#[repr(C)]
+#[derive(Clone, Copy, Debug, Default, PartialEq, Eq)]
+pub(crate) struct Totals {
+    /// Of all tracts together.
+    pub(crate) total: u64,
+    /// Of all other land in the township.
+    pub(crate) remaining: u64,
+}
+
 /// `township_designation`: the parts of a township's designation, which may or may not be valid.
 #[repr(C)]
 #[derive(Clone, Copy, Debug, PartialEq, Eq, Hash)]
@@ -136,6 +167,8 @@ const _: () = assert!(size_of::<Parts>() == 340 && offset_of!(Parts, number) == 
 const _: () = assert!(size_of::<Answer>() == 48 && offset_of!(Answer, hundredths) == 32);
 const _: () = assert!(size_of::<Fraction>() == 24 && offset_of!(Fraction, over) == 16);
 const _: () = assert!(size_of::<Figures>() == 2312 && offset_of!(Figures, sections) == 2016);
+const _: () = assert!(size_of::<Tract>() == 80 && offset_of!(Tract, name) == 12);
+const _: () = assert!(size_of::<Totals>() == 16);
 const _: () = assert!(size_of::<Designation>() == 4);
 const _: () = assert!(size_of::<Land>() == 4612 && offset_of!(Land, township) == 4608);
 const _: () = assert!(size_of::<Lots>() == 192 && offset_of!(Lots, township) == 188);

@@ -5,7 +5,7 @@ use crate::account::Account;
 use crate::acres::Acres;
 use crate::answer::Fault;
 use crate::area::Area;
-use crate::ffi::{self, Answer};
+use crate::ffi::{self, Answer, TRACTS_MOST};
 use crate::figures::Figures;
 use crate::note::Note;
 use crate::refused::{Refused, DESCRIPTION, LIST};
@@ -254,7 +254,7 @@ impl Plat {
 
     /// Returns the report on a list of tracts (CSV, at most 1,048,576 bytes; see
     /// `docs/TRACTS-FORMAT.md`), as text: the acreage of each tract, of all tracts together, and of
-    /// all other land in the township. It can be parsed as a [`Report`].
+    /// all other land in the township. [`Plat::report_csv`] returns the same as data.
     ///
     /// # Errors
     ///
@@ -279,6 +279,32 @@ impl Plat {
         let (answer, text) = text_by(|room| ffi::report(&self.parts, list, room));
         match answer.accepted() {
             Ok(_) => Ok(text),
+            Err(fault) => Err(self.list_refused(fault, list)),
+        }
+    }
+
+    /// Returns the report on a list of tracts (CSV), as data.
+    ///
+    /// # Errors
+    ///
+    /// The same as for [`Plat::report`].
+    ///
+    /// ```
+    /// # let notes = include_bytes!(concat!(env!("CARGO_MANIFEST_DIR"), "/samples/b1.csv"));
+    /// # let plat = township::Plat::read(notes)?;
+    /// let list = "name,description\nA,\"sec. 7, lot 1.\"\n";
+    /// let report = plat.report_csv(list)?;
+    /// assert_eq!(report.tracts[0].name, "A");
+    /// assert_eq!(report.tracts[0].acres.hundredths(), 3_918);
+    /// assert_eq!(report.to_string(), plat.report(list)?);
+    /// # Ok::<(), township::Refused>(())
+    /// ```
+    pub fn report_csv(&self, list: impl AsRef<[u8]>) -> Result<Report, Refused> {
+        let list = list.as_ref();
+        let mut tracts = vec![ffi::Tract::BLANK; TRACTS_MOST];
+        let (answer, totals) = ffi::account(&self.parts, list, &mut tracts);
+        match answer.accepted() {
+            Ok(answer) => Ok(Report::from_data(&tracts[..answer.text_length()], totals)),
             Err(fault) => Err(self.list_refused(fault, list)),
         }
     }
@@ -312,8 +338,7 @@ impl Plat {
         N: AsRef<[u8]>,
         D: AsRef<[u8]>,
     {
-        let text = self.report(list_of(tracts))?;
-        Ok(text.parse().expect("the library writes reports"))
+        self.report_csv(list_of(tracts))
     }
 
     /// Returns the acreage in the answer to a description, or its refusal.
