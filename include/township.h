@@ -108,7 +108,7 @@ extern "C" {
 #define TOWNSHIP_NO_ROOM 5u       /* the text needs `length` bytes and `room` is smaller: nothing is written */
 #define TOWNSHIP_NO_MEMORY 6u     /* memory ran out, and nothing was written: every function may return this
                                      except township_version, township_figures, and those that take land
-                                     and write no text; township_acres_many, in its answers */
+                                     and write no text and no parts; township_acres_many, in its answers */
 #define TOWNSHIP_NO_RANGE 7u      /* township_acres_many: no bytes are between these two offsets */
 #define TOWNSHIP_NO_LAND 8u       /* the land you passed is not valid: it has no township, or contains part of a
                                      lot */
@@ -238,6 +238,20 @@ typedef struct township_lots {
     township_designation township;
 } township_lots;
 
+/*
+ * A written part of land: an entry of its canonical text. `lot` is the lot's number, or 0 for a block of land that is
+ * in no lot. The block, which a lot has too, begins in column `column`, from the east, and row `row`, from the south,
+ * both counted from 0, and is `columns` wide and `rows` high, in places.
+ */
+typedef struct township_part {
+    uint8_t section;
+    uint8_t lot;
+    uint8_t column;
+    uint8_t row;
+    uint8_t columns;
+    uint8_t rows;
+} township_part;
+
 /* Makes a plat from field notes. On any verdict other than TOWNSHIP_ACCEPTED, `plat` is unchanged. */
 township_answer township_read(const uint8_t *notes, size_t notes_length, township_plat *plat);
 
@@ -307,6 +321,11 @@ township_answer township_land_area(const township_plat *plat, const township_lan
 /* Writes the canonical text of land, which is a description of it, if it is no longer than descriptions can be.
    The text of empty land is empty. */
 township_answer township_land_text(const township_land *land, uint8_t *text, size_t room);
+
+/* Writes the written parts of land, in the order of its canonical text: a section that the land contains wholly is one
+   block; of other sections, first the lots and then the blocks. `length` is the number of parts; if `room`, the
+   number of elements of `parts`, is smaller, the verdict is TOWNSHIP_NO_ROOM, and nothing is written. */
+township_answer township_land_parts(const township_land *land, township_part *parts, size_t room);
 
 /* Operations: the land in either, the land in both, and the land in the first that is not in the second. */
 #define TOWNSHIP_UNION 0u

@@ -19,9 +19,9 @@ Parameter = Tuple[str, str]
 Calls = Dict[str, List[Parameter]]
 
 BYTES, ROOM, LENGTH = "bytes", "room for bytes", "length"
-OFFSETS, ANSWERS, TRACTS = "offsets", "room for answers", "room for tracts"
+OFFSETS, ANSWERS, TRACTS, PARTS = "offsets", "room for answers", "room for tracts", "room for parts"
 # Each of these is a pointer, and its length follows it.
-SLICES = (BYTES, ROOM, OFFSETS, ANSWERS, TRACTS)
+SLICES = (BYTES, ROOM, OFFSETS, ANSWERS, TRACTS, PARTS)
 # What each type is, in the languages where a slice is a pointer and a length, and in Rattle.
 C_TYPES = {
     "const township_plat *": "plat",
@@ -38,6 +38,7 @@ C_TYPES = {
     "township_answer *": ANSWERS,
     "township_tract *": TRACTS,
     "township_totals *": "totals to write",
+    "township_part *": PARTS,
     "uint32_t": "number",
     "size_t": LENGTH,
 }
@@ -50,6 +51,7 @@ RUST_TYPES = {
     "*mut Answer": ANSWERS,
     "*mut Tract": TRACTS,
     "*mut Totals": "totals to write",
+    "*mut Part": PARTS,
     "*const u8": BYTES,
     "*mut u8": ROOM,
     "*const Designation": "township",
@@ -76,6 +78,7 @@ RATTLE_TYPES = {
     "&mut [TownshipAnswer]": ANSWERS,
     "&mut [TownshipTract]": TRACTS,
     "&mut TownshipTotals": "totals to write",
+    "&mut [TownshipPart]": PARTS,
     "&[u8]": BYTES,
     "&mut [u8]": ROOM,
     "u32": "number",
@@ -88,6 +91,7 @@ PYTHON_TYPES = {
     "POINTER(Figures)": "figures to write",
     "*_OFFSETS": OFFSETS,
     "*_ANSWERS": ANSWERS,
+    "*_PARTS": PARTS,
     "_TOWNSHIP": "township",
     "_LAND": "land",
     "_LOTS": "lots",

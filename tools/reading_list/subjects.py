@@ -86,6 +86,7 @@ OTHERS = (
             "twp_calls::land_answers::township_land_acres",
             "twp_calls::land_answers::township_land_area",
             "twp_calls::land_answers::township_land_text",
+            "twp_calls::land_parts::township_land_parts",
             "twp_calls::combining::township_land_combine",
             "twp_calls::combining::township_land_compare",
             "twp_acres::laws::acres_on_are_of_land",

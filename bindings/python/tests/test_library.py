@@ -53,8 +53,8 @@ class Declared(unittest.TestCase):
     def test_sizes(self):
         structs = (_library.Plat, _library.Answer, _library.Area, _library.Figures, _library.Tract, _library.Totals)
         self.assertEqual([ctypes.sizeof(struct) for struct in structs], [340, 48, 24, 2312, 80, 16])
-        structs = (_library.Designation, _library.Land, _library.Lots)
-        self.assertEqual([ctypes.sizeof(struct) for struct in structs], [4, 4612, 192])
+        structs = (_library.Designation, _library.Land, _library.Lots, _library.Part)
+        self.assertEqual([ctypes.sizeof(struct) for struct in structs], [4, 4612, 192, 6])
 
     def test_fields_are_those_of_the_header(self):
         header = (TOP / "include" / "township.h").read_text()
@@ -68,6 +68,7 @@ class Declared(unittest.TestCase):
             (_library.Designation, "designation"),
             (_library.Land, "land"),
             (_library.Lots, "lots"),
+            (_library.Part, "part"),
         )
         for struct, name in structs:
             body = header.partition(f"typedef struct township_{name} {{")[2].partition("}")[0]
@@ -133,6 +134,7 @@ class Verdicts(unittest.TestCase):
         "land_text": lambda: LAND.text,
         "land_combine": lambda: LAND | LAND,
         "land_compare": lambda: LAND <= LAND,
+        "land_parts": lambda: LAND.parts,
         "lots_read": lambda: township.Lots.read(b""),
         "lots_acres": lambda: LOTS.acres("sec. 14."),
         "lots_area": lambda: LOTS.area("sec. 14."),
@@ -174,7 +176,7 @@ class Verdicts(unittest.TestCase):
         no_land = township.Land._of_struct(_library.Land())
         no_lots = township.Lots._of_struct(_library.Lots())
         for call in (
-            *(lambda: no_land.text, lambda: no_land | LAND, lambda: LAND <= no_land),
+            *(lambda: no_land.text, lambda: no_land.parts, lambda: no_land | LAND, lambda: LAND <= no_land),
             *(lambda: uneven().acres(no_land), lambda: LOTS.area(no_land)),
             *(lambda: no_lots.acres(LAND), lambda: no_lots.area("sec. 14.")),
         ):

@@ -8,11 +8,11 @@ mod structs;
 #[cfg(test)]
 mod tests;
 
-pub(crate) use self::land::{land_acres, land_area, land_combine, land_compare};
+pub(crate) use self::land::{land_acres, land_area, land_combine, land_compare, land_parts};
 pub(crate) use self::land::{land_read, land_text};
 pub(crate) use self::lists::{account, report};
 pub(crate) use self::lots::{lots_acres, lots_area, lots_land_acres, lots_land_area, lots_read};
-pub(crate) use self::structs::{Answer, Designation, Figures, Fraction, Land, Lots, Parts};
+pub(crate) use self::structs::{Answer, Designation, Figures, Fraction, Land, Lots, Part, Parts};
 pub(crate) use self::structs::{Totals, Tract};
 
 // Verdicts.

@@ -66,6 +66,11 @@ fn lands() {
         Land::empty(land.township()),
         r#"{"township":"T. 2 N., R. 3 W.","rows":{}}"#,
     );
+    // Lot 7 is in the southwest corner.
+    both_ways(
+        even().land("sec. 6, lot 7.").unwrap().parts()[0],
+        r#"{"section":6,"lot":7,"column":24,"row":0,"columns":8,"rows":8}"#,
+    );
     for wrong in [
         json.replacen("65280", "65281", 1),
         json.replacen("65280,", "", 1),

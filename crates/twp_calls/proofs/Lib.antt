@@ -2,6 +2,7 @@ pub mod AccountFacts
 pub mod CallFacts
 pub mod LandCallFacts
 pub mod LotCallFacts
+pub mod PartFacts
 pub mod FigureFacts
 pub mod ManyFacts
 pub mod NoteFacts

@@ -8,6 +8,7 @@ pub mod GivenLots
 pub mod Calls
 pub mod Figures
 pub mod LandCalls
+pub mod LandParts
 pub mod LotCalls
 pub mod ManyAnswers
 pub mod Names

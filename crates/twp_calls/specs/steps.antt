@@ -2,4 +2,5 @@
 pub mod Filling
 pub mod LotSteps
 pub mod Noting
+pub mod PartSteps
 pub mod Returning

@@ -13,6 +13,7 @@ mod figures;
 mod fraction;
 mod land;
 mod land_answers;
+mod land_parts;
 mod lot_answers;
 mod lots;
 mod many;
@@ -40,6 +41,7 @@ pub use land::TownshipLand;
 pub use land_answers::{
     township_land_acres, township_land_area, township_land_read, township_land_text,
 };
+pub use land_parts::{TownshipPart, township_land_parts};
 pub use lot_answers::{
     township_lots_acres, township_lots_area, township_lots_land_acres, township_lots_land_area,
     township_lots_read,

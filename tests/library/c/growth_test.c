@@ -117,6 +117,7 @@ static township_answer answers[2];
 static township_land land;
 static township_lots lots;
 static uint32_t comparison;
+static township_part parts[8];
 static room *texts;
 
 /* Land of the township of the plat, and another. */
@@ -216,6 +217,10 @@ static township_answer call_land_text(void) {
     return township_land_text(&first, room_text(texts), MOST_TEXT);
 }
 
+static township_answer call_land_parts(void) {
+    return township_land_parts(&first, parts, sizeof parts / sizeof *parts);
+}
+
 static township_answer call_land_combine(void) {
     return township_land_combine(&first, &second, TOWNSHIP_DIFFERENCE, &land);
 }
@@ -272,6 +277,7 @@ static const struct {
     {"township_land_acres", call_land_acres},
     {"township_land_area", call_land_area},
     {"township_land_text", call_land_text},
+    {"township_land_parts", call_land_parts},
     {"township_land_combine", call_land_combine},
     {"township_land_compare", call_land_compare},
     {"township_lots_read", call_lots_read},
@@ -291,6 +297,7 @@ typedef struct written {
     township_land land;
     township_lots lots;
     uint32_t comparison;
+    township_part parts[8];
     room texts;
 } written;
 
@@ -306,6 +313,7 @@ static void clear(void) {
     memset(&land, 0, sizeof land);
     memset(&lots, 0, sizeof lots);
     comparison = 0;
+    memset(parts, 0, sizeof parts);
     room_clear(texts);
 }
 
@@ -318,6 +326,7 @@ static void keep(written *in) {
     in->land = land;
     in->lots = lots;
     in->comparison = comparison;
+    memcpy(in->parts, parts, sizeof parts);
     in->texts = *texts;
 }
 

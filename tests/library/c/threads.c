@@ -7,7 +7,7 @@
 #include "check.h"
 
 #define THREADS 4
-#define CALLS 28
+#define CALLS 29
 
 /* The stack that the library requires, and room for the thread's own calls. */
 #define STACK ((256 + 64) * 1024)
@@ -26,6 +26,7 @@ typedef struct round_answers {
     uint32_t comparison;
     township_lots lots;
     township_fraction areas[3];
+    township_part parts[16];
     uint8_t texts[CALLS][8192];
 } round_answers;
 
@@ -64,6 +65,7 @@ static void call_on_land(const township_plat *plat, round_answers *to) {
     answer[25] = township_lots_area(&to->lots, BYTES("sec. 6, lot 1."), &to->areas[1]);
     answer[26] = township_lots_land_acres(&to->lots, &other);
     answer[27] = township_lots_land_area(&to->lots, &other, &to->areas[2]);
+    answer[28] = township_land_parts(&to->combined, to->parts, sizeof to->parts / sizeof *to->parts);
 }
 
 /* Calls each function once. */
@@ -103,7 +105,8 @@ static void call_all(bytes notes, const township_plat *plat, round_answers *to) 
 static bool same_land(const round_answers *a, const round_answers *b) {
     return memcmp(&a->land, &b->land, sizeof a->land) == 0 && a->comparison == b->comparison &&
            memcmp(&a->combined, &b->combined, sizeof a->combined) == 0 &&
-           memcmp(&a->lots, &b->lots, sizeof a->lots) == 0 && memcmp(a->areas, b->areas, sizeof a->areas) == 0;
+           memcmp(&a->lots, &b->lots, sizeof a->lots) == 0 && memcmp(a->areas, b->areas, sizeof a->areas) == 0 &&
+           memcmp(a->parts, b->parts, sizeof a->parts) == 0;
 }
 
 /* Whether the figures, the accounts, and the answers to many descriptions of two rounds are the same. */

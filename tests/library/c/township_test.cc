@@ -12,6 +12,7 @@ static_assert(sizeof(township_fraction) == 24, "a fraction has 24 bytes");
 static_assert(sizeof(township_plat_figures) == 2312, "the figures have 7 * 36 + 36 + 1 numbers");
 static_assert(sizeof(township_land) == 4612, "land has 36 * 32 rows of 4 bytes, and a designation");
 static_assert(sizeof(township_lots) == 192, "a lot table has 47 figures and a designation");
+static_assert(sizeof(township_part) == 6, "a part has 6 bytes");
 
 static const std::uint8_t *bytes(const std::string &text) {
     return reinterpret_cast<const std::uint8_t *>(text.data());
@@ -37,14 +38,17 @@ static std::uint64_t figure(const std::string &notes) {
     return holds ? figures.lots[5 - 1][1 - 1] : 0;
 }
 
-// Whether the only place of section 14 in this corner is the lowest bit of its northernmost row.
+// Whether the only place of section 14 in this corner is the lowest bit of its northernmost row, and the land's only
+// part.
 static bool has_corner() {
     const township_designation township = {2, TOWNSHIP_NORTH, 3, TOWNSHIP_WEST};
     const std::string text = "sec. 14, NE1/4NE1/4NE1/4NE1/4NE1/4.";
     township_land land{};
+    township_part part{};
 
     return township_land_read(&township, bytes(text), text.size(), &land).verdict == TOWNSHIP_ACCEPTED &&
-           land.rows[14 - 1][TOWNSHIP_PLACES_ACROSS - 1] == 1;
+           land.rows[14 - 1][TOWNSHIP_PLACES_ACROSS - 1] == 1 && township_land_parts(&land, &part, 1).length == 1 &&
+           part.section == 14 && part.column == 0 && part.row == TOWNSHIP_PLACES_ACROSS - 1 && part.rows == 1;
 }
 
 // The acres of a lot by a lot table.

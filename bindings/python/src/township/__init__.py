@@ -24,6 +24,7 @@ from ._land import Land
 from ._lots import Lots
 from ._many import Answers
 from ._note import Note
+from ._parts import Part
 from ._plat import Plat
 from ._refused import Refusal, Refused, failure_of
 from ._report import Report, Tract
@@ -41,6 +42,7 @@ __all__ = [
     "NorthSouth",
     "Note",
     "Notes",
+    "Part",
     "Plat",
     "Refusal",
     "Refused",
@@ -54,7 +56,7 @@ __all__ = [
 ]
 
 for _public in (
-    *(Answers, Difference, Land, Lots, Note, Notes, Plat),
+    *(Answers, Difference, Land, Lots, Note, Notes, Part, Plat),
     *(Refusal, Refused, Report, Section, Township, Tract),
 ):
     # Tracebacks and pickles name each class as users import it.

@@ -166,6 +166,19 @@ class Totals(ctypes.Structure):
     _fields_ = [("total", c_uint64), ("remaining", c_uint64)]
 
 
+class Part(ctypes.Structure):
+    """`township_part`: 6 bytes."""
+
+    _fields_ = [
+        ("section", c_uint8),
+        ("lot", c_uint8),
+        ("column", c_uint8),
+        ("row", c_uint8),
+        ("columns", c_uint8),
+        ("rows", c_uint8),
+    ]
+
+
 def _load() -> ctypes.CDLL:
     """Load the library that the environment variable names, or else the one in the package's folder."""
     path = os.environ.get(VARIABLE) or BESIDE
@@ -188,6 +201,7 @@ _TRACTS = (POINTER(Tract), c_size_t)
 _TOWNSHIP = POINTER(Designation)
 _LAND = POINTER(Land)
 _LOTS = POINTER(Lots)
+_PARTS = (POINTER(Part), c_size_t)
 _AREA = POINTER(Area)
 _NUMBER = POINTER(c_uint32)
 
@@ -221,6 +235,7 @@ land_area = _call("township_land_area", _PLAT, _LAND, c_uint32, _AREA)
 land_text = _call("township_land_text", _LAND, *_ROOM)
 land_combine = _call("township_land_combine", _LAND, _LAND, c_uint32, _LAND)
 land_compare = _call("township_land_compare", _LAND, _LAND, _NUMBER)
+land_parts = _call("township_land_parts", _LAND, *_PARTS)
 lots_read = _call("township_lots_read", *_BYTES, _LOTS)
 lots_acres = _call("township_lots_acres", _LOTS, *_BYTES)
 lots_area = _call("township_lots_area", _LOTS, *_BYTES, _AREA)

@@ -8,7 +8,7 @@ from typing import Iterator, List, Mapping, Optional, Union
 
 import township
 import township.pandas
-from township import Account, Difference, EastWest, Land, Lots, NorthSouth, Notes, Plat, Refusal, Refused
+from township import Account, Difference, EastWest, Land, Lots, NorthSouth, Notes, Part, Plat, Refusal, Refused
 from township import Report, Section, Township, Tract
 
 
@@ -47,6 +47,8 @@ def notes(length: Decimal) -> Plat:
 def lands(plat: Plat, lots: Lots) -> Optional[Decimal]:
     land: Land = plat.land("sec. 14.") - Land.of("T. 2 N., R. 3 W.", b"sec. 14, N1/2.")
     land |= Land.of(plat.township, "sec. 15.") & land ^ land
+    parts: List[Part] = land.parts
+    lot: Optional[int] = parts[0].lot
     by_section: Mapping[int, Land] = land.sections
     pieces: List[Land] = [piece for piece in land if piece in land and "sec. 14." in piece]
     is_less: bool = land <= by_section[14] and land.isdisjoint(pieces[0]) and bool(land)
@@ -54,7 +56,7 @@ def lands(plat: Plat, lots: Lots) -> Optional[Decimal]:
     areas: List[Fraction] = [land.area(plat), land.area(lots), plat.area(land), lots.area(b"sec. 14.")]
     differences: List[Difference] = plat.differences(Lots.of_figures(land.township, lots.figures))
     drawings: List[str] = [plat.svg(), plat.svg(land=land, section=14), plat.svg(land=b"sec. 14.")]
-    return acres[0] + differences[0].by if is_less and areas and drawings else None
+    return acres[0] + differences[0].by if is_less and areas and lot and drawings else None
 
 
 def wrong_lands(plat: Plat, land: Land, lots: Lots) -> None:

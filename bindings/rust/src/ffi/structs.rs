@@ -162,6 +162,19 @@ impl Lots {
     };
 }
 
+/// `township_part`: a part of a canonical text, in places.
+#[repr(C)]
+#[derive(Clone, Copy, Debug, Default, PartialEq, Eq)]
+pub(crate) struct Part {
+    pub(crate) section: u8,
+    /// 0 if the part is not a lot.
+    pub(crate) lot: u8,
+    pub(crate) column: u8,
+    pub(crate) row: u8,
+    pub(crate) columns: u8,
+    pub(crate) rows: u8,
+}
+
 // The library is compiled for these layouts.
 const _: () = assert!(size_of::<Parts>() == 340 && offset_of!(Parts, number) == 336);
 const _: () = assert!(size_of::<Answer>() == 48 && offset_of!(Answer, hundredths) == 32);
@@ -172,3 +185,4 @@ const _: () = assert!(size_of::<Totals>() == 16);
 const _: () = assert!(size_of::<Designation>() == 4);
 const _: () = assert!(size_of::<Land>() == 4612 && offset_of!(Land, township) == 4608);
 const _: () = assert!(size_of::<Lots>() == 192 && offset_of!(Lots, township) == 188);
+const _: () = assert!(size_of::<Part>() == 6 && offset_of!(Part, rows) == 5);

@@ -128,6 +128,7 @@ fn land_and_lots_that_are_none_are_found_out_by_each_call() {
         (no_land, Fraction::default())
     );
     assert_eq!(land_text(&none, &mut room), no_land);
+    assert_eq!(land_parts(&none, &mut [Part::default()]), no_land);
     assert_eq!(land_combine(&none, &some, UNION).0, no_land);
     assert_eq!(
         land_combine(&some, &none, UNION),
