@@ -203,6 +203,21 @@ typedef struct township_totals {
     uint64_t remaining; /* of all other land in the township */
 } township_totals;
 
+/* The answer to a tract of a list: its acres, or its first refusal apart from overlaps (81 or 82, or 83 with that
+   of its description). Its name is as in `township_tract`, but empty for 81: the record is not a tract's. */
+typedef struct township_tract_answer {
+    township_answer answer;
+    uint32_t name_length; /* 0 to TOWNSHIP_NAME_MOST */
+    char name[TOWNSHIP_NAME_ROOM];
+} township_tract_answer;
+
+/* Two tracts of a list that overlap, by their records. */
+typedef struct township_overlap {
+    uint32_t first;      /* the record of the earlier tract: 2 for the first tract of the list */
+    uint32_t second;     /* that of the later one */
+    uint64_t hundredths; /* of an acre: the land in both, rounded once, half up */
+} township_overlap;
+
 /* The number of places along a side of a section, and the number of lots in a township. */
 #define TOWNSHIP_PLACES_ACROSS 32
 #define TOWNSHIP_LOTS 47
@@ -287,6 +302,26 @@ township_answer township_report(const township_plat *plat, const uint8_t *list, 
  */
 township_answer township_account(const township_plat *plat, const uint8_t *list, size_t list_length,
                                  township_tract *tracts, size_t room, township_totals *totals);
+
+/*
+ * Answers each tract of a list, whatever is wrong with the others: writes to `answers` an answer for each record
+ * after the heading. A refusal does not end the call: check the verdict of each answer. The list as a whole is
+ * refused if it is too large (80), has no heading (81 at 1), or has too many tracts (85). That tracts overlap is
+ * no part of their answers: see township_overlaps. `length`, `room`, and other verdicts are as in
+ * township_account.
+ */
+township_answer township_report_each(const township_plat *plat, const uint8_t *list, size_t list_length,
+                                     township_tract_answer *answers, size_t room);
+
+/*
+ * Finds all overlaps in a list of tracts, whatever else is wrong with it: writes to `overlaps` each pair of tracts
+ * that share land, in the order of the later tract, and then of the earlier one. Records that are not a tract's, and
+ * tracts whose description is refused, overlap none. `length` is the number of overlaps; if `room`, the number of
+ * elements of `overlaps`, is smaller, the verdict is TOWNSHIP_NO_ROOM. The list as a whole is refused as in
+ * township_report_each. On any verdict other than TOWNSHIP_ACCEPTED, `overlaps` is unchanged.
+ */
+township_answer township_overlaps(const township_plat *plat, const uint8_t *list, size_t list_length,
+                                  township_overlap *overlaps, size_t room);
 
 /* Writes to `figures` the figures that township_print prints. On any verdict other than TOWNSHIP_ACCEPTED,
    `figures` is unchanged. */

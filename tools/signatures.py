@@ -20,8 +20,9 @@ Calls = Dict[str, List[Parameter]]
 
 BYTES, ROOM, LENGTH = "bytes", "room for bytes", "length"
 OFFSETS, ANSWERS, TRACTS, PARTS = "offsets", "room for answers", "room for tracts", "room for parts"
+TRACT_ANSWERS, OVERLAPS = "room for answers to tracts", "room for overlaps"
 # Each of these is a pointer, and its length follows it.
-SLICES = (BYTES, ROOM, OFFSETS, ANSWERS, TRACTS, PARTS)
+SLICES = (BYTES, ROOM, OFFSETS, ANSWERS, TRACTS, TRACT_ANSWERS, OVERLAPS, PARTS)
 # What each type is, in the languages where a slice is a pointer and a length, and in Rattle.
 C_TYPES = {
     "const township_plat *": "plat",
@@ -37,6 +38,8 @@ C_TYPES = {
     "const size_t *": OFFSETS,
     "township_answer *": ANSWERS,
     "township_tract *": TRACTS,
+    "township_tract_answer *": TRACT_ANSWERS,
+    "township_overlap *": OVERLAPS,
     "township_totals *": "totals to write",
     "township_part *": PARTS,
     "uint32_t": "number",
@@ -50,6 +53,8 @@ RUST_TYPES = {
     "*const usize": OFFSETS,
     "*mut Answer": ANSWERS,
     "*mut Tract": TRACTS,
+    "*mut TractAnswer": TRACT_ANSWERS,
+    "*mut Overlap": OVERLAPS,
     "*mut Totals": "totals to write",
     "*mut Part": PARTS,
     "*const u8": BYTES,
@@ -77,6 +82,8 @@ RATTLE_TYPES = {
     "&[usize]": OFFSETS,
     "&mut [TownshipAnswer]": ANSWERS,
     "&mut [TownshipTract]": TRACTS,
+    "&mut [TownshipTractAnswer]": TRACT_ANSWERS,
+    "&mut [TownshipOverlap]": OVERLAPS,
     "&mut TownshipTotals": "totals to write",
     "&mut [TownshipPart]": PARTS,
     "&[u8]": BYTES,
@@ -97,6 +104,8 @@ PYTHON_TYPES = {
     "_LOTS": "lots",
     "_NUMBER": "number to write",
     "*_TRACTS": TRACTS,
+    "*_TRACT_ANSWERS": TRACT_ANSWERS,
+    "*_OVERLAPS": OVERLAPS,
     "POINTER(Totals)": "totals to write",
     "c_uint32": "number",
 }

@@ -70,6 +70,8 @@ OTHERS = (
             "twp_calls::answering::township_print",
             "twp_calls::answering::township_report",
             "twp_calls::account_call::township_account",
+            "twp_calls::each_call::township_report_each",
+            "twp_calls::overlaps_call::township_overlaps",
             "twp_calls::figures::township_figures",
             "twp_calls::many::township_acres_many",
             "twp_calls::writing::township_write_notes",

@@ -55,6 +55,8 @@ class Declared(unittest.TestCase):
         self.assertEqual([ctypes.sizeof(struct) for struct in structs], [340, 48, 24, 2312, 80, 16])
         structs = (_library.Designation, _library.Land, _library.Lots, _library.Part)
         self.assertEqual([ctypes.sizeof(struct) for struct in structs], [4, 4612, 192, 6])
+        structs = (_library.TractAnswer, _library.Overlap)
+        self.assertEqual([ctypes.sizeof(struct) for struct in structs], [120, 16])
 
     def test_fields_are_those_of_the_header(self):
         header = (TOP / "include" / "township.h").read_text()
@@ -65,6 +67,8 @@ class Declared(unittest.TestCase):
             (_library.Figures, "plat_figures"),
             (_library.Tract, "tract"),
             (_library.Totals, "totals"),
+            (_library.TractAnswer, "tract_answer"),
+            (_library.Overlap, "overlap"),
             (_library.Designation, "designation"),
             (_library.Land, "land"),
             (_library.Lots, "lots"),
@@ -120,6 +124,8 @@ class Verdicts(unittest.TestCase):
         "area": lambda: uneven().area("sec. 14."),
         "normal": lambda: uneven().normal("sec. 14."),
         "account": lambda: uneven().report([]),
+        "report_each": lambda: uneven().report_each([]),
+        "overlaps": lambda: uneven().overlaps([]),
         "print_plat": lambda: uneven()._print(),
         "figures": lambda: township.Plat.read(NOTES).total,
         "write_notes": lambda: uneven().write_notes(),
@@ -167,7 +173,7 @@ class Verdicts(unittest.TestCase):
     def test_plat_that_is_none(self):
         # A plat cannot be made like this, but the library detects it anyway.
         none = township.Plat._of_struct(_library.Plat())
-        for call in (none.acres, none.area, none.normal, none.notes, none.report_csv):
+        for call in (none.acres, none.area, none.normal, none.notes, none.report_csv, none.report_each_csv, none.overlaps_csv):
             with self.subTest(call=call.__name__), self.assertRaises(ValueError):
                 call("sec. 14.")
 

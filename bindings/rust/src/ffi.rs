@@ -10,10 +10,10 @@ mod tests;
 
 pub(crate) use self::land::{land_acres, land_area, land_combine, land_compare, land_parts};
 pub(crate) use self::land::{land_read, land_text};
-pub(crate) use self::lists::{account, report};
+pub(crate) use self::lists::{account, overlaps, report, report_each};
 pub(crate) use self::lots::{lots_acres, lots_area, lots_land_acres, lots_land_area, lots_read};
 pub(crate) use self::structs::{Answer, Designation, Figures, Fraction, Land, Lots, Part, Parts};
-pub(crate) use self::structs::{Totals, Tract};
+pub(crate) use self::structs::{Overlap, Totals, Tract, TractAnswer};
 
 // Verdicts.
 pub(crate) const ACCEPTED: u32 = 0;

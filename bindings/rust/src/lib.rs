@@ -67,7 +67,7 @@ pub use self::parse::ParseError;
 pub use self::part::Part;
 pub use self::plat::{NoPlat, Plat, LINES};
 pub use self::refused::{Refusal, Refused};
-pub use self::report::{Report, Tract};
+pub use self::report::{Overlap, Report, Tract, TractAnswer, TractRefusal};
 pub use self::township::{EastWest, NorthSouth, Township};
 
 /// Returns the version of the library, such as `1.0.0`.

@@ -1,7 +1,9 @@
 //! Reports of tracts, as data.
 
 use crate::acres::Acres;
+use crate::answer::Fault;
 use crate::ffi::{self, Totals};
+use crate::refused::Refusal;
 use std::fmt;
 
 /// A tract in a report, with its acreage. It is displayed as `tract A: 39.18 acres`.
@@ -41,6 +43,76 @@ pub struct Report {
     pub remaining: Acres,
 }
 
+/// The answer to a tract of a list, whatever is wrong with the others.
+#[derive(Clone, Debug, PartialEq, Eq, Hash)]
+#[cfg_attr(feature = "serde", derive(serde::Serialize, serde::Deserialize))]
+#[non_exhaustive]
+pub struct TractAnswer {
+    /// The name, which is empty if the record is not a tract's (81).
+    pub name: String,
+    /// The acreage, or the first refusal that the tract has by itself.
+    pub answer: Result<Acres, TractRefusal>,
+}
+
+/// The refusal of a tract of a list.
+#[derive(Clone, Copy, Debug, PartialEq, Eq, Hash)]
+#[cfg_attr(feature = "serde", derive(serde::Serialize, serde::Deserialize))]
+#[non_exhaustive]
+pub struct TractRefusal {
+    /// The refusal, with the number 81, 82, or 83, at the tract's record.
+    pub refusal: Refusal,
+    /// For refusal 83, the refusal of the tract's description.
+    pub inner: Option<Refusal>,
+}
+
+/// Two tracts of a list that overlap, by their indexes: the tract with index k is record k + 2.
+#[derive(Clone, Copy, Debug, PartialEq, Eq, Hash)]
+#[cfg_attr(feature = "serde", derive(serde::Serialize, serde::Deserialize))]
+#[non_exhaustive]
+pub struct Overlap {
+    /// The index of the earlier tract.
+    pub first: usize,
+    /// The index of the later one.
+    pub second: usize,
+    /// The acreage of the land in both.
+    pub acres: Acres,
+}
+
+/// The record of the first tract of a list.
+const FIRST_TRACT: usize = 2;
+
+impl Overlap {
+    pub(crate) fn from_data(overlap: &ffi::Overlap) -> Overlap {
+        Overlap {
+            first: overlap.first as usize - FIRST_TRACT,
+            second: overlap.second as usize - FIRST_TRACT,
+            acres: Acres::from_hundredths(overlap.hundredths),
+        }
+    }
+}
+
+impl TractAnswer {
+    /// Returns the answer to a tract. Panics if memory ran out.
+    pub(crate) fn from_data(given: &ffi::TractAnswer) -> TractAnswer {
+        let refused = |fault: Fault| TractRefusal {
+            refusal: fault.refusal,
+            inner: fault.inner,
+        };
+        let accepted = given.answer.accepted();
+        TractAnswer {
+            name: name_of(&given.name[..given.name_length as usize]),
+            answer: accepted
+                .map(|answer| Acres::from_hundredths(answer.hundredths))
+                .map_err(refused),
+        }
+    }
+}
+
+/// Returns a name, which is ASCII.
+fn name_of(bytes: &[u8]) -> String {
+    String::from_utf8_lossy(bytes).into_owned()
+}
+
 impl Report {
     pub(crate) fn from_data(tracts: &[ffi::Tract], totals: Totals) -> Report {
         Report {
@@ -53,10 +125,8 @@ impl Report {
 
 impl Tract {
     fn from_data(tract: &ffi::Tract) -> Tract {
-        let name = &tract.name[..tract.name_length as usize];
         Tract {
-            // Names are ASCII.
-            name: String::from_utf8_lossy(name).into_owned(),
+            name: name_of(&tract.name[..tract.name_length as usize]),
             acres: Acres::from_hundredths(tract.hundredths),
         }
     }

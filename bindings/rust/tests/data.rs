@@ -112,3 +112,25 @@ fn reports() {
         r#"{"tracts":[{"name":"A","acres":"640.00"}],"total":"640.00","remaining":"22397.57"}"#,
     );
 }
+
+#[test]
+fn answers_to_tracts() {
+    let tracts = [
+        ("A", "sec. 14."),
+        ("B", "sec. 7, lot 5."),
+        ("C", "sec. 14."),
+    ];
+    let answers = uneven().report_each(tracts).unwrap();
+    both_ways(
+        answers[0].clone(),
+        r#"{"name":"A","answer":{"Ok":"640.00"}}"#,
+    );
+    both_ways(
+        answers[1].clone(),
+        r#"{"name":"B","answer":{"Err":{"refusal":{"number":83,"at":3},"inner":{"number":64,"at":12}}}}"#,
+    );
+    both_ways(
+        uneven().overlaps(tracts).unwrap()[0],
+        r#"{"first":0,"second":2,"acres":"640.00"}"#,
+    );
+}

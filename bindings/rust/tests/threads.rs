@@ -142,6 +142,7 @@ fn values_go_to_other_threads() {
     goes::<Lots>();
     goes::<Part>();
     goes::<Report>();
+    goes::<township::TractAnswer>();
     goes::<Refused>();
     let plat = thread::spawn(uneven).join().unwrap();
     assert_eq!(plat, uneven());

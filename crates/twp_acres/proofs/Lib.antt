@@ -11,6 +11,8 @@ pub mod TractLands
 pub mod ClearFacts
 pub mod TallyFacts
 pub mod FigureLines
+pub mod EachFacts
+pub mod OverlapFacts
 pub mod FirstTractFaults
 pub mod TractAreas
 pub mod TractSums

@@ -6,6 +6,8 @@ pub mod GivenPlats
 pub mod GivenLands
 pub mod GivenLots
 pub mod Calls
+pub mod EachCalls
+pub mod OverlapCalls
 pub mod Figures
 pub mod LandCalls
 pub mod LandParts

@@ -3,4 +3,5 @@ pub mod Filling
 pub mod LotSteps
 pub mod Noting
 pub mod PartSteps
+pub mod Plain
 pub mod Returning

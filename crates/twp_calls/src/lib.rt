@@ -8,6 +8,7 @@ mod answer;
 mod answering;
 mod combining;
 mod designation;
+mod each_call;
 mod explaining;
 mod figures;
 mod fraction;
@@ -18,6 +19,7 @@ mod lot_answers;
 mod lots;
 mod many;
 mod name;
+mod overlaps_call;
 mod plat;
 mod reading;
 mod text;
@@ -32,6 +34,7 @@ pub use answering::{
 };
 pub use combining::{township_land_combine, township_land_compare};
 pub use designation::TownshipDesignation;
+pub use each_call::{TownshipTractAnswer, township_report_each};
 pub use explaining::{
     township_explain_description, township_explain_list, township_explain_notes, township_version,
 };
@@ -48,5 +51,6 @@ pub use lot_answers::{
 };
 pub use lots::TownshipLots;
 pub use many::township_acres_many;
+pub use overlaps_call::{TownshipOverlap, township_overlaps};
 pub use plat::TownshipPlat;
 pub use writing::township_write_notes;

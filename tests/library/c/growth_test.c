@@ -113,6 +113,8 @@ static township_fraction area;
 static township_plat_figures figures;
 static township_tract tracts[2];
 static township_totals totals;
+static township_tract_answer each[2];
+static township_overlap overlaps[2];
 static township_answer answers[2];
 static township_land land;
 static township_lots lots;
@@ -157,6 +159,14 @@ static township_answer call_report(void) {
 
 static township_answer call_account(void) {
     return township_account(&plat, BYTES("name,description\nA,\"sec. 7, lot 1.\"\nB,sec. 6.\n"), tracts, 2, &totals);
+}
+
+static township_answer call_report_each(void) {
+    return township_report_each(&plat, BYTES("name,description\nA,\"sec. 7, lot 1.\"\nA,sec. 6.\n"), each, 2);
+}
+
+static township_answer call_overlaps(void) {
+    return township_overlaps(&plat, BYTES("name,description\nA,\"sec. 7, lot 1.\"\nB,sec. 7.\n"), overlaps, 2);
 }
 
 static township_answer call_refused(void) {
@@ -266,6 +276,8 @@ static const struct {
     {"township_report", call_report},
     {"township_report, refused", call_refused},
     {"township_account", call_account},
+    {"township_report_each", call_report_each},
+    {"township_overlaps", call_overlaps},
     {"township_explain_notes", call_explain_notes},
     {"township_explain_description", call_explain_description},
     {"township_explain_list", call_explain_list},
@@ -298,6 +310,8 @@ typedef struct written {
     township_lots lots;
     uint32_t comparison;
     township_part parts[8];
+    township_tract_answer each[2];
+    township_overlap overlaps[2];
     room texts;
 } written;
 
@@ -309,6 +323,8 @@ static void clear(void) {
     memset(&figures, 0, sizeof figures);
     memset(tracts, 0, sizeof tracts);
     memset(&totals, 0, sizeof totals);
+    memset(each, 0, sizeof each);
+    memset(overlaps, 0, sizeof overlaps);
     memset(answers, 0, sizeof answers);
     memset(&land, 0, sizeof land);
     memset(&lots, 0, sizeof lots);
@@ -327,6 +343,8 @@ static void keep(written *in) {
     in->lots = lots;
     in->comparison = comparison;
     memcpy(in->parts, parts, sizeof parts);
+    memcpy(in->each, each, sizeof each);
+    memcpy(in->overlaps, overlaps, sizeof overlaps);
     in->texts = *texts;
 }
 

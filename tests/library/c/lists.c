@@ -8,6 +8,9 @@
 _Static_assert(sizeof(township_tract) == 80, "a tract has 80 bytes");
 _Static_assert(offsetof(township_tract, name) == 12, "a name follows its length");
 _Static_assert(sizeof(township_totals) == 16, "totals have 16 bytes");
+_Static_assert(sizeof(township_tract_answer) == 120, "the answer to a tract has 120 bytes");
+_Static_assert(sizeof(township_overlap) == 16, "an overlap has 16 bytes");
+_Static_assert(offsetof(township_tract_answer, name) == 52, "a name follows its length");
 
 #define COUNT(array) (sizeof(array) / sizeof *(array))
 
@@ -170,10 +173,106 @@ void has_accounts(const township_plat *plat) {
     has_the_most_tracts(plat);
 }
 
+/* Whether this is the answer to a tract of this name, or of none. */
+static bool is_answered(const township_tract_answer *found, const char *name, township_answer wanted) {
+    char padded[TOWNSHIP_NAME_ROOM] = {0};
+
+    memcpy(padded, name, strlen(name));
+    return same_answer(found->answer, wanted) && found->name_length == strlen(name) &&
+           memcmp(found->name, padded, sizeof padded) == 0;
+}
+
+static township_answer each_of(const township_plat *plat, const char *text, township_tract_answer *to, size_t room) {
+    bytes list = bytes_of(text);
+    township_answer answer = township_report_each(plat, list.at, list.length, to, room);
+
+    drop(list);
+    return answer;
+}
+
+/* Of nine tracts, three have acres; the others have each fault that a tract can have by itself. */
+static const char mixed[] = HEADING "A,\"sec. 7, lot 1.\"\n"
+                                    "B,\"sec. 7, lot 5.\"\n"
+                                    "C\n"
+                                    "A,sec. 14\n"
+                                    "C,sec. 14,more\n"
+                                    "C,sec. 15\n"
+                                    "D,\"sec. 14, NE1/4 and N1/2.\"\n"
+                                    "\"E, \"\"the\"\" one\",sec. 14\n"
+                                    "F,\"sec. 14, NE1/4\"\n";
+#define MIXED 9
+
+void has_answers_of_tracts(const township_plat *plat) {
+    township_tract_answer none[MIXED + 1], found[MIXED + 1];
+
+    memset(none, NEVER, sizeof none);
+    memcpy(found, none, sizeof found);
+    CHECK_ANSWER(each_of(plat, mixed, found, MIXED - 1), with_length(TOWNSHIP_NO_ROOM, MIXED));
+    CHECK(memcmp(found, none, sizeof found) == 0);
+    CHECK_ANSWER(each_of(plat, mixed, found, MIXED + 1), with_length(TOWNSHIP_ACCEPTED, MIXED));
+    CHECK(is_answered(&found[0], "A", acres(3918)));
+    CHECK(is_answered(&found[1], "B", tract_refused(3, 64, 12)));
+    CHECK(is_answered(&found[2], "", refused(81, 4)));
+    CHECK(is_answered(&found[3], "A", refused(82, 5)));
+    CHECK(is_answered(&found[4], "", refused(81, 6)));
+    CHECK(is_answered(&found[5], "C", refused(82, 7)));
+    CHECK(is_answered(&found[6], "D", tract_refused(8, 67, 19)));
+    CHECK(is_answered(&found[7], "E, \"the\" one", acres(64000)));
+    CHECK(is_answered(&found[8], "F", acres(16000)));
+    CHECK(memcmp(&found[MIXED], &none[MIXED], sizeof *none) == 0);
+    CHECK_ANSWER(each_of(plat, HEADING, found, 0), with_length(TOWNSHIP_ACCEPTED, 0));
+    CHECK_ANSWER(each_of(plat, "name\nA,sec. 14\n", found, MIXED), refused(81, 1));
+    CHECK_ANSWER(each_of(plat, "", found, MIXED), refused(81, 1));
+    CHECK(is_answered(&found[0], "A", acres(3918)));
+}
+
+static township_answer overlaps_of(const township_plat *plat, const char *text, township_overlap *to, size_t room) {
+    bytes list = bytes_of(text);
+    township_answer answer = township_overlaps(plat, list.at, list.length, to, room);
+
+    drop(list);
+    return answer;
+}
+
+static bool is_overlap(township_overlap found, uint32_t first, uint32_t second, uint64_t hundredths) {
+    return found.first == first && found.second == second && found.hundredths == hundredths;
+}
+
+/*
+ * Of the same nine tracts, the second A, E, and F have land of section 14: 640 acres are in the first two, and the
+ * 160 acres of its northeast quarter in each of them and F. D is refused, and the record with three fields is no
+ * tract.
+ */
+void has_overlaps(const township_plat *plat) {
+    static const char apart[] = HEADING "A,\"sec. 14, N1/2\"\nB,\"sec. 14, S1/2\"\n";
+    township_overlap none[4], found[4];
+
+    memset(none, NEVER, sizeof none);
+    memcpy(found, none, sizeof found);
+    CHECK_ANSWER(overlaps_of(plat, mixed, found, 2), with_length(TOWNSHIP_NO_ROOM, 3));
+    CHECK_ANSWER(overlaps_of(plat, "", found, 4), refused(81, 1));
+    CHECK(memcmp(found, none, sizeof found) == 0);
+    CHECK_ANSWER(overlaps_of(plat, mixed, found, 4), with_length(TOWNSHIP_ACCEPTED, 3));
+    CHECK(is_overlap(found[0], 5, 9, 64000));
+    CHECK(is_overlap(found[1], 5, 10, 16000));
+    CHECK(is_overlap(found[2], 9, 10, 16000));
+    CHECK(memcmp(&found[3], &none[3], sizeof *none) == 0);
+    CHECK_ANSWER(overlaps_of(plat, apart, found, 0), with_length(TOWNSHIP_ACCEPTED, 0));
+    CHECK_ANSWER(overlaps_of(plat, HEADING, found, 0), with_length(TOWNSHIP_ACCEPTED, 0));
+}
+
 void refuses_plat_of_lists(const township_plat *plat) {
     account none = blank();
     account found = none;
+    township_tract_answer kept, answer;
+    township_overlap overlap = {1, 2, 3};
 
     CHECK_ANSWER(account_of(plat, HEADING "A,sec. 14\n", COUNT(found.tracts), &found), bare(TOWNSHIP_NO_PLAT));
     CHECK(memcmp(&found, &none, sizeof found) == 0);
+    memset(&kept, NEVER, sizeof kept);
+    answer = kept;
+    CHECK_ANSWER(each_of(plat, HEADING "A,sec. 14\n", &answer, 1), bare(TOWNSHIP_NO_PLAT));
+    CHECK(memcmp(&answer, &kept, sizeof answer) == 0);
+    CHECK_ANSWER(overlaps_of(plat, mixed, &overlap, 1), bare(TOWNSHIP_NO_PLAT));
+    CHECK(is_overlap(overlap, 1, 2, 3));
 }

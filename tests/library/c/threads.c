@@ -7,7 +7,7 @@
 #include "check.h"
 
 #define THREADS 4
-#define CALLS 29
+#define CALLS 31
 
 /* The stack that the library requires, and room for the thread's own calls. */
 #define STACK ((256 + 64) * 1024)
@@ -21,6 +21,8 @@ typedef struct round_answers {
     township_answer many[2];
     township_tract tracts[2];
     township_totals totals;
+    township_tract_answer each[2];
+    township_overlap overlaps[2];
     township_land land;
     township_land combined;
     uint32_t comparison;
@@ -98,6 +100,8 @@ static void call_all(bytes notes, const township_plat *plat, round_answers *to) 
     answer[15] = township_write_notes(plat, to->texts[15], sizeof to->texts[15]);
     answer[16] = township_account(plat, BYTES("name,description\nA,\"sec. 7, lot 1.\"\nB,sec. 6.\n"), to->tracts, 2,
                                   &to->totals);
+    answer[29] = township_report_each(plat, BYTES("name,description\nA,sec. 6.\nA,sec. 7.\n"), to->each, 2);
+    answer[30] = township_overlaps(plat, BYTES("name,description\nA,sec. 6.\nA,sec. 6.\n"), to->overlaps, 2);
     call_on_land(plat, to);
 }
 
@@ -114,6 +118,8 @@ static bool same_figures(const round_answers *a, const round_answers *b) {
     return memcmp(&a->figures, &b->figures, sizeof a->figures) == 0 &&
            memcmp(a->tracts, b->tracts, sizeof a->tracts) == 0 &&
            memcmp(&a->totals, &b->totals, sizeof a->totals) == 0 &&
+           memcmp(a->each, b->each, sizeof a->each) == 0 &&
+           memcmp(a->overlaps, b->overlaps, sizeof a->overlaps) == 0 &&
            same_answer(a->many[0], b->many[0]) && same_answer(a->many[1], b->many[1]);
 }
 

@@ -645,6 +645,8 @@ int main(int count, char **words) {
     has_figures(&plat);
     reports(samples, &plat);
     has_accounts(&plat);
+    has_answers_of_tracts(&plat);
+    has_overlaps(&plat);
     answers_many(&plat);
     answers_ranges(&plat);
     has_version(version);

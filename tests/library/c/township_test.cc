@@ -13,6 +13,8 @@ static_assert(sizeof(township_plat_figures) == 2312, "the figures have 7 * 36 + 
 static_assert(sizeof(township_land) == 4612, "land has 36 * 32 rows of 4 bytes, and a designation");
 static_assert(sizeof(township_lots) == 192, "a lot table has 47 figures and a designation");
 static_assert(sizeof(township_part) == 6, "a part has 6 bytes");
+static_assert(sizeof(township_tract_answer) == 120, "the answer to a tract has 120 bytes");
+static_assert(sizeof(township_overlap) == 16, "an overlap has 16 bytes");
 
 static const std::uint8_t *bytes(const std::string &text) {
     return reinterpret_cast<const std::uint8_t *>(text.data());
@@ -74,12 +76,27 @@ static std::string tract(const std::string &notes, const std::string &list) {
     return holds ? tracts[0].name + (": " + std::to_string(tracts[0].hundredths)) : "";
 }
 
+// The hundredths of an acre that the only two tracts of a list share, if they are answered and overlap.
+static std::uint64_t shared(const std::string &notes, const std::string &list) {
+    township_plat plat{};
+    township_tract_answer answers[2]{};
+    township_overlap overlap{};
+    const bool holds =
+        township_read(bytes(notes), notes.size(), &plat).verdict == TOWNSHIP_ACCEPTED &&
+        township_report_each(&plat, bytes(list), list.size(), answers, 2).length == 2 &&
+        answers[0].answer.verdict == TOWNSHIP_ACCEPTED && answers[1].name == std::string("B") &&
+        township_overlaps(&plat, bytes(list), list.size(), &overlap, 1).length == 1 && overlap.second == 3;
+
+    return holds ? overlap.hundredths : 0;
+}
+
 int main(int count, char **words) {
     std::ifstream file(count > 1 ? words[1] : "samples/b1.csv", std::ios::binary);
     const std::string notes((std::istreambuf_iterator<char>(file)), std::istreambuf_iterator<char>());
     const bool holds = hundredths(notes, "sec. 5, lot 1.") == 4045 && figure(notes) == 4045 && has_corner() &&
                        returned("section,lot,acres\nT,2,N,3,W\n5,1,40.45\n", "sec. 5, lot 1.") == 4045 &&
-                       tract(notes, "name,description\nA,\"sec. 5, lot 1.\"\n") == "A: 4045";
+                       tract(notes, "name,description\nA,\"sec. 5, lot 1.\"\n") == "A: 4045" &&
+                       shared(notes, "name,description\nA,sec. 14\nB,\"sec. 14, NE1/4\"\n") == 16000;
 
     std::cout << holds << " passed, " << !holds << " failed\n";
     return !holds;

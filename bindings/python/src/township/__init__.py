@@ -27,7 +27,7 @@ from ._note import Note
 from ._parts import Part
 from ._plat import Plat
 from ._refused import Refusal, Refused, failure_of
-from ._report import Report, Tract
+from ._report import Overlap, Report, Tract, TractAnswer
 from ._rounding import rounded
 from ._township import EastWest, NorthSouth, Township
 from ._version import __version__
@@ -42,6 +42,7 @@ __all__ = [
     "NorthSouth",
     "Note",
     "Notes",
+    "Overlap",
     "Part",
     "Plat",
     "Refusal",
@@ -50,14 +51,15 @@ __all__ = [
     "Section",
     "Township",
     "Tract",
+    "TractAnswer",
     "__version__",
     "rounded",
     "version",
 ]
 
 for _public in (
-    *(Answers, Difference, Land, Lots, Note, Notes, Part, Plat),
-    *(Refusal, Refused, Report, Section, Township, Tract),
+    *(Answers, Difference, Land, Lots, Note, Notes, Overlap, Part, Plat),
+    *(Refusal, Refused, Report, Section, Township, Tract, TractAnswer),
 ):
     # Tracebacks and pickles name each class as users import it.
     _public.__module__ = __name__

@@ -179,6 +179,18 @@ class Part(ctypes.Structure):
     ]
 
 
+class TractAnswer(ctypes.Structure):
+    """`township_tract_answer`: 120 bytes."""
+
+    _fields_ = [("answer", Answer), ("name_length", c_uint32), ("name", c_char * NAME_ROOM)]
+
+
+class Overlap(ctypes.Structure):
+    """`township_overlap`: 16 bytes."""
+
+    _fields_ = [("first", c_uint32), ("second", c_uint32), ("hundredths", c_uint64)]
+
+
 def _load() -> ctypes.CDLL:
     """Load the library that the environment variable names, or else the one in the package's folder."""
     path = os.environ.get(VARIABLE) or BESIDE
@@ -204,6 +216,8 @@ _LOTS = POINTER(Lots)
 _PARTS = (POINTER(Part), c_size_t)
 _AREA = POINTER(Area)
 _NUMBER = POINTER(c_uint32)
+_TRACT_ANSWERS = (POINTER(TractAnswer), c_size_t)
+_OVERLAPS = (POINTER(Overlap), c_size_t)
 
 
 def _call(name: str, *types: Any) -> Callable[..., Answer]:
@@ -223,6 +237,8 @@ normal = _call("township_normal", _PLAT, *_BYTES, *_ROOM)
 print_plat = _call("township_print", _PLAT, *_ROOM)
 report = _call("township_report", _PLAT, *_BYTES, *_ROOM)
 account = _call("township_account", _PLAT, *_BYTES, *_TRACTS, POINTER(Totals))
+report_each = _call("township_report_each", _PLAT, *_BYTES, *_TRACT_ANSWERS)
+overlaps = _call("township_overlaps", _PLAT, *_BYTES, *_OVERLAPS)
 figures = _call("township_figures", _PLAT, POINTER(Figures))
 acres_many = _call("township_acres_many", _PLAT, *_BYTES, *_OFFSETS, c_uint32, *_ANSWERS)
 explain_notes = _call("township_explain_notes", *_BYTES, *_BYTES, *_ROOM)

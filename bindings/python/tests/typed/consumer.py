@@ -4,12 +4,12 @@ from __future__ import annotations
 from decimal import Decimal
 from fractions import Fraction
 from pathlib import Path
-from typing import Iterator, List, Mapping, Optional, Union
+from typing import Iterator, List, Mapping, Optional, Tuple, Union
 
 import township
 import township.pandas
-from township import Account, Difference, EastWest, Land, Lots, NorthSouth, Notes, Part, Plat, Refusal, Refused
-from township import Report, Section, Township, Tract
+from township import Account, Difference, EastWest, Land, Lots, NorthSouth, Notes, Overlap, Part, Plat, Refusal
+from township import Refused, Report, Section, Township, Tract, TractAnswer
 
 
 def answers(plat: Plat, account: Account) -> Iterator[Union[Decimal, Refused]]:
@@ -29,6 +29,16 @@ def figures(path: Path) -> Optional[Decimal]:
     sides: "tuple[NorthSouth, EastWest]" = (where.north_south, where.east_west)
     text: str = plat.text + plat.normal("sec. 14.") + township.version() + township.__version__ + sides[0]
     return max(acres, total, sections[1].total, tracts[0].acres) if text and area else None
+
+
+def lists(plat: Plat, listed: bytes) -> Optional[Decimal]:
+    answers: Tuple[TractAnswer, ...] = plat.report_each_csv(listed) + plat.report_each([("A", b"sec. 14.")])
+    acres: Optional[Decimal] = answers[0].acres
+    refusal: Optional[Refusal] = answers[0].refusal or answers[0].inner
+    overlaps: Tuple[Overlap, ...] = plat.overlaps({"A": "sec. 14."}.items()) + plat.overlaps_csv(listed.decode())
+    shared: Decimal = overlaps[0].acres
+    indexes: List[int] = [overlaps[0].first, overlaps[0].second]
+    return acres if indexes and not refusal else shared
 
 
 def refusal(refused: Refused) -> Union[Refusal, int, str, None]:
@@ -70,6 +80,7 @@ def wrong_lands(plat: Plat, land: Land, lots: Lots) -> None:
 
 
 def wrong(plat: Plat) -> None:
+    plat.report_each("name,description")  # type: ignore[arg-type]
     plat.acres("sec. 14.", account="printed")  # type: ignore[arg-type]
     plat.acres(14)  # type: ignore[arg-type]
     Notes(14)  # type: ignore[arg-type]

@@ -1,6 +1,6 @@
 //! The library's functions on lists of tracts.
 
-use super::structs::{Answer, Parts, Totals, Tract};
+use super::structs::{Answer, Overlap, Parts, Totals, Tract, TractAnswer};
 
 // The requirements on pointers are those of the functions above.
 extern "C" {
@@ -18,6 +18,20 @@ extern "C" {
         tracts: *mut Tract,
         room: usize,
         totals: *mut Totals,
+    ) -> Answer;
+    fn township_report_each(
+        plat: *const Parts,
+        list: *const u8,
+        list_length: usize,
+        answers: *mut TractAnswer,
+        room: usize,
+    ) -> Answer;
+    fn township_overlaps(
+        plat: *const Parts,
+        list: *const u8,
+        list_length: usize,
+        overlaps: *mut Overlap,
+        room: usize,
     ) -> Answer;
 }
 
@@ -51,4 +65,32 @@ pub(crate) fn account(plat: &Parts, list: &[u8], tracts: &mut [Tract]) -> (Answe
         )
     };
     (answer, totals)
+}
+
+/// Writes the answers to the tracts of a list.
+pub(crate) fn report_each(plat: &Parts, list: &[u8], answers: &mut [TractAnswer]) -> Answer {
+    // SAFETY: slices and a reference meet the library's requirements.
+    unsafe {
+        township_report_each(
+            plat,
+            list.as_ptr(),
+            list.len(),
+            answers.as_mut_ptr(),
+            answers.len(),
+        )
+    }
+}
+
+/// Writes the overlaps of the tracts of a list.
+pub(crate) fn overlaps(plat: &Parts, list: &[u8], overlaps: &mut [Overlap]) -> Answer {
+    // SAFETY: slices and a reference meet the library's requirements.
+    unsafe {
+        township_overlaps(
+            plat,
+            list.as_ptr(),
+            list.len(),
+            overlaps.as_mut_ptr(),
+            overlaps.len(),
+        )
+    }
 }

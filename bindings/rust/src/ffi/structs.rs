@@ -108,6 +108,40 @@ pub(crate) struct Totals {
     pub(crate) remaining: u64,
 }
 
+/// `township_tract_answer`: the answer to a tract of a list.
+#[repr(C)]
+#[derive(Clone, Copy, Debug, PartialEq, Eq)]
+pub(crate) struct TractAnswer {
+    pub(crate) answer: Answer,
+    /// The length of the name in bytes.
+    pub(crate) name_length: u32,
+    /// The name, and zero bytes after it.
+    pub(crate) name: [u8; NAME_ROOM],
+}
+
+impl TractAnswer {
+    /// No answer, for a call to overwrite.
+    pub(crate) fn blank() -> TractAnswer {
+        TractAnswer {
+            answer: Answer::default(),
+            name_length: 0,
+            name: [0; NAME_ROOM],
+        }
+    }
+}
+
+/// `township_overlap`: two tracts of a list that overlap.
+#[repr(C)]
+#[derive(Clone, Copy, Debug, Default, PartialEq, Eq)]
+pub(crate) struct Overlap {
+    /// The record of the earlier tract.
+    pub(crate) first: u32,
+    /// The record of the later one.
+    pub(crate) second: u32,
+    /// Hundredths of an acre of the land in both.
+    pub(crate) hundredths: u64,
+}
+
 /// `township_designation`: the parts of a township's designation, which may or may not be valid.
 #[repr(C)]
 #[derive(Clone, Copy, Debug, PartialEq, Eq, Hash)]
@@ -181,7 +215,8 @@ const _: () = assert!(size_of::<Answer>() == 48 && offset_of!(Answer, hundredths
 const _: () = assert!(size_of::<Fraction>() == 24 && offset_of!(Fraction, over) == 16);
 const _: () = assert!(size_of::<Figures>() == 2312 && offset_of!(Figures, sections) == 2016);
 const _: () = assert!(size_of::<Tract>() == 80 && offset_of!(Tract, name) == 12);
-const _: () = assert!(size_of::<Totals>() == 16);
+const _: () = assert!(size_of::<Totals>() == 16 && size_of::<Overlap>() == 16);
+const _: () = assert!(size_of::<TractAnswer>() == 120 && offset_of!(TractAnswer, name) == 52);
 const _: () = assert!(size_of::<Designation>() == 4);
 const _: () = assert!(size_of::<Land>() == 4612 && offset_of!(Land, township) == 4608);
 const _: () = assert!(size_of::<Lots>() == 192 && offset_of!(Lots, township) == 188);

@@ -81,6 +81,11 @@ fn parts_of_no_plat_are_found_out_by_each_call() {
     let account = account(&none, b"name,description\nA,sec. 14\n", &mut tracts);
     assert_eq!(account, (no_plat, Totals::default()));
     assert_eq!(tracts, [Tract::BLANK]);
+    let mut each = [TractAnswer::blank()];
+    let list = b"name,description\nA,sec. 14\n";
+    assert_eq!(report_each(&none, list, &mut each), no_plat);
+    assert_eq!(each, [TractAnswer::blank()]);
+    assert_eq!(overlaps(&none, list, &mut []), no_plat);
     assert_eq!(figures(&none), (no_plat, Figures::BLANK));
     assert_eq!(acres_many(&none, b"", &[0], EXACT, &mut []), no_plat);
     assert_eq!(

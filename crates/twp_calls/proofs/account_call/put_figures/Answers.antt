@@ -1,5 +1,5 @@
 -- There is too little room, or one more tract is put there.
-use Rattle.std.proofs.Common.{◌≡◌, subst, refl, arith, take, length}
+use Rattle.std.proofs.Common.{◌≡◌, sym, subst, refl, arith, take, length}
 use Rattle.std.specs.List.{All, SameFrom, flat_map}
 use Rattle.std.proofs.lemmas.Grind.{common_steps}
 use Rattle.twp_acres.specs.AccountFigures.{line_of as figure_line}
