@@ -108,7 +108,7 @@ extern "C" {
 #define TOWNSHIP_NO_ROOM 5u       /* the text needs `length` bytes and `room` is smaller: nothing is written */
 #define TOWNSHIP_NO_MEMORY 6u     /* memory ran out, and nothing was written: every function may return this
                                      except township_version, township_figures, and those that take land
-                                     and write no text; township_acres_many, in its answers */
+                                     and write no text and no parts; township_acres_many, in its answers */
 #define TOWNSHIP_NO_RANGE 7u      /* township_acres_many: no bytes are between these two offsets */
 #define TOWNSHIP_NO_LAND 8u       /* the land you passed is not valid: it has no township, or contains part of a
                                      lot */
@@ -155,7 +155,7 @@ typedef struct township_answer {
     uint32_t column;
     uint32_t reserved;     /* 0 */
     uint64_t hundredths;   /* of an acre, rounded once, half up */
-    uint64_t length;       /* the number of bytes in the text, written or not */
+    uint64_t length;       /* the number of bytes in the text, or of elements, written or not */
 } township_answer;
 
 /*
@@ -182,6 +182,41 @@ typedef struct township_plat_figures {
     uint64_t sections[TOWNSHIP_SECTIONS];
     uint64_t township;
 } township_plat_figures;
+
+/* The most tracts of a list, the most bytes of a tract's name, and the room for a name. */
+#define TOWNSHIP_TRACTS_MOST 1000
+#define TOWNSHIP_NAME_MOST 64
+#define TOWNSHIP_NAME_ROOM 68
+
+/* A tract in an account. Its name is printable ASCII, without the quotation marks that it may have in the
+   list; all bytes after it are 0, so it is also a C string. */
+typedef struct township_tract {
+    uint64_t hundredths;  /* of an acre: the tract's exact area, rounded once, half up */
+    uint32_t name_length; /* 1 to TOWNSHIP_NAME_MOST */
+    char name[TOWNSHIP_NAME_ROOM];
+} township_tract;
+
+/* The totals of an account, in hundredths of an acre. Each is an exact area, rounded once, half up, so `total`
+   may differ from the sum of the tracts' figures. */
+typedef struct township_totals {
+    uint64_t total;     /* of all tracts together */
+    uint64_t remaining; /* of all other land in the township */
+} township_totals;
+
+/* The answer to a tract of a list: its acres, or its first refusal apart from overlaps (81 or 82, or 83 with that
+   of its description). Its name is as in `township_tract`, but empty for 81: the record is not a tract's. */
+typedef struct township_tract_answer {
+    township_answer answer;
+    uint32_t name_length; /* 0 to TOWNSHIP_NAME_MOST */
+    char name[TOWNSHIP_NAME_ROOM];
+} township_tract_answer;
+
+/* Two tracts of a list that overlap, by their records. */
+typedef struct township_overlap {
+    uint32_t first;      /* the record of the earlier tract: 2 for the first tract of the list */
+    uint32_t second;     /* that of the later one */
+    uint64_t hundredths; /* of an acre: the land in both, rounded once, half up */
+} township_overlap;
 
 /* The number of places along a side of a section, and the number of lots in a township. */
 #define TOWNSHIP_PLACES_ACROSS 32
@@ -218,6 +253,20 @@ typedef struct township_lots {
     township_designation township;
 } township_lots;
 
+/*
+ * A written part of land: an entry of its canonical text. `lot` is the lot's number, or 0 for a block of land that is
+ * in no lot. The block, which a lot has too, begins in column `column`, from the east, and row `row`, from the south,
+ * both counted from 0, and is `columns` wide and `rows` high, in places.
+ */
+typedef struct township_part {
+    uint8_t section;
+    uint8_t lot;
+    uint8_t column;
+    uint8_t row;
+    uint8_t columns;
+    uint8_t rows;
+} township_part;
+
 /* Makes a plat from field notes. On any verdict other than TOWNSHIP_ACCEPTED, `plat` is unchanged. */
 township_answer township_read(const uint8_t *notes, size_t notes_length, township_plat *plat);
 
@@ -244,6 +293,35 @@ township_answer township_print(const township_plat *plat, uint8_t *text, size_t 
 /* Writes the account of a list of tracts (CSV; see docs/TRACTS-FORMAT.md). */
 township_answer township_report(const township_plat *plat, const uint8_t *list, size_t list_length,
                                 uint8_t *text, size_t room);
+
+/*
+ * Writes the figures that township_report prints: to `tracts` a tract for each record after the heading, in the
+ * order of the list, and to `totals` the totals. `length` is the number of tracts; if `room`, the number of
+ * elements of `tracts`, is smaller, the verdict is TOWNSHIP_NO_ROOM. On any verdict other than
+ * TOWNSHIP_ACCEPTED, `tracts` and `totals` are unchanged. Room for TOWNSHIP_TRACTS_MOST tracts always suffices.
+ */
+township_answer township_account(const township_plat *plat, const uint8_t *list, size_t list_length,
+                                 township_tract *tracts, size_t room, township_totals *totals);
+
+/*
+ * Answers each tract of a list, whatever is wrong with the others: writes to `answers` an answer for each record
+ * after the heading. A refusal does not end the call: check the verdict of each answer. The list as a whole is
+ * refused if it is too large (80), has no heading (81 at 1), or has too many tracts (85). That tracts overlap is
+ * no part of their answers: see township_overlaps. `length`, `room`, and other verdicts are as in
+ * township_account.
+ */
+township_answer township_report_each(const township_plat *plat, const uint8_t *list, size_t list_length,
+                                     township_tract_answer *answers, size_t room);
+
+/*
+ * Finds all overlaps in a list of tracts, whatever else is wrong with it: writes to `overlaps` each pair of tracts
+ * that share land, in the order of the later tract, and then of the earlier one. Records that are not a tract's, and
+ * tracts whose description is refused, overlap none. `length` is the number of overlaps; if `room`, the number of
+ * elements of `overlaps`, is smaller, the verdict is TOWNSHIP_NO_ROOM. The list as a whole is refused as in
+ * township_report_each. On any verdict other than TOWNSHIP_ACCEPTED, `overlaps` is unchanged.
+ */
+township_answer township_overlaps(const township_plat *plat, const uint8_t *list, size_t list_length,
+                                  township_overlap *overlaps, size_t room);
 
 /* Writes to `figures` the figures that township_print prints. On any verdict other than TOWNSHIP_ACCEPTED,
    `figures` is unchanged. */
@@ -278,6 +356,11 @@ township_answer township_land_area(const township_plat *plat, const township_lan
 /* Writes the canonical text of land, which is a description of it, if it is no longer than descriptions can be.
    The text of empty land is empty. */
 township_answer township_land_text(const township_land *land, uint8_t *text, size_t room);
+
+/* Writes the written parts of land, in the order of its canonical text: a section that the land contains wholly is one
+   block; of other sections, first the lots and then the blocks. `length` is the number of parts; if `room`, the
+   number of elements of `parts`, is smaller, the verdict is TOWNSHIP_NO_ROOM, and nothing is written. */
+township_answer township_land_parts(const township_land *land, township_part *parts, size_t room);
 
 /* Operations: the land in either, the land in both, and the land in the first that is not in the second. */
 #define TOWNSHIP_UNION 0u

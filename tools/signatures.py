@@ -19,9 +19,10 @@ Parameter = Tuple[str, str]
 Calls = Dict[str, List[Parameter]]
 
 BYTES, ROOM, LENGTH = "bytes", "room for bytes", "length"
-OFFSETS, ANSWERS = "offsets", "room for answers"
+OFFSETS, ANSWERS, TRACTS, PARTS = "offsets", "room for answers", "room for tracts", "room for parts"
+TRACT_ANSWERS, OVERLAPS = "room for answers to tracts", "room for overlaps"
 # Each of these is a pointer, and its length follows it.
-SLICES = (BYTES, ROOM, OFFSETS, ANSWERS)
+SLICES = (BYTES, ROOM, OFFSETS, ANSWERS, TRACTS, TRACT_ANSWERS, OVERLAPS, PARTS)
 # What each type is, in the languages where a slice is a pointer and a length, and in Rattle.
 C_TYPES = {
     "const township_plat *": "plat",
@@ -36,6 +37,11 @@ C_TYPES = {
     "uint32_t *": "number to write",
     "const size_t *": OFFSETS,
     "township_answer *": ANSWERS,
+    "township_tract *": TRACTS,
+    "township_tract_answer *": TRACT_ANSWERS,
+    "township_overlap *": OVERLAPS,
+    "township_totals *": "totals to write",
+    "township_part *": PARTS,
     "uint32_t": "number",
     "size_t": LENGTH,
 }
@@ -46,6 +52,11 @@ RUST_TYPES = {
     "*mut Figures": "figures to write",
     "*const usize": OFFSETS,
     "*mut Answer": ANSWERS,
+    "*mut Tract": TRACTS,
+    "*mut TractAnswer": TRACT_ANSWERS,
+    "*mut Overlap": OVERLAPS,
+    "*mut Totals": "totals to write",
+    "*mut Part": PARTS,
     "*const u8": BYTES,
     "*mut u8": ROOM,
     "*const Designation": "township",
@@ -70,6 +81,11 @@ RATTLE_TYPES = {
     "&mut u32": "number to write",
     "&[usize]": OFFSETS,
     "&mut [TownshipAnswer]": ANSWERS,
+    "&mut [TownshipTract]": TRACTS,
+    "&mut [TownshipTractAnswer]": TRACT_ANSWERS,
+    "&mut [TownshipOverlap]": OVERLAPS,
+    "&mut TownshipTotals": "totals to write",
+    "&mut [TownshipPart]": PARTS,
     "&[u8]": BYTES,
     "&mut [u8]": ROOM,
     "u32": "number",
@@ -82,10 +98,15 @@ PYTHON_TYPES = {
     "POINTER(Figures)": "figures to write",
     "*_OFFSETS": OFFSETS,
     "*_ANSWERS": ANSWERS,
+    "*_PARTS": PARTS,
     "_TOWNSHIP": "township",
     "_LAND": "land",
     "_LOTS": "lots",
     "_NUMBER": "number to write",
+    "*_TRACTS": TRACTS,
+    "*_TRACT_ANSWERS": TRACT_ANSWERS,
+    "*_OVERLAPS": OVERLAPS,
+    "POINTER(Totals)": "totals to write",
     "c_uint32": "number",
 }
 

@@ -44,7 +44,10 @@ LIMITS = (
     Limit(
         "crates/twp_acres/specs/Tracts.antt",
         "TRACTS_MOST",
-        {"crates/twp_acres/src/tract_fault.rt": r"const TRACTS_MOST: u32 = "},
+        {
+            "crates/twp_acres/src/tract_fault.rt": r"const TRACTS_MOST: u32 = ",
+            HEADER: r"#define TOWNSHIP_TRACTS_MOST ",
+        },
     ),
     Limit(
         "crates/twp_acres/specs/Tracts.antt",
@@ -52,6 +55,7 @@ LIMITS = (
         {
             "crates/twp_acres/src/tract.rt": r"const NAME_MOST: usize = ",
             "crates/twp_explain/src/rows.rt": r"const NAME_MOST: usize = ",
+            HEADER: r"#define TOWNSHIP_NAME_MOST ",
         },
     ),
 )

@@ -11,6 +11,9 @@ WHAT = "structs in the library and the bindings, with the fields of the header's
 #: The type of a field that is a struct itself, which every language names in its own way.
 STRUCT = "struct"
 
+#: A character is a byte, which is a number in Rust.
+CHAR_BITS = 8
+
 #: A field's name and its type, as Rust writes it.
 Field = Tuple[str, str]
 #: Structs by the end of their name in C.
@@ -42,9 +45,12 @@ def structs_of_header(text: str) -> Structs:
 
 def header_fields(line: str) -> List[Field]:
     """The fields in a line: numbers, as in `uint8_t number, range;`, arrays, or a struct."""
-    declared = re.match(r" +(?:uint(\d+)_t|township_\w+) ([^;]*);", line)
-    fields = re.findall(r"(\w+)((?:\[\w+\])*)", declared.group(2)) if declared else []
-    kind = f"u{declared.group(1)}" if declared and declared.group(1) else STRUCT
+    declared = re.match(r" +(?:uint(\d+)_t|(char)|township_\w+) ([^;]*);", line)
+    if not declared:
+        return []
+    bits, char, names = declared.groups()
+    kind = f"u{bits or CHAR_BITS}" if bits or char else STRUCT
+    fields = re.findall(r"(\w+)((?:\[\w+\])*)", names)
     return [(field, kind_of(kind, re.findall(r"\[(?:TOWNSHIP_)?(\w+)", counts), {})) for field, counts in fields]
 
 
@@ -70,7 +76,8 @@ def structs_of_python(text: str) -> Structs:
         fields = []
         for field, kind in re.findall(r'\("(\w+)", ([^)]+)\)', inside):
             number, *counts = arrays.get(kind, kind).split(" * ")
-            fields.append((field, kind_of(number_in(number.replace("c_uint", "u")), counts, numbers)))
+            number = number.replace("c_char", f"u{CHAR_BITS}").replace("c_uint", "u")
+            fields.append((field, kind_of(number_in(number), counts, numbers)))
         found[name] = fields
     return found
 

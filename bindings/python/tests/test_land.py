@@ -178,7 +178,7 @@ class Sections(unittest.TestCase):
     def test_empty(self):
         nothing = land("sec. 14.") - land("sec. 14.")
         self.assertEqual((len(nothing), list(nothing), dict(nothing.sections)), (0, [], {}))
-        self.assertEqual((nothing.text, dict(nothing.rows)), ("", {}))
+        self.assertEqual((nothing.text, nothing.parts, dict(nothing.rows)), ("", [], {}))
         self.assertFalse(nothing)
         self.assertTrue(land("sec. 14, NE1/4NE1/4NE1/4NE1/4NE1/4."))
 
@@ -194,6 +194,7 @@ class Texts(unittest.TestCase):
         fine = land("; ".join(f"sec. {section}, {', '.join(squares)}" for section in (*range(8, 18), *range(20, 30))))
         self.assertGreater(len(fine.text), 4096)
         self.assertEqual(land(fine.text), fine)
+        self.assertEqual(len(fine.parts), 320)
 
 
 class Measured(RefusalCase):
@@ -250,7 +251,7 @@ class Values(unittest.TestCase):
 
     def test_cannot_be_changed(self):
         fixed = land("sec. 14.")
-        for name in ("text", "rows", "sections", "township", "other"):
+        for name in ("text", "parts", "rows", "sections", "township", "other"):
             with self.subTest(name=name), self.assertRaises(AttributeError):
                 setattr(fixed, name, None)
         with self.assertRaises(TypeError):

@@ -117,6 +117,14 @@ class Texts(unittest.TestCase):
         self.assertEqual(uneven().normal(a.text), a.text)
         self.assertEqual(pickle.loads(pickle.dumps(a)), a)
 
+    @tried
+    @given(lands)
+    def test_parts_are_the_land(self, a):
+        places = [place for part in a.parts for place in places_in(part)]
+        self.assertEqual(len(places), len(set(places)))
+        self.assertEqual(set(places), places_of(a))
+
+
 def places_of(land: Land):
     """The places of land: a section, a column, and a row each."""
     return {
@@ -126,6 +134,15 @@ def places_of(land: Land):
         for column in range(32)
         if bits >> column & 1
     }
+
+
+def places_in(part):
+    """The places of a written part."""
+    return [
+        (part.section, column, row)
+        for column in range(part.column, part.column + part.columns)
+        for row in range(part.row, part.row + part.rows)
+    ]
 
 
 if __name__ == "__main__":

@@ -51,10 +51,12 @@ class Found(unittest.TestCase):
 
 class Declared(unittest.TestCase):
     def test_sizes(self):
-        structs = (_library.Plat, _library.Answer, _library.Area, _library.Figures)
-        self.assertEqual([ctypes.sizeof(struct) for struct in structs], [340, 48, 24, 2312])
-        structs = (_library.Designation, _library.Land, _library.Lots)
-        self.assertEqual([ctypes.sizeof(struct) for struct in structs], [4, 4612, 192])
+        structs = (_library.Plat, _library.Answer, _library.Area, _library.Figures, _library.Tract, _library.Totals)
+        self.assertEqual([ctypes.sizeof(struct) for struct in structs], [340, 48, 24, 2312, 80, 16])
+        structs = (_library.Designation, _library.Land, _library.Lots, _library.Part)
+        self.assertEqual([ctypes.sizeof(struct) for struct in structs], [4, 4612, 192, 6])
+        structs = (_library.TractAnswer, _library.Overlap)
+        self.assertEqual([ctypes.sizeof(struct) for struct in structs], [120, 16])
 
     def test_fields_are_those_of_the_header(self):
         header = (TOP / "include" / "township.h").read_text()
@@ -63,19 +65,27 @@ class Declared(unittest.TestCase):
             (_library.Answer, "answer"),
             (_library.Area, "fraction"),
             (_library.Figures, "plat_figures"),
+            (_library.Tract, "tract"),
+            (_library.Totals, "totals"),
+            (_library.TractAnswer, "tract_answer"),
+            (_library.Overlap, "overlap"),
             (_library.Designation, "designation"),
             (_library.Land, "land"),
             (_library.Lots, "lots"),
+            (_library.Part, "part"),
         )
         for struct, name in structs:
             body = header.partition(f"typedef struct township_{name} {{")[2].partition("}")[0]
-            declared = re.findall(r"^ +(?:uint\d+_t|township_\w+) (\w+)", body, re.MULTILINE)
+            declared = re.findall(r"^ +(?:uint\d+_t|char|township_\w+) (\w+)", body, re.MULTILINE)
             self.assertEqual(declared, [field for field, _ in struct._fields_])
 
     def test_limits_are_those_of_the_header(self):
         header = (TOP / "include" / "township.h").read_text()
         self.assertIn(f"#define TOWNSHIP_LINES {_library.LINES}\n", header)
-        for name in ("NOTES_MOST", "DESCRIPTION_MOST", "LOTS_TEXT_MOST", "SECTIONS", "LOTS_MOST", "PLACES_ACROSS", "LOTS"):
+        for name in (
+            *("NOTES_MOST", "DESCRIPTION_MOST", "LOTS_TEXT_MOST", "SECTIONS", "LOTS_MOST", "PLACES_ACROSS", "LOTS"),
+            *("TRACTS_MOST", "NAME_ROOM"),
+        ):
             self.assertIn(f"#define TOWNSHIP_{name} {getattr(_library, name)}\n", header)
 
     def test_verdicts_are_those_of_the_header(self):
@@ -113,7 +123,9 @@ class Verdicts(unittest.TestCase):
         "acres": lambda: uneven().acres("sec. 14."),
         "area": lambda: uneven().area("sec. 14."),
         "normal": lambda: uneven().normal("sec. 14."),
-        "report": lambda: uneven().report([]),
+        "account": lambda: uneven().report([]),
+        "report_each": lambda: uneven().report_each([]),
+        "overlaps": lambda: uneven().overlaps([]),
         "print_plat": lambda: uneven()._print(),
         "figures": lambda: township.Plat.read(NOTES).total,
         "write_notes": lambda: uneven().write_notes(),
@@ -128,6 +140,7 @@ class Verdicts(unittest.TestCase):
         "land_text": lambda: LAND.text,
         "land_combine": lambda: LAND | LAND,
         "land_compare": lambda: LAND <= LAND,
+        "land_parts": lambda: LAND.parts,
         "lots_read": lambda: township.Lots.read(b""),
         "lots_acres": lambda: LOTS.acres("sec. 14."),
         "lots_area": lambda: LOTS.area("sec. 14."),
@@ -160,7 +173,7 @@ class Verdicts(unittest.TestCase):
     def test_plat_that_is_none(self):
         # A plat cannot be made like this, but the library detects it anyway.
         none = township.Plat._of_struct(_library.Plat())
-        for call in (none.acres, none.area, none.normal, none.notes, none.report_csv):
+        for call in (none.acres, none.area, none.normal, none.notes, none.report_csv, none.report_each_csv, none.overlaps_csv):
             with self.subTest(call=call.__name__), self.assertRaises(ValueError):
                 call("sec. 14.")
 
@@ -169,7 +182,7 @@ class Verdicts(unittest.TestCase):
         no_land = township.Land._of_struct(_library.Land())
         no_lots = township.Lots._of_struct(_library.Lots())
         for call in (
-            *(lambda: no_land.text, lambda: no_land | LAND, lambda: LAND <= no_land),
+            *(lambda: no_land.text, lambda: no_land.parts, lambda: no_land | LAND, lambda: LAND <= no_land),
             *(lambda: uneven().acres(no_land), lambda: LOTS.area(no_land)),
             *(lambda: no_lots.acres(LAND), lambda: no_lots.area("sec. 14.")),
         ):

@@ -2,15 +2,18 @@
 //! safe wrapper here or in a module below; the rest of the crate contains no unsafe code.
 
 mod land;
+mod lists;
 mod lots;
 mod structs;
 #[cfg(test)]
 mod tests;
 
-pub(crate) use self::land::{land_acres, land_area, land_combine, land_compare};
+pub(crate) use self::land::{land_acres, land_area, land_combine, land_compare, land_parts};
 pub(crate) use self::land::{land_read, land_text};
+pub(crate) use self::lists::{account, overlaps, report, report_each};
 pub(crate) use self::lots::{lots_acres, lots_area, lots_land_acres, lots_land_area, lots_read};
-pub(crate) use self::structs::{Answer, Designation, Figures, Fraction, Land, Lots, Parts};
+pub(crate) use self::structs::{Answer, Designation, Figures, Fraction, Land, Lots, Part, Parts};
+pub(crate) use self::structs::{Overlap, Totals, Tract, TractAnswer};
 
 // Verdicts.
 pub(crate) const ACCEPTED: u32 = 0;
@@ -36,6 +39,10 @@ pub(crate) const PLACES_ACROSS: usize = 32;
 
 /// The number of lots in a township.
 pub(crate) const LOTS: usize = 47;
+
+/// The most tracts of a list, and the room for a tract's name, in bytes.
+pub(crate) const TRACTS_MOST: usize = 1_000;
+pub(crate) const NAME_ROOM: usize = 68;
 
 // Accounts.
 pub(crate) const EXACT: u32 = 0;
@@ -87,13 +94,6 @@ extern "C" {
         room: usize,
     ) -> Answer;
     fn township_print(plat: *const Parts, text: *mut u8, room: usize) -> Answer;
-    fn township_report(
-        plat: *const Parts,
-        list: *const u8,
-        list_length: usize,
-        text: *mut u8,
-        room: usize,
-    ) -> Answer;
     fn township_figures(plat: *const Parts, figures: *mut Figures) -> Answer;
     fn township_acres_many(
         plat: *const Parts,
@@ -189,20 +189,6 @@ pub(crate) fn normal(plat: &Parts, description: &[u8], room: &mut [u8]) -> Answe
 pub(crate) fn print_plat(plat: &Parts, room: &mut [u8]) -> Answer {
     // SAFETY: a slice and a reference meet the library's requirements.
     unsafe { township_print(plat, room.as_mut_ptr(), room.len()) }
-}
-
-/// Writes the report on a list of tracts.
-pub(crate) fn report(plat: &Parts, list: &[u8], room: &mut [u8]) -> Answer {
-    // SAFETY: slices and a reference meet the library's requirements.
-    unsafe {
-        township_report(
-            plat,
-            list.as_ptr(),
-            list.len(),
-            room.as_mut_ptr(),
-            room.len(),
-        )
-    }
 }
 
 /// Returns the figures of the printed plat. They are valid only if the answer accepts the plat.

@@ -2,6 +2,7 @@
 
 use crate::answer::{out_of_memory, Verdict};
 use crate::ffi::{self, PLACES_ACROSS, SECTIONS};
+use crate::part::Part;
 use crate::refused::{Refused, DESCRIPTION};
 use crate::text::accepted_text_by;
 use crate::township::Township;
@@ -181,6 +182,19 @@ impl Land {
     /// Returns whether there is no land.
     pub fn is_empty(&self) -> bool {
         self.data.rows.iter().flatten().all(|&row| row == 0)
+    }
+
+    /// Returns the parts that the canonical text names, in its order.
+    ///
+    /// ```
+    /// let township = "T. 2 N., R. 3 W.".parse()?;
+    /// let parts = township::Land::read(township, "sec. 5, lot 1; sec. 14, W1/2.")?.parts();
+    /// assert_eq!((parts[0].section, parts[0].lot), (5, Some(1)));
+    /// assert_eq!((parts[1].column, parts[1].columns), (16, 16));
+    /// # Ok::<(), Box<dyn std::error::Error>>(())
+    /// ```
+    pub fn parts(&self) -> Vec<Part> {
+        Part::all_of(&self.data)
     }
 
     /// Returns an iterator over the sections that have land: the number of each, and the land in it.

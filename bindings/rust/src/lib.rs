@@ -47,6 +47,7 @@ mod lot_faults;
 mod lots;
 mod note;
 mod parse;
+mod part;
 mod plat;
 mod refused;
 mod report;
@@ -63,9 +64,10 @@ pub use self::land::{Comparison, Land, NoLand, Rows};
 pub use self::lots::{Lots, NoLandAcres};
 pub use self::note::Note;
 pub use self::parse::ParseError;
+pub use self::part::Part;
 pub use self::plat::{NoPlat, Plat, LINES};
 pub use self::refused::{Refusal, Refused};
-pub use self::report::{Report, Tract};
+pub use self::report::{Overlap, Report, Tract, TractAnswer, TractRefusal};
 pub use self::township::{EastWest, NorthSouth, Township};
 
 /// Returns the version of the library, such as `1.0.0`.

@@ -11,6 +11,7 @@ use std::str::FromStr;
 
 mod answers;
 mod land;
+mod lists;
 
 /// The number of section lines in a township.
 pub const LINES: usize = 84;

@@ -84,6 +84,18 @@ impl Refused {
         }
     }
 
+    /// Returns the refusal for a fault, without an explanation.
+    pub(crate) fn unexplained(fault: Fault) -> Refused {
+        Refused {
+            number: fault.refusal.number,
+            at: fault.refusal.at,
+            inner: fault.inner,
+            line: None,
+            column: None,
+            explanation: String::new(),
+        }
+    }
+
     /// Returns what is wrong, without the location.
     ///
     /// ```

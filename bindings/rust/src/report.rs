@@ -1,9 +1,10 @@
 //! Reports of tracts, as data.
 
 use crate::acres::Acres;
-use crate::parse::ParseError;
+use crate::answer::Fault;
+use crate::ffi::{self, Totals};
+use crate::refused::Refusal;
 use std::fmt;
-use std::str::FromStr;
 
 /// A tract in a report, with its acreage. It is displayed as `tract A: 39.18 acres`.
 #[derive(Clone, Debug, PartialEq, Eq, Hash)]
@@ -17,8 +18,7 @@ pub struct Tract {
 
 /// The report on a list of tracts. Each figure is an exact area, rounded independently.
 ///
-/// It is displayed as the text that [`Plat::report`](crate::Plat::report) returns, and parsed from
-/// such a text.
+/// It is displayed as the text that [`Plat::report`](crate::Plat::report) returns.
 ///
 /// ```
 /// # let notes = include_bytes!(concat!(env!("CARGO_MANIFEST_DIR"), "/samples/b1.csv"));
@@ -43,55 +43,93 @@ pub struct Report {
     pub remaining: Acres,
 }
 
+/// The answer to a tract of a list, whatever is wrong with the others.
+#[derive(Clone, Debug, PartialEq, Eq, Hash)]
+#[cfg_attr(feature = "serde", derive(serde::Serialize, serde::Deserialize))]
+#[non_exhaustive]
+pub struct TractAnswer {
+    /// The name, which is empty if the record is not a tract's (81).
+    pub name: String,
+    /// The acreage, or the first refusal that the tract has by itself.
+    pub answer: Result<Acres, TractRefusal>,
+}
+
+/// The refusal of a tract of a list.
+#[derive(Clone, Copy, Debug, PartialEq, Eq, Hash)]
+#[cfg_attr(feature = "serde", derive(serde::Serialize, serde::Deserialize))]
+#[non_exhaustive]
+pub struct TractRefusal {
+    /// The refusal, with the number 81, 82, or 83, at the tract's record.
+    pub refusal: Refusal,
+    /// For refusal 83, the refusal of the tract's description.
+    pub inner: Option<Refusal>,
+}
+
+/// Two tracts of a list that overlap, by their indexes: the tract with index k is record k + 2.
+#[derive(Clone, Copy, Debug, PartialEq, Eq, Hash)]
+#[cfg_attr(feature = "serde", derive(serde::Serialize, serde::Deserialize))]
+#[non_exhaustive]
+pub struct Overlap {
+    /// The index of the earlier tract.
+    pub first: usize,
+    /// The index of the later one.
+    pub second: usize,
+    /// The acreage of the land in both.
+    pub acres: Acres,
+}
+
+/// The record of the first tract of a list.
+const FIRST_TRACT: usize = 2;
+
+impl Overlap {
+    pub(crate) fn from_data(overlap: &ffi::Overlap) -> Overlap {
+        Overlap {
+            first: overlap.first as usize - FIRST_TRACT,
+            second: overlap.second as usize - FIRST_TRACT,
+            acres: Acres::from_hundredths(overlap.hundredths),
+        }
+    }
+}
+
+impl TractAnswer {
+    /// Returns the answer to a tract. Panics if memory ran out.
+    pub(crate) fn from_data(given: &ffi::TractAnswer) -> TractAnswer {
+        let refused = |fault: Fault| TractRefusal {
+            refusal: fault.refusal,
+            inner: fault.inner,
+        };
+        let accepted = given.answer.accepted();
+        TractAnswer {
+            name: name_of(&given.name[..given.name_length as usize]),
+            answer: accepted
+                .map(|answer| Acres::from_hundredths(answer.hundredths))
+                .map_err(refused),
+        }
+    }
+}
+
+/// Returns a name, which is ASCII.
+fn name_of(bytes: &[u8]) -> String {
+    String::from_utf8_lossy(bytes).into_owned()
+}
+
 impl Report {
-    /// Parses the text of a report.
-    fn from_text(text: &str) -> Option<Report> {
-        let lines: Vec<&str> = text.strip_suffix('\n')?.split('\n').collect();
-        // A name can contain any printable character, so position identifies these two lines.
-        let (remaining, lines) = lines.split_last()?;
-        let (total, tracts) = lines.split_last()?;
-        Some(Report {
-            tracts: tracts
-                .iter()
-                .map(|line| tract_of(line))
-                .collect::<Option<_>>()?,
-            total: figure_of(total.strip_prefix("total: ")?)?,
-            remaining: figure_of(remaining.strip_prefix("remaining: ")?)?,
-        })
+    pub(crate) fn from_data(tracts: &[ffi::Tract], totals: Totals) -> Report {
+        Report {
+            tracts: tracts.iter().map(Tract::from_data).collect(),
+            total: Acres::from_hundredths(totals.total),
+            remaining: Acres::from_hundredths(totals.remaining),
+        }
     }
 }
 
-impl FromStr for Report {
-    type Err = ParseError;
-
-    /// Parses the text that [`Plat::report`](crate::Plat::report) returns.
-    ///
-    /// ```
-    /// # let notes = include_bytes!(concat!(env!("CARGO_MANIFEST_DIR"), "/samples/b1.csv"));
-    /// # let plat = township::Plat::read(notes)?;
-    /// let text = plat.report("name,description\nA,sec. 14\n")?;
-    /// let report: township::Report = text.parse().unwrap();
-    /// assert_eq!(report.total.to_string(), "640.00");
-    /// assert!("refused 81 at 1\n".parse::<township::Report>().is_err());
-    /// # Ok::<(), township::Refused>(())
-    /// ```
-    fn from_str(text: &str) -> Result<Report, ParseError> {
-        Report::from_text(text).ok_or(ParseError::not("the text of a report"))
+impl Tract {
+    fn from_data(tract: &ffi::Tract) -> Tract {
+        Tract {
+            name: name_of(&tract.name[..tract.name_length as usize]),
+            acres: Acres::from_hundredths(tract.hundredths),
+        }
     }
-}
-
-/// Parses the line of a tract. The name can contain colons and ends at the last one.
-fn tract_of(line: &str) -> Option<Tract> {
-    let (name, figure) = line.strip_prefix("tract ")?.rsplit_once(": ")?;
-    Some(Tract {
-        name: name.to_owned(),
-        acres: figure_of(figure)?,
-    })
-}
-
-/// Parses a text such as `39.18 acres`.
-fn figure_of(text: &str) -> Option<Acres> {
-    text.strip_suffix(" acres")?.parse().ok()
 }
 
 /// Returns the list of tracts (CSV) with these names and descriptions. Every field is quoted.
@@ -141,48 +179,6 @@ impl fmt::Display for Report {
 #[cfg(test)]
 mod tests {
     use super::*;
-
-    #[test]
-    fn texts_of_reports() {
-        let nothing = "total: 0.00 acres\nremaining: 23040.00 acres\n";
-        let odd_names = "\
-tract a: 1.00 acres: 40.00 acres
-tract total: 40.00 acres
-tract remaining: 0.00 acres: 40.00 acres
-tract  : 40.00 acres
-total: 160.00 acres
-remaining: 22880.00 acres
-";
-        for text in [nothing, odd_names] {
-            assert_eq!(text.parse::<Report>().unwrap().to_string(), text);
-        }
-        let report: Report = odd_names.parse().unwrap();
-        let names: Vec<_> = report.tracts.iter().map(|tract| &tract.name[..]).collect();
-        assert_eq!(
-            names,
-            ["a: 1.00 acres", "total", "remaining: 0.00 acres", " "]
-        );
-    }
-
-    #[test]
-    fn texts_of_no_report() {
-        for text in [
-            "",
-            "\n",
-            "total: 0.00 acres\n",
-            "total: 0.00 acres\nremaining: 1.00 acres",
-            "total: 0.00 acres\nremaining: 1.00\n",
-            "total: 0 acres\nremaining: 1.00 acres\n",
-            "remaining: 1.00 acres\ntotal: 0.00 acres\n",
-            "A: 0.00 acres\ntotal: 0.00 acres\nremaining: 1.00 acres\n",
-            "tract A\ntotal: 0.00 acres\nremaining: 1.00 acres\n",
-            "tract A: 1.00\ntotal: 0.00 acres\nremaining: 1.00 acres\n",
-            "refused 83 at 2\nrefused 67 at 19\n",
-        ] {
-            let error = text.parse::<Report>().unwrap_err();
-            assert_eq!(error.to_string(), "not the text of a report", "{text:?}");
-        }
-    }
 
     #[test]
     fn lists_are_quoted() {

@@ -15,7 +15,7 @@ mod samples;
 use samples::rounded;
 use std::sync::OnceLock;
 use std::{env, fs};
-use township::{Account, Plat, Refusal, Refused, Report};
+use township::{Account, Plat, Refusal, Refused};
 
 const VARIABLE: &str = "TOWNSHIP_CASE_RECORDS";
 
@@ -157,7 +157,7 @@ fn acres_text(plat: &Plat, case: &Case, account: Account) -> Result<String, Refu
 /// The report of a list, which is the same when it is written from its figures.
 fn report_text(plat: &Plat, case: &Case) -> Result<String, Refused> {
     let text = plat.report(case.input)?;
-    let report: Report = text.parse().expect("the text is a report's");
+    let report = plat.report_csv(case.input)?;
     assert_eq!(report.to_string(), text, "{}", case.name);
     Ok(text)
 }

@@ -66,6 +66,11 @@ fn lands() {
         Land::empty(land.township()),
         r#"{"township":"T. 2 N., R. 3 W.","rows":{}}"#,
     );
+    // Lot 7 is in the southwest corner.
+    both_ways(
+        even().land("sec. 6, lot 7.").unwrap().parts()[0],
+        r#"{"section":6,"lot":7,"column":24,"row":0,"columns":8,"rows":8}"#,
+    );
     for wrong in [
         json.replacen("65280", "65281", 1),
         json.replacen("65280,", "", 1),
@@ -105,5 +110,27 @@ fn reports() {
     both_ways(
         report,
         r#"{"tracts":[{"name":"A","acres":"640.00"}],"total":"640.00","remaining":"22397.57"}"#,
+    );
+}
+
+#[test]
+fn answers_to_tracts() {
+    let tracts = [
+        ("A", "sec. 14."),
+        ("B", "sec. 7, lot 5."),
+        ("C", "sec. 14."),
+    ];
+    let answers = uneven().report_each(tracts).unwrap();
+    both_ways(
+        answers[0].clone(),
+        r#"{"name":"A","answer":{"Ok":"640.00"}}"#,
+    );
+    both_ways(
+        answers[1].clone(),
+        r#"{"name":"B","answer":{"Err":{"refusal":{"number":83,"at":3},"inner":{"number":64,"at":12}}}}"#,
+    );
+    both_ways(
+        uneven().overlaps(tracts).unwrap()[0],
+        r#"{"first":0,"second":2,"acres":"640.00"}"#,
     );
 }

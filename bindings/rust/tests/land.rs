@@ -177,6 +177,34 @@ fn by_section() {
 }
 
 #[test]
+fn parts() {
+    let parts = land("sec. 6, lots 1 and 7; sec. 14, W1/2.").parts();
+    let found: Vec<_> = parts
+        .iter()
+        .map(|part| {
+            (
+                part.section,
+                part.lot,
+                part.column,
+                part.row,
+                part.columns,
+                part.rows,
+            )
+        })
+        .collect();
+    // Lot 1 is in the northeast corner, and lot 7 in the southwest corner.
+    assert_eq!(
+        found,
+        [
+            (6, Some(1), 0, 24, 8, 8),
+            (6, Some(7), 24, 0, 8, 8),
+            (14, None, 16, 0, 16, 32),
+        ]
+    );
+    assert!(Land::empty(even().township()).parts().is_empty());
+}
+
+#[test]
 fn text_longer_than_its_first_room() {
     // All places of a section in every second row and column.
     let mut rows = [[0; 32]; 36];
@@ -184,6 +212,7 @@ fn text_longer_than_its_first_room() {
         *row = 0x5555_5555;
     }
     let fine = Land::from_rows(even().township(), rows).unwrap();
+    assert_eq!(fine.parts().len(), 256);
     assert!(fine.to_string().len() > 4096);
     assert_eq!(fine.to_string().parse(), Ok(fine));
 }

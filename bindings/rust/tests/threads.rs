@@ -6,7 +6,7 @@ use samples::{uneven, NOTES, TRACTS};
 use std::sync::Barrier;
 use std::thread;
 use township::{Account, Acres, Area, Comparison, Difference, Figures, Land, Lots, NoLandAcres};
-use township::{Note, OtherTownship, Plat, Refused, Report, Township};
+use township::{Note, OtherTownship, Part, Plat, Refused, Report, Township};
 
 const THREADS: usize = 4;
 const ROUNDS: usize = 200;
@@ -32,6 +32,7 @@ struct Answers {
     combined: Land,
     comparison: Comparison,
     land_text: String,
+    land_parts: Vec<Part>,
     land_acres: Result<Acres, OtherTownship>,
     land_area: Result<Area, OtherTownship>,
     lots: Result<Lots, Refused>,
@@ -68,6 +69,7 @@ fn answers_on(plat: &Plat) -> Answers {
         combined: (&land & &other) | (&land ^ &other),
         comparison: land.compare(&other),
         land_text: land.to_string(),
+        land_parts: land.parts(),
         land_acres: plat.land_acres(&land),
         land_area: plat.land_area_by(&other, Account::Plat),
         lots: Lots::read(TABLE),
@@ -138,7 +140,9 @@ fn values_go_to_other_threads() {
     goes::<Area>();
     goes::<Land>();
     goes::<Lots>();
+    goes::<Part>();
     goes::<Report>();
+    goes::<township::TractAnswer>();
     goes::<Refused>();
     let plat = thread::spawn(uneven).join().unwrap();
     assert_eq!(plat, uneven());

@@ -10,6 +10,9 @@ pub mod TractFacts
 pub mod TractLands
 pub mod ClearFacts
 pub mod TallyFacts
+pub mod FigureLines
+pub mod EachFacts
+pub mod OverlapFacts
 pub mod FirstTractFaults
 pub mod TractAreas
 pub mod TractSums

@@ -5,6 +5,9 @@ pub mod Tracts
 pub mod ClearTracts
 pub mod TractFaults
 pub mod ReportAnswers
+pub mod AccountFigures
+pub mod EachTract
+pub mod Overlaps
 pub mod TractLaws
 pub mod AccountAnswers
 pub mod NormalAnswers

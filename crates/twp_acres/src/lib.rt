@@ -2,13 +2,16 @@
 //! finds the answer, and writes it. The areas of land come from `twp_area`.
 #![tactic(auto)]
 
+mod account_figures;
 mod acres_answer;
 mod answer;
+mod each_tract;
 pub mod laws;
 mod names;
 mod normal_answer;
 mod on_land;
 mod on_plat;
+mod overlaps;
 mod plat_answer;
 mod report_answer;
 mod running;
@@ -22,8 +25,11 @@ mod tracts;
 mod verdict;
 mod writing;
 
+pub use account_figures::{AccountFigures, TractFigure, figures_on};
+pub use each_tract::{TractAnswer, each_on};
 pub use on_land::{acres_of, land_of};
 pub use on_plat::{account_on, acres_on, area_on, normal_on};
+pub use overlaps::{TractOverlap, overlaps_on};
 pub use plat_answer::print_plat;
 pub use running::{
     run_acres, run_acres_as, run_acres_noting, run_normal, run_normal_noting, run_plat, run_report,

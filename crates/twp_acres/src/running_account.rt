@@ -1,10 +1,11 @@
 //! The account of tracts, which grows by one tract at a time.
-ghost use Rattle.std.specs.Prelude.{◌≡◌, ◌++◌, ℕ, List, [], false, OnOk, IfErr};
+ghost use Rattle.std.specs.Prelude.{◌≡◌, ◌++◌, ℕ, List, [], false, OnOk, IfOk, IfErr};
 ghost use Rattle.csv.specs.Records.{fields_of};
 ghost use Rattle.twp_read.specs.Doubts.{HasNoDoubtfulPlace};
 ghost use Rattle.twp_acres.specs.Tracts.{description_in};
 ghost use Rattle.twp_land.specs.Lands.{no_places};
 ghost use Rattle.twp_acres.specs.steps.Names.{has_name};
+ghost use Rattle.twp_acres.specs.Tracts.{name_in};
 ghost use Rattle.twp_acres.specs.ReportAnswers.{tract_line};
 ghost use Rattle.twp_acres.specs.steps.TractTaking.{tally_of, AreTotals, TakesTract};
 ghost use Rattle.twp_acres.specs.steps.TractTaking.{IsTractRefused, fault_of_stop};
@@ -54,17 +55,19 @@ impl<L: Land> RunningAccount<L> {
         }
     }
 
-    /// Adds the tract of the record with this number.
+    /// Adds the tract of the record with this number, and returns its hundredths of an acre.
     pub(crate) fn take(
         &mut self,
         alloc: Global,
         plat: &Plat,
         row: &ByteRecord,
         number: u32,
-    ) -> Result<(), TractFault>
+    ) -> Result<u64, TractFault>
         requires { AreTotals plat.now (L.places self.old.land) self.old.totals }
         ensures taken { OnOk result (TakesTract plat.now (fields_of row.now)
             (tally_of L.places self.old) (tally_of L.places self.new)) }
+        ensures line { IfOk result (λ hundredths. self.new.text.items
+            ≡ self.old.text.items ++ tract_line (name_in (fields_of row.now)) hundredths) }
         ensures fault { IfErr result (IsTractRefused plat.now.township (fields_of row.now)
             (tally_of L.places self.old) number) }
         ensures clear { OnOk result (self.new.clarity ≡ Clarity.Clear
@@ -94,8 +97,9 @@ impl<L: Land> RunningAccount<L> {
         let area = area_of(plat, &self.tract);
         self.totals.take(&area);
         self.land.add_land(&self.tract);
-        write_tract(tract.name, area.hundredths(), &mut self.text)?;
-        Ok(())
+        let hundredths = area.hundredths();
+        write_tract(tract.name, hundredths, &mut self.text)?;
+        Ok(hundredths)
     }
 }
 

@@ -59,7 +59,7 @@ pub(crate) fn tract_of(row: &ByteRecord) -> Option<TractRecord<'_>>
 }
 
 /// The name with these bytes, if a tract can have it.
-fn name_of(bytes: &[u8]) -> Option<&str>
+pub(crate) fn name_of(bytes: &[u8]) -> Option<&str>
     ensures { MatchOption result (¬ (IsTractName bytes.now))
         (λ name. IsTractName bytes.now × (name.now ≡ bytes.now)) }
 {

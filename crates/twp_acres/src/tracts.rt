@@ -20,7 +20,7 @@ use twp_plat::Plat;
 use twp_read::Clarity;
 
 /// The number of the record after the heading, which is the first record of a tract.
-const FIRST_TRACT: u32 = 2;
+pub(crate) const FIRST_TRACT: u32 = 2;
 
 /// Room is reserved at the start for one name for each of this many bytes; most tracts take more.
 const BYTES_TO_NAME: usize = 32;

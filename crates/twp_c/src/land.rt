@@ -3,10 +3,11 @@ ghost use Rattle.std.specs.Prelude.{◌≡◌, ◌≢◌};
 ghost use Rattle.twp_calls.specs.Answers.{ACCEPTED};
 ghost use Rattle.twp_calls.specs.LandCalls.{IsLandReadCall, IsLandAcresCall, IsLandAreaCall};
 ghost use Rattle.twp_calls.specs.LandCalls.{IsLandTextCall, IsCombineCall, IsCompareCall};
+ghost use Rattle.twp_calls.specs.LandParts.{IsLandPartsCall};
 
 use std::alloc::Global;
 use twp_calls::{
-    TownshipAnswer, TownshipDesignation, TownshipFraction, TownshipLand, TownshipPlat,
+    TownshipAnswer, TownshipDesignation, TownshipFraction, TownshipLand, TownshipPart, TownshipPlat,
 };
 
 /// The land that a description names in a township.
@@ -60,6 +61,19 @@ pub extern "C" fn township_land_text(
     ensures kept { result.verdict ≢ ACCEPTED → text.new ≡ text.old }
 {
     twp_calls::township_land_text(alloc, land, text)
+}
+
+/// The written parts of land, whose texts make the canonical text.
+#[unsafe(no_mangle)]
+pub extern "C" fn township_land_parts(
+    alloc: Global,
+    land: &TownshipLand,
+    parts: &mut [TownshipPart],
+) -> TownshipAnswer
+    ensures answer { IsLandPartsCall land.now parts.old parts.new result }
+    ensures kept { result.verdict ≢ ACCEPTED → parts.new ≡ parts.old }
+{
+    twp_calls::township_land_parts(alloc, land, parts)
 }
 
 /// The land that an operation makes of two sets of land.

@@ -6,4 +6,5 @@ mod explaining;
 mod exports;
 mod figures;
 mod land;
+mod lists;
 mod lots;

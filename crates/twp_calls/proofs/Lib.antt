@@ -1,8 +1,12 @@
+pub mod AccountFacts
 pub mod CallFacts
+pub mod EachFacts
+pub mod FigureFacts
 pub mod LandCallFacts
 pub mod LotCallFacts
-pub mod FigureFacts
 pub mod ManyFacts
 pub mod NoteFacts
+pub mod OverlapFacts
+pub mod PartFacts
 pub mod PlaceFacts
 pub mod WritingFacts

@@ -1,11 +1,16 @@
+pub mod TractNames
+pub mod Accounts
 pub mod Answers
 pub mod GivenTownships
 pub mod GivenPlats
 pub mod GivenLands
 pub mod GivenLots
 pub mod Calls
+pub mod EachCalls
+pub mod OverlapCalls
 pub mod Figures
 pub mod LandCalls
+pub mod LandParts
 pub mod LotCalls
 pub mod ManyAnswers
 pub mod Names

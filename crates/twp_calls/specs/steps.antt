@@ -2,4 +2,6 @@
 pub mod Filling
 pub mod LotSteps
 pub mod Noting
+pub mod PartSteps
+pub mod Plain
 pub mod Returning

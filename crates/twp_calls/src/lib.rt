@@ -3,18 +3,23 @@
 #![tactic(auto)]
 
 mod account;
+mod account_call;
 mod answer;
 mod answering;
 mod combining;
 mod designation;
+mod each_call;
 mod explaining;
 mod figures;
 mod fraction;
 mod land;
 mod land_answers;
+mod land_parts;
 mod lot_answers;
 mod lots;
 mod many;
+mod name;
+mod overlaps_call;
 mod plat;
 mod reading;
 mod text;
@@ -22,12 +27,14 @@ mod verdict;
 mod version;
 mod writing;
 
+pub use account_call::{TownshipTotals, TownshipTract, township_account};
 pub use answer::TownshipAnswer;
 pub use answering::{
     township_acres, township_area, township_normal, township_print, township_read, township_report,
 };
 pub use combining::{township_land_combine, township_land_compare};
 pub use designation::TownshipDesignation;
+pub use each_call::{TownshipTractAnswer, township_report_each};
 pub use explaining::{
     township_explain_description, township_explain_list, township_explain_notes, township_version,
 };
@@ -37,11 +44,13 @@ pub use land::TownshipLand;
 pub use land_answers::{
     township_land_acres, township_land_area, township_land_read, township_land_text,
 };
+pub use land_parts::{TownshipPart, township_land_parts};
 pub use lot_answers::{
     township_lots_acres, township_lots_area, township_lots_land_acres, township_lots_land_area,
     township_lots_read,
 };
 pub use lots::TownshipLots;
 pub use many::township_acres_many;
+pub use overlaps_call::{TownshipOverlap, township_overlaps};
 pub use plat::TownshipPlat;
 pub use writing::township_write_notes;

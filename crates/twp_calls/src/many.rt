@@ -46,7 +46,7 @@ pub fn township_acres_many(
 }
 
 /// A verdict, and how many descriptions there are.
-fn counted(verdict: u32, count: usize) -> TownshipAnswer
+pub(crate) fn counted(verdict: u32, count: usize) -> TownshipAnswer
     ensures { result ≡ with_text (bare verdict) count }
 {
     TownshipAnswer {

@@ -50,7 +50,7 @@ first_written g held quarters side corner path old new chosen path_is first is =
     (of_first g held quarters side corner chosen first)
     (is ∙ ap (λ p. old ++ (codes ", " ++ (step_text (Half side) ++ p))) path_is)
 
-same_or_not : (corner other : Corner) → (corner ≡ other) ⊎ ¬ (corner ≡ other)
+pub same_or_not : (corner other : Corner) → (corner ≡ other) ⊎ ¬ (corner ≡ other)
 same_or_not corner other = elim (cases_lt (turn_of_quarter corner) (turn_of_quarter other)) [
   | inl less ↦ inr (λ same. let turn = ap turn_of_quarter same in absurd (omega arith))
   | inr more ↦ elim (cases_lt (turn_of_quarter other) (turn_of_quarter corner)) [
@@ -59,7 +59,7 @@ same_or_not corner other = elim (cases_lt (turn_of_quarter corner) (turn_of_quar
   ]
 ]
 
-on_ok : {T E : Type 0} (result : Result T E) (P Q : Type 0) → OnOk result P → (P → Q) → OnOk result Q
+pub on_ok : {T E : Type 0} (result : Result T E) (P Q : Type 0) → OnOk result P → (P → Q) → OnOk result Q
 on_ok (Ok value) P Q is follows = follows is
 on_ok (Err fault) P Q is follows = is
 

@@ -2,6 +2,7 @@
 //! of the whole, which is read back as that land.
 #![tactic(auto)]
 
+mod blocks;
 mod fine_parts;
 mod full_quarters;
 pub mod laws;
@@ -11,4 +12,5 @@ mod path;
 mod spelling;
 mod written_parts;
 
+pub use blocks::part_blocks;
 pub use spelling::{held_lots, spell};

@@ -89,7 +89,7 @@ fn is_on_side(side: Side, corner: Corner) -> bool
 
 /// The first of a half's two quarters.
 #[tactic(auto, unfolding(crate::specs::steps::Spelling::quarter_on))]
-fn first_quarter(side: Side) -> Corner
+pub(crate) fn first_quarter(side: Side) -> Corner
     ensures { result ≡ quarter_on side }
 {
     match side {

@@ -153,7 +153,7 @@ fn write_fine_square<L: Land>(
 
 /// Which quarters of a square are full.
 #[inline(always)]
-fn full_quarters<L: Land>(land: &L, section: Section, block: Block) -> FullQuarters
+pub(crate) fn full_quarters<L: Land>(land: &L, section: Section, block: Block) -> FullQuarters
     requires { CanQuarter block }
     ensures { (quarters : List Corner) → IsBlockOf PLACE_DIGITS (square quarters) block
         → AreFull PLACE_DIGITS (off_lots PLACE_DIGITS section (L.places land.now section))
@@ -199,7 +199,7 @@ fn quarter_is_full<L: Land>(land: &L, section: Section, block: Block, corner: Co
 
 /// Whether a block consists of places in the land that belong to no lot.
 #[inline(always)]
-fn is_full<L: Land>(land: &L, section: Section, block: Block) -> bool
+pub(crate) fn is_full<L: Land>(land: &L, section: Section, block: Block) -> bool
     ensures { (part : Part) → IsBlockOf PLACE_DIGITS part block
         → (IsTrue result ↔ IsFull PLACE_DIGITS
         (off_lots PLACE_DIGITS section (L.places land.now section)) part) }

@@ -111,10 +111,15 @@ static township_plat plat;
 static township_plat read_to;
 static township_fraction area;
 static township_plat_figures figures;
+static township_tract tracts[2];
+static township_totals totals;
+static township_tract_answer each[2];
+static township_overlap overlaps[2];
 static township_answer answers[2];
 static township_land land;
 static township_lots lots;
 static uint32_t comparison;
+static township_part parts[8];
 static room *texts;
 
 /* Land of the township of the plat, and another. */
@@ -150,6 +155,18 @@ static township_answer call_print(void) {
 static township_answer call_report(void) {
     return township_report(&plat, BYTES("name,description\nA,\"sec. 7, lot 1.\"\nB,sec. 6.\n"), room_text(texts),
                            MOST_TEXT);
+}
+
+static township_answer call_account(void) {
+    return township_account(&plat, BYTES("name,description\nA,\"sec. 7, lot 1.\"\nB,sec. 6.\n"), tracts, 2, &totals);
+}
+
+static township_answer call_report_each(void) {
+    return township_report_each(&plat, BYTES("name,description\nA,\"sec. 7, lot 1.\"\nA,sec. 6.\n"), each, 2);
+}
+
+static township_answer call_overlaps(void) {
+    return township_overlaps(&plat, BYTES("name,description\nA,\"sec. 7, lot 1.\"\nB,sec. 7.\n"), overlaps, 2);
 }
 
 static township_answer call_refused(void) {
@@ -210,6 +227,10 @@ static township_answer call_land_text(void) {
     return township_land_text(&first, room_text(texts), MOST_TEXT);
 }
 
+static township_answer call_land_parts(void) {
+    return township_land_parts(&first, parts, sizeof parts / sizeof *parts);
+}
+
 static township_answer call_land_combine(void) {
     return township_land_combine(&first, &second, TOWNSHIP_DIFFERENCE, &land);
 }
@@ -254,6 +275,9 @@ static const struct {
     {"township_print", call_print},
     {"township_report", call_report},
     {"township_report, refused", call_refused},
+    {"township_account", call_account},
+    {"township_report_each", call_report_each},
+    {"township_overlaps", call_overlaps},
     {"township_explain_notes", call_explain_notes},
     {"township_explain_description", call_explain_description},
     {"township_explain_list", call_explain_list},
@@ -265,6 +289,7 @@ static const struct {
     {"township_land_acres", call_land_acres},
     {"township_land_area", call_land_area},
     {"township_land_text", call_land_text},
+    {"township_land_parts", call_land_parts},
     {"township_land_combine", call_land_combine},
     {"township_land_compare", call_land_compare},
     {"township_lots_read", call_lots_read},
@@ -279,9 +304,14 @@ typedef struct written {
     township_plat read_to;
     township_fraction area;
     township_plat_figures figures;
+    township_tract tracts[2];
+    township_totals totals;
     township_land land;
     township_lots lots;
     uint32_t comparison;
+    township_part parts[8];
+    township_tract_answer each[2];
+    township_overlap overlaps[2];
     room texts;
 } written;
 
@@ -291,10 +321,15 @@ static void clear(void) {
     memset(&read_to, 0, sizeof read_to);
     memset(&area, 0, sizeof area);
     memset(&figures, 0, sizeof figures);
+    memset(tracts, 0, sizeof tracts);
+    memset(&totals, 0, sizeof totals);
+    memset(each, 0, sizeof each);
+    memset(overlaps, 0, sizeof overlaps);
     memset(answers, 0, sizeof answers);
     memset(&land, 0, sizeof land);
     memset(&lots, 0, sizeof lots);
     comparison = 0;
+    memset(parts, 0, sizeof parts);
     room_clear(texts);
 }
 
@@ -302,9 +337,14 @@ static void keep(written *in) {
     in->read_to = read_to;
     in->area = area;
     in->figures = figures;
+    memcpy(in->tracts, tracts, sizeof tracts);
+    in->totals = totals;
     in->land = land;
     in->lots = lots;
     in->comparison = comparison;
+    memcpy(in->parts, parts, sizeof parts);
+    memcpy(in->each, each, sizeof each);
+    memcpy(in->overlaps, overlaps, sizeof overlaps);
     in->texts = *texts;
 }
 

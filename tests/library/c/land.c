@@ -11,6 +11,7 @@
 
 _Static_assert(sizeof(township_designation) == 4, "a designation has 4 bytes");
 _Static_assert(sizeof(township_land) == 4612, "land has 36 * 32 rows of 4 bytes, and a designation");
+_Static_assert(sizeof(township_part) == 6, "a part has 6 bytes");
 _Static_assert(offsetof(township_land, township) == 4608, "the township follows the rows");
 
 /* T. 2 N., R. 3 W., which is the township of the plat. */
@@ -183,6 +184,31 @@ static void writes_texts(void) {
     free(r);
 }
 
+/* The whole section 8; lots 1 and 2 of section 5, from the east, in its northern row; N1/2 of section 14, SE1/4 of it,
+   and its southwesternmost place. */
+static void writes_parts(void) {
+    static const township_part wanted[] = {
+        {5, 1, 0, 24, 8, 8},    {5, 2, 8, 24, 8, 8},  {8, 0, 0, 0, 32, 32},
+        {14, 0, 0, 16, 32, 16}, {14, 0, 31, 0, 1, 1}, {14, 0, 0, 0, 16, 16},
+    };
+    township_land land =
+        land_of("sec. 14, NE1/4, NW1/4, SE1/4, SW1/4SW1/4SW1/4SW1/4SW1/4; sec. 8; sec. 5, lots 1 and 2.");
+    township_land none = empty_land();
+    township_land part = part_of_a_lot();
+    township_part parts[COUNT(wanted) + 1];
+    township_part kept[COUNT(wanted) + 1];
+
+    memset(parts, 0xA5, sizeof parts);
+    memset(kept, 0xA5, sizeof kept);
+    CHECK_ANSWER(township_land_parts(&land, parts, COUNT(wanted) - 1), with_length(TOWNSHIP_NO_ROOM, COUNT(wanted)));
+    CHECK_ANSWER(township_land_parts(&part, parts, COUNT(parts)), bare(TOWNSHIP_NO_LAND));
+    CHECK_ANSWER(township_land_parts(&none, parts, COUNT(parts)), with_length(TOWNSHIP_ACCEPTED, 0));
+    CHECK(memcmp(parts, kept, sizeof parts) == 0);
+    CHECK_ANSWER(township_land_parts(&land, parts, COUNT(parts)), with_length(TOWNSHIP_ACCEPTED, COUNT(wanted)));
+    CHECK(memcmp(parts, wanted, sizeof wanted) == 0);
+    CHECK(memcmp(&parts[COUNT(wanted)], &kept[COUNT(wanted)], sizeof *parts) == 0);
+}
+
 /* The operation makes the land of a description of two others. */
 static void combines(const char *first, uint32_t operation, const char *second, const char *wanted) {
     township_land a = land_of(first);
@@ -253,6 +279,7 @@ void answers_land(const township_plat *plat) {
     measures_land(plat);
     refuses_to_measure(plat);
     writes_texts();
+    writes_parts();
     combines_land();
     refuses_to_combine();
     compares_land();

@@ -7,7 +7,7 @@
 #include "check.h"
 
 #define THREADS 4
-#define CALLS 27
+#define CALLS 31
 
 /* The stack that the library requires, and room for the thread's own calls. */
 #define STACK ((256 + 64) * 1024)
@@ -19,11 +19,16 @@ typedef struct round_answers {
     township_fraction area;
     township_plat_figures figures;
     township_answer many[2];
+    township_tract tracts[2];
+    township_totals totals;
+    township_tract_answer each[2];
+    township_overlap overlaps[2];
     township_land land;
     township_land combined;
     uint32_t comparison;
     township_lots lots;
     township_fraction areas[3];
+    township_part parts[16];
     uint8_t texts[CALLS][8192];
 } round_answers;
 
@@ -46,22 +51,23 @@ static void call_on_land(const township_plat *plat, round_answers *to) {
     township_answer *answer = to->answers;
     township_land other;
 
-    answer[16] = township_land_read(&township, BYTES("sec. 6, lots 1 to 7; sec. 14, N1/2."), &to->land);
-    answer[17] = township_land_acres(plat, &to->land, TOWNSHIP_EXACT);
-    answer[18] = township_land_area(plat, &to->land, TOWNSHIP_BY_PLAT, &to->areas[0]);
-    answer[19] = township_land_text(&to->land, to->texts[19], sizeof to->texts[19]);
+    answer[17] = township_land_read(&township, BYTES("sec. 6, lots 1 to 7; sec. 14, N1/2."), &to->land);
+    answer[18] = township_land_acres(plat, &to->land, TOWNSHIP_EXACT);
+    answer[19] = township_land_area(plat, &to->land, TOWNSHIP_BY_PLAT, &to->areas[0]);
+    answer[20] = township_land_text(&to->land, to->texts[20], sizeof to->texts[20]);
     memset(&other, 0, sizeof other);
     memset(other.rows[plat->number + 7], 0xFF, sizeof other.rows[0]);
     other.township = township;
-    answer[20] = township_land_combine(&to->land, &other, TOWNSHIP_UNION, &to->combined);
-    answer[21] = township_land_compare(&to->combined, &to->land, &to->comparison);
-    answer[22] = township_lots_read(BYTES("section,lot,acres\nT,2,N,3,W\n6,1,40.45\n"), &to->lots);
+    answer[21] = township_land_combine(&to->land, &other, TOWNSHIP_UNION, &to->combined);
+    answer[22] = township_land_compare(&to->combined, &to->land, &to->comparison);
+    answer[23] = township_lots_read(BYTES("section,lot,acres\nT,2,N,3,W\n6,1,40.45\n"), &to->lots);
     to->lots.township = township;
     to->lots.figures[20] = 4000 + plat->number;
-    answer[23] = township_lots_acres(&to->lots, BYTES("sec. 6, lot 1; sec. 14."));
-    answer[24] = township_lots_area(&to->lots, BYTES("sec. 6, lot 1."), &to->areas[1]);
-    answer[25] = township_lots_land_acres(&to->lots, &other);
-    answer[26] = township_lots_land_area(&to->lots, &other, &to->areas[2]);
+    answer[24] = township_lots_acres(&to->lots, BYTES("sec. 6, lot 1; sec. 14."));
+    answer[25] = township_lots_area(&to->lots, BYTES("sec. 6, lot 1."), &to->areas[1]);
+    answer[26] = township_lots_land_acres(&to->lots, &other);
+    answer[27] = township_lots_land_area(&to->lots, &other, &to->areas[2]);
+    answer[28] = township_land_parts(&to->combined, to->parts, sizeof to->parts / sizeof *to->parts);
 }
 
 /* Calls each function once. */
@@ -92,6 +98,10 @@ static void call_all(bytes notes, const township_plat *plat, round_answers *to) 
     answer[13] = township_figures(plat, &to->figures);
     answer[14] = township_acres_many(plat, BYTES("sec. 6.sec. 7, lot 5."), offsets, 3, TOWNSHIP_EXACT, to->many, 2);
     answer[15] = township_write_notes(plat, to->texts[15], sizeof to->texts[15]);
+    answer[16] = township_account(plat, BYTES("name,description\nA,\"sec. 7, lot 1.\"\nB,sec. 6.\n"), to->tracts, 2,
+                                  &to->totals);
+    answer[29] = township_report_each(plat, BYTES("name,description\nA,sec. 6.\nA,sec. 7.\n"), to->each, 2);
+    answer[30] = township_overlaps(plat, BYTES("name,description\nA,sec. 6.\nA,sec. 6.\n"), to->overlaps, 2);
     call_on_land(plat, to);
 }
 
@@ -99,12 +109,17 @@ static void call_all(bytes notes, const township_plat *plat, round_answers *to) 
 static bool same_land(const round_answers *a, const round_answers *b) {
     return memcmp(&a->land, &b->land, sizeof a->land) == 0 && a->comparison == b->comparison &&
            memcmp(&a->combined, &b->combined, sizeof a->combined) == 0 &&
-           memcmp(&a->lots, &b->lots, sizeof a->lots) == 0 && memcmp(a->areas, b->areas, sizeof a->areas) == 0;
+           memcmp(&a->lots, &b->lots, sizeof a->lots) == 0 && memcmp(a->areas, b->areas, sizeof a->areas) == 0 &&
+           memcmp(a->parts, b->parts, sizeof a->parts) == 0;
 }
 
-/* Whether the figures and the answers to many descriptions of two rounds are the same. */
+/* Whether the figures, the accounts, and the answers to many descriptions of two rounds are the same. */
 static bool same_figures(const round_answers *a, const round_answers *b) {
     return memcmp(&a->figures, &b->figures, sizeof a->figures) == 0 &&
+           memcmp(a->tracts, b->tracts, sizeof a->tracts) == 0 &&
+           memcmp(&a->totals, &b->totals, sizeof a->totals) == 0 &&
+           memcmp(a->each, b->each, sizeof a->each) == 0 &&
+           memcmp(a->overlaps, b->overlaps, sizeof a->overlaps) == 0 &&
            same_answer(a->many[0], b->many[0]) && same_answer(a->many[1], b->many[1]);
 }
 

@@ -9,6 +9,7 @@
 #include "check.h"
 #include "given.h"
 #include "land.h"
+#include "lists.h"
 #include "threads.h"
 
 _Static_assert(sizeof(township_plat) == 340, "a plat has 340 bytes");
@@ -553,6 +554,7 @@ static void refuses_plat(const township_plat *plat) {
     CHECK_ANSWER(kept, bare(99));
     check_no_text(explain_land, plat, land, no_plat);
     check_no_text(explain_list, plat, list, no_plat);
+    refuses_plat_of_lists(plat);
     drop(land);
     drop(list);
 }
@@ -642,6 +644,9 @@ int main(int count, char **words) {
     prints(&plat);
     has_figures(&plat);
     reports(samples, &plat);
+    has_accounts(&plat);
+    has_answers_of_tracts(&plat);
+    has_overlaps(&plat);
     answers_many(&plat);
     answers_ranges(&plat);
     has_version(version);

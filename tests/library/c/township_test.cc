@@ -12,6 +12,9 @@ static_assert(sizeof(township_fraction) == 24, "a fraction has 24 bytes");
 static_assert(sizeof(township_plat_figures) == 2312, "the figures have 7 * 36 + 36 + 1 numbers");
 static_assert(sizeof(township_land) == 4612, "land has 36 * 32 rows of 4 bytes, and a designation");
 static_assert(sizeof(township_lots) == 192, "a lot table has 47 figures and a designation");
+static_assert(sizeof(township_part) == 6, "a part has 6 bytes");
+static_assert(sizeof(township_tract_answer) == 120, "the answer to a tract has 120 bytes");
+static_assert(sizeof(township_overlap) == 16, "an overlap has 16 bytes");
 
 static const std::uint8_t *bytes(const std::string &text) {
     return reinterpret_cast<const std::uint8_t *>(text.data());
@@ -37,14 +40,17 @@ static std::uint64_t figure(const std::string &notes) {
     return holds ? figures.lots[5 - 1][1 - 1] : 0;
 }
 
-// Whether the only place of section 14 in this corner is the lowest bit of its northernmost row.
+// Whether the only place of section 14 in this corner is the lowest bit of its northernmost row, and the land's only
+// part.
 static bool has_corner() {
     const township_designation township = {2, TOWNSHIP_NORTH, 3, TOWNSHIP_WEST};
     const std::string text = "sec. 14, NE1/4NE1/4NE1/4NE1/4NE1/4.";
     township_land land{};
+    township_part part{};
 
     return township_land_read(&township, bytes(text), text.size(), &land).verdict == TOWNSHIP_ACCEPTED &&
-           land.rows[14 - 1][TOWNSHIP_PLACES_ACROSS - 1] == 1;
+           land.rows[14 - 1][TOWNSHIP_PLACES_ACROSS - 1] == 1 && township_land_parts(&land, &part, 1).length == 1 &&
+           part.section == 14 && part.column == 0 && part.row == TOWNSHIP_PLACES_ACROSS - 1 && part.rows == 1;
 }
 
 // The acres of a lot by a lot table.
@@ -58,11 +64,39 @@ static std::uint64_t returned(const std::string &table, const std::string &descr
     return answer.hundredths;
 }
 
+// The name and the figure of the one tract of a list.
+static std::string tract(const std::string &notes, const std::string &list) {
+    township_plat plat{};
+    township_tract tracts[1]{};
+    township_totals totals{};
+    const bool holds = township_read(bytes(notes), notes.size(), &plat).verdict == TOWNSHIP_ACCEPTED &&
+                       township_account(&plat, bytes(list), list.size(), tracts, 1, &totals).verdict ==
+                           TOWNSHIP_ACCEPTED;
+
+    return holds ? tracts[0].name + (": " + std::to_string(tracts[0].hundredths)) : "";
+}
+
+// The hundredths of an acre that the only two tracts of a list share, if they are answered and overlap.
+static std::uint64_t shared(const std::string &notes, const std::string &list) {
+    township_plat plat{};
+    township_tract_answer answers[2]{};
+    township_overlap overlap{};
+    const bool holds =
+        township_read(bytes(notes), notes.size(), &plat).verdict == TOWNSHIP_ACCEPTED &&
+        township_report_each(&plat, bytes(list), list.size(), answers, 2).length == 2 &&
+        answers[0].answer.verdict == TOWNSHIP_ACCEPTED && answers[1].name == std::string("B") &&
+        township_overlaps(&plat, bytes(list), list.size(), &overlap, 1).length == 1 && overlap.second == 3;
+
+    return holds ? overlap.hundredths : 0;
+}
+
 int main(int count, char **words) {
     std::ifstream file(count > 1 ? words[1] : "samples/b1.csv", std::ios::binary);
     const std::string notes((std::istreambuf_iterator<char>(file)), std::istreambuf_iterator<char>());
     const bool holds = hundredths(notes, "sec. 5, lot 1.") == 4045 && figure(notes) == 4045 && has_corner() &&
-                       returned("section,lot,acres\nT,2,N,3,W\n5,1,40.45\n", "sec. 5, lot 1.") == 4045;
+                       returned("section,lot,acres\nT,2,N,3,W\n5,1,40.45\n", "sec. 5, lot 1.") == 4045 &&
+                       tract(notes, "name,description\nA,\"sec. 5, lot 1.\"\n") == "A: 4045" &&
+                       shared(notes, "name,description\nA,sec. 14\nB,\"sec. 14, NE1/4\"\n") == 16000;
 
     std::cout << holds << " passed, " << !holds << " failed\n";
     return !holds;

@@ -19,13 +19,15 @@ from . import _library
 from ._account import Account
 from ._differences import Difference
 from ._field_notes import Notes
-from ._figures import Report, Section, Tract
+from ._figures import Section
 from ._land import Land
 from ._lots import Lots
 from ._many import Answers
 from ._note import Note
+from ._parts import Part
 from ._plat import Plat
 from ._refused import Refusal, Refused, failure_of
+from ._report import Overlap, Report, Tract, TractAnswer
 from ._rounding import rounded
 from ._township import EastWest, NorthSouth, Township
 from ._version import __version__
@@ -40,6 +42,8 @@ __all__ = [
     "NorthSouth",
     "Note",
     "Notes",
+    "Overlap",
+    "Part",
     "Plat",
     "Refusal",
     "Refused",
@@ -47,14 +51,15 @@ __all__ = [
     "Section",
     "Township",
     "Tract",
+    "TractAnswer",
     "__version__",
     "rounded",
     "version",
 ]
 
 for _public in (
-    *(Answers, Difference, Land, Lots, Note, Notes, Plat),
-    *(Refusal, Refused, Report, Section, Township, Tract),
+    *(Answers, Difference, Land, Lots, Note, Notes, Overlap, Part, Plat),
+    *(Refusal, Refused, Report, Section, Township, Tract, TractAnswer),
 ):
     # Tracebacks and pickles name each class as users import it.
     _public.__module__ = __name__

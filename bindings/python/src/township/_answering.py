@@ -9,22 +9,21 @@ from typing import Callable, Iterable, Iterator, List, Sequence, Tuple, Union
 from . import _library
 from ._account import Account, code_of
 from ._differences import Difference, differences_of
-from ._figures import Report, acres_of_hundredths, fraction_of, list_of, report_of
+from ._figures import acres_of_hundredths, fraction_of
 from ._land import Land
 from ._lots import Lots
 from ._many import Answers, answers_of
 from ._note import Note, notes_of
-from ._refused import DESCRIPTION, LIST, Refused, exception_of, failure_of
+from ._refused import DESCRIPTION, Refused, exception_of, failure_of
+from ._reporting import Reporting
 from ._text import Text, encoded
 from ._township import township_of
 
 
-class Answering:
-    """The answers on a plat, which is a struct of the library."""
+class Answering(Reporting):
+    """The answers on a plat."""
 
-    __slots__ = ("_parts",)
-
-    _parts: _library.Plat
+    __slots__ = ()
 
     def acres(self, description: Union[Text, Land], account: Account = "exact") -> Decimal:
         """Return the acreage of the land described, or of a `Land`, rounded once to hundredths, half up.
@@ -158,39 +157,6 @@ write a comma after NE1/4 (320.00 acres)
             if not isinstance(exception, Refused):
                 raise exception
             yield exception
-
-    def report(self, tracts: Iterable[Tuple[Text, Text]]) -> Report:
-        """Return the report on tracts, each a name and a description.
-
-        There may be at most 1,000 tracts, and they must not overlap. A name is 1 to 64 bytes of printable
-        ASCII, and each name must be unique.
-
-        If the tracts are refused, the location in `Refused` refers to the list that they make: the tract with
-        index k is record k + 2.
-
-        >>> report = plat.report([("A", "sec. 7, lot 1."), ("B", "sec. 7, lot 4.")])
-        >>> report.tracts
-        (Tract(name='A', acres=Decimal('39.18')), Tract(name='B', acres=Decimal('39.03')))
-        >>> report.total, report.remaining
-        (Decimal('78.20'), Decimal('22959.37'))
-        """
-        return self.report_csv(list_of(tracts))
-
-    def report_csv(self, tracts: Text) -> Report:
-        """Return the report on a list of tracts (CSV, at most 1,048,576 bytes; see `docs/TRACTS-FORMAT.md`).
-
-        Raise `Refused`, with a number from 80 to 85, if the list is refused. If a tract's description is
-        refused, the number is 83, and `inner` contains the description's own refusal.
-
-        >>> plat.report_csv(open("samples/tracts.csv", "rb").read()).total
-        Decimal('78.20')
-        """
-        given = encoded(tracts)
-        answer, text = _library.text_by(_library.report, byref(self._parts), given, len(given))
-        if answer.verdict != _library.ACCEPTED:
-            explain = _library.explain_list
-            raise exception_of(answer, explain, byref(self._parts), given, len(given), source=LIST)
-        return report_of(text)
 
     def differences(self, lots: Lots) -> List[Difference]:
         """Return the lots whose acreage on the printed plat differs from the one in a lot table.

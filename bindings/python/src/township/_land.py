@@ -9,6 +9,7 @@ from typing import TYPE_CHECKING, Any, Dict, Iterator, List, Mapping, Sequence, 
 
 from . import _library
 from ._account import Account
+from ._parts import Part, parts_of
 from ._refused import DESCRIPTION, exception_of, failure_of
 from ._spelling import Named, township_named
 from ._text import Text, encoded
@@ -134,6 +135,15 @@ class Land:
         if answer.verdict != _library.ACCEPTED:
             raise failure_of(answer.verdict)
         return text
+
+    @property
+    def parts(self) -> List[Part]:
+        """The parts that the canonical text names, in its order.
+
+        >>> plat.land("sec. 6, lot 7.").parts
+        [Part(section=6, lot=7, column=24, row=0, columns=8, rows=8)]
+        """
+        return parts_of(self._parts)
 
     @property
     def sections(self) -> Mapping[int, Land]:

@@ -20,6 +20,10 @@ PLACES_ACROSS = 32
 #: The number of lots in a township.
 LOTS = 47
 
+#: The most tracts of a list, and the room for a tract's name, in bytes.
+TRACTS_MOST = 1_000
+NAME_ROOM = 68
+
 #: The maximum size, in bytes, of field notes, of a description, and of a lot table: longer ones are refused.
 NOTES_MOST = 65_536
 DESCRIPTION_MOST = 65_536
@@ -150,6 +154,43 @@ class Lots(ctypes.Structure):
     ]
 
 
+class Tract(ctypes.Structure):
+    """`township_tract`: 80 bytes."""
+
+    _fields_ = [("hundredths", c_uint64), ("name_length", c_uint32), ("name", c_char * NAME_ROOM)]
+
+
+class Totals(ctypes.Structure):
+    """`township_totals`: 16 bytes."""
+
+    _fields_ = [("total", c_uint64), ("remaining", c_uint64)]
+
+
+class Part(ctypes.Structure):
+    """`township_part`: 6 bytes."""
+
+    _fields_ = [
+        ("section", c_uint8),
+        ("lot", c_uint8),
+        ("column", c_uint8),
+        ("row", c_uint8),
+        ("columns", c_uint8),
+        ("rows", c_uint8),
+    ]
+
+
+class TractAnswer(ctypes.Structure):
+    """`township_tract_answer`: 120 bytes."""
+
+    _fields_ = [("answer", Answer), ("name_length", c_uint32), ("name", c_char * NAME_ROOM)]
+
+
+class Overlap(ctypes.Structure):
+    """`township_overlap`: 16 bytes."""
+
+    _fields_ = [("first", c_uint32), ("second", c_uint32), ("hundredths", c_uint64)]
+
+
 def _load() -> ctypes.CDLL:
     """Load the library that the environment variable names, or else the one in the package's folder."""
     path = os.environ.get(VARIABLE) or BESIDE
@@ -168,11 +209,15 @@ _BYTES = (c_char_p, c_size_t)
 _ROOM = (POINTER(c_char), c_size_t)
 _OFFSETS = (POINTER(c_size_t), c_size_t)
 _ANSWERS = (POINTER(Answer), c_size_t)
+_TRACTS = (POINTER(Tract), c_size_t)
 _TOWNSHIP = POINTER(Designation)
 _LAND = POINTER(Land)
 _LOTS = POINTER(Lots)
+_PARTS = (POINTER(Part), c_size_t)
 _AREA = POINTER(Area)
 _NUMBER = POINTER(c_uint32)
+_TRACT_ANSWERS = (POINTER(TractAnswer), c_size_t)
+_OVERLAPS = (POINTER(Overlap), c_size_t)
 
 
 def _call(name: str, *types: Any) -> Callable[..., Answer]:
@@ -191,6 +236,9 @@ area = _call("township_area", _PLAT, *_BYTES, c_uint32, _AREA)
 normal = _call("township_normal", _PLAT, *_BYTES, *_ROOM)
 print_plat = _call("township_print", _PLAT, *_ROOM)
 report = _call("township_report", _PLAT, *_BYTES, *_ROOM)
+account = _call("township_account", _PLAT, *_BYTES, *_TRACTS, POINTER(Totals))
+report_each = _call("township_report_each", _PLAT, *_BYTES, *_TRACT_ANSWERS)
+overlaps = _call("township_overlaps", _PLAT, *_BYTES, *_OVERLAPS)
 figures = _call("township_figures", _PLAT, POINTER(Figures))
 acres_many = _call("township_acres_many", _PLAT, *_BYTES, *_OFFSETS, c_uint32, *_ANSWERS)
 explain_notes = _call("township_explain_notes", *_BYTES, *_BYTES, *_ROOM)
@@ -203,13 +251,14 @@ land_area = _call("township_land_area", _PLAT, _LAND, c_uint32, _AREA)
 land_text = _call("township_land_text", _LAND, *_ROOM)
 land_combine = _call("township_land_combine", _LAND, _LAND, c_uint32, _LAND)
 land_compare = _call("township_land_compare", _LAND, _LAND, _NUMBER)
+land_parts = _call("township_land_parts", _LAND, *_PARTS)
 lots_read = _call("township_lots_read", *_BYTES, _LOTS)
 lots_acres = _call("township_lots_acres", _LOTS, *_BYTES)
 lots_area = _call("township_lots_area", _LOTS, *_BYTES, _AREA)
 lots_land_acres = _call("township_lots_land_acres", _LOTS, _LAND)
 lots_land_area = _call("township_lots_land_area", _LOTS, _LAND, _AREA)
 
-#: The buffer size for a first call, in bytes. It holds all but long canonical texts and long reports.
+#: The buffer size for a first call, in bytes. It holds all but long canonical texts and field notes.
 USUAL_ROOM = 4096
 
 

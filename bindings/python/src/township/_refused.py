@@ -143,6 +143,18 @@ def failure_of(verdict: int, *townships: Township) -> Exception:
     return RuntimeError(f"the township library answered with verdict {verdict}, which is unknown here")
 
 
+def refusal_of(answer: _library.Answer) -> Refusal:
+    """Return the number and location in an answer that refuses."""
+    return Refusal(answer.number, answer.at)
+
+
+def inner_refusal(answer: _library.Answer) -> Optional[Refusal]:
+    """Return the refusal of a tract's description in an answer, if it has one."""
+    if answer.verdict != _library.TRACT_REFUSED:
+        return None
+    return Refusal(answer.inner_number, answer.inner_at)
+
+
 def exception_of(
     answer: _library.Answer, explain: Callable[..., _library.Answer], *given: object, source: bytes
 ) -> Exception:
@@ -155,9 +167,10 @@ def exception_of(
     explained, text = _library.text_by(explain, *given, source, len(source))
     if explained.verdict not in _REFUSALS:
         return failure_of(explained.verdict)
-    inner = None
-    if answer.verdict == _library.TRACT_REFUSED:
-        inner = Refusal(answer.inner_number, answer.inner_at)
+    if (explained.number, explained.at) != (answer.number, answer.at):
+        # A list can be refused as a whole, and what is explained is a tract's fault that comes before.
+        return Refused(answer.number, answer.at, source=source.decode())
+    inner = inner_refusal(answer)
     # The line and column are both 0 if the error is not on any line.
     line, column = explained.line or None, explained.column or None
     return Refused(answer.number, answer.at, line, column, text, inner, source.decode())

@@ -4,12 +4,12 @@ from __future__ import annotations
 from decimal import Decimal
 from fractions import Fraction
 from pathlib import Path
-from typing import Iterator, List, Mapping, Optional, Union
+from typing import Iterator, List, Mapping, Optional, Tuple, Union
 
 import township
 import township.pandas
-from township import Account, Difference, EastWest, Land, Lots, NorthSouth, Notes, Plat, Refusal, Refused
-from township import Report, Section, Township, Tract
+from township import Account, Difference, EastWest, Land, Lots, NorthSouth, Notes, Overlap, Part, Plat, Refusal
+from township import Refused, Report, Section, Township, Tract, TractAnswer
 
 
 def answers(plat: Plat, account: Account) -> Iterator[Union[Decimal, Refused]]:
@@ -31,6 +31,16 @@ def figures(path: Path) -> Optional[Decimal]:
     return max(acres, total, sections[1].total, tracts[0].acres) if text and area else None
 
 
+def lists(plat: Plat, listed: bytes) -> Optional[Decimal]:
+    answers: Tuple[TractAnswer, ...] = plat.report_each_csv(listed) + plat.report_each([("A", b"sec. 14.")])
+    acres: Optional[Decimal] = answers[0].acres
+    refusal: Optional[Refusal] = answers[0].refusal or answers[0].inner
+    overlaps: Tuple[Overlap, ...] = plat.overlaps({"A": "sec. 14."}.items()) + plat.overlaps_csv(listed.decode())
+    shared: Decimal = overlaps[0].acres
+    indexes: List[int] = [overlaps[0].first, overlaps[0].second]
+    return acres if indexes and not refusal else shared
+
+
 def refusal(refused: Refused) -> Union[Refusal, int, str, None]:
     line: Optional[int] = refused.line
     error: ValueError = refused
@@ -47,6 +57,8 @@ def notes(length: Decimal) -> Plat:
 def lands(plat: Plat, lots: Lots) -> Optional[Decimal]:
     land: Land = plat.land("sec. 14.") - Land.of("T. 2 N., R. 3 W.", b"sec. 14, N1/2.")
     land |= Land.of(plat.township, "sec. 15.") & land ^ land
+    parts: List[Part] = land.parts
+    lot: Optional[int] = parts[0].lot
     by_section: Mapping[int, Land] = land.sections
     pieces: List[Land] = [piece for piece in land if piece in land and "sec. 14." in piece]
     is_less: bool = land <= by_section[14] and land.isdisjoint(pieces[0]) and bool(land)
@@ -54,7 +66,7 @@ def lands(plat: Plat, lots: Lots) -> Optional[Decimal]:
     areas: List[Fraction] = [land.area(plat), land.area(lots), plat.area(land), lots.area(b"sec. 14.")]
     differences: List[Difference] = plat.differences(Lots.of_figures(land.township, lots.figures))
     drawings: List[str] = [plat.svg(), plat.svg(land=land, section=14), plat.svg(land=b"sec. 14.")]
-    return acres[0] + differences[0].by if is_less and areas and drawings else None
+    return acres[0] + differences[0].by if is_less and areas and lot and drawings else None
 
 
 def wrong_lands(plat: Plat, land: Land, lots: Lots) -> None:
@@ -68,6 +80,7 @@ def wrong_lands(plat: Plat, land: Land, lots: Lots) -> None:
 
 
 def wrong(plat: Plat) -> None:
+    plat.report_each("name,description")  # type: ignore[arg-type]
     plat.acres("sec. 14.", account="printed")  # type: ignore[arg-type]
     plat.acres(14)  # type: ignore[arg-type]
     Notes(14)  # type: ignore[arg-type]

@@ -1,6 +1,6 @@
 //! The library's functions on land.
 
-use super::structs::{Answer, Designation, Fraction, Land, Parts};
+use super::structs::{Answer, Designation, Fraction, Land, Part, Parts};
 
 // The requirements on pointers are those of the functions above.
 extern "C" {
@@ -29,6 +29,7 @@ extern "C" {
         second: *const Land,
         comparison: *mut u32,
     ) -> Answer;
+    fn township_land_parts(land: *const Land, parts: *mut Part, room: usize) -> Answer;
 }
 
 /// Reads the land of a description. It is valid only if the answer accepts the description.
@@ -80,4 +81,10 @@ pub(crate) fn land_compare(first: &Land, second: &Land) -> (Answer, u32) {
     // SAFETY: references meet the library's requirements.
     let answer = unsafe { township_land_compare(first, second, &mut comparison) };
     (answer, comparison)
+}
+
+/// Writes the parts that the canonical text of land names.
+pub(crate) fn land_parts(land: &Land, parts: &mut [Part]) -> Answer {
+    // SAFETY: a slice and a reference meet the library's requirements.
+    unsafe { township_land_parts(land, parts.as_mut_ptr(), parts.len()) }
 }

@@ -1,6 +1,6 @@
 //! The library's structs.
 
-use super::{EAST, LOTS, LOTS_MOST, NORTH, PLACES_ACROSS, SECTIONS};
+use super::{EAST, LOTS, LOTS_MOST, NAME_ROOM, NORTH, PLACES_ACROSS, SECTIONS};
 use crate::plat::LINES;
 use std::mem::{offset_of, size_of};
 
@@ -77,6 +77,71 @@ impl Figures {
     };
 }
 
+/// `township_tract`: a tract in an account.
+#[repr(C)]
+#[derive(Clone, Copy, Debug, PartialEq, Eq)]
+pub(crate) struct Tract {
+    /// Hundredths of an acre.
+    pub(crate) hundredths: u64,
+    /// The length of the name in bytes.
+    pub(crate) name_length: u32,
+    /// The name, and zero bytes after it.
+    pub(crate) name: [u8; NAME_ROOM],
+}
+
+impl Tract {
+    /// No tract, for a call to overwrite.
+    pub(crate) const BLANK: Tract = Tract {
+        hundredths: 0,
+        name_length: 0,
+        name: [0; NAME_ROOM],
+    };
+}
+
+/// `township_totals`: the totals of an account, in hundredths of an acre.
+#[repr(C)]
+#[derive(Clone, Copy, Debug, Default, PartialEq, Eq)]
+pub(crate) struct Totals {
+    /// Of all tracts together.
+    pub(crate) total: u64,
+    /// Of all other land in the township.
+    pub(crate) remaining: u64,
+}
+
+/// `township_tract_answer`: the answer to a tract of a list.
+#[repr(C)]
+#[derive(Clone, Copy, Debug, PartialEq, Eq)]
+pub(crate) struct TractAnswer {
+    pub(crate) answer: Answer,
+    /// The length of the name in bytes.
+    pub(crate) name_length: u32,
+    /// The name, and zero bytes after it.
+    pub(crate) name: [u8; NAME_ROOM],
+}
+
+impl TractAnswer {
+    /// No answer, for a call to overwrite.
+    pub(crate) fn blank() -> TractAnswer {
+        TractAnswer {
+            answer: Answer::default(),
+            name_length: 0,
+            name: [0; NAME_ROOM],
+        }
+    }
+}
+
+/// `township_overlap`: two tracts of a list that overlap.
+#[repr(C)]
+#[derive(Clone, Copy, Debug, Default, PartialEq, Eq)]
+pub(crate) struct Overlap {
+    /// The record of the earlier tract.
+    pub(crate) first: u32,
+    /// The record of the later one.
+    pub(crate) second: u32,
+    /// Hundredths of an acre of the land in both.
+    pub(crate) hundredths: u64,
+}
+
 /// `township_designation`: the parts of a township's designation, which may or may not be valid.
 #[repr(C)]
 #[derive(Clone, Copy, Debug, PartialEq, Eq, Hash)]
@@ -131,11 +196,28 @@ impl Lots {
     };
 }
 
+/// `township_part`: a part of a canonical text, in places.
+#[repr(C)]
+#[derive(Clone, Copy, Debug, Default, PartialEq, Eq)]
+pub(crate) struct Part {
+    pub(crate) section: u8,
+    /// 0 if the part is not a lot.
+    pub(crate) lot: u8,
+    pub(crate) column: u8,
+    pub(crate) row: u8,
+    pub(crate) columns: u8,
+    pub(crate) rows: u8,
+}
+
 // The library is compiled for these layouts.
 const _: () = assert!(size_of::<Parts>() == 340 && offset_of!(Parts, number) == 336);
 const _: () = assert!(size_of::<Answer>() == 48 && offset_of!(Answer, hundredths) == 32);
 const _: () = assert!(size_of::<Fraction>() == 24 && offset_of!(Fraction, over) == 16);
 const _: () = assert!(size_of::<Figures>() == 2312 && offset_of!(Figures, sections) == 2016);
+const _: () = assert!(size_of::<Tract>() == 80 && offset_of!(Tract, name) == 12);
+const _: () = assert!(size_of::<Totals>() == 16 && size_of::<Overlap>() == 16);
+const _: () = assert!(size_of::<TractAnswer>() == 120 && offset_of!(TractAnswer, name) == 52);
 const _: () = assert!(size_of::<Designation>() == 4);
 const _: () = assert!(size_of::<Land>() == 4612 && offset_of!(Land, township) == 4608);
 const _: () = assert!(size_of::<Lots>() == 192 && offset_of!(Lots, township) == 188);
+const _: () = assert!(size_of::<Part>() == 6 && offset_of!(Part, rows) == 5);

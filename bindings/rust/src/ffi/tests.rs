@@ -58,8 +58,11 @@ fn numbers_are_those_of_the_header() {
         ("SECTIONS", SECTIONS),
         ("PLACES_ACROSS", PLACES_ACROSS),
         ("LOTS", LOTS),
+        ("TRACTS_MOST", TRACTS_MOST),
+        ("NAME_ROOM", NAME_ROOM),
     ] {
-        assert!(HEADER.contains(&format!("#define TOWNSHIP_{name} {number}\n")));
+        let line = format!("#define TOWNSHIP_{name} {number}\n");
+        assert!(HEADER.contains(&line), "the header has no line {line}");
     }
 }
 
@@ -74,6 +77,15 @@ fn parts_of_no_plat_are_found_out_by_each_call() {
     assert_eq!(print_plat(&none, &mut room), no_plat);
     assert_eq!(write_notes(&none, &mut room), no_plat);
     assert_eq!(report(&none, b"name,description\n", &mut room), no_plat);
+    let mut tracts = [Tract::BLANK];
+    let account = account(&none, b"name,description\nA,sec. 14\n", &mut tracts);
+    assert_eq!(account, (no_plat, Totals::default()));
+    assert_eq!(tracts, [Tract::BLANK]);
+    let mut each = [TractAnswer::blank()];
+    let list = b"name,description\nA,sec. 14\n";
+    assert_eq!(report_each(&none, list, &mut each), no_plat);
+    assert_eq!(each, [TractAnswer::blank()]);
+    assert_eq!(overlaps(&none, list, &mut []), no_plat);
     assert_eq!(figures(&none), (no_plat, Figures::BLANK));
     assert_eq!(acres_many(&none, b"", &[0], EXACT, &mut []), no_plat);
     assert_eq!(
@@ -121,6 +133,7 @@ fn land_and_lots_that_are_none_are_found_out_by_each_call() {
         (no_land, Fraction::default())
     );
     assert_eq!(land_text(&none, &mut room), no_land);
+    assert_eq!(land_parts(&none, &mut [Part::default()]), no_land);
     assert_eq!(land_combine(&none, &some, UNION).0, no_land);
     assert_eq!(
         land_combine(&some, &none, UNION),
@@ -194,6 +207,28 @@ fn text_needs_its_whole_room() {
     let enough = normal(&EVEN, b"sec. 14.", &mut room[..length]);
     assert_eq!((enough.verdict, enough.length), (ACCEPTED, length as u64));
     assert_eq!(&room[..length], text);
+}
+
+#[test]
+fn tracts_need_room_for_all() {
+    let list = b"name,description\nA,sec. 14\n\"B, and C\",sec. 15\n";
+    let mut tracts = [Tract::BLANK; 3];
+    let (short, totals) = account(&EVEN, list, &mut tracts[..1]);
+    assert_eq!((short.verdict, short.length), (NO_ROOM, 2));
+    assert_eq!((totals, tracts), (Totals::default(), [Tract::BLANK; 3]));
+
+    let (enough, totals) = account(&EVEN, list, &mut tracts);
+    assert_eq!((enough.verdict, enough.length), (ACCEPTED, 2));
+    assert_eq!((totals.total, totals.remaining), (128_000, 2_176_000));
+    assert_eq!(
+        (tracts[0].hundredths, tracts[1].hundredths),
+        (64_000, 64_000)
+    );
+    assert_eq!(
+        (tracts[1].name_length, &tracts[1].name[..9]),
+        (8, &b"B, and C\0"[..])
+    );
+    assert_eq!(tracts[2], Tract::BLANK);
 }
 
 #[test]

@@ -8,8 +8,7 @@ use crate::area::Area;
 use crate::ffi::{self, Answer};
 use crate::figures::Figures;
 use crate::note::Note;
-use crate::refused::{Refused, DESCRIPTION, LIST};
-use crate::report::{list_of, Report};
+use crate::refused::{Refused, DESCRIPTION};
 use crate::text::{accepted_text_by, text_by};
 
 impl Plat {
@@ -252,83 +251,12 @@ impl Plat {
         }
     }
 
-    /// Returns the report on a list of tracts (CSV, at most 1,048,576 bytes; see
-    /// `docs/TRACTS-FORMAT.md`), as text: the acreage of each tract, of all tracts together, and of
-    /// all other land in the township. It can be parsed as a [`Report`].
-    ///
-    /// # Errors
-    ///
-    /// Returns [`Refused`], with a number from 80 to 85, if the list is refused. If a tract's
-    /// description is refused, the number is 83, and `inner` contains the description's own
-    /// refusal.
-    ///
-    /// ```
-    /// # let notes = include_bytes!(concat!(env!("CARGO_MANIFEST_DIR"), "/samples/b1.csv"));
-    /// # let plat = township::Plat::read(notes)?;
-    /// let list = "name,description\nA,\"sec. 7, lot 1.\"\nB,\"sec. 7, lot 4.\"\n";
-    /// assert_eq!(plat.report(list)?, "\
-    /// tract A: 39.18 acres
-    /// tract B: 39.03 acres
-    /// total: 78.20 acres
-    /// remaining: 22959.37 acres
-    /// ");
-    /// # Ok::<(), township::Refused>(())
-    /// ```
-    pub fn report(&self, list: impl AsRef<[u8]>) -> Result<String, Refused> {
-        let list = list.as_ref();
-        let (answer, text) = text_by(|room| ffi::report(&self.parts, list, room));
-        match answer.accepted() {
-            Ok(_) => Ok(text),
-            Err(fault) => Err(self.list_refused(fault, list)),
-        }
-    }
-
-    /// Returns the report on tracts, each a name and a description. There may be at most 1,000
-    /// tracts, and they must not overlap. A name is 1 to 64 bytes of printable ASCII, and each name
-    /// must be unique.
-    ///
-    /// # Errors
-    ///
-    /// The same as for [`Plat::report`]. Locations refer to the list that the tracts make: the
-    /// tract with index k is record k + 2.
-    ///
-    /// ```
-    /// # let notes = include_bytes!(concat!(env!("CARGO_MANIFEST_DIR"), "/samples/b1.csv"));
-    /// # let plat = township::Plat::read(notes)?;
-    /// let report = plat.report_of([("A", "sec. 7, lot 1."), ("B", "sec. 7, lot 4.")])?;
-    /// assert_eq!(report.tracts[1].acres.to_string(), "39.03");
-    /// assert_eq!(report.total.to_string(), "78.20");
-    ///
-    /// let refused = plat.report_of([("A", "sec. 7, lot 5.")]).unwrap_err();
-    /// assert_eq!((refused.number, refused.at), (83, 2));
-    /// assert_eq!(refused.inner, Some(township::Refusal { number: 64, at: 12 }));
-    /// # Ok::<(), township::Refused>(())
-    /// ```
-    pub fn report_of<N, D>(
-        &self,
-        tracts: impl IntoIterator<Item = (N, D)>,
-    ) -> Result<Report, Refused>
-    where
-        N: AsRef<[u8]>,
-        D: AsRef<[u8]>,
-    {
-        let text = self.report(list_of(tracts))?;
-        Ok(text.parse().expect("the library writes reports"))
-    }
-
     /// Returns the acreage in the answer to a description, or its refusal.
     fn acres_in(&self, answer: Answer, description: &[u8]) -> Result<Acres, Refused> {
         match answer.accepted() {
             Ok(answer) => Ok(Acres::from_hundredths(answer.hundredths)),
             Err(fault) => Err(self.description_refused(fault, description)),
         }
-    }
-
-    /// Returns the refusal of a list of tracts on this plat, with its explanation.
-    fn list_refused(&self, fault: Fault, list: &[u8]) -> Refused {
-        Refused::explained(fault, |room| {
-            ffi::explain_list(&self.parts, list, LIST, room)
-        })
     }
 
     /// Returns the refusal of a description on this plat, with its explanation.

@@ -48,11 +48,11 @@ returns-clause-taken g c =
       whole = c.in_default-describe_noting.ensures.whole_lots;
       apart = λ shared. absurd (cc (c.meets_land.ensures.1 shared));
       places_are = c.add_land.ensures;
-      hundredths = c.hundredths.result;
+      hundredths = c.hundredths-hundredths.result;
       acres = record {
         area = c.area_of-area.result;
         area_is = c.area_of-area.ensures;
-        rounded = c.hundredths.ensures;
+        rounded = c.hundredths-hundredths.ensures;
       };
       totals_are =
           rw c.add_land.ensures

@@ -1,0 +1,118 @@
+"""Reports on lists of tracts."""
+from __future__ import annotations
+
+import ctypes
+from decimal import Decimal
+from typing import Iterable, NamedTuple, Optional, Tuple
+
+from . import _library
+from ._figures import acres_of_hundredths
+from ._refused import Refusal, inner_refusal, refusal_of
+from ._text import Text, encoded
+
+
+class Tract(NamedTuple):
+    """A tract in a report, with its acreage."""
+
+    name: str
+    acres: Decimal
+
+
+class Report(NamedTuple):
+    """The report on a list of tracts. Each figure is an exact area, rounded independently."""
+
+    #: The tracts, in the order of the list.
+    tracts: Tuple[Tract, ...]
+    #: The acreage of all tracts together.
+    total: Decimal
+    #: The acreage of all other land in the township.
+    remaining: Decimal
+
+
+class TractAnswer(NamedTuple):
+    """The answer to a tract of a list, whatever is wrong with the others: its acreage or its refusal."""
+
+    #: The name, which is empty if the record is not a tract's (81).
+    name: str
+    #: The acreage. None if the tract is refused.
+    acres: Optional[Decimal]
+    #: The refusal, with the number 81, 82, or 83. None if the tract is accepted.
+    refusal: Optional[Refusal]
+    #: For refusal 83, the refusal of the tract's description. None otherwise.
+    inner: Optional[Refusal]
+
+
+class Overlap(NamedTuple):
+    """Two tracts of a list that overlap, by their indexes: the tract with index k is record k + 2."""
+
+    #: The index of the earlier tract.
+    first: int
+    #: The index of the later one.
+    second: int
+    #: The acreage of the land in both.
+    acres: Decimal
+
+
+def report_on(parts: object, given: bytes) -> Tuple[_library.Answer, Report]:
+    """Return the library's answer to a list of tracts, and its report, which is empty if it is not accepted."""
+    tracts = (_library.Tract * _library.TRACTS_MOST)()
+    totals = _library.Totals()
+    answer = _library.account(parts, given, len(given), tracts, len(tracts), ctypes.byref(totals))
+    shown = tuple(map(_tract_of, tracts[: answer.length]))
+    return answer, Report(shown, acres_of_hundredths(totals.total), acres_of_hundredths(totals.remaining))
+
+
+def answers_on(parts: object, given: bytes) -> Tuple[_library.Answer, Tuple[TractAnswer, ...]]:
+    """Return the library's answer to a list of tracts, and the answers to its tracts."""
+    answers = (_library.TractAnswer * _library.TRACTS_MOST)()
+    answer = _library.report_each(parts, given, len(given), answers, len(answers))
+    return answer, tuple(map(_answer_of, answers[: answer.length]))
+
+
+def _answer_of(given: _library.TractAnswer) -> TractAnswer:
+    """Return the answer to a tract."""
+    name, answer = given.name.decode("ascii"), given.answer
+    if answer.verdict == _library.ACCEPTED:
+        return TractAnswer(name, acres_of_hundredths(answer.hundredths), None, None)
+    return TractAnswer(name, None, refusal_of(answer), inner_refusal(answer))
+
+
+#: The room for overlaps in a first call.
+_USUAL_OVERLAPS = 64
+
+#: The record of the first tract of a list.
+_FIRST_TRACT = 2
+
+
+def overlaps_on(parts: object, given: bytes) -> Tuple[_library.Answer, Tuple[Overlap, ...]]:
+    """Return the library's answer to a list of tracts, and the overlaps of its tracts."""
+    overlaps = (_library.Overlap * _USUAL_OVERLAPS)()
+    answer = _library.overlaps(parts, given, len(given), overlaps, len(overlaps))
+    if answer.verdict == _library.NO_ROOM:
+        overlaps = (_library.Overlap * answer.length)()
+        answer = _library.overlaps(parts, given, len(given), overlaps, len(overlaps))
+    return answer, tuple(map(_overlap_of, overlaps[: answer.length]))
+
+
+def _overlap_of(overlap: _library.Overlap) -> Overlap:
+    """Return an overlap."""
+    acres = acres_of_hundredths(overlap.hundredths)
+    return Overlap(overlap.first - _FIRST_TRACT, overlap.second - _FIRST_TRACT, acres)
+
+
+def _tract_of(tract: _library.Tract) -> Tract:
+    """Return a tract. Names are ASCII."""
+    return Tract(tract.name.decode("ascii"), acres_of_hundredths(tract.hundredths))
+
+
+def list_of(tracts: Iterable[Tuple[Text, Text]]) -> bytes:
+    """Return the list of tracts (CSV) with these names and descriptions. Every field is quoted."""
+    records = [b"name,description"]
+    for name, description in tracts:
+        records.append(_quoted(name) + b"," + _quoted(description))
+    return b"\n".join(records) + b"\n"
+
+
+def _quoted(field: Text) -> bytes:
+    """Return a field in quotes, with each quote inside it doubled."""
+    return b'"' + encoded(field).replace(b'"', b'""') + b'"'

@@ -1,0 +1,18 @@
+-- The answers to tracts as plain data. No public contract cites this module.
+use Rattle.std.specs.Prelude.{◌≡◌, ℕ, ◌<◌, List, length, take, slice_index_or}
+use Rattle.twp_acres.specs.declared.each_tract.TractAnswer.{TractAnswer}
+use Rattle.twp_calls.specs.EachCalls.{answer_of_tract}
+use Rattle.twp_calls.specs.TractNames.{IsEnded}
+use Rattle.twp_calls.specs.declared.each_call.TownshipTractAnswer.{TownshipTractAnswer}
+
+-- the answer and the name are these, as plain data
+pub record IsPlain (given : TractAnswer) (plain : TownshipTractAnswer) : Type 0 where
+  pub answer_is : plain.answer ≡ answer_of_tract given.answer
+  pub length_is : plain.name_length ≡ length given.name.bytes
+  pub name_is : take plain.name_length plain.name ≡ given.name.bytes
+  pub ended : IsEnded plain.name_length plain.name
+
+-- the first answers, up to this number, are these as plain data
+abbrev pub ArePlainTo : ℕ → List TractAnswer → List TownshipTractAnswer → Type 0
+ArePlainTo count given answers = (index : ℕ) (default : TractAnswer) (other : TownshipTractAnswer)
+    → index < count → IsPlain (slice_index_or given index default) (slice_index_or answers index other)
