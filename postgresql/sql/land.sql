@@ -21,6 +21,9 @@ SELECT land('', 'sec. 14.');
 SELECT land(:'heading', 'T. 2 N., R. 4 W., sec. 14.');
 SELECT land_or_null(:'heading', 'sec. 5, N1/2.') IS NULL AS refused,
        land_or_null(:'heading', 'sec. 5, lot 1.') AS accepted;
+SELECT land_or_null(plat, 'sec. 5, N1/2.') IS NULL AS refused, land_or_null(plat, 'T. 2 N., R. 4 W., sec. 14.') IS NULL,
+       land_or_null(plat, 'sec. 5, lot 1.') AS accepted
+FROM plats WHERE name = 'uneven';
 SELECT number, at, message FROM refusal(:'heading', 'sec. 5, lot 5.');
 SELECT number FROM refusal(:'heading', 'sec. 5, lot 4.');
 
@@ -30,6 +33,11 @@ SELECT acres(plat, land(plat, description)) AS exact, acres(plat, description) A
 FROM plats, (VALUES ('sec. 7, lots 1 to 4.'), ('sec. 5, lot 1.'), ('sec. 14.')) AS described(description)
 WHERE name = 'uneven';
 SELECT acres(plat, 'T. 2 N., R. 4 W., sec. 14.'::land) FROM plats WHERE name = 'uneven';
+SELECT acres_or_null(plat, 'T. 2 N., R. 4 W., sec. 14.'::land) AS elsewhere,
+       acres_or_null(plat, land(plat, 'sec. 7, lots 1 to 4.')) AS exact,
+       acres_or_null(plat, land(plat, 'sec. 7, lots 1 to 4.'), 'plat') AS by_plat
+FROM plats WHERE name = 'uneven';
+SELECT acres_or_null(plat, land(plat, 'sec. 14.'), 'neat') FROM plats WHERE name = 'uneven';
 
 -- Union, intersection, and difference.
 CREATE TABLE parts (name text PRIMARY KEY, land land);

@@ -11,8 +11,7 @@ shows 'the extension is moved' 40.00 sql -d owned -v notes="$(cat "$root/samples
 ALTER EXTENSION township SET SCHEMA public;
 SELECT acres(:'notes'::plat, 'sec. 5, lot 1.');
 END
-shows 'the version of the extension' "$(sh "$root/packaging/version.sh")" sql -d owned -c "
-    SELECT extversion FROM pg_extension WHERE extname = 'township'"
+shows 'the version of the library' "$(sh "$root/packaging/version.sh")" sql -d owned -c 'SELECT township_version()'
 shows 'the extension is dropped' 0 sql -d owned -U owner << 'END'
 DROP EXTENSION township;
 SELECT count(*) FROM pg_proc WHERE probin LIKE '%township%';

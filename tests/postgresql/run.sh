@@ -68,7 +68,7 @@ else
     fail 'the regression tests' "$work/out"
 fi
 
-for part in extension cases documents encodings queries received races dumps processes memory memcheck; do
+for part in extension upgrade cases documents encodings queries received races dumps processes memory memcheck; do
     . "$tests/$part.sh"
 done
 ended
