@@ -56,7 +56,7 @@ needs='
     debootstrap      command debootstrap
     faketime         command faketime
     postgresql-15    command /usr/lib/postgresql/15/bin/initdb
-    postgresql-server-dev-15  command /usr/lib/postgresql/15/lib/pgxs/src/test/regress/pg_regress
+    postgresql-server-dev-15  file /usr/include/postgresql/15/server/postgres.h
 '
 
 # The packages of all rows, or with the word `missing` of the rows whose command or modules are missing.

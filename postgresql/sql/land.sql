@@ -21,6 +21,9 @@ SELECT land('', 'sec. 14.');
 SELECT land(:'heading', 'T. 2 N., R. 4 W., sec. 14.');
 SELECT land_or_null(:'heading', 'sec. 5, N1/2.') IS NULL AS refused,
        land_or_null(:'heading', 'sec. 5, lot 1.') AS accepted;
+SELECT land_or_null(plat, 'sec. 5, N1/2.') IS NULL AS refused, land_or_null(plat, 'T. 2 N., R. 4 W., sec. 14.') IS NULL,
+       land_or_null(plat, 'sec. 5, lot 1.') AS accepted
+FROM plats WHERE name = 'uneven';
 SELECT number, at, message FROM refusal(:'heading', 'sec. 5, lot 5.');
 SELECT number FROM refusal(:'heading', 'sec. 5, lot 4.');
 
@@ -30,6 +33,11 @@ SELECT acres(plat, land(plat, description)) AS exact, acres(plat, description) A
 FROM plats, (VALUES ('sec. 7, lots 1 to 4.'), ('sec. 5, lot 1.'), ('sec. 14.')) AS described(description)
 WHERE name = 'uneven';
 SELECT acres(plat, 'T. 2 N., R. 4 W., sec. 14.'::land) FROM plats WHERE name = 'uneven';
+SELECT acres_or_null(plat, 'T. 2 N., R. 4 W., sec. 14.'::land) AS elsewhere,
+       acres_or_null(plat, land(plat, 'sec. 7, lots 1 to 4.')) AS exact,
+       acres_or_null(plat, land(plat, 'sec. 7, lots 1 to 4.'), 'plat') AS by_plat
+FROM plats WHERE name = 'uneven';
+SELECT acres_or_null(plat, land(plat, 'sec. 14.'), 'neat') FROM plats WHERE name = 'uneven';
 
 -- Union, intersection, and difference.
 CREATE TABLE parts (name text PRIMARY KEY, land land);
@@ -56,6 +64,9 @@ SELECT union_of(land) FROM parts WHERE name IN ('half', 'other half');
 SELECT union_of(land) IS NULL AS nothing FROM parts WHERE name = 'no such part';
 SELECT overlaps(name, land ORDER BY name COLLATE "C") FROM parts;
 SELECT overlaps(length(name), land) FROM parts WHERE name IN ('lots', 'half');
+
+SELECT overlaps(id, land) FROM (VALUES (1, land(:'heading', 'sec. 14.')), (2, land(:'heading', 'sec. 15.')),
+    (3, land(:'heading', 'sec. 14, N1/2.'))) AS last(id, land);
 
 -- Storage: 4 bytes for the length, 9, and for each section 1 to 129.
 SELECT description, pg_column_size(land(:'heading', description)) AS bytes
@@ -116,6 +127,19 @@ FROM (
     FROM found
 ) AS compared
 GROUP BY operator, way ORDER BY operator COLLATE "C", way COLLATE "C";
+
+-- So many lands of a single township that no page of the index is shared with another one. Only empty land is
+-- contained in a section in which there are none.
+CREATE TABLE crowded AS
+SELECT n AS id, land(:'heading', format('sec. %s, %s1/4%s1/4.', 8 + n % 10, (ARRAY['NE', 'NW', 'SW', 'SE'])[1 + n / 3 % 4],
+    (ARRAY['NE', 'NW', 'SW', 'SE'])[1 + n / 7 % 4])) AS land
+FROM generate_series(1, 2000) AS n;
+INSERT INTO crowded SELECT 2001, land - land FROM crowded WHERE id = 1;
+CREATE INDEX ON crowded USING gist (land);
+SET enable_seqscan = off;
+SELECT id FROM crowded WHERE land <@ land(:'heading', 'sec. 36.');
+SELECT id FROM crowded WHERE land = land(:'heading', 'sec. 36.') - land(:'heading', 'sec. 36.');
+RESET enable_seqscan;
 
 -- What is in both and what is in the first alone are the first; their acres add up, and so do those of the
 -- union.

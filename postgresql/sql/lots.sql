@@ -20,6 +20,20 @@ SELECT acres(lots, 'sec. 5, N1/2.') FROM lot_tables WHERE name = 'some';
 SELECT acres(lots, 'T. 2 N., R. 4 W., sec. 14.'::land) FROM lot_tables WHERE name = 'some';
 SELECT name, acres_or_null(lots, 'sec. 5, lot 1.') FROM lot_tables ORDER BY name;
 
+-- Why a table gives no acreage, as a record. A table of another township has a number, but no place.
+SELECT described.description, refused.number, refused.at, refused.column_number, refused.message
+FROM lot_tables, (VALUES ('sec. 5, lots 1 and 2.'), ('sec. 5, lots 1 and 3.'), ('sec. 31, lots 3 and 4; sec. 5, lot 3.'),
+    ('sec. 5, N1/2.'), ('T. 3 N., R. 3 W., sec. 14.'), ('')) AS described (description),
+    refusal(lots, described.description) AS refused
+WHERE name = 'some';
+SELECT land, acres_or_null(lots, land), refused.number, refused.at, refused.line_number, refused.message, refused.help
+FROM lot_tables, (VALUES (land(:'heading', 'sec. 5, lot 1.')), (land(:'heading', 'sec. 5, lots 1 and 3.')),
+    ('T. 3 N., R. 3 W., sec. 14.')) AS lands (land), refusal(lots, land) AS refused
+WHERE name = 'some';
+SELECT refusal(lots, NULL::text) IS NULL AS description, refusal(lots, NULL::land) IS NULL AS land,
+       acres_or_null(lots, NULL::land) IS NULL AS acres
+FROM lot_tables WHERE name = 'some';
+
 -- Refusals of lot tables.
 SELECT repeat(' ', 65537)::lots;
 SELECT ''::lots;

@@ -1,45 +1,45 @@
 /*
- * The answers by a lot table: acres and the exact area of a description or a land, in which each whole lot
- * counts at its returned acreage.
+ * The answers by a lot table to a description: acres, the exact area, and why there are none. Each whole lot counts at
+ * its returned acreage.
  */
 #include "land.h"
 #include "lots.h"
 
 #include "miscadmin.h"
 
-/* The error for any verdict on a description but ACCEPTED. */
-static void check_description(township_answer answer, const township_lots *lots, twpg_bytes description) {
-    if (answer.verdict == TOWNSHIP_REFUSED && answer.number == TOWNSHIP_REFUSAL_LOTS_LACKING) {
-        twpg_explanation explained = twpg_explain_lacking(answer.at);
+/* Why a description is refused: the table lacks a lot of its land, or the reason is in the text. That is the same on
+   all plats of a township. */
+static twpg_explanation explanation_of(township_answer answer, const township_lots *lots, twpg_bytes description) {
+    township_plat plat = twpg_even_plat(&lots->township);
+
+    return answer.number == TOWNSHIP_REFUSAL_LOTS_LACKING ? twpg_explain_lacking(answer.at)
+                                                          : twpg_explain_description(&plat, description);
+}
+
+/* The error for any verdict but ACCEPTED. */
+static void check(township_answer answer, const township_lots *lots, twpg_bytes description) {
+    if (answer.verdict == TOWNSHIP_REFUSED) {
+        twpg_explanation explained = explanation_of(answer, lots, description);
 
         twpg_refuse(answer, &explained);
     }
     if (answer.verdict != TOWNSHIP_ACCEPTED) {
-        twpg_refuse_land(answer, &lots->township, description);
+        twpg_fail(answer.verdict);
     }
 }
 
-/* The error for any verdict on a land but ACCEPTED. */
-static void check_land(township_answer answer, const township_lots *lots, const township_land *land) {
-    if (answer.verdict == TOWNSHIP_REFUSED) {
-        twpg_explanation explained = twpg_explain_lacking(answer.at);
-
-        twpg_refuse(answer, &explained);
-    }
-    if (answer.verdict != TOWNSHIP_ACCEPTED) {
-        twpg_fail_of_two(answer.verdict, &lots->township.number, &land->township.number);
-    }
+static township_answer acres_of(const township_lots *lots, twpg_bytes description) {
+    check_stack_depth();
+    return township_lots_acres(lots, description.start, description.length);
 }
 
 PG_FUNCTION_INFO_V1(twpg_acres_by_lots);
 Datum twpg_acres_by_lots(PG_FUNCTION_ARGS) {
     const township_lots *lots = PG_GETARG_LOTS(0);
     twpg_bytes description = twpg_bytes_of_text(PG_GETARG_TEXT_PP(1));
-    township_answer answer;
+    township_answer answer = acres_of(lots, description);
 
-    check_stack_depth();
-    answer = township_lots_acres(lots, description.start, description.length);
-    check_description(answer, lots, description);
+    check(answer, lots, description);
     return twpg_acres_datum(answer.hundredths);
 }
 
@@ -47,14 +47,12 @@ PG_FUNCTION_INFO_V1(twpg_acres_by_lots_or_null);
 Datum twpg_acres_by_lots_or_null(PG_FUNCTION_ARGS) {
     const township_lots *lots = PG_GETARG_LOTS(0);
     twpg_bytes description = twpg_bytes_of_text(PG_GETARG_TEXT_PP(1));
-    township_answer answer;
+    township_answer answer = acres_of(lots, description);
 
-    check_stack_depth();
-    answer = township_lots_acres(lots, description.start, description.length);
     if (answer.verdict == TOWNSHIP_REFUSED) {
         PG_RETURN_NULL();
     }
-    check_description(answer, lots, description);
+    check(answer, lots, description);
     return twpg_acres_datum(answer.hundredths);
 }
 
@@ -65,31 +63,24 @@ Datum twpg_area_by_lots(PG_FUNCTION_ARGS) {
     township_fraction area = {0, 0, 1};
 
     check_stack_depth();
-    check_description(township_lots_area(lots, description.start, description.length, &area), lots, description);
+    check(township_lots_area(lots, description.start, description.length, &area), lots, description);
     return twpg_area_datum(fcinfo, &area);
 }
 
-PG_FUNCTION_INFO_V1(twpg_acres_of_land_by_lots);
-Datum twpg_acres_of_land_by_lots(PG_FUNCTION_ARGS) {
+/* Why a description is refused by a lot table, or NULL. */
+PG_FUNCTION_INFO_V1(twpg_refusal_by_lots);
+Datum twpg_refusal_by_lots(PG_FUNCTION_ARGS) {
     const township_lots *lots = PG_GETARG_LOTS(0);
-    township_land land;
-    township_answer answer;
+    twpg_bytes description = twpg_bytes_of_text(PG_GETARG_TEXT_PP(1));
+    township_answer answer = acres_of(lots, description);
+    twpg_explanation explained;
 
-    check_stack_depth();
-    twpg_land_of(PG_GETARG_LAND(1), &land);
-    answer = township_lots_land_acres(lots, &land);
-    check_land(answer, lots, &land);
-    return twpg_acres_datum(answer.hundredths);
-}
-
-PG_FUNCTION_INFO_V1(twpg_area_of_land_by_lots);
-Datum twpg_area_of_land_by_lots(PG_FUNCTION_ARGS) {
-    const township_lots *lots = PG_GETARG_LOTS(0);
-    township_land land;
-    township_fraction area = {0, 0, 1};
-
-    check_stack_depth();
-    twpg_land_of(PG_GETARG_LAND(1), &land);
-    check_land(township_lots_land_area(lots, &land, &area), lots, &land);
-    return twpg_area_datum(fcinfo, &area);
+    if (answer.verdict == TOWNSHIP_ACCEPTED) {
+        PG_RETURN_NULL();
+    }
+    if (answer.verdict != TOWNSHIP_REFUSED) {
+        twpg_fail(answer.verdict);
+    }
+    explained = explanation_of(answer, lots, description);
+    return twpg_refusal_datum(fcinfo, answer, &explained);
 }

@@ -10,13 +10,18 @@
 
 StaticAssertDecl(sizeof(township_designation) == 4, "the designation is the first four bytes of a packed land");
 
+/* Which townships two things are in. */
+char *twpg_two_townships(const uint8_t *first, const uint8_t *second) {
+    return psprintf("The first is in %s; the second is in %s",
+                    twpg_township_text(first[0], first[1], first[2], first[3]),
+                    twpg_township_text(second[0], second[1], second[2], second[3]));
+}
+
 /* The error for what is in two different townships, or for another verdict. */
 void twpg_fail_of_two(uint32_t verdict, const uint8_t *first, const uint8_t *second) {
     if (verdict == TOWNSHIP_OTHER_TOWNSHIP) {
-        ereport(ERROR, (errcode(TWPG_SQLSTATE_OTHER_TOWNSHIP), errmsg("these are in two different townships"),
-                        errdetail("The first is in %s; the second is in %s",
-                                  twpg_township_text(first[0], first[1], first[2], first[3]),
-                                  twpg_township_text(second[0], second[1], second[2], second[3]))));
+        ereport(ERROR, (errcode(twpg_sqlstate_of(TWPG_OTHER_TOWNSHIP)), errmsg("%s", TWPG_TWO_TOWNSHIPS),
+                        errdetail("%s", twpg_two_townships(first, second))));
     }
     twpg_fail(verdict);
 }

@@ -43,7 +43,11 @@ bool twpg_share_a_place(const struct varlena *first, const struct varlena *secon
 twpg_packed twpg_packed_of(const struct varlena *stored);
 void twpg_land_of(const struct varlena *stored, township_land *land);
 Datum twpg_land_datum(const township_land *land);
+char *twpg_two_townships(const uint8_t *first, const uint8_t *second);
 void twpg_fail_of_two(uint32_t verdict, const uint8_t *first, const uint8_t *second) pg_attribute_noreturn();
+
+/* What is wrong with two things in two different townships. */
+#define TWPG_TWO_TOWNSHIPS "these are in two different townships"
 
 #define PG_GETARG_LAND(n) PG_DETOAST_DATUM_PACKED(PG_GETARG_DATUM(n))
 
@@ -53,7 +57,5 @@ township_designation twpg_township_of(const text *given);
 
 /* land_reading.c: lands of descriptions, without a plat. */
 township_plat twpg_even_plat(const township_designation *township);
-void twpg_refuse_land(township_answer answer, const township_designation *township, twpg_bytes description)
-    pg_attribute_noreturn();
 
 #endif

@@ -25,7 +25,8 @@ township_plat twpg_even_plat(const township_designation *township) {
 }
 
 /* The error of a description that is refused, or another verdict. */
-void twpg_refuse_land(township_answer answer, const township_designation *township, twpg_bytes description) {
+static void pg_attribute_noreturn()
+refuse_land(township_answer answer, const township_designation *township, twpg_bytes description) {
     if (answer.verdict == TOWNSHIP_REFUSED) {
         township_plat plat = twpg_even_plat(township);
         twpg_explanation explained = twpg_explain_description(&plat, description);
@@ -41,7 +42,7 @@ static void read_land(const township_designation *township, twpg_bytes descripti
     check_stack_depth();
     answer = township_land_read(township, description.start, description.length, land);
     if (answer.verdict != TOWNSHIP_ACCEPTED) {
-        twpg_refuse_land(answer, township, description);
+        refuse_land(answer, township, description);
     }
 }
 
@@ -162,11 +163,16 @@ Datum twpg_land_out(PG_FUNCTION_ARGS) {
     PG_RETURN_CSTRING(twpg_one_line(text));
 }
 
+static township_designation township_of(const township_plat *plat) {
+    township_designation township = {plat->number, plat->north_south, plat->range, plat->east_west};
+
+    return township;
+}
+
 /* The land of a description in the township of a plat. */
 PG_FUNCTION_INFO_V1(twpg_land_on_plat);
 Datum twpg_land_on_plat(PG_FUNCTION_ARGS) {
-    const township_plat *plat = (const township_plat *)PG_GETARG_POINTER(0);
-    township_designation township = {plat->number, plat->north_south, plat->range, plat->east_west};
+    township_designation township = township_of((const township_plat *)PG_GETARG_POINTER(0));
 
     return land_read(&township, twpg_bytes_of_text(PG_GETARG_TEXT_PP(1)));
 }
@@ -179,16 +185,14 @@ Datum twpg_land_in_township(PG_FUNCTION_ARGS) {
     return land_read(&township, twpg_bytes_of_text(PG_GETARG_TEXT_PP(1)));
 }
 
-/* The same, or NULL if the description is refused. */
-PG_FUNCTION_INFO_V1(twpg_land_or_null);
-Datum twpg_land_or_null(PG_FUNCTION_ARGS) {
-    township_designation township = twpg_township_of(PG_GETARG_TEXT_PP(0));
+/* The land of the second argument in a township, or NULL if the description is refused. */
+static Datum land_or_null(FunctionCallInfo fcinfo, const township_designation *township) {
     twpg_bytes description = twpg_bytes_of_text(PG_GETARG_TEXT_PP(1));
     township_land land;
     township_answer answer;
 
     check_stack_depth();
-    answer = township_land_read(&township, description.start, description.length, &land);
+    answer = township_land_read(township, description.start, description.length, &land);
     if (answer.verdict == TOWNSHIP_REFUSED) {
         PG_RETURN_NULL();
     }
@@ -196,6 +200,20 @@ Datum twpg_land_or_null(PG_FUNCTION_ARGS) {
         twpg_fail(answer.verdict);
     }
     return twpg_land_datum(&land);
+}
+
+PG_FUNCTION_INFO_V1(twpg_land_or_null);
+Datum twpg_land_or_null(PG_FUNCTION_ARGS) {
+    township_designation township = twpg_township_of(PG_GETARG_TEXT_PP(0));
+
+    return land_or_null(fcinfo, &township);
+}
+
+PG_FUNCTION_INFO_V1(twpg_land_on_plat_or_null);
+Datum twpg_land_on_plat_or_null(PG_FUNCTION_ARGS) {
+    township_designation township = township_of((const township_plat *)PG_GETARG_POINTER(0));
+
+    return land_or_null(fcinfo, &township);
 }
 
 /* Why a description is refused in a township that is named, or NULL. */

@@ -14,16 +14,32 @@ static void check(township_answer answer, const township_plat *plat, const towns
     }
 }
 
+/* The acres of the second argument on the first one, by the account that is the third one. */
+static township_answer acres_of(FunctionCallInfo fcinfo, township_land *land) {
+    check_stack_depth();
+    twpg_land_of(PG_GETARG_LAND(1), land);
+    return township_land_acres(PG_GETARG_PLAT(0), land, twpg_account_of(PG_GETARG_TEXT_PP(2)));
+}
+
 PG_FUNCTION_INFO_V1(twpg_acres_of_land);
 Datum twpg_acres_of_land(PG_FUNCTION_ARGS) {
-    const township_plat *plat = PG_GETARG_PLAT(0);
     township_land land;
-    township_answer answer;
+    township_answer answer = acres_of(fcinfo, &land);
 
-    check_stack_depth();
-    twpg_land_of(PG_GETARG_LAND(1), &land);
-    answer = township_land_acres(plat, &land, twpg_account_of(PG_GETARG_TEXT_PP(2)));
-    check(answer, plat, &land);
+    check(answer, PG_GETARG_PLAT(0), &land);
+    return twpg_acres_datum(answer.hundredths);
+}
+
+/* The same, or NULL if the land is in another township. */
+PG_FUNCTION_INFO_V1(twpg_acres_of_land_or_null);
+Datum twpg_acres_of_land_or_null(PG_FUNCTION_ARGS) {
+    township_land land;
+    township_answer answer = acres_of(fcinfo, &land);
+
+    if (answer.verdict == TOWNSHIP_OTHER_TOWNSHIP) {
+        PG_RETURN_NULL();
+    }
+    check(answer, PG_GETARG_PLAT(0), &land);
     return twpg_acres_datum(answer.hundredths);
 }
 

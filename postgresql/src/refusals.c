@@ -23,7 +23,7 @@ static void set_count(Datum *value, bool *is_null, uint32_t count) {
 }
 
 /* The record of a refusal: its number and place, and the parts of its explanation. */
-static Datum refusal_datum(FunctionCallInfo fcinfo, township_answer answer, const twpg_explanation *explained) {
+Datum twpg_refusal_datum(FunctionCallInfo fcinfo, township_answer answer, const twpg_explanation *explained) {
     Datum values[7];
     bool nulls[7] = {false};
 
@@ -52,7 +52,7 @@ Datum twpg_refusal_on(FunctionCallInfo fcinfo, const township_plat *plat) {
         twpg_fail(answer.verdict);
     }
     explained = twpg_explain_description(plat, description);
-    return refusal_datum(fcinfo, answer, &explained);
+    return twpg_refusal_datum(fcinfo, answer, &explained);
 }
 
 PG_FUNCTION_INFO_V1(twpg_refusal);
@@ -76,7 +76,7 @@ Datum twpg_refusal_of_notes(PG_FUNCTION_ARGS) {
         twpg_fail(answer.verdict);
     }
     explained = twpg_explain_notes(notes);
-    return refusal_datum(fcinfo, answer, &explained);
+    return twpg_refusal_datum(fcinfo, answer, &explained);
 }
 
 /* The note on an accepted description with a place that can be read in two ways. A refused one has none. */

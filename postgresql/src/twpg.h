@@ -17,8 +17,8 @@
 
 #include <township.h>
 
-/* The error of what is in two different townships, which is no refusal of a text. */
-#define TWPG_SQLSTATE_OTHER_TOWNSHIP MAKE_SQLSTATE('T', 'W', '1', '0', '0')
+/* The number of what is in two different townships, which is no refusal of a text. The library has a verdict for it. */
+#define TWPG_OTHER_TOWNSHIP 100u
 
 /* Bytes that the library reads: a description or a table, in UTF-8. */
 typedef struct twpg_bytes {
@@ -62,7 +62,8 @@ int twpg_sqlstate_of(uint32_t number);
 void twpg_refuse(township_answer answer, const twpg_explanation *explained) pg_attribute_noreturn();
 void twpg_fail(uint32_t verdict) pg_attribute_noreturn();
 
-/* refusals.c: the second argument's refusal on a plat. */
+/* refusals.c: refusals as records; the second one is that of the second argument on a plat. */
+Datum twpg_refusal_datum(FunctionCallInfo fcinfo, township_answer answer, const twpg_explanation *explained);
 Datum twpg_refusal_on(FunctionCallInfo fcinfo, const township_plat *plat);
 
 /* figures.c: numbers and records of the database. */

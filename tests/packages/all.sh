@@ -13,7 +13,7 @@ for tool in dpkg-buildpackage dh dh_python3 dh_bash-completion cargo; do
 done
 python_with 'build, setuptools, wheel' > "$work/out" || missing="$missing python3-build"
 python_with tomllib > "$work/out" || missing="$missing python3"
-[ -f /usr/lib/postgresql/15/lib/pgxs/src/makefiles/pgxs.mk ] || missing="$missing postgresql-server-dev-15"
+[ -f /usr/include/postgresql/15/server/postgres.h ] || missing="$missing postgresql-server-dev-15"
 ls -d /usr/share/cargo/registry/serde-[0-9]* > "$work/out" 2>&1 || missing="$missing librust-serde-dev"
 if [ -n "$missing" ]; then
     skip "the packages, since these are missing:$missing"

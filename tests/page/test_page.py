@@ -3,6 +3,7 @@ from __future__ import annotations
 
 import csv
 import io
+import os
 import xml.etree.ElementTree as ET
 from pathlib import Path
 
@@ -207,7 +208,7 @@ def test_a_link_carries_the_case(page: Page) -> None:
 
 
 def test_long_texts_are_answered_at_once(page: Page) -> None:
-    """65,536 bytes of description, and 1,000 tracts: from the key to the answer in 200 milliseconds."""
+    """65,536 bytes of description, and 1,000 tracts: from the key to the answer on the screen in 200 milliseconds."""
     page.tab("land")
     corners = ("NE1/4", "NW1/4", "SW1/4", "SE1/4")
     parts = ["".join(corners[k >> 2 * step & 3] for step in range(5)) for k in range(1000)]
@@ -219,12 +220,13 @@ def test_long_texts_are_answered_at_once(page: Page) -> None:
     listed = "name,description\n" + "".join(f'{k},"sec. 8, {part}."\n' for k, part in enumerate(parts))
     milliseconds += [time_to_answer(page, "#tracts", "#tracts-answer", listed, "1000 tracts") for _ in range(3)]
     print("milliseconds to the answer:", milliseconds)
-    # A machine that does other work at the same time takes longer.
-    assert min(milliseconds[:3]) < 1000 and min(milliseconds[3:]) < 1000
+    # A machine that does other work takes longer: as many times as there are processes for each processor.
+    most = 300 * max(1.0, os.getloadavg()[0] / (os.cpu_count() or 1))
+    assert min(milliseconds[:3]) < most and min(milliseconds[3:]) < most
 
 
 def time_to_answer(page: Page, area: str, answer: str, text: str, wanted: str) -> float:
-    """Return the milliseconds from a change of a text to its answer."""
+    """Return the milliseconds from a change of a text to the frame that shows its answer."""
     page.put(area, "sec. 36.")
     page.wait_for(lambda: "640.00" in page.text(answer))
     return page.driver.execute_async_script(
@@ -237,7 +239,7 @@ def time_to_answer(page: Page, area: str, answer: str, text: str, wanted: str) -
         new MutationObserver((_, watcher) => {
             if (!place.textContent.includes(wanted)) return;
             watcher.disconnect();
-            done(performance.now() - begin);
+            requestAnimationFrame(() => setTimeout(() => done(performance.now() - begin)));
         }).observe(place, { childList: true, subtree: true, characterData: true });
         input.dispatchEvent(new InputEvent("input", { bubbles: true }));
         """,

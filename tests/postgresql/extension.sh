@@ -11,9 +11,21 @@ shows 'the extension is moved' 40.00 sql -d owned -v notes="$(cat "$root/samples
 ALTER EXTENSION township SET SCHEMA public;
 SELECT acres(:'notes'::plat, 'sec. 5, lot 1.');
 END
-shows 'the version of the extension' "$(sh "$root/packaging/version.sh")" sql -d owned -c "
-    SELECT extversion FROM pg_extension WHERE extname = 'township'"
+shows 'the version of the library' "$(sh "$root/packaging/version.sh")" sql -d owned -c 'SELECT township_version()'
 shows 'the extension is dropped' 0 sql -d owned -U owner << 'END'
 DROP EXTENSION township;
 SELECT count(*) FROM pg_proc WHERE probin LIKE '%township%';
+END
+
+new_database kinds
+# All functions are immutable, parallel safe, and strict, except for the planner's and those of aggregates.
+shows 'what kinds of functions there are' 'land_joinsel
+land_overlaps_add
+land_overlaps_pairs
+overlaps
+union_of' sql -d kinds << 'END'
+SELECT proname FROM pg_proc JOIN pg_depend ON objid = pg_proc.oid AND classid = 'pg_proc'::regclass
+WHERE deptype = 'e' AND refobjid = (SELECT oid FROM pg_extension WHERE extname = 'township')
+    AND NOT (provolatile = 'i' AND proparallel = 's' AND proisstrict)
+ORDER BY proname COLLATE "C";
 END

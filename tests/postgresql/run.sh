@@ -11,7 +11,7 @@ tests=$root/tests/postgresql
 library=$(readlink -f "${1:-$root/lib}")
 headers=$(readlink -f "${2:-$root/include}")
 
-if ! [ -x "$postgres/bin/initdb" ] || ! [ -f "$postgres/lib/pgxs/src/makefiles/pgxs.mk" ]; then
+if ! [ -x "$postgres/bin/initdb" ] || ! [ -f /usr/include/postgresql/15/server/postgres.h ]; then
     skip 'PostgreSQL: no postgresql-15, or no postgresql-server-dev-15'
     ended
 fi
@@ -68,7 +68,7 @@ else
     fail 'the regression tests' "$work/out"
 fi
 
-for part in extension cases documents encodings queries received races dumps processes memory memcheck; do
+for part in extension upgrade cases documents encodings queries received races dumps processes memory memcheck; do
     . "$tests/$part.sh"
 done
 ended
