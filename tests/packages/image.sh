@@ -1,15 +1,16 @@
 #!/bin/sh
 # Prints the folders of images of a minimal Debian, which it makes the first time, as root, with debootstrap:
 #
-#     bare    Debian 12 with Python, and with what the packages depend on or add to: no compiler
-#     tools   Debian 12 with compilers for C and C++
-#     rust    Debian 13 with a compiler for Rust, and the crates that ours can use; the compiler of Debian 12 is too old
-#     older   Debian 11, which has glibc 2.31
-#     newer   Debian 13, which has glibc 2.41
+#     bare      Debian 12 with Python, and with what the packages depend on or add to: no compiler
+#     database  Debian 12 with PostgreSQL 15
+#     tools     Debian 12 with compilers for C and C++
+#     rust      Debian 13 with a compiler for Rust, and the crates that ours can use; the compiler of Debian 12 is too old
+#     older     Debian 11, which has glibc 2.31
+#     newer     Debian 13, which has glibc 2.41
 #
-#     sh tests/packages/image.sh bare tools rust older newer
+#     sh tests/packages/image.sh bare database tools rust older newer
 #
-# The images are kept in TOWNSHIP_IMAGES, by default in the user's cache, and take 3 GB. Delete the folder to make them
+# The images are kept in TOWNSHIP_IMAGES, by default in the user's cache, and take 4 GB. Delete the folder to make them
 # anew. TOWNSHIP_MIRROR can name another mirror of Debian's archive.
 set -eu
 mirror=${TOWNSHIP_MIRROR:-http://deb.debian.org/debian}
@@ -21,6 +22,7 @@ shells='man-db bash-completion'
 contents() {
     case $1 in
         bare) echo "bookworm sse4.2-support $shells $python" ;;
+        database) echo 'bookworm sse4.2-support postgresql-15' ;;
         tools) echo 'bookworm sse4.2-support gcc g++ libc6-dev pkg-config' ;;
         rust) echo 'trixie sse4.2-support gcc libc6-dev cargo librust-serde-dev' ;;
         older) echo "bullseye sse4.2-support $shells $python" ;;

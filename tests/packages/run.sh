@@ -18,11 +18,12 @@ unshare --mount --net --pid --fork true 2> "$work/lost" || leave_out 'no namespa
 
 # Each image, and the tests that are run in it.
 rows='
-    bare  program python
-    tools library
-    rust  rust
-    older program python
-    newer program python
+    bare     program python
+    database postgresql
+    tools    library
+    rust     rust
+    older    program python
+    newer    program python
 '
 images=$(echo "$rows" | sed -n 's/^ *\([a-z][a-z]*\) .*/\1/p')
 for image in $images; do

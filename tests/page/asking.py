@@ -3,6 +3,7 @@ from __future__ import annotations
 
 import http.client
 import json
+import os
 from pathlib import Path
 from typing import Any, Dict, List, NamedTuple, Optional
 
@@ -60,6 +61,11 @@ class Interface:
             if line.startswith("VmRSS:"):
                 return 1024 * int(line.split()[1])
         raise AssertionError("no VmRSS")
+
+    def seconds_worked(self) -> float:
+        """Return how many seconds processors have worked for the server, whatever else the machine does."""
+        fields = Path(f"/proc/{self.process}/stat").read_text().rpartition(")")[2].split()
+        return (int(fields[11]) + int(fields[12])) / os.sysconf("SC_CLK_TCK")
 
     def said(self) -> List[str]:
         """Return the lines that the server has printed."""

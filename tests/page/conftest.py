@@ -38,8 +38,8 @@ def server(tmp_path_factory: pytest.TempPathFactory) -> Iterator[Interface]:
 
 
 def _port_in(said: Path) -> int:
-    """Wait for the address that the server prints, and return its port."""
-    for _ in range(200):
+    """Wait for the address that the server prints, and return its port. A busy machine takes its time."""
+    for _ in range(1200):
         found = re.match(r"township: http://127\.0\.0\.1:([0-9]+)/ ", said.read_text())
         if found:
             return int(found[1])

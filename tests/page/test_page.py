@@ -207,7 +207,7 @@ def test_a_link_carries_the_case(page: Page) -> None:
 
 
 def test_long_texts_are_answered_at_once(page: Page) -> None:
-    """65,536 bytes of description, and 1,000 tracts: from the key to the answer in 200 milliseconds."""
+    """65,536 bytes of description, and 1,000 tracts: from the key to the answer on the screen in 200 milliseconds."""
     page.tab("land")
     corners = ("NE1/4", "NW1/4", "SW1/4", "SE1/4")
     parts = ["".join(corners[k >> 2 * step & 3] for step in range(5)) for k in range(1000)]
@@ -220,11 +220,11 @@ def test_long_texts_are_answered_at_once(page: Page) -> None:
     milliseconds += [time_to_answer(page, "#tracts", "#tracts-answer", listed, "1000 tracts") for _ in range(3)]
     print("milliseconds to the answer:", milliseconds)
     # A machine that does other work at the same time takes longer.
-    assert min(milliseconds[:3]) < 1000 and min(milliseconds[3:]) < 1000
+    assert min(milliseconds[:3]) < 600 and min(milliseconds[3:]) < 600
 
 
 def time_to_answer(page: Page, area: str, answer: str, text: str, wanted: str) -> float:
-    """Return the milliseconds from a change of a text to its answer."""
+    """Return the milliseconds from a change of a text to the frame that shows its answer."""
     page.put(area, "sec. 36.")
     page.wait_for(lambda: "640.00" in page.text(answer))
     return page.driver.execute_async_script(
@@ -237,7 +237,7 @@ def time_to_answer(page: Page, area: str, answer: str, text: str, wanted: str) -
         new MutationObserver((_, watcher) => {
             if (!place.textContent.includes(wanted)) return;
             watcher.disconnect();
-            done(performance.now() - begin);
+            requestAnimationFrame(() => setTimeout(() => done(performance.now() - begin)));
         }).observe(place, { childList: true, subtree: true, characterData: true });
         input.dispatchEvent(new InputEvent("input", { bubbles: true }));
         """,

@@ -16,3 +16,16 @@ shows 'the extension is dropped' 0 sql -d owned -U owner << 'END'
 DROP EXTENSION township;
 SELECT count(*) FROM pg_proc WHERE probin LIKE '%township%';
 END
+
+new_database kinds
+# All functions are immutable, parallel safe, and strict, except for the planner's and those of aggregates.
+shows 'what kinds of functions there are' 'land_joinsel
+land_overlaps_add
+land_overlaps_pairs
+overlaps
+union_of' sql -d kinds << 'END'
+SELECT proname FROM pg_proc JOIN pg_depend ON objid = pg_proc.oid AND classid = 'pg_proc'::regclass
+WHERE deptype = 'e' AND refobjid = (SELECT oid FROM pg_extension WHERE extname = 'township')
+    AND NOT (provolatile = 'i' AND proparallel = 's' AND proisstrict)
+ORDER BY proname COLLATE "C";
+END

@@ -11,7 +11,7 @@ from .._land import Land
 from .._plat import Plat
 from .._refused import Refused
 from . import drawn
-from .basis import Basis
+from .basis import Basis, decimals_of
 from .drawn import drawing
 from .given import Given
 from .limits import DESCRIPTIONS_MOST
@@ -86,7 +86,7 @@ def batch_answer(body: bytes) -> Json:
     descriptions = given.texts("descriptions", DESCRIPTIONS_MOST)
     account = given.account()
     answers = given.basis().plat.acres_many(descriptions, account)
-    acres: List[object] = [f"{each // 100}.{each % 100:02}" for each in answers.hundredths]
+    acres: List[object] = [decimals_of(each) for each in answers.hundredths]
     refused: List[Json] = []
     for index in answers.refused:
         acres[index] = None

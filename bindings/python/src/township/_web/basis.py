@@ -2,7 +2,7 @@
 from __future__ import annotations
 
 import functools
-from typing import Dict, NamedTuple, Optional
+from typing import Dict, List, NamedTuple, Optional, Sequence
 
 from .._account import ACCOUNTS
 from .._field_notes import Notes
@@ -27,6 +27,28 @@ class Basis(NamedTuple):
         if self.lots is not None:
             acres[BY_LOTS] = _by_lots(self.lots, land)
         return acres
+
+    def acres_many(self, descriptions: Sequence[str], lands: Sequence[Land]) -> List[Dict[str, Optional[str]]]:
+        """Return the acreage of each of many lands, whose accepted descriptions are given too.
+
+        One call of the library answers all descriptions by an account, which takes a tenth of the time.
+        """
+        many: List[Dict[str, Optional[str]]] = [{} for _ in lands]
+        for account in ACCOUNTS:
+            answers = self.plat.acres_many(descriptions, account)
+            if answers.refused:
+                raise AssertionError("an accepted description has an acreage")
+            for acres, hundredths in zip(many, answers.hundredths):
+                acres[account] = decimals_of(hundredths)
+        if self.lots is not None:
+            for acres, land in zip(many, lands):
+                acres[BY_LOTS] = _by_lots(self.lots, land)
+        return many
+
+
+def decimals_of(hundredths: int) -> str:
+    """Return an acreage with two decimal places."""
+    return f"{hundredths // 100}.{hundredths % 100:02}"
 
 
 def _by_lots(lots: Lots, land: Land) -> Optional[str]:

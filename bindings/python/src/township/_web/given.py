@@ -7,7 +7,8 @@ from typing import AbstractSet, Any, Callable, Dict, List, NoReturn, Optional, T
 from .._account import ACCOUNTS, Account
 from .._lots import Lots
 from .._plat import Plat
-from .._refused import Refused
+from .._refused import LOT_TABLE, NOTES, Refused
+from .._text import encoded
 from .basis import Basis, nominal_plat
 
 _SECTIONS = 36
@@ -43,12 +44,12 @@ class Given:
         Raise `RefusedBasis` if the notes or the table are refused.
         """
         notes, township, table = map(self._optional_text, ("notes", "township", "lots"))
-        lots = None if table is None else _read(Lots.read, "lots", table)
+        lots = None if table is None else _read(_lots_of, "lots", table)
         if lots is not None and notes is None and township is None:
             township = str(lots.township)
         if (notes is None) == (township is None):
             raise Invalid("give either `notes` (field notes) or `township` (a nominal township)")
-        plat = _nominal(township) if township is not None else _read(Plat.read, "notes", notes or "")
+        plat = _nominal(township) if township is not None else _read(_plat_of, "notes", notes or "")
         if lots is not None and lots.township != plat.township:
             raise Invalid(f"the lot table is for {lots.township}, and the plat for {plat.township}")
         return Basis(plat, lots)
@@ -117,6 +118,16 @@ class Given:
     def _optional_text(self, name: str) -> Optional[str]:
         found = self._fields.get(name)
         return found if found is None or isinstance(found, str) else _wrong(name, "a text")
+
+
+def _plat_of(notes: str) -> Plat:
+    """Return the plat of field notes. `Plat.read` would look whether they are the name of a file on this server."""
+    return Plat._of_notes(encoded(notes), NOTES)
+
+
+def _lots_of(table: str) -> Lots:
+    """Return a lot table, without looking for a file either."""
+    return Lots._read(encoded(table), LOT_TABLE.decode())
 
 
 _Read = TypeVar("_Read", Plat, Lots)

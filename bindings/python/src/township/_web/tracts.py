@@ -49,7 +49,7 @@ def report_answer(body: bytes) -> Json:
     joined = _joined(tracts, whole - whole)
     pairs = list(_pairs(tracts, joined.shared))
     return {
-        "tracts": [_tract_json(basis, tract) for tract in tracts],
+        "tracts": _tracts_json(basis, tracts),
         "refused": sum(tract.refused is not None for tract in tracts),
         "overlaps": [{"first": first, "second": second} for first, second in pairs[:PAIRS_MOST]],
         "overlapping": len(pairs),
@@ -73,7 +73,7 @@ def _joined(tracts: List[Tract], none: Land) -> Joined:
     for tract in tracts:
         if tract.land is not None:
             common = taken & tract.land
-            if common != none:
+            if common:
                 shared = shared | common
             taken = taken | tract.land
     return Joined(taken, shared)
@@ -81,33 +81,40 @@ def _joined(tracts: List[Tract], none: Land) -> Joined:
 
 def _pairs(tracts: List[Tract], shared: Land) -> Iterator[Tuple[int, int]]:
     """Yield the indexes of tracts that overlap, which they can do only in a section with shared land."""
-    sections = set(shared.sections)
-    numbered = {
-        index: {section: _bits(rows) for section, rows in tract.land.rows.items() if section in sections}
-        for index, tract in enumerate(tracts)
-        if tract.land is not None
-    }
-    by_section: Dict[int, List[int]] = {}
-    for second, land in numbered.items():
+    sections = list(shared.sections)
+    earlier: Dict[int, List[Tuple[int, int]]] = {section: [] for section in sections}
+    for second, tract in enumerate(tracts):
         found: Set[int] = set()
-        for section, bits in land.items():
-            earlier = by_section.setdefault(section, [])
-            found.update(first for first in earlier if numbered[first][section] & bits)
-            earlier.append(second)
+        for section, bits in () if tract.land is None else _places(tract.land, sections):
+            found.update(first for first, others in earlier[section] if others & bits)
+            earlier[section].append((second, bits))
         yield from ((first, second) for first in sorted(found))
 
 
-def _bits(rows: Tuple[int, ...]) -> int:
-    """Return the places of a section as one number."""
-    return int.from_bytes(b"".join(row.to_bytes(4, "little") for row in rows), "little")
+def _places(land: Land, sections: List[int]) -> Iterator[Tuple[int, int]]:
+    """Yield those of some sections that have land, each with its places as the bits of a number."""
+    rows = land.rows if sections else {}
+    for section in sections:
+        if section in rows:
+            yield section, int.from_bytes(b"".join(row.to_bytes(4, "little") for row in rows[section]), "little")
 
 
-def _tract_json(basis: Basis, tract: Tract) -> Json:
-    if tract.land is not None:
-        return {"name": tract.name, **land_json(basis, tract.land)}
+def _tracts_json(basis: Basis, tracts: List[Tract]) -> List[Json]:
+    """Return each tract, with its acreage and canonical description, or its refusal."""
+    accepted = [(tract.description, tract.land) for tract in tracts if tract.land is not None]
+    acres = iter(basis.acres_many([description for description, _ in accepted], [land for _, land in accepted]))
+    return [
+        {"name": tract.name, "acres": next(acres), "canonical": tract.land.text}
+        if tract.land is not None
+        else {"name": tract.name, "refused": _refused_json(tract)}
+        for tract in tracts
+    ]
+
+
+def _refused_json(tract: Tract) -> Json:
     if tract.refused is None:
         raise AssertionError("a tract has land, or is refused")
-    return {"name": tract.name, "refused": refused_json(tract.refused, "description", tract.description)}
+    return refused_json(tract.refused, "description", tract.description)
 
 
 def _shown(tracts: List[Tract], joined: Joined, selected: Optional[int]) -> Iterator[Tuple[str, Land]]:

@@ -26,10 +26,15 @@ function byLots({ lots }) {
   return lots === null ? "the table lacks a lot of this land" : `${grouped(lots)} acres`;
 }
 
-/** Returns cells with the acreage by each account, and by the lot table if there is one. */
-export function figureCells(acres) {
+/** Returns the acreage by each account, and by the lot table if there is one. */
+export function figuresOf(acres) {
   const figures = [acres.exact, acres.plat, ...("lots" in acres ? [acres.lots] : [])];
-  return figures.map((each) => make("td", { class: "figure" }, each === null ? "lacks a lot" : grouped(each)));
+  return figures.map((each) => (each === null ? "lacks a lot" : grouped(each)));
+}
+
+/** Returns cells with these figures. */
+export function figureCells(acres) {
+  return figuresOf(acres).map((each) => make("td", { class: "figure" }, each));
 }
 
 /** Returns a refusal with its explanation. */

@@ -1,14 +1,26 @@
 /** Calls of the JSON interface. */
 
 const pending = new Map();
+let changes = 0;
+
+/** Says that what the user has entered has changed, so that answers that are on their way are outdated. */
+export function outdate() {
+  changes += 1;
+}
+
+/** Gives up the requests that have no answer yet. */
+export function giveUp() {
+  for (const control of pending.values()) control.abort();
+}
 
 /**
- * Posts a request, and returns the answer, or null if a later request of the same kind has taken its place.
- * Throws an Error with the server's message if there is no answer.
+ * Posts a request, and returns the answer, or null if it is outdated. Throws an Error with the server's message if
+ * there is no answer.
  */
 export async function ask(kind, request) {
   pending.get(kind)?.abort();
   const control = new AbortController();
+  const seen = changes;
   pending.set(kind, control);
   try {
     const response = await fetch(`api/v1/${kind}`, {
@@ -19,9 +31,9 @@ export async function ask(kind, request) {
     });
     const answer = await response.json();
     if (!response.ok) throw new Error(answer.error ?? response.statusText);
-    return answer;
+    return seen === changes ? answer : null;
   } catch (error) {
-    if (control.signal.aborted) return null;
+    if (control.signal.aborted || seen !== changes) return null;
     throw error;
   } finally {
     if (pending.get(kind) === control) pending.delete(kind);

@@ -80,7 +80,8 @@ function comparison(answer) {
     );
   });
   const figures = ["Acres", "Plat account", ...("lots" in answer.both.acres ? ["Lot table"] : [])];
-  const heads = ["Land", ...figures, "Canonical"].map((each) => make("th", { scope: "col" }, each));
+  const head = (words, attributes = {}) => make("th", { scope: "col", ...attributes }, words);
+  const heads = [head("Land"), ...figures.map((each) => head(each, { class: "figure" })), head("Canonical")];
   const table = make("table", {}, make("thead", {}, make("tr", {}, ...heads)), make("tbody", {}, ...rows));
   const region = { class: "scroll", role: "region", "aria-label": "Comparison", tabindex: "0" };
   return [make("p", { class: "comparison" }, WORDS[answer.comparison]), make("div", region, table)];

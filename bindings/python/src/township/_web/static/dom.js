@@ -29,12 +29,28 @@ export function save(name, text, type) {
   setTimeout(() => URL.revokeObjectURL(url), 10_000);
 }
 
-/** Calls a function once the calls have paused for some milliseconds. */
-export function calmly(call, pause = 60) {
-  let timer = 0;
-  return (...given) => {
-    clearTimeout(timer);
-    timer = setTimeout(() => call(...given), pause);
+/**
+ * Calls an asynchronous function at once, and again when it has ended if it was wanted in between. If it takes longer
+ * than some milliseconds, `hurry()` is called as soon as it is wanted again.
+ */
+export function oneAtATime(call, hurry, patience = 1_000) {
+  let begun = null;
+  let again = false;
+  return async () => {
+    if (begun !== null) {
+      again = true;
+      if (performance.now() - begun > patience) hurry();
+      return;
+    }
+    try {
+      do {
+        again = false;
+        begun = performance.now();
+        await call();
+      } while (again);
+    } finally {
+      begun = null;
+    }
   };
 }
 

@@ -1,7 +1,8 @@
 /** The page: puts the panels and the drawing together. */
 
+import { giveUp, outdate } from "./api.js";
 import * as compare from "./compare.js";
-import { byId, calmly, say } from "./dom.js";
+import { byId, oneAtATime, say } from "./dom.js";
 import * as drawing from "./drawing.js";
 import * as land from "./land.js";
 import * as plat from "./plat.js";
@@ -27,28 +28,33 @@ async function answer() {
   const section = kept.view === "" ? {} : { section: Number(kept.view) };
   const request = { draw: true, targets: kept.view === "", ...section };
   const panel = PANELS[name];
-  const [given] = await Promise.all([panel.refresh(request), panel === plat ? null : refreshPlat()]);
+  const others = () => [panel.refresh(request), isPlatShown() ? null : refreshPlat({})];
+  const [given] = await Promise.all(panel === plat ? [refreshPlat(request)] : others());
   if (given === null) return;
   // The drawing of the plat alone is shown where a panel has nothing to shade.
-  const drawn = given?.svg === undefined && panel !== plat ? await plat.refresh(request) : given;
+  const drawn = given?.svg === undefined && panel !== plat ? await refreshPlat(request) : given;
   if (drawn?.svg !== undefined && name === kept.panel) drawing.show(drawn.svg, labelOf(), open);
 }
 
-/** Asks for the figures of the plat, unless they are shown already. */
-async function refreshPlat() {
-  const text = JSON.stringify(basis());
-  if (text === platShown) return;
-  platShown = text;
-  await plat.refresh({});
+const isPlatShown = () => platShown === JSON.stringify(basis());
+
+/** Asks for the figures of the plat, and remembers which plat is shown. */
+async function refreshPlat(request) {
+  const asked = JSON.stringify(basis());
+  platShown = null;
+  const given = await plat.refresh(request);
+  if (given !== null) platShown = asked;
+  return given;
 }
 
-const afterPause = calmly(refresh);
+const refreshNext = oneAtATime(refresh, giveUp);
 
-/** Asks for new answers soon, and says until then that they are coming. */
+/** Asks for new answers, and says until then that they are coming. */
 function refreshCalmly() {
   changes += 1;
+  outdate();
   byId("work").setAttribute("aria-busy", "true");
-  afterPause();
+  refreshNext();
 }
 
 function labelOf() {

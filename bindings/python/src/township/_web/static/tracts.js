@@ -1,7 +1,7 @@
 /** The panel of a list of tracts. */
 
 import { ask } from "./api.js";
-import { failure, figureCells, grouped, refusalAnswer } from "./answer.js";
+import { failure, figureCells, figuresOf, grouped, refusalAnswer } from "./answer.js";
 import { tractsIn, written } from "./csv.js";
 import { byId, make, opened, save } from "./dom.js";
 import { basis, kept } from "./store.js";
@@ -84,22 +84,34 @@ function showTable(answer) {
   const focused = document.activeElement?.dataset?.tract;
   const byLots = "lots" in answer.remaining.acres;
   byId("tracts-by-lots").hidden = !byLots;
+  byId("tracts-table").classList.toggle("by-lots", byLots);
+  const accepted = rowOf({}, figureCells(answer.remaining.acres));
+  const wrong = rowOf({ "aria-colspan": byLots ? "4" : "3" });
+  wrong.className = "wrong";
   const rows = answer.tracts.map((tract, index) => {
-    const { refused } = tract;
-    const pressed = { "data-tract": String(index), "aria-pressed": String(index === selected) };
-    const pick = make("button", { type: "button", ...pressed }, tract.name);
-    const words = refused === undefined ? withoutHeading(tract.canonical) : refusalWords(refused);
-    return make(
-      "tr",
-      { class: refused === undefined ? (index === selected ? "chosen" : null) : "wrong" },
-      make("th", { scope: "row" }, pick),
-      ...(refused === undefined ? figureCells(tract.acres) : [make("td", { colspan: byLots ? 3 : 2 })]),
-      make("td", {}, overlapping.has(index) ? `${words} (overlaps)` : words),
-    );
+    const row = (tract.refused === undefined ? accepted : wrong).cloneNode(true);
+    const pick = row.firstChild.firstChild;
+    pick.textContent = tract.name;
+    pick.dataset.tract = String(index);
+    pick.setAttribute("aria-pressed", String(index === selected));
+    if (tract.refused === undefined) {
+      figuresOf(tract.acres).forEach((figure, place) => (row.children[place + 1].textContent = figure));
+      if (index === selected) row.className = "chosen";
+    }
+    const words = tract.refused === undefined ? withoutHeading(tract.canonical) : refusalWords(tract.refused);
+    row.lastChild.textContent = overlapping.has(index) ? `${words} (overlaps)` : words;
+    return row;
   });
   byId("tracts-table").tBodies[0].replaceChildren(...rows);
   byId("tracts-table").hidden = false;
   if (focused !== undefined) document.querySelector(`button[data-tract="${focused}"]`)?.focus();
+}
+
+/** Returns a row that is copied for each tract: its button, its figures, and its words, in a cell with attributes. */
+function rowOf(attributes, figures = []) {
+  const pick = make("th", { scope: "row", role: "rowheader" }, make("button", { type: "button" }));
+  for (const cell of figures) cell.setAttribute("role", "cell");
+  return make("tr", { role: "row" }, pick, ...figures, make("td", { role: "cell", ...attributes }));
 }
 
 /** Returns a canonical description without its first line, which is the township. */

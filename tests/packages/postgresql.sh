@@ -1,0 +1,32 @@
+# The package of the extension for PostgreSQL, beside the server of Debian: the statements of docs/POSTGRESQL.md are run in
+# a database, an earlier version of the extension is updated, and the package is removed.
+programs=/usr/lib/postgresql/15/bin
+as_server() { (cd "$work/server" && runuser -u postgres -- "$@"); }
+sql() { psql -X -q -A -t -h "$work/server" -U postgres "$@" 2>&1; }
+
+files > "$work/before"
+installs 'the extension' /given/dist/postgresql-15-township_*_amd64.deb
+try 'its documentation' test -f /usr/share/doc/postgresql-15-township/copyright
+mkdir "$work/server"
+chmod 711 "$work"
+chown postgres "$work/server"
+try 'a database server' as_server "$programs/initdb" -D "$work/server/data" -A trust -U postgres -E UTF8 --no-locale -N
+try 'it starts' as_server "$programs/pg_ctl" -D "$work/server/data" -l "$work/server/log" -w -t 60 \
+    -o "-c listen_addresses='' -c unix_socket_directories='$work/server'" start
+
+try 'a database' createdb -h "$work/server" -U postgres -T template0 documents
+sed -n '/^```sql$/,/^```$/{ /^```/d; p; }' "$root/docs/POSTGRESQL.md" > "$work/shown"
+grep -v '^--' "$work/shown" > "$work/statements"
+sed -n 's/^-- //p' "$work/shown" > "$work/wanted"
+(cd "$root" && sql -d documents < "$work/statements") > "$work/found"
+same 'docs/POSTGRESQL.md'
+try 'a database of the first version' createdb -h "$work/server" -U postgres -T template0 first
+sql -d first -c "CREATE EXTENSION township VERSION '1.0.0'" -c 'ALTER EXTENSION township UPDATE' \
+    -c "SELECT extversion FROM pg_extension WHERE extname = 'township'" > "$work/found"
+sed -n "s/^default_version = '\(.*\)'/\1/p" "$root/postgresql/township.control" > "$work/wanted"
+same 'the update of the first version'
+
+try 'the server stops' as_server "$programs/pg_ctl" -D "$work/server/data" -m fast -w stop
+try 'apt removes the extension' apt-get purge -y postgresql-15-township
+files > "$work/after"
+try 'nothing is left of the extension' diff "$work/before" "$work/after"
