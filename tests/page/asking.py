@@ -34,7 +34,7 @@ class Interface:
 
     def send(self, method: str, path: str, body: Optional[bytes] = None, **headers: str) -> Reply:
         """Send one request, whose headers are named with underscores for hyphens."""
-        connection = http.client.HTTPConnection("127.0.0.1", self.port, timeout=30)
+        connection = http.client.HTTPConnection("127.0.0.1", self.port, timeout=120)
         try:
             named = {name.replace("_", "-"): value for name, value in headers.items()}
             connection.request(method, path, body, named)

@@ -3,6 +3,7 @@ from __future__ import annotations
 
 import csv
 import io
+import os
 import xml.etree.ElementTree as ET
 from pathlib import Path
 
@@ -219,8 +220,9 @@ def test_long_texts_are_answered_at_once(page: Page) -> None:
     listed = "name,description\n" + "".join(f'{k},"sec. 8, {part}."\n' for k, part in enumerate(parts))
     milliseconds += [time_to_answer(page, "#tracts", "#tracts-answer", listed, "1000 tracts") for _ in range(3)]
     print("milliseconds to the answer:", milliseconds)
-    # A machine that does other work at the same time takes longer.
-    assert min(milliseconds[:3]) < 600 and min(milliseconds[3:]) < 600
+    # A machine that does other work takes longer: as many times as there are processes for each processor.
+    most = 300 * max(1.0, os.getloadavg()[0] / (os.cpu_count() or 1))
+    assert min(milliseconds[:3]) < most and min(milliseconds[3:]) < most
 
 
 def time_to_answer(page: Page, area: str, answer: str, text: str, wanted: str) -> float:

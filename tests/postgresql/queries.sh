@@ -29,6 +29,23 @@ same 'the union of 5,000 lands in parallel'
 sql -d queries -c "$workers" -c "EXPLAIN (COSTS OFF) $united" > "$work/plan"
 try 'the union is made by the workers' grep -q 'Partial Aggregate' "$work/plan"
 
+# The planner expects about as many pairs that overlap as there are: 19,912 of these 16 million.
+sql -d queries -c "CREATE TABLE spread AS SELECT land(made_up_township(n, 40), made_up_description(n)) AS land
+    FROM generate_series(1, 4000) AS n" -c 'ANALYZE spread' > "$work/lost"
+pairs='SELECT FROM spread a JOIN spread b ON a.land && b.land'
+expected=$(sql -d queries -c "EXPLAIN $pairs" | sed -n '1s/.* rows=\([0-9]*\) .*/\1/p')
+shows 'pairs that overlap' 19912 sql -d queries -c "SELECT count(*) FROM ($pairs) AS pairs"
+try "the planner expects enough of them: $expected" [ "${expected:-0}" -gt 5000 ]
+try "the planner expects not too many: $expected" [ "${expected:-0}" -lt 80000 ]
+
+# An aggregate with 200 million pairs to compare ends at once when its time is over.
+sql -d queries -c "CREATE TABLE crowded AS SELECT n AS id, land(made_up_township(1, 1), made_up_description(n)) AS land
+    FROM generate_series(1, 20000) AS n" > "$work/lost"
+begun=$(date +%s)
+shows 'an aggregate is canceled' 'ERROR:  canceling statement due to statement timeout' \
+    psql -X -q -A -t -d queries -c 'SET statement_timeout = 300' -c 'SELECT overlaps(id, land) FROM crowded'
+try 'it is canceled at once' [ $(($(date +%s) - begun)) -lt 5 ]
+
 # A long query ends when it is canceled, and when its time is over.
 long="SELECT count(acres(plat, 'sec. 14, NE1/4.' || repeat(' ', n::int % 7)))
     FROM plats, generate_series(1, 1000000000) AS n"
