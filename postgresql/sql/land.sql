@@ -75,6 +75,9 @@ SELECT union_of(land) IS NULL AS nothing FROM parts WHERE name = 'no such part';
 SELECT overlaps(name, land ORDER BY name COLLATE "C") FROM parts;
 SELECT overlaps(length(name), land) FROM parts WHERE name IN ('lots', 'half');
 
+SELECT overlaps(id, land) FROM (VALUES (1, land(:'heading', 'sec. 14.')), (2, land(:'heading', 'sec. 15.')),
+    (3, land(:'heading', 'sec. 14, N1/2.'))) AS last(id, land);
+
 -- Storage: 4 bytes for the length, 9, and for each section 1 to 129.
 SELECT description, pg_column_size(land(:'heading', description)) AS bytes
 FROM (VALUES ('sec. 14.'), ('sec. 14, NE1/4.'), ('sec. 5, lot 1.'), ('sec. 14, NE1/4NE1/4NE1/4.'), ('secs. 1 thru 36.'),
@@ -134,6 +137,19 @@ FROM (
     FROM found
 ) AS compared
 GROUP BY operator, way ORDER BY operator COLLATE "C", way COLLATE "C";
+
+-- So many lands of a single township that no page of the index is shared with another one. Only empty land is
+-- contained in a section in which there are none.
+CREATE TABLE crowded AS
+SELECT n AS id, land(:'heading', format('sec. %s, %s1/4%s1/4.', 8 + n % 10, (ARRAY['NE', 'NW', 'SW', 'SE'])[1 + n / 3 % 4],
+    (ARRAY['NE', 'NW', 'SW', 'SE'])[1 + n / 7 % 4])) AS land
+FROM generate_series(1, 2000) AS n;
+INSERT INTO crowded SELECT 2001, land - land FROM crowded WHERE id = 1;
+CREATE INDEX ON crowded USING gist (land);
+SET enable_seqscan = off;
+SELECT id FROM crowded WHERE land <@ land(:'heading', 'sec. 36.');
+SELECT id FROM crowded WHERE land = land(:'heading', 'sec. 36.') - land(:'heading', 'sec. 36.');
+RESET enable_seqscan;
 
 -- What is in both and what is in the first alone are the first; their acres add up, and so do those of the
 -- union.
