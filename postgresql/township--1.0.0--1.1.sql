@@ -35,3 +35,9 @@ CREATE FUNCTION refusal(
     OUT message text, OUT excerpt text, OUT help text
 ) AS 'MODULE_PATHNAME', 'twpg_refusal_of_land_by_lots' LANGUAGE C IMMUTABLE STRICT PARALLEL SAFE COST 50;
 COMMENT ON FUNCTION refusal(lots, land) IS 'why land has no acreage by a lot table, or NULL if it has';
+
+-- The parts of land.
+
+CREATE FUNCTION parts(land land, OUT section int4, OUT lot int4, OUT part land) RETURNS SETOF record
+AS 'MODULE_PATHNAME', 'twpg_parts' LANGUAGE C IMMUTABLE STRICT PARALLEL SAFE COST 50 ROWS 4;
+COMMENT ON FUNCTION parts(land) IS 'the parts of land that its text names: lots, and other parts of sections';

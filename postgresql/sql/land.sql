@@ -53,6 +53,16 @@ SELECT 't2n r3w no land'::land = land AS read_again FROM parts WHERE name = 'emp
 SELECT acres(plat, land) FROM parts, plats WHERE parts.name = 'empty' AND plats.name = 'uneven';
 SELECT a.land + b.land FROM parts a, parts b WHERE a.name = 'half' AND b.name = 'elsewhere';
 
+-- The parts that the text names: whole sections, lots, and other parts. Together they are the land.
+SELECT section, lot, part FROM parts('T. 2 N., R. 3 W., sec. 6, lots 7 and 2, E1/2SW1/4; sec. 14; sec. 15, NE1/4, SW1/4.');
+SELECT count(*) FROM parts AS lands, parts(land) WHERE name = 'empty';
+SELECT section, lot FROM parts(NULL::land);
+SELECT count(*) AS parts, count(lot) AS lots, union_of(part) = land('T. 1 S., R. 1 E.', 'secs. 1 thru 36.') AS whole
+FROM parts('T. 1 S., R. 1 E., secs. 1 thru 36.');
+SELECT count(*) AS parts, sum((part && smallest)::int) AS with_it
+FROM (VALUES ('T. 2 N., R. 3 W., sec. 36, SW1/4SW1/4SW1/4SW1/4SW1/4.'::land)) AS smallest (smallest),
+    parts('T. 2 N., R. 3 W., sec. 36, SW1/4SW1/4SW1/4SW1/4SW1/4, NE1/4NE1/4NE1/4NE1/4NE1/4, W1/2NW1/4.');
+
 -- As sets of places. Empty land is contained in all land of its township, and shares a place with none.
 SELECT a.name, b.name, a.land && b.land AS overlap, a.land @> b.land AS contains, a.land <@ b.land AS contained,
        a.land = b.land AS same
