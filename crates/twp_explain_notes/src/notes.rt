@@ -61,7 +61,11 @@ fn refused_record<'a>(
         (IsRecordOf notes.now.bytes.now fault refusal.at)) }
 {
     match fault {
-        NotesFault::TooLarge | NotesFault::Missing(_) => Ok(None),
+        NotesFault::TooLarge
+        | NotesFault::Empty
+        | NotesFault::Missing(_)
+        | NotesFault::Read
+        | NotesFault::Memory => Ok(None),
         _ => Record::numbered(alloc, notes.bytes, refusal.at),
     }
 }

@@ -1,5 +1,6 @@
 //! Why field notes make no plat.
-ghost use Rattle.std.specs.Prelude.{◌≡◌, IfOk, IfSome};
+ghost use Rattle.std.specs.Prelude.{◌≡◌, IfOk, SomeIff};
+ghost use Rattle.twp_grid.specs.Lines.{IsLine};
 ghost use Rattle.twp_plat.specs.PlatFaults.{place_of as line_of_fault};
 ghost use Rattle.twp_diagnose.specs.RecordFields.{fields_span};
 ghost use Rattle.twp_explain_notes.specs.BlamedDistances.{distance_of, least_of, most_of};
@@ -97,7 +98,7 @@ fn help(
 
 /// The line that a fault is on.
 fn line_of(fault: PlatFault) -> Option<Line>
-    ensures { IfSome result (λ line. line ≡ line_of_fault fault) }
+    ensures { SomeIff result (IsLine (line_of_fault fault)) (line_of_fault fault) }
 {
     let (PlatFault::Irregular { line, .. }
     | PlatFault::ClosingShort(line)

@@ -8,7 +8,7 @@ returns c = record {
   found = c.in-Some-2.earlier;
   line = c.in-Some.line;
   names = c.in-Some.ensures.0;
-  also_names = rw c.in-Some-2.is at (rw c.in_ok-earlier.was at c.of_line.ensures);
+  is_first = rw c.in-Some-2.is at (rw c.in_ok-earlier.was at c.of_line.ensures);
   number_is = refl;
   line_is = λ small.
       subst (λ at. IsLineIn c.args.notes.now at c.line_in.result) c.start.ensures
