@@ -6,3 +6,4 @@ pub mod ManyFacts
 pub mod NoteFacts
 pub mod PlaceFacts
 pub mod WritingFacts
+pub mod PartFacts

@@ -33,12 +33,9 @@ pub(crate) fn find(
         ShowsDistance file.now.bytes.now fault finding.place) }
 {
     let Some(line) = line_of(fault) else {
-        return Ok(Finding {
-            refusal,
-            place: Location::Whole,
-            sentence: fault.to_string(alloc)?,
-            help: String::new(alloc),
-        });
+        let sentence = fault.to_string(alloc)?;
+        let help = String::new(alloc);
+        return Ok(Finding::new(refusal, Location::Whole, sentence, help));
     };
     let record = Record::of_line(alloc, file.bytes, line)?;
     let returned = notes.line(line);
@@ -53,6 +50,8 @@ pub(crate) fn find(
             fault,
             advice_of(&record, refusal, fault),
         )?,
+        other: None,
+        corrected: None,
     })
 }
 

@@ -7,7 +7,7 @@
 #include "check.h"
 
 #define THREADS 4
-#define CALLS 27
+#define CALLS 30
 
 /* The stack that the library requires, and room for the thread's own calls. */
 #define STACK ((256 + 64) * 1024)
@@ -24,6 +24,7 @@ typedef struct round_answers {
     uint32_t comparison;
     township_lots lots;
     township_fraction areas[3];
+    township_explanation explanations[3];
     uint8_t texts[CALLS][8192];
 } round_answers;
 
@@ -64,6 +65,19 @@ static void call_on_land(const township_plat *plat, round_answers *to) {
     answer[26] = township_lots_land_area(&to->lots, &other, &to->areas[2]);
 }
 
+/* Calls each function that explains and gives the parts of its text. */
+static void call_explaining(const township_plat *plat, round_answers *to) {
+    township_answer *answer = to->answers;
+
+    answer[27] = township_explain_notes_parts(BYTES("line,between\n"), BYTES("notes.csv"), to->texts[27],
+                                              sizeof to->texts[27], &to->explanations[0]);
+    answer[28] = township_explain_description_parts(plat, BYTES("sec. 14, NE1/4 and N1/2."), BYTES("land.txt"),
+                                                    to->texts[28], sizeof to->texts[28], &to->explanations[1]);
+    answer[29] = township_explain_list_parts(plat, BYTES("name,description\nA,\"sec. 14, NE/4.\"\n"),
+                                             BYTES("tracts.csv"), to->texts[29], sizeof to->texts[29],
+                                             &to->explanations[2]);
+}
+
 /* Calls each function once. */
 static void call_all(bytes notes, const township_plat *plat, round_answers *to) {
     static const size_t offsets[] = {0, 7, 21};
@@ -93,6 +107,7 @@ static void call_all(bytes notes, const township_plat *plat, round_answers *to) 
     answer[14] = township_acres_many(plat, BYTES("sec. 6.sec. 7, lot 5."), offsets, 3, TOWNSHIP_EXACT, to->many, 2);
     answer[15] = township_write_notes(plat, to->texts[15], sizeof to->texts[15]);
     call_on_land(plat, to);
+    call_explaining(plat, to);
 }
 
 /* Whether the land, the lot tables, and the areas of two rounds are the same. */
@@ -115,7 +130,13 @@ static bool same_round(const round_answers *a, const round_answers *b) {
         }
     }
     return memcmp(&a->read, &b->read, sizeof a->read) == 0 && memcmp(&a->area, &b->area, sizeof a->area) == 0 &&
-           memcmp(a->texts, b->texts, sizeof a->texts) == 0 && same_figures(a, b) && same_land(a, b);
+           memcmp(a->texts, b->texts, sizeof a->texts) == 0 &&
+           memcmp(a->explanations, b->explanations, sizeof a->explanations) == 0 && same_figures(a, b) && same_land(a, b);
+}
+
+/* Whether a call of a round explains a refusal. */
+static bool is_explained(int call) {
+    return (call >= 7 && call <= 9) || call >= 27;
 }
 
 static void *run(void *given) {
@@ -150,7 +171,7 @@ static round_answers *answers_alone(bytes notes, const township_plat *plat) {
     for (int call = 0; call < CALLS; call++) {
         uint32_t verdict = wanted->answers[call].verdict;
 
-        CHECK(call < 7 || call > 9 ? verdict == TOWNSHIP_ACCEPTED : wanted->texts[call][0] != 0);
+        CHECK(is_explained(call) ? wanted->texts[call][0] != 0 : verdict == TOWNSHIP_ACCEPTED);
     }
     CHECK(wanted->texts[11][0] != 0 && wanted->texts[12][0] != 0);
     CHECK(wanted->answers[7].verdict == TOWNSHIP_REFUSED && wanted->answers[8].verdict == TOWNSHIP_REFUSED &&

@@ -18,6 +18,7 @@ from __future__ import annotations
 from . import _library
 from ._account import Account
 from ._differences import Difference
+from ._explanation import OtherPlace
 from ._field_notes import Notes
 from ._figures import Report, Section, Tract
 from ._land import Land
@@ -40,6 +41,7 @@ __all__ = [
     "NorthSouth",
     "Note",
     "Notes",
+    "OtherPlace",
     "Plat",
     "Refusal",
     "Refused",
@@ -53,7 +55,7 @@ __all__ = [
 ]
 
 for _public in (
-    *(Answers, Difference, Land, Lots, Note, Notes, Plat),
+    *(Answers, Difference, Land, Lots, Note, Notes, OtherPlace, Plat),
     *(Refusal, Refused, Report, Section, Township, Tract),
 ):
     # Tracebacks and pickles name each class as users import it.

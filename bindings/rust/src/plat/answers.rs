@@ -5,6 +5,7 @@ use crate::account::Account;
 use crate::acres::Acres;
 use crate::answer::Fault;
 use crate::area::Area;
+use crate::explanation::explained_by;
 use crate::ffi::{self, Answer};
 use crate::figures::Figures;
 use crate::note::Note;
@@ -146,10 +147,11 @@ impl Plat {
     /// ```
     pub fn notes(&self, description: impl AsRef<[u8]>) -> Result<Vec<Note>, Refused> {
         let description = description.as_ref();
-        let (answer, text) =
-            text_by(|room| ffi::explain_description(&self.parts, description, DESCRIPTION, room));
+        let (answer, explained) = explained_by(|room, parts| {
+            ffi::explain_description_parts(&self.parts, description, DESCRIPTION, room, parts)
+        });
         match answer.accepted() {
-            Ok(answer) => Ok(Note::beside(answer, text)),
+            Ok(answer) => Ok(Note::beside(answer, explained)),
             Err(fault) => Err(self.description_refused(fault, description)),
         }
     }
@@ -326,15 +328,15 @@ impl Plat {
 
     /// Returns the refusal of a list of tracts on this plat, with its explanation.
     fn list_refused(&self, fault: Fault, list: &[u8]) -> Refused {
-        Refused::explained(fault, |room| {
-            ffi::explain_list(&self.parts, list, LIST, room)
+        Refused::explained(fault, |room, parts| {
+            ffi::explain_list_parts(&self.parts, list, LIST, room, parts)
         })
     }
 
     /// Returns the refusal of a description on this plat, with its explanation.
     fn description_refused(&self, fault: Fault, description: &[u8]) -> Refused {
-        Refused::explained(fault, |room| {
-            ffi::explain_description(&self.parts, description, DESCRIPTION, room)
+        Refused::explained(fault, |room, parts| {
+            ffi::explain_description_parts(&self.parts, description, DESCRIPTION, room, parts)
         })
     }
 }

@@ -1,9 +1,8 @@
 -- The distance to blame is shown in the record of the line, if there is one.
-use Rattle.std.proofs.Common.{refl, subst}
+use Rattle.std.proofs.Common.{subst}
 use Rattle.std.specs.Prelude.{MatchOption}
 use Rattle.twp_notes.specs.Records.{records_of}
 use Rattle.twp_diagnose.specs.RecordFields.{IsFirstOfLine, NoneNames}
-use Rattle.twp_diagnose.specs.declared.location.Location.TheVariants.{Whole}
 use Rattle.twp_explain_notes.specs.BlamedDistances.{IsShownIn}
 use Rattle.twp_explain_notes.proofs.BlamedFacts.{shown_distance, shown_no_line}
 use Rattle.twp_explain_notes.proofs.plat.find.Goals as goal
@@ -20,4 +19,5 @@ returns-clause-place c =
 
 pub returns-in_default-clause-place : goal.returns-in_default-clause-place
 returns-in_default-clause-place c =
-    shown_no_line c.args.file.now.bytes.now c.args.fault Whole c.in_default.ensures refl
+    shown_no_line c.args.file.now.bytes.now c.args.fault c.new.result.place c.in_default.ensures
+    c.new.ensures.place
