@@ -423,6 +423,51 @@ township_answer township_explain_list(const township_plat *plat, const uint8_t *
                                       size_t list_length, const uint8_t *name, size_t name_length,
                                       uint8_t *text, size_t room);
 
+/* What an explanation shows of the input. */
+#define TOWNSHIP_SHOWN_NOTHING 0u /* nothing: the fault is not at one place */
+#define TOWNSHIP_SHOWN_LINE 1u    /* a line, whose number is in the text; it contains the byte `start` */
+#define TOWNSHIP_SHOWN_BYTES 2u   /* the bytes from `start` to before `end`, which are underlined */
+
+/*
+ * The parts of an explanation or of a note, in bytes: offsets in the input, and offsets and lengths in the text. A part
+ * that the text does not have has length 0.
+ */
+typedef struct township_explanation {
+    uint32_t shown;           /* TOWNSHIP_SHOWN_NOTHING, _LINE, or _BYTES */
+    uint32_t has_other;       /* 1 if there is another place, where the same land, name, or line was given before, or 0 */
+    uint32_t other_record;    /* its record in a list or in field notes, counted from 1; 0 in a description */
+    uint32_t continued;       /* which lines of the hints continue the line before: bit 1 is for the second line, bit 2
+                                 for the third */
+    uint64_t start;           /* what is shown of the input */
+    uint64_t end;
+    uint64_t other_start;     /* the bytes of the other place in the input */
+    uint64_t other_end;
+    uint64_t sentence;        /* what is wrong or noted, without the location; a line feed in it, and the two spaces after
+                                 it, stand for a space */
+    uint64_t sentence_length;
+    uint64_t excerpt;         /* the lines that show the input, each with its line feed */
+    uint64_t excerpt_length;
+    uint64_t hints;           /* the lines that say how to correct it, or give related facts */
+    uint64_t hints_length;
+    uint64_t repair;          /* a description that can be read, with which the hints end; none if it was escaped there */
+    uint64_t repair_length;
+} township_explanation;
+
+/*
+ * The same as the functions above, with the parts of the text in `explanation`, so that nothing has to be read out of
+ * the text. If no text is written, `explanation` is unchanged.
+ */
+township_answer township_explain_notes_parts(const uint8_t *notes, size_t notes_length, const uint8_t *name,
+                                             size_t name_length, uint8_t *text, size_t room,
+                                             township_explanation *explanation);
+township_answer township_explain_description_parts(const township_plat *plat, const uint8_t *description,
+                                                   size_t description_length, const uint8_t *name,
+                                                   size_t name_length, uint8_t *text, size_t room,
+                                                   township_explanation *explanation);
+township_answer township_explain_list_parts(const township_plat *plat, const uint8_t *list, size_t list_length,
+                                            const uint8_t *name, size_t name_length, uint8_t *text, size_t room,
+                                            township_explanation *explanation);
+
 /* Writes the version of this library, such as `1.0.0`. */
 township_answer township_version(uint8_t *text, size_t room);
 

@@ -1,5 +1,6 @@
 """The shared library: how it is found, and how each of its verdicts is treated."""
 import ctypes
+import functools
 import os
 import re
 import subprocess
@@ -131,9 +132,9 @@ class Verdicts(unittest.TestCase):
         "write_notes": lambda: uneven().write_notes(),
         "acres_many": lambda: uneven().acres_many(["sec. 14."]),
         "version": township.version,
-        "explain_notes": lambda: township.Plat.read(b""),
-        "explain_description": lambda: uneven().acres(""),
-        "explain_list": lambda: uneven().report_csv(b""),
+        "explain_notes_parts": lambda: township.Plat.read(b""),
+        "explain_description_parts": lambda: uneven().acres(""),
+        "explain_list_parts": lambda: uneven().report_csv(b""),
         "land_read": lambda: uneven().land("sec. 14."),
         "land_acres": lambda: uneven().acres(LAND),
         "land_area": lambda: uneven().area(LAND),
@@ -152,7 +153,7 @@ class Verdicts(unittest.TestCase):
         for verdict, exception in self.EXCEPTIONS:
             answer = _library.Answer(verdict=verdict)
             with self.subTest(verdict=verdict):
-                with mock.patch.object(_library, "explain_description", lambda *_: answer):
+                with mock.patch.object(_library, "explain_description_parts", lambda *_: answer):
                     with self.assertRaises(exception):
                         uneven().notes("sec. 14.")
 
@@ -164,6 +165,25 @@ class Verdicts(unittest.TestCase):
                     with mock.patch.object(_library, name, lambda *_: answer), self.assertRaises(exception) as caught:
                         call()
                     self.assertNotIsInstance(caught.exception, township.Refused)
+
+    def test_texts_with_and_without_parts(self):
+        plat = ctypes.byref(uneven()._parts)
+        for given, alone, with_parts in (
+            ((b"line", 4), _library.explain_notes, _library.explain_notes_parts),
+            ((plat, b"sec. 14, NE1/4 SE1/4.", 21), _library.explain_description, _library.explain_description_parts),
+            ((plat, b"name\n", 5), _library.explain_list, _library.explain_list_parts),
+        ):
+            parts = _library.Explanation()
+            with_parts_of = functools.partial(self.call_with, with_parts, ctypes.byref(parts))
+            answer, text = _library.text_by(alone, *given, b"x", 1)
+            again, same_text = _library.text_by(with_parts_of, *given, b"x", 1)
+            with self.subTest(text=text):
+                self.assertEqual((bytes(answer), text), (bytes(again), same_text))
+                self.assertEqual(parts.shown, _library.SHOWN_BYTES)
+
+    @staticmethod
+    def call_with(call, parts, *arguments):
+        return call(*arguments, parts)
 
     def test_many_stop_for_want_of_memory(self):
         answer = _library.Answer(verdict=_library.NO_MEMORY)

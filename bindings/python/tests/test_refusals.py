@@ -191,17 +191,69 @@ class Sentences(RefusalCase):
         self.assertEqual(refused.sentence, sentence)
         self.assertEqual(str(refused), "description:1:9: " + sentence)
 
-    def test_all_parts_of_an_explanation(self):
-        for explanation, message in (
-            ("", "refused 1 at 2"),
-            ("township: notes: wrong\n", "notes: wrong"),
-            ("township: notes: wrong\n  help\n", "notes: wrong"),
-            ("township: notes:3: wrong\n  and so on\n 3 | line\n   | ^\n  help\n", "notes:3: wrong and so on"),
-            (f"township: {'x' * 85}\n  help\n", "x" * 85),
-            (f"township: {'x' * 85}\n  helps\n", f"{'x' * 85} helps"),
+    def test_hints_on_lines_that_continue(self):
+        # The hint is longer than two lines, and two hints take two lines.
+        for text, count in (("secs. 1 to 36; secs. 1 to 36.", 1), ("sec. 14, NE/4, NE/4, NE/4.", 2)):
+            with self.subTest(text=text):
+                refused = self.refused(even().acres, text)
+                shown = refused.explanation.splitlines()[3:]
+                self.assertEqual(" ".join(line.strip() for line in shown), " ".join(refused.hints))
+                self.assertEqual(len(refused.hints), count)
+
+    def test_repair_can_be_read(self):
+        refused = self.refused(even().acres, "sec. 14, NE/4, SW/4.")
+        self.assertEqual(refused.repair, "sec. 14, NE1/4, SW1/4.")
+        self.assertEqual(refused.hints[-1], "corrected: sec. 14, NE1/4, SW1/4.")
+        self.assertEqual(str(even().acres(refused.repair)), "320.00")
+        # White space is a space in the corrected text, which is on one line.
+        self.assertEqual(self.refused(even().acres, "sec. 14,\n\tNE/4, SW/4.").repair, refused.repair)
+        self.assertIsNone(self.refused(even().acres, "sec. 37.").repair)
+
+    def test_underlined_bytes(self):
+        # `¼` has two bytes, so N½NE¼ has 8.
+        for text, underlined in (
+            ("sec. 14, N½NE¼ and N½.", "N½"),
+            ("sec. 37, all.", "37"),
+            ("sec. 14, NE1/4 & SE1/4.", "&"),
+            ("sec. 14, ", ""),
         ):
-            with self.subTest(explanation=explanation):
-                self.assertEqual(str(township.Refused(1, 2, explanation=explanation)), message)
+            with self.subTest(text=text):
+                refused = self.refused(even().acres, text)
+                self.assertEqual(text.encode()[refused.start : refused.end].decode(), underlined)
+
+    def test_fault_that_is_not_at_one_place(self):
+        refused = self.refused(even().acres, " " * 65537)
+        self.assertEqual((refused.start, refused.end, refused.other), (None, None, None))
+
+
+class OtherPlaces(RefusalCase):
+    def shown(self, text, refused):
+        other = refused.other
+        return other.record, text[other.start : other.end]
+
+    def test_land_named_before(self):
+        text = "sec. 14, NE1/4 and N1/2."
+        refused = self.refused(even().acres, text)
+        self.assertEqual(self.shown(text, refused), (None, "NE1/4"))
+        self.assertIsNone(self.refused(even().acres, "sec. 37.").other)
+
+    def test_land_named_before_in_a_tract(self):
+        text = 'name,description\nA,"sec. 14, NE1/4 and N1/2."\n'
+        self.assertEqual(self.shown(text, self.refused(even().report_csv, text)), (None, "NE1/4"))
+
+    def test_tracts_that_overlap(self):
+        text = 'name,description\nA,sec. 13.\nB,"sec. 14, NE1/4."\nC,sec. 14.\n'
+        self.assertEqual(self.shown(text, self.refused(even().report_csv, text)), (3, '"sec. 14, NE1/4."'))
+
+    def test_name_repeated(self):
+        text = "name,description\nA,sec. 13.\nB,sec. 14.\nA,sec. 15.\n"
+        self.assertEqual(self.shown(text, self.refused(even().report_csv, text)), (2, "A"))
+
+    def test_line_returned_again(self):
+        lines = "line,between,and,quarter,corner\nT,2,N,3,W\nN,1,2,40.000,80.000\n"
+        text = f"{lines}N,2,3,40.000,80.000\nN,1,2,40.000,80.000\n"
+        refused = self.refused(township.Plat.read, text)
+        self.assertEqual(self.shown(text, refused), (3, "N,1,2,40.000,80.000"))
 
 
 class AsExceptions(RefusalCase):

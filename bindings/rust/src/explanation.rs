@@ -1,57 +1,127 @@
-//! The parts of an explanation, which is a text of at most 8 lines.
-//!
-//! It begins with the program, the name of the text, the line and column if there are any, and the
-//! sentence. An excerpt of the text may follow, and then help. A sentence that is too long for its
-//! line is continued on at most two more, which are indented.
+//! The parts of an explanation or of a note, as the library gives them.
+
+use crate::ffi::{self, Answer};
+use crate::text::text_by;
+use std::ops::Range;
 
 /// The beginning of every explanation.
 const PROGRAM: &str = "township: ";
 
-/// The most columns of a line, unless it has only one word.
-const COLUMNS: usize = 100;
-
-/// The most lines of a sentence.
-const SENTENCE_LINES: usize = 3;
-
-/// Returns the place and the sentence, on one line and without the program. It is empty if the
-/// explanation is.
-pub(crate) fn message_of(explanation: &str) -> String {
-    let mut lines = explanation.lines();
-    let mut shown: Vec<&str> = lines.next().into_iter().collect();
-    let has_excerpt = lines.clone().any(is_excerpt);
-    for line in lines {
-        if is_excerpt(line) || !(has_excerpt || continues(&shown, line)) {
-            break;
-        }
-        shown.push(line.trim());
-    }
-    let message = shown.join(" ");
-    message
-        .strip_prefix(PROGRAM)
-        .map_or(message.clone(), str::to_owned)
-}
-
-/// Returns whether a line is the first of an excerpt, such as `  1 | sec. 14.`.
-fn is_excerpt(line: &str) -> bool {
-    let number = line
-        .split_once(" | ")
-        .map(|(number, _)| number.trim_start());
-    number.is_some_and(|number| {
-        !number.is_empty() && number.bytes().all(|byte| byte.is_ascii_digit())
-    })
-}
-
-/// Returns whether a line continues a sentence: its first word would not fit on the line before.
+/// Another place that an explanation names: where the same land, name, or line was given before.
 ///
-/// If there is an excerpt, everything before it is the sentence. Otherwise this tells the sentence
-/// from help.
-fn continues(lines: &[&str], line: &str) -> bool {
-    let word = line.split_whitespace().next().unwrap_or_default();
-    let last = lines.last().copied().unwrap_or_default();
-    // The lines after the first were indented by two spaces.
-    let indent = if lines.len() > 1 { 2 } else { 0 };
-    let columns = indent + last.chars().count() + 1 + word.chars().count();
-    lines.len() < SENTENCE_LINES && columns > COLUMNS
+/// ```
+/// # let notes = include_bytes!(concat!(env!("CARGO_MANIFEST_DIR"), "/samples/b1.csv"));
+/// # let plat = township::Plat::read(notes)?;
+/// let description = "sec. 14, NE1/4 and N1/2.";
+/// let refused = plat.acres(description).unwrap_err();
+/// let other = refused.other().unwrap();
+/// assert_eq!((other.record, &description[other.span.clone()]), (None, "NE1/4"));
+/// # Ok::<(), township::Refused>(())
+/// ```
+#[derive(Clone, Debug, PartialEq, Eq, Hash)]
+#[cfg_attr(feature = "serde", derive(serde::Serialize, serde::Deserialize))]
+#[non_exhaustive]
+pub struct OtherPlace {
+    /// Its record in a list of tracts or in field notes, counted from 1. `None` in a description.
+    pub record: Option<u32>,
+    /// Its bytes in the input.
+    pub span: Range<usize>,
+}
+
+/// An explanation or a note, and its parts.
+#[derive(Clone, Debug, Default, PartialEq, Eq, Hash)]
+#[cfg_attr(feature = "serde", derive(serde::Serialize, serde::Deserialize))]
+pub(crate) struct Explained {
+    /// The text as it was written.
+    pub(crate) text: String,
+    /// The name of the text that is explained, and the line and column that are given.
+    pub(crate) location: String,
+    /// What is wrong, or noted, on one line.
+    pub(crate) sentence: String,
+    /// The hints, one each.
+    pub(crate) hints: Vec<String>,
+    /// The corrected description.
+    pub(crate) repair: Option<String>,
+    /// The bytes of the input that are underlined.
+    pub(crate) span: Option<Range<usize>>,
+    pub(crate) other: Option<OtherPlace>,
+}
+
+/// Calls a function that explains. Returns its answer and the explanation, which is empty if there is
+/// none.
+pub(crate) fn explained_by(
+    call: impl Fn(&mut [u8], &mut ffi::Explanation) -> Answer,
+) -> (Answer, Explained) {
+    let mut parts = ffi::Explanation::default();
+    let (answer, text) = text_by(|room| call(room, &mut parts));
+    (answer, Explained::new(text, parts))
+}
+
+impl Explained {
+    fn new(text: String, parts: ffi::Explanation) -> Explained {
+        let sentence = part(&text, parts.sentence, parts.sentence_length);
+        let hints = part(&text, parts.hints, parts.hints_length);
+        let repair = part(&text, parts.repair, parts.repair_length);
+        let head = &text[..usize_of(parts.sentence)];
+        Explained {
+            location: location_in(head).to_owned(),
+            sentence: on_one_line(sentence),
+            hints: hints_in(hints, parts.continued),
+            repair: (!repair.is_empty()).then(|| repair.to_owned()),
+            span: (parts.shown == ffi::SHOWN_BYTES).then(|| span(parts.start, parts.end)),
+            other: (parts.has_other != 0).then(|| OtherPlace {
+                record: (parts.other_record > 0).then_some(parts.other_record),
+                span: span(parts.other_start, parts.other_end),
+            }),
+            text,
+        }
+    }
+
+    /// Returns the location and the sentence, on one line.
+    pub(crate) fn message(&self) -> String {
+        format!("{}: {}", self.location, self.sentence)
+    }
+}
+
+/// Returns the location in what is before a sentence, such as `township: notes:12: `.
+fn location_in(head: &str) -> &str {
+    let head = head.strip_prefix(PROGRAM).unwrap_or(head);
+    head.trim_end().trim_end_matches(':')
+}
+
+/// Returns a part of a text.
+fn part(text: &str, start: u64, length: u64) -> &str {
+    let start = usize_of(start);
+    &text[start..start + usize_of(length)]
+}
+
+/// Returns lines that continue each other as one.
+fn on_one_line(lines: &str) -> String {
+    let lines: Vec<&str> = lines.lines().map(str::trim).collect();
+    lines.join(" ")
+}
+
+/// Returns the hints in some lines, of which some continue the line before.
+fn hints_in(lines: &str, continued: u32) -> Vec<String> {
+    let mut hints: Vec<String> = Vec::new();
+    for (index, line) in lines.lines().map(str::trim).enumerate() {
+        match hints.last_mut() {
+            Some(hint) if continued >> index & 1 == 1 => {
+                hint.push(' ');
+                hint.push_str(line);
+            }
+            _ => hints.push(line.to_owned()),
+        }
+    }
+    hints
+}
+
+fn span(start: u64, end: u64) -> Range<usize> {
+    usize_of(start)..usize_of(end)
+}
+
+fn usize_of(number: u64) -> usize {
+    usize::try_from(number).expect("an offset in memory fits there")
 }
 
 #[cfg(test)]
@@ -59,37 +129,28 @@ mod tests {
     use super::*;
 
     #[test]
-    fn sentence_of_one_line() {
-        for rest in ["", "  1 | sec. 14\n    | ^\n", "  help\n"] {
-            let explanation = format!("township: land.txt:1:1: wrong\n{rest}");
-            assert_eq!(message_of(&explanation), "land.txt:1:1: wrong");
+    fn nothing_is_explained() {
+        let nothing = Explained::new(String::new(), ffi::Explanation::default());
+        assert_eq!(nothing, Explained::default());
+    }
+
+    #[test]
+    fn hints_on_lines_that_continue() {
+        let lines = "  one\n  and more\n  two\n";
+        assert_eq!(hints_in(lines, 0b010), ["one and more", "two"]);
+        assert_eq!(hints_in(lines, 0b110), ["one and more two"]);
+        assert_eq!(hints_in(lines, 0), ["one", "and more", "two"]);
+        assert!(hints_in("", 0).is_empty());
+    }
+
+    #[test]
+    fn location_is_before_the_sentence() {
+        for (head, location) in [
+            ("township: notes: ", "notes"),
+            ("township: notes:12: ", "notes:12"),
+            ("township: land.txt:1:20: ", "land.txt:1:20"),
+        ] {
+            assert_eq!(location_in(head), location);
         }
-        assert_eq!(message_of(""), "");
-        assert_eq!(message_of("another form\n"), "another form");
-    }
-
-    #[test]
-    fn sentence_that_is_continued_before_an_excerpt() {
-        let explanation =
-            "township: notes:12: this line\n  is longer\n 12 | W,6,7\n    | ^\n  help\n";
-        assert_eq!(message_of(explanation), "notes:12: this line is longer");
-    }
-
-    #[test]
-    fn sentence_that_is_continued_without_an_excerpt() {
-        // The first line has 100 columns with the next word, and then 101.
-        for (length, message_ends) in [(96, "x"), (97, "x and more")] {
-            let line = format!("township: {}", "x".repeat(length - 10));
-            let message = message_of(&format!("{line}\n  and more\n"));
-            assert!(message.ends_with(message_ends), "{message}");
-            assert_eq!(message.len(), length - 10 + message_ends.len() - 1);
-        }
-    }
-
-    #[test]
-    fn sentence_of_three_lines_at_most() {
-        let long = "x".repeat(98);
-        let explanation = format!("township: {long}\n  {long}\n  {long}\n  {long}\n");
-        assert_eq!(message_of(&explanation), format!("{long} {long} {long}"));
     }
 }

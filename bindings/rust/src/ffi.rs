@@ -1,6 +1,7 @@
 //! The library's functions and structs, as declared in `include/township.h`. Each function has a
 //! safe wrapper here or in a module below; the rest of the crate contains no unsafe code.
 
+mod explanations;
 mod land;
 mod lists;
 mod lots;
@@ -8,12 +9,15 @@ mod structs;
 #[cfg(test)]
 mod tests;
 
+pub(crate) use self::explanations::{
+    explain_description_parts, explain_list_parts, explain_notes_parts,
+};
 pub(crate) use self::land::{land_acres, land_area, land_combine, land_compare, land_parts};
 pub(crate) use self::land::{land_read, land_text};
 pub(crate) use self::lists::{account, overlaps, report, report_each};
 pub(crate) use self::lots::{lots_acres, lots_area, lots_land_acres, lots_land_area, lots_read};
-pub(crate) use self::structs::{Answer, Designation, Figures, Fraction, Land, Lots, Part, Parts};
-pub(crate) use self::structs::{Overlap, Totals, Tract, TractAnswer};
+pub(crate) use self::structs::{Answer, Designation, Explanation, Figures, Fraction, Land, Lots};
+pub(crate) use self::structs::{Overlap, Part, Parts, Totals, Tract, TractAnswer};
 
 // Verdicts.
 pub(crate) const ACCEPTED: u32 = 0;
@@ -29,6 +33,9 @@ pub(crate) const NO_LOTS: u32 = 9;
 pub(crate) const NO_TOWNSHIP: u32 = 10;
 pub(crate) const NO_OPERATION: u32 = 11;
 pub(crate) const OTHER_TOWNSHIP: u32 = 12;
+
+// What an explanation shows of the input.
+pub(crate) const SHOWN_BYTES: u32 = 2;
 
 /// The most lots of a section, and the number of sections.
 pub(crate) const LOTS_MOST: usize = 7;
@@ -105,6 +112,8 @@ extern "C" {
         answers: *mut Answer,
         room: usize,
     ) -> Answer;
+    // Outside tests, those with the parts of the text, in a module below, take the place of these three.
+    #[cfg(test)]
     fn township_explain_notes(
         notes: *const u8,
         notes_length: usize,
@@ -113,6 +122,7 @@ extern "C" {
         text: *mut u8,
         room: usize,
     ) -> Answer;
+    #[cfg(test)]
     fn township_explain_description(
         plat: *const Parts,
         description: *const u8,
@@ -122,6 +132,7 @@ extern "C" {
         text: *mut u8,
         room: usize,
     ) -> Answer;
+    #[cfg(test)]
     fn township_explain_list(
         plat: *const Parts,
         list: *const u8,
@@ -223,6 +234,7 @@ pub(crate) fn acres_many(
 }
 
 /// Writes an explanation of why field notes are refused. The text calls them `name`.
+#[cfg(test)]
 pub(crate) fn explain_notes(notes: &[u8], name: &str, room: &mut [u8]) -> Answer {
     // SAFETY: slices meet the library's requirements.
     unsafe {
@@ -239,6 +251,7 @@ pub(crate) fn explain_notes(notes: &[u8], name: &str, room: &mut [u8]) -> Answer
 
 /// Writes an explanation of why a description is refused, or a note on an accepted one. The text
 /// calls it `name`.
+#[cfg(test)]
 pub(crate) fn explain_description(
     plat: &Parts,
     description: &[u8],
@@ -260,6 +273,7 @@ pub(crate) fn explain_description(
 }
 
 /// Writes an explanation of why a list of tracts is refused. The text calls it `name`.
+#[cfg(test)]
 pub(crate) fn explain_list(plat: &Parts, list: &[u8], name: &str, room: &mut [u8]) -> Answer {
     // SAFETY: slices and a reference meet the library's requirements.
     unsafe {

@@ -110,8 +110,8 @@ impl Land {
         let (answer, data) = ffi::land_read(&township.designation(), description);
         match answer.accepted() {
             Ok(_) => Ok(Land { data }),
-            Err(fault) => Err(Refused::explained(fault, |room| {
-                ffi::explain_description(plat, description, DESCRIPTION, room)
+            Err(fault) => Err(Refused::explained(fault, |room, parts| {
+                ffi::explain_description_parts(plat, description, DESCRIPTION, room, parts)
             })),
         }
     }

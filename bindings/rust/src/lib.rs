@@ -59,6 +59,7 @@ pub use self::acres::Acres;
 pub use self::answer::OtherTownship;
 pub use self::area::Area;
 pub use self::difference::Difference;
+pub use self::explanation::OtherPlace;
 pub use self::figures::{Figures, Section};
 pub use self::land::{Comparison, Land, NoLand, Rows};
 pub use self::lots::{Lots, NoLandAcres};

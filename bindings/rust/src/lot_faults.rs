@@ -1,6 +1,7 @@
 //! Sentences for the refusals of lot tables, which the library does not explain.
 
 use crate::answer::Fault;
+use crate::explanation::Explained;
 use crate::refused::Refused;
 
 /// The number of the refusal of land with a lot that the table lacks.
@@ -14,14 +15,13 @@ pub(crate) fn refused_lots(fault: Fault, source: &str) -> Refused {
         Some(inner) => format!("record {at}: {}", sentence_of(inner.number, inner.at)),
         None => sentence_of(fault.refusal.number, at),
     };
-    Refused {
-        number: fault.refusal.number,
-        at,
-        inner: fault.inner,
-        line: None,
-        column: None,
-        explanation: format!("township: {source}: {sentence}\n"),
-    }
+    let explained = Explained {
+        text: format!("township: {source}: {sentence}\n"),
+        location: source.to_owned(),
+        sentence,
+        ..Explained::default()
+    };
+    Refused::new(fault, explained)
 }
 
 /// Returns what is wrong. A library that is newer than this crate may refuse for something else.

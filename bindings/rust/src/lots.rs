@@ -194,8 +194,8 @@ impl Lots {
             return refused_lots(fault, DESCRIPTION);
         }
         let plat = self.township().nominal_plat();
-        Refused::explained(fault, |room| {
-            ffi::explain_description(&plat, description, DESCRIPTION, room)
+        Refused::explained(fault, |room, parts| {
+            ffi::explain_description_parts(&plat, description, DESCRIPTION, room, parts)
         })
     }
 }

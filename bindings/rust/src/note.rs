@@ -1,11 +1,9 @@
 //! Notes on places of an accepted description that can be read in two ways.
 
-use crate::explanation::message_of;
+use crate::explanation::Explained;
 use crate::ffi::Answer;
 use std::fmt;
-
-/// What a note's sentence begins with.
-const MARK: &str = "note: ";
+use std::ops::Range;
 
 /// A note on a place of an accepted description that can be read in two ways.
 ///
@@ -17,6 +15,7 @@ const MARK: &str = "note: ";
 /// let notes = plat.notes("sec. 14, NE1/4 SE1/4.")?;
 /// assert_eq!(notes.len(), 1);
 /// assert_eq!((notes[0].line, notes[0].column), (1, 16));
+/// assert_eq!(notes[0].span, 15..20);
 /// assert_eq!(notes[0].text, "\
 /// township: description:1:16: note: NE1/4 SE1/4 is read as one part of 40.00 acres, the NE1/4 of the
 ///   SE1/4; if two parts were meant, write a comma after NE1/4 (320.00 acres)
@@ -35,18 +34,25 @@ pub struct Note {
     pub column: u32,
     /// The note, in the form that the program `township` prints on standard error.
     pub text: String,
+    /// The bytes of the description that the note is about.
+    pub span: Range<usize>,
+    message: String,
+    sentence: String,
 }
 
 impl Note {
     /// Returns the note beside the answer that accepts a description, or nothing.
-    pub(crate) fn beside(answer: Answer, text: String) -> Vec<Note> {
-        if text.is_empty() {
+    pub(crate) fn beside(answer: Answer, explained: Explained) -> Vec<Note> {
+        let Some(span) = explained.span.clone() else {
             return Vec::new();
-        }
+        };
         vec![Note {
             line: answer.line,
             column: answer.column,
-            text,
+            span,
+            message: explained.message(),
+            sentence: explained.sentence,
+            text: explained.text,
         }]
     }
 
@@ -60,18 +66,12 @@ impl Note {
     /// # Ok::<(), township::Refused>(())
     /// ```
     pub fn sentence(&self) -> String {
-        let message = self.to_string();
-        // A location contains no space, so it ends at the first colon followed by a space.
-        let sentence = match message.split_once(": ") {
-            Some((_, sentence)) => sentence,
-            None => &message,
-        };
-        sentence.strip_prefix(MARK).unwrap_or(sentence).to_owned()
+        self.sentence.clone()
     }
 }
 
 impl fmt::Display for Note {
     fn fmt(&self, f: &mut fmt::Formatter<'_>) -> fmt::Result {
-        f.write_str(&message_of(&self.text))
+        f.write_str(&self.message)
     }
 }

@@ -64,8 +64,8 @@ impl Plat {
         let (answer, parts) = ffi::read(notes);
         match answer.accepted() {
             Ok(_) => Ok(Plat { parts }),
-            Err(fault) => Err(Refused::explained(fault, |room| {
-                ffi::explain_notes(notes, NOTES, room)
+            Err(fault) => Err(Refused::explained(fault, |room, parts| {
+                ffi::explain_notes_parts(notes, NOTES, room, parts)
             })),
         }
     }

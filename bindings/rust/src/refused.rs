@@ -1,11 +1,11 @@
 //! Refusals.
 
 use crate::answer::Fault;
-use crate::explanation::message_of;
-use crate::ffi::Answer;
-use crate::text::text_by;
+use crate::explanation::{explained_by, Explained, OtherPlace};
+use crate::ffi::{self, Answer};
 use std::error::Error;
 use std::fmt;
+use std::ops::Range;
 
 // The name that the library uses for each text when it explains a refusal.
 pub(crate) const DESCRIPTION: &str = "description";
@@ -42,6 +42,8 @@ pub struct Refusal {
 ///     |                    ^^^^
 ///   `NE1/4` at 1:10 overlaps it; both include sec. 14, NE1/4.
 /// ");
+/// assert_eq!(refused.span(), Some(19..23));
+/// assert_eq!(refused.hints(), ["`NE1/4` at 1:10 overlaps it; both include sec. 14, NE1/4."]);
 /// # Ok::<(), township::Refused>(())
 /// ```
 #[derive(Clone, Debug, PartialEq, Eq, Hash)]
@@ -63,37 +65,74 @@ pub struct Refused {
     pub column: Option<u32>,
     /// The explanation, in the form that the program `township` prints on standard error.
     pub explanation: String,
+    // On the heap, since a result with a refusal should be small.
+    parts: Box<Explained>,
 }
 
 impl Refused {
     /// Returns the refusal for a fault, with the library's explanation. Panics if memory runs out.
-    pub(crate) fn explained(fault: Fault, explain: impl Fn(&mut [u8]) -> Answer) -> Refused {
-        let (told, explanation) = text_by(explain);
+    pub(crate) fn explained(
+        fault: Fault,
+        explain: impl Fn(&mut [u8], &mut ffi::Explanation) -> Answer,
+    ) -> Refused {
+        let (told, explained) = explained_by(explain);
         assert_eq!(
             told.accepted(),
             Err(fault),
             "the library explains what it refused"
         );
         Refused {
-            number: fault.refusal.number,
-            at: fault.refusal.at,
-            inner: fault.inner,
             line: counted(told.line),
             column: counted(told.column),
-            explanation,
+            ..Refused::new(fault, explained)
         }
     }
 
-    /// Returns the refusal for a fault, without an explanation.
-    pub(crate) fn unexplained(fault: Fault) -> Refused {
+    /// Returns the refusal for a fault that is on no line.
+    pub(crate) fn new(fault: Fault, mut explained: Explained) -> Refused {
         Refused {
             number: fault.refusal.number,
             at: fault.refusal.at,
             inner: fault.inner,
             line: None,
             column: None,
-            explanation: String::new(),
+            explanation: std::mem::take(&mut explained.text),
+            parts: Box::new(explained),
         }
+    }
+
+    /// Returns the refusal for a fault, without an explanation.
+    pub(crate) fn unexplained(fault: Fault) -> Refused {
+        Refused::new(fault, Explained::default())
+    }
+
+    /// Returns the bytes of the input that the explanation underlines. `None` if it underlines none.
+    pub fn span(&self) -> Option<Range<usize>> {
+        self.parts.span.clone()
+    }
+
+    /// Returns the other place that the explanation names, where the same land, name, or line was given
+    /// before.
+    pub fn other(&self) -> Option<&OtherPlace> {
+        self.parts.other.as_ref()
+    }
+
+    /// Returns how to correct the input, or related facts.
+    pub fn hints(&self) -> &[String] {
+        &self.parts.hints
+    }
+
+    /// Returns the corrected description, if all faults can be repaired. It can be read.
+    ///
+    /// ```
+    /// # let notes = include_bytes!(concat!(env!("CARGO_MANIFEST_DIR"), "/samples/b1.csv"));
+    /// # let plat = township::Plat::read(notes)?;
+    /// let refused = plat.acres("sec. 14, NE/4.").unwrap_err();
+    /// assert_eq!(refused.repair(), Some("sec. 14, NE1/4."));
+    /// # Ok::<(), township::Refused>(())
+    /// ```
+    pub fn repair(&self) -> Option<&str> {
+        self.parts.repair.as_deref()
     }
 
     /// Returns what is wrong, without the location.
@@ -107,12 +146,10 @@ impl Refused {
     /// # Ok::<(), township::Refused>(())
     /// ```
     pub fn sentence(&self) -> String {
-        let message = self.to_string();
-        // A location contains no space, so it ends at the first colon followed by a space.
-        match message.split_once(": ") {
-            Some((_, sentence)) => sentence.to_owned(),
-            None => message,
+        if self.parts.sentence.is_empty() {
+            return self.to_string();
         }
+        self.parts.sentence.clone()
     }
 }
 
@@ -129,10 +166,10 @@ impl fmt::Display for Refusal {
 
 impl fmt::Display for Refused {
     fn fmt(&self, f: &mut fmt::Formatter<'_>) -> fmt::Result {
-        match message_of(&self.explanation).as_str() {
-            "" => write!(f, "refused {} at {}", self.number, self.at),
-            message => f.write_str(message),
+        if self.parts.sentence.is_empty() {
+            return write!(f, "refused {} at {}", self.number, self.at);
         }
+        f.write_str(&self.parts.message())
     }
 }
 
@@ -145,24 +182,14 @@ mod tests {
 
     const OVERLAP: Refusal = Refusal { number: 67, at: 19 };
 
-    fn explained(explanation: &str) -> Refused {
-        Refused {
-            number: OVERLAP.number,
-            at: OVERLAP.at,
-            inner: None,
-            line: None,
-            column: None,
-            explanation: explanation.to_owned(),
-        }
-    }
+    const FAULT: Fault = Fault {
+        refusal: OVERLAP,
+        inner: None,
+    };
 
     /// Explains the refusal `OVERLAP` by an answer with these values.
     fn told(verdict: u32, number: u32, at: u32) -> Refused {
-        let fault = Fault {
-            refusal: OVERLAP,
-            inner: None,
-        };
-        Refused::explained(fault, |_| Answer {
+        Refused::explained(FAULT, |_, _| Answer {
             verdict,
             number,
             at,
@@ -172,29 +199,29 @@ mod tests {
 
     #[test]
     fn without_an_explanation() {
-        for nothing in ["", "\n", "township: \n"] {
-            let refused = explained(nothing);
-            assert_eq!(refused.to_string(), "refused 67 at 19");
-            assert_eq!(refused.sentence(), "refused 67 at 19");
-        }
+        let refused = Refused::new(FAULT, Explained::default());
+        assert_eq!(refused.to_string(), "refused 67 at 19");
+        assert_eq!(refused.sentence(), "refused 67 at 19");
     }
 
     #[test]
     fn sentence_comes_after_the_place() {
-        for (line, sentence) in [
-            ("description:1:20: this land: twice", "this land: twice"),
-            ("notes: missing record: W,6,7", "missing record: W,6,7"),
-            ("tracts:2:23: tract `A`: twice", "tract `A`: twice"),
-        ] {
-            let refused = explained(&format!("township: {line}\n  1 | more: text\n"));
-            assert_eq!(refused.to_string(), line);
-            assert_eq!(refused.sentence(), sentence);
-        }
+        let refused = Refused::new(
+            FAULT,
+            Explained {
+                location: "tracts:2:23".to_owned(),
+                sentence: "tract `A`: twice".to_owned(),
+                ..Explained::default()
+            },
+        );
+        assert_eq!(refused.to_string(), "tracts:2:23: tract `A`: twice");
+        assert_eq!(refused.sentence(), "tract `A`: twice");
     }
 
     #[test]
     fn fault_on_no_line() {
-        assert_eq!(told(REFUSED, 67, 19), explained(""));
+        let refused = Refused::new(FAULT, Explained::default());
+        assert_eq!(told(REFUSED, 67, 19), refused);
     }
 
     #[test]

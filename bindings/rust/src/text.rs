@@ -12,7 +12,7 @@ const USUAL_ROOM: usize = 4096;
 ///
 /// If the buffer is too small, the library reports the size it needs, and the function is called
 /// again.
-pub(crate) fn text_by(call: impl Fn(&mut [u8]) -> Answer) -> (Answer, String) {
+pub(crate) fn text_by(mut call: impl FnMut(&mut [u8]) -> Answer) -> (Answer, String) {
     let mut usual = [0; USUAL_ROOM];
     let answer = call(&mut usual);
     if answer.verdict() != Verdict::NoRoom {

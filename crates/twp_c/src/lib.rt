@@ -3,6 +3,7 @@
 #![tactic(auto)]
 
 mod explaining;
+mod explanation_parts;
 mod exports;
 mod figures;
 mod land;

@@ -158,7 +158,8 @@ refused_verdict explained is refusal same explained_is =
     known.2
 
 -- nothing is written elsewhere
-pub kept_list : (old new : List ℕ) (explained answer : TownshipAnswer) (is : TractFault) (refusal : Refusal)
+pub kept_list : {Room : Type 0} (old new : Room) (explained answer : TownshipAnswer) (is : TractFault)
+    (refusal : Refusal)
     → refusal_of is ≡ Some refusal → explained ≡ answer_of_fault is
     → (answer.verdict ≢ explained.verdict → new ≡ old) → ¬ IsRefused answer.verdict → new ≡ old
 kept_list old new explained answer is refusal same explained_is kept none =

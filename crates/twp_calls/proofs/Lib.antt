@@ -1,6 +1,7 @@
 pub mod AccountFacts
 pub mod CallFacts
 pub mod EachFacts
+pub mod ExplanationPartFacts
 pub mod FigureFacts
 pub mod LandCallFacts
 pub mod LotCallFacts

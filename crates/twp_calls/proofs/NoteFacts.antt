@@ -40,20 +40,6 @@ noted_list_on Refused plat list old new answer text (Ok None) has is =
     accepted (record { text = text; has = has; is_noted = clear_list is })
 noted_list_on Refused plat list old new answer text (Err fault) has is = no_memory is
 
--- a note shows its place in the text that was given
-pub shown_note : {E : Type 0} (bytes name old new : List ℕ) (answer : TownshipAnswer) (file : Given)
-    (explained : Result (Option Note) E) → IsTextGiven bytes name file
-    → IfOk explained (λ it. IfSome it (ShowsNoteIn file)) → AnswersNoted explained old new answer
-    → answer.verdict ≡ ACCEPTED → 0 < answer.length → IsShownNote bytes name old new answer
-shown_note bytes name old new answer file (Ok (Some note)) file_is shows is accepts longer =
-    record { file = file; file_is = file_is; note = note; shows = shows; note_put = is }
-shown_note bytes name old new answer file (Ok None) file_is shows is accepts longer =
-    absurd
-    (let none : answer.length ≡ 0 = ap (λ (a : TownshipAnswer). a.length) is.answer_is in omega arith)
-shown_note bytes name old new answer file (Err fault) file_is shows is accepts longer =
-    absurd
-    (let other : answer.verdict ≡ 6 = ap (λ (a : TownshipAnswer). a.verdict) is in omega arith)
-
 -- what was put beside a refusal doesn't accept
 pub not_accepted : (explained : TownshipAnswer) (line column : ℕ) (text old new : List ℕ)
     (answer : TownshipAnswer)

@@ -15,6 +15,7 @@ pub mod LotCalls
 pub mod ManyAnswers
 pub mod Names
 pub mod ShownTexts
+pub mod ExplanationParts
 pub mod Explanations
 pub mod WrittenNotes
 pub mod steps

@@ -5,9 +5,11 @@ use Rattle.twp_diagnose.specs.ShownMessages.{ShowsIn}
 use Rattle.twp_doubts.specs.ShownNotes.{ShowsNoteIn}
 use Rattle.twp_diagnose.specs.declared.explanation.Explanation.{Explanation}
 use Rattle.twp_doubts.specs.declared.note.Note.{Note}
+use Rattle.twp_calls.specs.ExplanationParts.{ArePartsOf, ArePartsOfNote}
 use Rattle.twp_calls.specs.Explanations.{IsNotePut, PutsExplanation}
 use Rattle.twp_calls.specs.Names.{IsNameOf}
 use Rattle.twp_calls.specs.declared.answer.TownshipAnswer.{TownshipAnswer}
+use Rattle.twp_calls.specs.declared.explanation.TownshipExplanation.{TownshipExplanation}
 
 -- the file consists of these bytes, in lines from 1, and has the name that was given for it
 pub record IsTextGiven (bytes name : List ℕ) (file : Given) : Type 0 where
@@ -33,3 +35,26 @@ pub record IsShownNote (bytes name old new : List ℕ) (answer : TownshipAnswer)
   pub note : Note
   pub shows : ShowsNoteIn file note
   pub note_put : IsNotePut note old new answer
+
+-- the same, with the parts of the explanation
+pub record IsShownInParts (bytes name old new : List ℕ) (parts : TownshipExplanation)
+    (answer : TownshipAnswer)
+    : Type 0 where
+  pub file : Given
+  pub file_is : IsTextGiven bytes name file
+  pub explanation : Explanation
+  pub shows : ShowsIn file explanation
+  pub refused : TownshipAnswer
+  pub explained_is : PutsExplanation refused explanation old new answer
+  pub parts_are : ArePartsOf explanation parts
+
+-- and of the note
+pub record IsNotedInParts (bytes name old new : List ℕ) (parts : TownshipExplanation)
+    (answer : TownshipAnswer)
+    : Type 0 where
+  pub file : Given
+  pub file_is : IsTextGiven bytes name file
+  pub note : Note
+  pub shows : ShowsNoteIn file note
+  pub note_put : IsNotePut note old new answer
+  pub parts_are : ArePartsOfNote note parts

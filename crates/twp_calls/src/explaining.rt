@@ -1,15 +1,16 @@
-//! Explanations for C: of each refusal, as the other calls answer it, its line and column and a text;
-//! of accepted input, the same of a note on a place that can be read in two ways.
-ghost use Rattle.std.specs.Prelude.{◌≡◌, ◌≢◌, ◌<◌};
+//! Explanations for C: of each refusal, as the other calls answer it, its line and column, a text, and the parts
+//! of that text; of accepted input, the same of a note on a place that can be read in two ways.
+ghost use Rattle.std.specs.Prelude.{◌≡◌, ◌≢◌, ◌<◌, true, false};
 ghost use Rattle.twp_calls.specs.Answers.{ACCEPTED, IsRefused};
 ghost use Rattle.twp_calls.specs.Calls.{IsVersionCall};
 ghost use Rattle.twp_calls.specs.Explanations.{ExplainsNotes, ExplainsDescription, ExplainsList};
-ghost use Rattle.twp_calls.specs.Explanations.{HasNoText, PutsExplanation, IsPutAt, located_at};
+ghost use Rattle.twp_calls.specs.Explanations.{HasNoText, IsPutAt, located_at};
 ghost use Rattle.twp_calls.specs.Names.{IsNameOf};
-ghost use Rattle.twp_calls.specs.ShownTexts.{IsShownNote, IsShownText};
-ghost use Rattle.twp_calls.specs.steps.Noting.{AnswersNoted};
+ghost use Rattle.twp_calls.specs.ShownTexts.{IsNotedInParts, IsShownInParts};
+ghost use Rattle.twp_calls.specs.steps.Noting.{AnswersNoted, NotesInParts, PutsInParts};
 
 use crate::answer::TownshipAnswer;
+use crate::explanation::{TownshipExplanation, parts_of, parts_of_note};
 use crate::plat::TownshipPlat;
 use crate::reading::plat_of_notes;
 use crate::text::put;
@@ -25,17 +26,19 @@ use twp_explain::{explain_description, explain_notes, explain_tracts};
 /// What a text is called that has no name of its own.
 const UNNAMED: &str = "input";
 
-/// Explains why field notes are refused.
-pub fn township_explain_notes(
+/// Explains why field notes are refused, with the parts of the explanation.
+pub fn township_explain_notes_parts(
     alloc: Global,
     notes: &[u8],
     name: &[u8],
     text: &mut [u8],
+    explanation: &mut TownshipExplanation,
 ) -> TownshipAnswer
     ensures answer { ExplainsNotes notes.now text.old text.new result }
     ensures kept { ¬ IsRefused result.verdict → text.new ≡ text.old }
+    ensures kept_parts { ¬ IsRefused result.verdict → explanation.new ≡ explanation.old }
     ensures shows { IsRefused result.verdict
-        → IsShownText notes.now name.now text.old text.new result }
+        → IsShownInParts notes.now name.now text.old text.new explanation.new result }
 {
     let refused = match plat_of_notes(alloc, notes) {
         Ok(_) => return TownshipAnswer::bare(ACCEPTED),
@@ -43,7 +46,7 @@ pub fn township_explain_notes(
         Err(Stop::Refused(refusal)) => TownshipAnswer::of_refusal(refusal),
     };
     match explain_notes(alloc, &given(name, notes)) {
-        Ok(Some(explained)) => put_explanation(refused, &explained, text),
+        Ok(Some(explained)) => put_explained(alloc, refused, &explained, text, explanation),
         // What is refused has an explanation.
         Ok(None) => TownshipAnswer::bare(NO_MEMORY),
         Err(_) => TownshipAnswer::bare(NO_MEMORY),
@@ -51,59 +54,71 @@ pub fn township_explain_notes(
 }
 
 /// Explains why a description is refused, or notes a place of an accepted one that can be read in two
-/// ways.
-pub fn township_explain_description(
+/// ways, with the parts of the explanation or of the note.
+pub fn township_explain_description_parts(
     alloc: Global,
     plat: &TownshipPlat,
     description: &[u8],
     name: &[u8],
     text: &mut [u8],
+    explanation: &mut TownshipExplanation,
 ) -> TownshipAnswer
     ensures answer { ExplainsDescription plat.now description.now text.old text.new result }
     ensures kept { HasNoText result.verdict → text.new ≡ text.old }
+    ensures kept_parts { HasNoText result.verdict → explanation.new ≡ explanation.old }
+    ensures kept_if_clear { result.verdict ≡ ACCEPTED → result.length ≡ 0
+        → explanation.new ≡ explanation.old }
     ensures shows { IsRefused result.verdict
-        → IsShownText description.now name.now text.old text.new result }
+        → IsShownInParts description.now name.now text.old text.new explanation.new result }
     ensures notes { result.verdict ≡ ACCEPTED → 0 < result.length
-        → IsShownNote description.now name.now text.old text.new result }
+        → IsNotedInParts description.now name.now text.old text.new explanation.new result }
 {
     let Some(plat) = plat.plat() else {
         return TownshipAnswer::bare(NO_PLAT);
     };
     let file = given(name, description);
     let refused = match area_on(alloc, &plat, description, Account::Exact) {
-        Ok(_) => return put_noted(note_description(alloc, &plat, &file, Account::Exact), text),
+        Ok(_) => return put_noted(
+            note_description(alloc, &plat, &file, Account::Exact),
+            text,
+            explanation,
+        ),
         Err(Stop::Failed(_)) => return TownshipAnswer::bare(NO_MEMORY),
         Err(Stop::Refused(refusal)) => TownshipAnswer::of_refusal(refusal),
     };
     match explain_description(alloc, plat.township(), &file) {
-        Ok(Some(explained)) => put_explanation(refused, &explained, text),
+        Ok(Some(explained)) => put_explained(alloc, refused, &explained, text, explanation),
         Ok(None) => TownshipAnswer::bare(NO_MEMORY),
         Err(_) => TownshipAnswer::bare(NO_MEMORY),
     }
 }
 
 /// Explains why a list of tracts is refused, or notes a place in a description of an accepted one that
-/// can be read in two ways.
-pub fn township_explain_list(
+/// can be read in two ways, with the parts of the explanation or of the note.
+pub fn township_explain_list_parts(
     alloc: Global,
     plat: &TownshipPlat,
     list: &[u8],
     name: &[u8],
     text: &mut [u8],
+    explanation: &mut TownshipExplanation,
 ) -> TownshipAnswer
     ensures answer { ExplainsList plat.now list.now text.old text.new result }
     ensures kept { HasNoText result.verdict → text.new ≡ text.old }
+    ensures kept_parts { HasNoText result.verdict → explanation.new ≡ explanation.old }
+    ensures kept_if_clear { result.verdict ≡ ACCEPTED → result.length ≡ 0
+        → explanation.new ≡ explanation.old }
     ensures shows { IsRefused result.verdict
-        → IsShownText list.now name.now text.old text.new result }
+        → IsShownInParts list.now name.now text.old text.new explanation.new result }
     ensures notes { result.verdict ≡ ACCEPTED → 0 < result.length
-        → IsShownNote list.now name.now text.old text.new result }
+        → IsNotedInParts list.now name.now text.old text.new explanation.new result }
 {
     let Some(plat) = plat.plat() else {
         return TownshipAnswer::bare(NO_PLAT);
     };
     let file = given(name, list);
     let fault = match account_on(alloc, &plat, list) {
-        Ok(_) => return put_noted(note_tracts(alloc, &plat, &file), text),
+        Ok(_) => return put_noted(note_tracts(alloc, &plat, &file), text, explanation),
         Err(fault) => fault,
     };
     let Some(_) = fault.refusal() else {
@@ -111,7 +126,13 @@ pub fn township_explain_list(
     };
     let refused = TownshipAnswer::of_fault(fault);
     match explain_tracts(alloc, &plat, &file) {
-        Ok(Some(explained)) => put_explanation(refused, &explained.explanation, text),
+        Ok(Some(explained)) => put_explained(
+            alloc,
+            refused,
+            &explained.explanation,
+            text,
+            explanation,
+        ),
         Ok(None) => TownshipAnswer::bare(NO_MEMORY),
         Err(_) => TownshipAnswer::bare(NO_MEMORY),
     }
@@ -142,27 +163,57 @@ fn given<'a>(name: &'a [u8], bytes: &'a [u8]) -> Given<'a>
     }
 }
 
-/// Puts an explanation beside the refusal that it is of.
-fn put_explanation(
+/// Puts an explanation beside the refusal that it is of, and its parts.
+fn put_explained(
+    alloc: Global,
     refused: TownshipAnswer,
     explained: &Explanation,
     text: &mut [u8],
+    explanation: &mut TownshipExplanation,
 ) -> TownshipAnswer
-    ensures explained { PutsExplanation refused explained.now text.old text.new result }
+    ensures explained { PutsInParts refused explained.now text.old text.new explanation.new result }
     ensures kept { result.verdict ≢ refused.verdict → text.new ≡ text.old }
+    ensures kept_parts { result.verdict ≢ refused.verdict → explanation.new ≡ explanation.old }
 {
-    put_message(refused, explained.spot, explained.text.as_bytes(), text)
+    let Ok(parts) = parts_of(alloc, explained) else {
+        return TownshipAnswer::bare(NO_MEMORY);
+    };
+    let answer = put_message(refused, explained.spot, explained.text.as_bytes(), text);
+    put_parts(answer.verdict == refused.verdict, parts, explanation);
+    answer
 }
 
-/// Puts a note beside the verdict that accepts, if there is one.
-fn put_noted(noted: Result<Option<Note>, AllocError>, text: &mut [u8]) -> TownshipAnswer
+/// Puts the parts of a text, if the text was put.
+fn put_parts(is_put: bool, parts: TownshipExplanation, explanation: &mut TownshipExplanation)
+    ensures put { is_put ≡ true → explanation.new ≡ parts }
+    ensures kept { is_put ≡ false → explanation.new ≡ explanation.old }
+{
+    if is_put {
+        *explanation = parts;
+    }
+}
+
+/// Puts a note beside the verdict that accepts, and its parts, if there is one.
+fn put_noted(
+    noted: Result<Option<Note>, AllocError>,
+    text: &mut [u8],
+    explanation: &mut TownshipExplanation,
+) -> TownshipAnswer
     ensures noted { AnswersNoted noted text.old text.new result }
     ensures kept { result.verdict ≢ ACCEPTED → text.new ≡ text.old }
+    ensures parts { NotesInParts noted explanation.old explanation.new result }
+    ensures kept_parts { result.verdict ≢ ACCEPTED → explanation.new ≡ explanation.old }
 {
     match noted {
         Ok(Some(note)) => {
             let accepted = TownshipAnswer::bare(ACCEPTED);
-            put_message(accepted, note.spot, note.text.as_bytes(), text)
+            let answer = put_message(accepted, note.spot, note.text.as_bytes(), text);
+            put_parts(
+                answer.verdict == ACCEPTED,
+                parts_of_note(&note),
+                explanation,
+            );
+            answer
         }
         Ok(None) => TownshipAnswer::bare(ACCEPTED),
         Err(_) => TownshipAnswer::bare(NO_MEMORY),

@@ -10,6 +10,8 @@ mod combining;
 mod designation;
 mod each_call;
 mod explaining;
+mod explaining_texts;
+mod explanation;
 mod figures;
 mod fraction;
 mod land;
@@ -36,8 +38,13 @@ pub use combining::{township_land_combine, township_land_compare};
 pub use designation::TownshipDesignation;
 pub use each_call::{TownshipTractAnswer, township_report_each};
 pub use explaining::{
-    township_explain_description, township_explain_list, township_explain_notes, township_version,
+    township_explain_description_parts, township_explain_list_parts, township_explain_notes_parts,
+    township_version,
 };
+pub use explaining_texts::{
+    township_explain_description, township_explain_list, township_explain_notes,
+};
+pub use explanation::TownshipExplanation;
 pub use figures::{TownshipPlatFigures, township_figures};
 pub use fraction::TownshipFraction;
 pub use land::TownshipLand;

@@ -1,16 +1,27 @@
 -- The fields of a record, and where they end, byte by byte; over plain values.
 use Rattle.std.proofs.Common.{◌≡◌, ℕ, zero, suc, ◌+◌, ◌≤◌, ◌<◌, true, false, List, [], ◌∷◌, length}
 use Rattle.std.proofs.Common.{drop, length-drop, get_or, Some, None, refl, ap, sym, ◌∙◌, arith, add-one}
-use Rattle.std.proofs.Common.{drop-cons}
+use Rattle.std.proofs.Common.{drop-cons, ◌++◌}
+use Rattle.std.proofs.lemmas.List.Elements.{All-append, All-cons, All-nil}
 use Rattle.csv.specs.Machine.{step}
 use Rattle.csv.specs.Reading.{default_config}
 use Rattle.csv.specs.Records.{field_at}
 use Rattle.csv.specs.declared.parser.State.{State}
 use Rattle.twp_grammar.specs.Tokens.{begins_with}
+use Rattle.twp_notes.specs.FieldNotes.{NamesLine}
 use Rattle.twp_notes.specs.Records.{Fields, field}
 use Rattle.twp_diagnose.specs.Marks.{span}
 use Rattle.twp_diagnose.specs.RecordFields.{ends_field, field_size, field_end, field_span, is_comma}
+use Rattle.twp_diagnose.specs.RecordFields.{NoneNames}
 use Rattle.twp_diagnose.specs.steps.Fields.{GoesOn}
+
+-- none of these records names the line, and the next one doesn't either
+pub none_names_more : (line : ℕ) (rows : List Fields) (fields : Fields) → NoneNames line rows
+    → (NamesLine fields line → ⊥) → NoneNames line (rows ++ fields ∷ [])
+none_names_more line rows fields before none =
+    All-append (λ (row : Fields). ¬ NamesLine row line) rows (fields ∷ []) before
+    (All-cons (λ (row : Fields). ¬ NamesLine row line) fields [] none
+    (All-nil (λ (row : Fields). ¬ NamesLine row line)))
 
 -- the field at an index, or no bytes
 pub text_found : (fields : Fields) (place : ℕ) (text : List ℕ) → Some text ≡ field_at fields place

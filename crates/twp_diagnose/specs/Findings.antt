@@ -10,6 +10,11 @@ abbrev pub IfFound : Failure → (Refusal → Type 0) → Type 0
 IfFound (Found finding) Holds = Holds finding.refusal
 IfFound Memory Holds = ⊤
 
+-- nothing was found, or this holds of what was
+abbrev pub IfFinds : Failure → (Finding → Type 0) → Type 0
+IfFinds (Found finding) Holds = Holds finding
+IfFinds Memory Holds = ⊤
+
 -- something was found, and it is of this refusal
 abbrev pub IsOf : Failure → Refusal → Type 0
 IsOf (Found finding) refusal = finding.refusal ≡ refusal

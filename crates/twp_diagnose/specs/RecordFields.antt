@@ -1,6 +1,7 @@
 -- Where the fields of a record are in its file, and what they say.
 use Rattle.std.specs.Prelude.{◌≡◌, ◌≤◌, ℕ, zero, suc, ◌+◌, ◌==◌, min, Bool, true, false, if◌then◌else◌}
-use Rattle.std.specs.Prelude.{List, [], ◌∷◌, length, take, drop, ◌-◌}
+use Rattle.std.specs.Prelude.{List, [], ◌∷◌, ◌++◌, ◌<◌, length, take, drop, ◌-◌}
+use Rattle.std.specs.List.{All}
 use Rattle.csv.specs.Machine.{step}
 use Rattle.csv.specs.Reading.{default_config}
 use Rattle.csv.specs.Records.{fields_of}
@@ -10,6 +11,7 @@ use Rattle.csv.specs.declared.parser.State.{State}
 use Rattle.csv.specs.declared.parser.State.TheVariants as state
 use Rattle.twp_excerpt.specs.declared.spot.Span.{Span}
 use Rattle.twp_grammar.specs.Tokens.{begins_with}
+use Rattle.twp_notes.specs.FieldNotes.{NamesLine}
 use Rattle.twp_notes.specs.Records.{Fields, records_of, record_numbered}
 use Rattle.twp_diagnose.specs.Marks.{span}
 use Rattle.twp_diagnose.specs.declared.given.Given.{Given}
@@ -26,6 +28,20 @@ pub record IsRecordAt (file : List ℕ) (number : ℕ) (found : Record) : Type 0
   pub number_is : found.number ≡ number
   pub within : number ≤ length (records_of file)
   pub fields_are : fields_in found ≡ record_numbered (records_of file) number
+
+-- none of these records names the line
+abbrev pub NoneNames : ℕ → List Fields → Type 0
+NoneNames line rows = All (λ (fields : Fields). ¬ NamesLine fields line) rows
+
+-- the record is the first one of a file that names a line
+pub record IsFirstOfLine (file : List ℕ) (line : ℕ) (found : Record) : Type 0 where
+  pub file_is : found.bytes.now ≡ file
+  pub before : List Fields
+  pub after : List Fields
+  pub split : records_of file ≡ before ++ fields_in found ∷ after
+  pub names : NamesLine (fields_in found) line
+  pub none_before : NoneNames line before
+  pub number_is : length before < 4294967295 → found.number ≡ length before + 1
 
 -- the field ends with this byte, or the record does
 abbrev pub ends_field : Action → Bool

@@ -1,10 +1,11 @@
 -- What the text of an explanation says of the place that it shows in a file.
 use Rattle.std.specs.Prelude.{◌≡◌, ◌⊎◌, ℕ, List, Option, Some, None}
-use Rattle.twp_excerpt.specs.Messages.{IsMessage}
+use Rattle.twp_excerpt.specs.Messages.{IsInParts}
 use Rattle.twp_excerpt.specs.declared.message.Extract.{Extract}
 use Rattle.twp_excerpt.specs.declared.message.Heading.{Heading}
 use Rattle.twp_excerpt.specs.declared.message.Heading.TheVariants as heading
 use Rattle.twp_excerpt.specs.declared.message.Message.{Message}
+use Rattle.twp_excerpt.specs.declared.message.Parts.{Parts}
 use Rattle.twp_excerpt.specs.declared.spot.Span.{Span}
 use Rattle.twp_excerpt.specs.declared.spot.Spot.{Spot}
 use Rattle.twp_diagnose.specs.Spots.{IsSpotOf}
@@ -31,18 +32,18 @@ extract_of file (Line at_) spot = None
 extract_of file (Field span) spot = extract_from file span spot
 extract_of file (Part span) spot = extract_from file span spot
 
--- the text is a message about a location in a file, at this line and column of it
+-- the text is a message about a location in a file, at this line and column of it, and these are its parts
 pub record IsMessageAt (file : Given) (location : Location) (spot : Option Spot) (text : List ℕ)
-    : Type 0 where
+    (parts : Parts) : Type 0 where
   pub message : Message
   pub name_is : message.name ≡ file.name
   pub heading_is : message.heading ≡ heading_of location spot
   pub extract_is : message.extract ≡ extract_of file location spot
-  pub text_is : IsMessage message text
+  pub text_is : IsInParts message text parts
 
--- The explanation shows a location in this file: its spot is there, and its text is a message that begins
--- with the file's name and that spot.
+-- The explanation shows its place in this file: its spot is there, and its text is a message that begins with
+-- the file's name and that spot, and that underlines the place.
 pub record ShowsIn (file : Given) (explanation : Explanation) : Type 0 where
-  pub location : Location
-  pub spot_is : IsSpotOf file location explanation.spot
-  pub text_is : IsMessageAt file location explanation.spot explanation.text.bytes.items
+  pub spot_is : IsSpotOf file explanation.place explanation.spot
+  pub text_is : IsMessageAt file explanation.place explanation.spot explanation.text.bytes.items
+      explanation.parts

@@ -1,12 +1,12 @@
 //! What was found wrong, and the message that says so.
-ghost use Rattle.std.specs.Prelude.{◌≡◌, IfOk};
+ghost use Rattle.std.specs.Prelude.{◌≡◌, None, IfOk};
 ghost use Rattle.twp_diagnose.specs.Findings.{IfFound, IsStopOf};
 ghost use Rattle.twp_diagnose.specs.ShownMessages.{ShowsIn};
 ghost use Rattle.twp_diagnose.specs.Spots.{IsSpotOf};
 
-use crate::explanation::Explanation;
+use crate::explanation::{Explanation, OtherPlace};
 use crate::given::Given;
-use crate::located::message_at;
+use crate::located::{Located, message_at};
 use crate::location::Location;
 use std::alloc::{AllocError, Global};
 use twp_grid::Refusal;
@@ -22,6 +22,10 @@ pub struct Finding {
     pub sentence: String,
     /// What corrects it or explains it further: lines without the last line feed; empty for none.
     pub help: String,
+    /// The other place that is named there, if one is.
+    pub other: Option<OtherPlace>,
+    /// The corrected text that ends the help, if one does.
+    pub corrected: Option<Vec<u8>>,
 }
 
 /// Why the explanation of a fault ends.
@@ -54,19 +58,46 @@ impl Failure {
 }
 
 impl Finding {
+    /// What was found, without another place or a corrected text.
+    pub fn new(refusal: Refusal, place: Location, sentence: String, help: String) -> Finding
+        ensures refusal { result.refusal ≡ refusal }
+        ensures place { result.place ≡ place }
+        ensures other { result.other ≡ None }
+    {
+        Finding {
+            refusal,
+            place,
+            sentence,
+            help,
+            other: None,
+            corrected: None,
+        }
+    }
+
     /// The message about a file.
-    pub fn explain(&self, alloc: Global, file: &Given<'_>) -> Result<Explanation, AllocError>
-        ensures refusal { IfOk result (λ explanation. explanation.refusal ≡ self.now.refusal) }
-        ensures spot { IfOk result (λ explanation.
-            IsSpotOf file.now self.now.place explanation.spot) }
+    pub fn explain(self, alloc: Global, file: &Given<'_>) -> Result<Explanation, AllocError>
+        ensures refusal { IfOk result (λ explanation. explanation.refusal ≡ self.refusal) }
+        ensures place { IfOk result (λ explanation. explanation.place ≡ self.place) }
+        ensures spot { IfOk result (λ explanation. IsSpotOf file.now self.place explanation.spot) }
         ensures shows { IfOk result (ShowsIn file.now) }
+        ensures other { IfOk result (λ explanation. explanation.other ≡ self.other) }
     {
         let help = self.help.as_str();
-        let (spot, text) = message_at(alloc, file, self.place, self.sentence.as_str(), help)?;
+        let Located { spot, text, parts } = message_at(
+            alloc,
+            file,
+            self.place,
+            self.sentence.as_str(),
+            help,
+        )?;
         Ok(Explanation {
             refusal: self.refusal,
+            place: self.place,
             spot,
             text,
+            parts,
+            other: self.other,
+            corrected: self.corrected,
         })
     }
 }

@@ -19,12 +19,12 @@ mod records;
 mod shared_land;
 mod sight;
 
-pub use explanation::Explanation;
+pub use explanation::{Explanation, OtherPlace};
 pub use fields::{is_text, write_count};
 pub use finding::{Failure, Finding};
 pub use given::Given;
 pub use listed::Listed;
-pub use located::message_at;
+pub use located::{Located, message_at};
 pub use location::{Location, line_in, spot_in, spot_of_place};
 pub use lots_held::{PartOfLots, part_of_lots};
 pub use mark::{chain_span, heading_span, range_span, token_span};

@@ -6,7 +6,18 @@ ghost use Rattle.twp_diagnose.specs.ShownMessages.{IsMessageAt, extract_from, ex
 use crate::given::Given;
 use crate::location::{Location, spot_of_place};
 use std::alloc::{AllocError, Global};
-use twp_excerpt::{Extract, Heading, Message, Span, Spot};
+use twp_excerpt::{Extract, Heading, Message, MessageText, Parts, Span, Spot};
+
+/// The message about a location in a file.
+#[derive(Drop)]
+pub struct Located {
+    /// The line and the column that it names.
+    pub spot: Option<Spot>,
+    /// Its text.
+    pub text: String,
+    /// Where in the text its parts are.
+    pub parts: Parts,
+}
 
 /// The message about a location in a file, and the line and the column that it names.
 pub fn message_at(
@@ -15,9 +26,10 @@ pub fn message_at(
     location: Location,
     sentence: &str,
     help: &str,
-) -> Result<(Option<Spot>, String), AllocError>
-    ensures spot { IfOk result (λ it. IsSpotOf file.now location it.0) }
-    ensures text { IfOk result (λ it. IsMessageAt file.now location it.0 (string_bytes it.1)) }
+) -> Result<Located, AllocError>
+    ensures spot { IfOk result (λ it. IsSpotOf file.now location it.spot) }
+    ensures text { IfOk result (λ it.
+        IsMessageAt file.now location it.spot (string_bytes it.text) it.parts) }
 {
     let spot = spot_of_place(file, location);
     let message = Message {
@@ -27,8 +39,8 @@ pub fn message_at(
         extract: extract_of(file, location, spot),
         help,
     };
-    let text = message.text(alloc)?;
-    Ok((spot, text))
+    let MessageText { text, parts } = message.shown(alloc)?;
+    Ok(Located { spot, text, parts })
 }
 
 /// What a message names after the file.

@@ -1,13 +1,13 @@
 //! Where a record is in its file, and where its fields do.
-ghost use Rattle.std.specs.Prelude.{◌≡◌, ◌≤◌, ◌<◌, length, drop, min, option_map, IfOk, IfSome};
-ghost use Rattle.std.specs.Prelude.{IsTrue, MatchOption};
+ghost use Rattle.std.specs.Prelude.{◌≡◌, ◌≤◌, ◌<◌, length, drop, min, option_map, IfOk};
+ghost use Rattle.std.specs.Prelude.{◌↔◌, IsTrue, MatchOption};
 ghost use Rattle.csv.specs.Records.{fields_of};
 ghost use Rattle.twp_grammar.specs.Tokens.{begins_with};
 ghost use Rattle.twp_grid.specs.Finding.{Finds};
 ghost use Rattle.twp_notes.specs.FieldNotes.{NamesLine};
 ghost use Rattle.twp_notes.specs.Records.{field, records_of};
 ghost use Rattle.twp_diagnose.specs.RecordFields.{fields_in, fields_span, field_span, field_end, is_comma};
-ghost use Rattle.twp_diagnose.specs.RecordFields.{IsRecordAt};
+ghost use Rattle.twp_diagnose.specs.RecordFields.{IsFirstOfLine, IsRecordAt, NoneNames};
 ghost use Rattle.twp_diagnose.specs.steps.Fields.{state_of, GoesOn};
 
 use csv::ByteRecord;
@@ -75,15 +75,15 @@ impl<'a> Record<'a> {
         bytes: &'a [u8],
         line: Line,
     ) -> Result<Option<Record<'a>>, AllocError>
-        ensures { IfOk result (λ found. IfSome found (λ named.
-            NamesLine (fields_of named.row) line)) }
+        ensures { IfOk result (λ found. MatchOption found
+            (NoneNames line (records_of bytes.now)) (IsFirstOfLine bytes.now line)) }
     {
         let mut records = Records::new(alloc, bytes);
         let mut row = ByteRecord::new(alloc);
         let mut number: u32 = 0;
         'records: while records.read(&mut row)? {
             number = number.saturating_add(1);
-            if named_line(&row) == Some(line) {
+            if names(&row, line) {
                 return Ok(Some(Record::of_row(bytes, number, row)));
             }
         }
@@ -148,6 +148,23 @@ impl<'a> Record<'a> {
         }
         Span { start, end }
     }
+}
+
+/// Whether a record names a line.
+fn names(row: &ByteRecord, line: Line) -> bool
+    ensures { IsTrue result ↔ NamesLine (fields_of row.now) line }
+{
+    match named_line(row) {
+        Some(named) => is_same(named, line),
+        None => false,
+    }
+}
+
+/// Whether two lines are the same.
+fn is_same(first: Line, second: Line) -> bool
+    ensures { IsTrue result ↔ (first ≡ second) }
+{
+    first == second
 }
 
 /// What a field of a record says, from 0: nothing if there is no such field.

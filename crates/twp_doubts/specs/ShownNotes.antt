@@ -7,7 +7,7 @@ use Rattle.twp_diagnose.specs.RecordFields.{listed_span, IsListedAt}
 use Rattle.twp_diagnose.specs.Spots.{IsSpotAt, IsSpotOf}
 use Rattle.twp_diagnose.specs.declared.given.Given.{Given}
 use Rattle.twp_diagnose.specs.declared.listed.Listed.{Listed}
-use Rattle.twp_diagnose.specs.declared.location.Location.{Location}
+use Rattle.twp_diagnose.specs.declared.location.Location.TheVariants.{Part}
 use Rattle.twp_diagnose.specs.declared.origin.Origin.{Origin}
 use Rattle.twp_read.specs.Doubts.{HasNoDoubtfulPlace, AreDoubts}
 use Rattle.twp_read.specs.declared.doubt.Doubts.{Doubts}
@@ -24,12 +24,11 @@ pub record IsOfFirst (text : List ℕ) (note : Note) : Type 0 where
 abbrev pub IsNoteOf : List ℕ → Option Note → Type 0
 IsNoteOf text explained = MatchOption explained (HasNoDoubtfulPlace text) (IsOfFirst text)
 
--- The note shows a location in this file: its spot is there, and its text is a message that begins with the
--- file's name and that spot.
+-- The note shows its place in this file: its spot is there, and its text is a message that begins with the
+-- file's name and that spot, and that underlines the place.
 pub record ShowsNoteIn (file : Given) (note : Note) : Type 0 where
-  pub location : Location
-  pub spot_is : IsSpotOf file location note.spot
-  pub text_is : IsMessageAt file location note.spot note.text.bytes.items
+  pub spot_is : IsSpotOf file (Part note.span) note.spot
+  pub text_is : IsMessageAt file (Part note.span) note.spot note.text.bytes.items note.parts
 
 -- the spot of a note is that of its place in a text
 abbrev pub IsSpotOfNote : Origin → Note → Type 0

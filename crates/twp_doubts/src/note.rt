@@ -22,8 +22,8 @@ use crate::note::span::end_of_place;
 use csv::ByteRecord;
 use std::alloc::{AllocError, Global};
 use twp_acres::{Account, TRACTS_MOST, read_plat};
-use twp_diagnose::{Given, Listed, Location, Origin, message_at, text_in};
-use twp_excerpt::{Span, Spot, write_escaped};
+use twp_diagnose::{Given, Listed, Located, Location, Origin, message_at, text_in};
+use twp_excerpt::{Parts, Span, Spot, write_escaped};
 use twp_grid::Bytes;
 use twp_notes::Records;
 use twp_plat::Plat;
@@ -34,10 +34,14 @@ use twp_read::Doubts;
 pub struct Note {
     /// The offset in the text of the description.
     pub at: usize,
-    /// Where that is in its file.
+    /// The bytes of the place in its file.
+    pub span: Span,
+    /// On which line and in which column it begins.
     pub spot: Option<Spot>,
     /// Some lines, each with a line feed at its end.
     pub text: String,
+    /// Where in the text its parts are.
+    pub parts: Parts,
 }
 
 /// The most records of a list: the heading, and one for each tract.
@@ -265,7 +269,7 @@ fn note_place(
         end: origin.in_file(end_of_place(bytes, place)),
     };
     let others = others_of(alloc, doubts.others)?;
-    let (spot, text) = message_at(
+    let Located { spot, text, parts } = message_at(
         alloc,
         &origin.file,
         Location::Part(span),
@@ -274,8 +278,10 @@ fn note_place(
     )?;
     Ok(Note {
         at: place.at,
+        span,
         spot,
         text,
+        parts,
     })
 }
 

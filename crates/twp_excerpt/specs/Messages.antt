@@ -1,6 +1,6 @@
 -- A message about a place in a file: its head, which names the file and the place; a sentence; an
 -- excerpt of the file, if a line is to be shown; and help, if there is any.
-use Rattle.std.specs.Prelude.{◌≡◌, ℕ, min, List, [], ◌∷◌, ◌++◌, length, codes, Option, Some, None}
+use Rattle.std.specs.Prelude.{◌≡◌, ℕ, ◌+◌, min, List, [], ◌∷◌, ◌++◌, length, codes, Option, Some, None}
 use Rattle.std.specs.Prelude.{encode_utf8_all}
 use Rattle.std.specs.Fmt.{decimal}
 use Rattle.twp_excerpt.specs.Excerpts.{excerpt}
@@ -10,6 +10,7 @@ use Rattle.twp_excerpt.specs.declared.message.Heading.{Heading}
 use Rattle.twp_excerpt.specs.declared.message.Heading.TheVariants.{File, Line, Place}
 use Rattle.twp_excerpt.specs.declared.message.Extract.{Extract}
 use Rattle.twp_excerpt.specs.declared.message.Message.{Message}
+use Rattle.twp_excerpt.specs.declared.message.Parts.{Parts}
 
 -- the line and the column of a heading, each after a colon
 abbrev pub number_text : ℕ → List ℕ
@@ -50,3 +51,16 @@ pub record IsMessage (message : Message) (text : List ℕ) : Type 0 where
       ∷ (encode_utf8_all (extract_text message.extract) ++ help)
   pub helps : BeginsHelp message.help.now help
   pub shown : IsTextOf is_shown_or_feed text
+
+-- The text is the message, and its parts are here: the sentence, up to the line feed that ends it, the
+-- excerpt, and the help.
+pub record IsInParts (message : Message) (text : List ℕ) (parts : Parts) : Type 0 where
+  pub is : IsMessage message text
+  pub sentence_starts : parts.sentence.start
+      ≡ length (encode_utf8_all (message_head message.name.now message.heading))
+  pub sentence_ends : parts.sentence.end ≡ parts.sentence.start + length is.sentence
+  pub excerpt_starts : parts.excerpt.start ≡ parts.sentence.end + 1
+  pub excerpt_ends : parts.excerpt.end
+      ≡ parts.excerpt.start + length (encode_utf8_all (extract_text message.extract))
+  pub help_starts : parts.help.start ≡ parts.excerpt.end
+  pub help_ends : parts.help.end ≡ length text

@@ -12,6 +12,6 @@ mod wrapped;
 
 pub use escaped::write_escaped;
 pub use excerpt::write_excerpt;
-pub use message::{Extract, Heading, Message};
+pub use message::{Extract, Heading, Message, MessageText, Parts};
 pub use spot::{Span, Spot, end_of_text, first_size, spot_of};
 pub use wrapped::{columns_of, write_wrapped};

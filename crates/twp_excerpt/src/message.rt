@@ -1,6 +1,6 @@
 //! Messages about a place in a file.
 ghost use Rattle.std.specs.Prelude.{IfOk, OnOk, string_bytes};
-ghost use Rattle.twp_excerpt.specs.Messages.{AddsHelp, IsMessage, message_head, extract_text};
+ghost use Rattle.twp_excerpt.specs.Messages.{AddsHelp, IsInParts, message_head, extract_text};
 ghost use Rattle.twp_excerpt.specs.Messages.{heading_text, number_text};
 ghost use Rattle.twp_excerpt.specs.Shown.{AddsLines, AddsShown};
 ghost use Rattle.twp_excerpt.specs.Signs.{Adding};
@@ -56,18 +56,58 @@ pub struct Message<'a> {
     pub help: &'a str,
 }
 
+/// Where the parts of a message are in its text.
+#[derive(Clone, Copy)]
+pub struct Parts {
+    /// The sentence, without the line feed that ends it. A line feed in it is one at which it was broken.
+    pub sentence: Span,
+    /// The two lines of the excerpt; empty if there is none.
+    pub excerpt: Span,
+    /// The lines of the help; empty if there is none.
+    pub help: Span,
+    /// Which lines of the help continue the one before: bit 1 is for the second line, and bit 2 for the third.
+    pub continued: u32,
+}
+
+/// The text of a message, and its parts.
+#[derive(Drop)]
+pub struct MessageText {
+    /// Lines of at most 100 columns, each with a line feed at its end.
+    pub text: String,
+    /// Where its parts are.
+    pub parts: Parts,
+}
+
 impl Message<'_> {
-    /// The text of the message: lines of at most 100 columns, each with a line feed at its end.
-    pub fn text(&self, alloc: Global) -> Result<String, AllocError>
-        ensures { IfOk result (λ text. IsMessage self.now (string_bytes text)) }
+    /// The text of the message, and where its parts are.
+    pub fn shown(&self, alloc: Global) -> Result<MessageText, AllocError>
+        ensures { IfOk result (λ it. IsInParts self.now (string_bytes it.text) it.parts) }
     {
         let mut text = String::new(alloc);
         write_head(self.name, self.heading, &mut text)?;
+        let sentence = text.len();
         let columns = columns_of(text.as_str());
         write_wrapped(self.sentence, columns, SENTENCE_LINES, &mut text)?;
+        let excerpt = text.len();
         write_extract(self.extract, &mut text)?;
-        write_help(self.help, &mut text)?;
-        Ok(text)
+        let help = text.len();
+        let continued = write_help(self.help, &mut text)?;
+        let end = text.len();
+        Ok(MessageText {
+            text,
+            parts: Parts {
+                sentence: Span {
+                    start: sentence,
+                    end: excerpt.saturating_sub(1),
+                },
+                excerpt: Span {
+                    start: excerpt,
+                    end: help,
+                },
+                help: Span { start: help, end },
+                continued,
+            },
+        })
     }
 }
 
@@ -128,14 +168,14 @@ fn write_extract(extract: Option<Extract<'_>>, out: &mut String) -> Result<(), A
     write_excerpt(text, Span { start, end }, line, out)
 }
 
-/// Appends the help, if there is any.
+/// Appends the help, if there is any. Returns which of its lines continue the one before.
 #[tactic(auto, using(crate::proofs::ShownFacts::adds_trans, crate::proofs::ShownFacts::lines_of_shown))]
-fn write_help(help: &str, out: &mut String) -> Result<(), AllocError>
+fn write_help(help: &str, out: &mut String) -> Result<u32, AllocError>
     ensures help { OnOk result (AddsHelp help.now (string_bytes out.old) (string_bytes out.new)) }
     ensures safe { AddsLines (string_bytes out.old) (string_bytes out.new) }
 {
     if help.is_empty() {
-        return Ok(());
+        return Ok(0);
     }
     push_printable("  ", out)?;
     write_wrapped(help, 2, HELP_LINES, out)

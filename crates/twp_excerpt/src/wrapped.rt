@@ -25,6 +25,38 @@ struct Place {
     lines: usize,
     /// Whether the last line is full, and dots were written.
     is_full: bool,
+    /// How many lines end before the place.
+    line: u32,
+    /// The lines that continue the one before: the bit of a line is 2 to the power of its number, from 0.
+    continued: u32,
+}
+
+impl Place {
+    /// The place after the first word of the next line, which begins a line of its own or continues this one.
+    fn on_next_line(self, columns: usize, is_continued: bool) -> Place {
+        let line = self.line.saturating_add(1);
+        Place {
+            columns,
+            is_after_word: true,
+            lines: self.lines.saturating_sub(1),
+            is_full: false,
+            line,
+            continued: if is_continued {
+                self.continued | bit_of(line)
+            } else {
+                self.continued
+            },
+        }
+    }
+}
+
+/// The bit of a line after the first. A sentence, and the help on it, have three lines at most.
+fn bit_of(line: u32) -> u32 {
+    match line {
+        1 => 2,
+        2 => 4,
+        _ => 0,
+    }
 }
 
 /// How many columns a text takes after it is escaped.
@@ -44,14 +76,15 @@ pub fn columns_of(text: &str) -> usize {
 /// broken at spaces into lines of at most 100 columns, up to a number of lines; those after the first are
 /// indented by two spaces. A word after a space and a line feed begins a new line. If the text does not fit,
 /// the rest is omitted, and two dots mark the omission. The text is escaped. If memory runs out, only a
-/// prefix of those lines is appended.
+/// prefix of those lines is appended. Returns which of the lines were broken off the one before because it was
+/// too wide: bit 1 is for the second line, and bit 2 for the third.
 #[tactic(auto, using(crate::proofs::ShownFacts::adds_trans))]
 pub fn write_wrapped(
     text: &str,
     columns: usize,
     lines: usize,
     out: &mut String,
-) -> Result<(), AllocError>
+) -> Result<u32, AllocError>
     ensures safe { AddsLines (string_bytes out.old) (string_bytes out.new) }
     ensures ended { OnOk result (AddsEnded (string_bytes out.old) (string_bytes out.new)) }
 {
@@ -60,13 +93,16 @@ pub fn write_wrapped(
         is_after_word: false,
         lines: lines.saturating_sub(1),
         is_full: false,
+        line: 0,
+        continued: 0,
     };
     for word in text.split(' ') {
         if !place.is_full {
             place = write_word(word, place, out)?;
         }
     }
-    end_line(out)
+    end_line(out)?;
+    Ok(place.continued)
 }
 
 /// Appends a word at a place, or at the beginning of the next line if it doesn't fit there or a line feed is
@@ -100,12 +136,7 @@ fn write_word(word: &str, place: Place, out: &mut String) -> Result<Place, Alloc
     }
     end_line(out)?;
     let columns = write_after(INDENT, word, LAST_LINE - INDENT.len(), out)?;
-    Ok(Place {
-        columns: INDENT.len() + columns,
-        is_after_word: true,
-        lines: place.lines - 1,
-        is_full: false,
-    })
+    Ok(place.on_next_line(INDENT.len() + columns, !is_next))
 }
 
 /// Appends some spaces and the prefix of a word that fits in a number of columns. Returns the

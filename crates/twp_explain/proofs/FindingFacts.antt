@@ -1,5 +1,5 @@
 -- What was found wrong is what the stages refuse; over plain values.
-use Rattle.std.proofs.Common.{◌≡◌, ℕ, List, Option, Some, None, Result, Ok, Err, inl, inr, subst}
+use Rattle.std.proofs.Common.{◌≡◌, ◌≢◌, ℕ, List, Option, Some, None, Result, Ok, Err, inl, inr, subst}
 use Rattle.std.specs.Prelude.{IfOk, IfSome}
 use Rattle.twp_grid.specs.Townships.{Designation}
 use Rattle.twp_grid.specs.declared.refusal.Refusal.{Refusal}
@@ -20,8 +20,14 @@ use Rattle.twp_acres.specs.Answers.{ArePlatted, IsNoPlat, IsNoDescription, IsRef
 use Rattle.twp_acres.specs.declared.verdict.Verdict.{Verdict}
 use Rattle.twp_acres.specs.declared.verdict.Verdict.TheVariants.{Refused}
 use Rattle.twp_acres.proofs.OneAnswer.{not_platted, not_described, one_plat_refusal, one_refusal, one_plat}
+use Rattle.twp_read.specs.declared.fault.TextFault.TheVariants as text
+use Rattle.twp_explain_text.specs.OtherPlaces.{IsOtherPlace}
+use Rattle.twp_explain_text.specs.ShownPlaces.{IfShown}
+use Rattle.twp_explain_text.specs.Underlined.{EndsWithFault, EndsWithSign}
+use Rattle.twp_explain.specs.FoundFaults.{ShowsFound}
 use Rattle.twp_explain.specs.Refusals.{IsOfNone, IsNotOf, DescribeLand}
-use Rattle.twp_diagnose.specs.Findings.{IfFound}
+use Rattle.twp_diagnose.specs.Findings.{IfFinds, IfFound}
+use Rattle.twp_diagnose.specs.declared.origin.Origin.{Origin}
 use Rattle.twp_diagnose.specs.declared.explanation.Explanation.{Explanation}
 use Rattle.twp_diagnose.specs.declared.finding.Failure.{Failure}
 use Rattle.twp_diagnose.specs.declared.finding.Failure.TheVariants as stop
@@ -136,3 +142,49 @@ land_is_none notes description plat verdict are land refusal (inr is) said =
     let same : is.plat ≡ plat = one_plat notes is.plat plat is.platted are in
     not_described plat.township description refusal land.0
     (subst (λ (p : TownshipPlat). IsNoDescription p.township description refusal) same is.refused) land.1
+
+-- a text that isn't read is shown up to the sign at fault
+pub text_shows : (stopped : Failure) (origin : Origin) (township : Designation) (bytes : List ℕ)
+    (fault : TextFault)
+    → IfSome (text_faults.refusal_of fault) (λ _. text_faults.IsFirstTextFault bytes fault)
+    → IfFound stopped (λ found. text_faults.refusal_of fault ≡ Some found) → IfShown origin bytes stopped
+    → (fault ≢ text.TooLarge → IfFinds stopped (λ finding.
+    EndsWithSign origin bytes finding.refusal.at finding.place))
+    → IfFinds stopped (λ finding. finding.other ≡ None)
+    → IfFinds stopped (ShowsFound origin township bytes)
+text_shows (stop.Found finding) origin township bytes fault first is begins ends none =
+    record {
+      begins = begins;
+      ends = inl (record {
+        fault = fault;
+        first = held (text_faults.refusal_of fault) finding.refusal
+            (text_faults.IsFirstTextFault bytes fault) is first;
+        refusal_is = is;
+        ends = ends;
+        no_other = none;
+      });
+    }
+text_shows stop.Memory origin township bytes fault first is begins ends none = tt
+
+-- items that name no land on the plat are shown up to the end of what is at fault
+pub items_show : (stopped : Failure) (origin : Origin) (township : Designation) (bytes : List ℕ)
+    (items : List Item) (fault : PlaceFault)
+    → IsReadAs bytes items → place_faults.IsFirstPlaceFault PLACE_DIGITS township items fault
+    → IfFound stopped (λ found. place_faults.refusal_of fault ≡ Some found) → IfShown origin bytes stopped
+    → IfFinds stopped (λ finding. EndsWithFault origin bytes items fault finding.place)
+    → IfFinds stopped (λ finding. IsOtherPlace origin bytes township items fault finding.other)
+    → IfFinds stopped (ShowsFound origin township bytes)
+items_show (stop.Found finding) origin township bytes items fault read first is begins ends other =
+    record {
+      begins = begins;
+      ends = inr (record {
+        items = items;
+        read = read;
+        fault = fault;
+        first = first;
+        refusal_is = is;
+        ends = ends;
+        other_is = other;
+      });
+    }
+items_show stop.Memory origin township bytes items fault read first is begins ends other = tt

@@ -3,3 +3,4 @@ pub mod ListFacts
 pub mod MessageFacts
 pub mod ShownFacts
 pub mod SharingFacts
+pub mod TractFacts

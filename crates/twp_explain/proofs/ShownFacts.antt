@@ -1,11 +1,13 @@
 -- Where a refused description is explained, over plain values.
 use Rattle.std.proofs.Common.{◌≡◌, ◌<◌, ◌⊎◌, ℕ, List, Option, Some, None}
-use Rattle.std.proofs.Common.{Result, Ok, Err, min, length, sym, subst, inl, inr, arith}
+use Rattle.std.proofs.Common.{Result, Ok, Err, min, length, sym, subst, ◌∙◌, inl, inr, arith}
 use Rattle.std.specs.Prelude.{IfOk, IfSome, MatchOption}
 use Rattle.twp_excerpt.specs.Spots.{end_of}
 use Rattle.twp_excerpt.specs.declared.spot.Spot.{Spot}
 use Rattle.twp_grid.specs.declared.refusal.Refusal.{Refusal}
-use Rattle.twp_diagnose.specs.Findings.{IfFound, IsOf}
+use Rattle.twp_grid.specs.Townships.{Designation}
+use Rattle.twp_diagnose.specs.Findings.{IfFinds, IfFound, IsOf}
+use Rattle.twp_diagnose.specs.Origins.{IsWholeFile, place_of}
 use Rattle.twp_diagnose.specs.Spots.{MOST_BYTES, IsSpotIn, IsSpotAt, IsSpotOf}
 use Rattle.twp_diagnose.specs.declared.explanation.Explanation.{Explanation}
 use Rattle.twp_diagnose.specs.declared.finding.Failure.{Failure}
@@ -14,17 +16,30 @@ use Rattle.twp_diagnose.specs.declared.given.Given.{Given}
 use Rattle.twp_diagnose.specs.declared.location.Location.{Location}
 use Rattle.twp_diagnose.proofs.SpotFacts.{same_spot}
 use Rattle.twp_explain_text.specs.ShownPlaces.{BeginsAt, ShowsRefused, as_a_whole, there, at_the_end}
-use Rattle.twp_explain_text.specs.ShownPlaces.{IfShown, TOO_LARGE}
+use Rattle.twp_explain_text.specs.ShownPlaces.{TOO_LARGE}
+use Rattle.twp_diagnose.specs.declared.explanation.OtherPlace.{OtherPlace}
+use Rattle.twp_diagnose.specs.declared.origin.Origin.{Origin}
+use Rattle.twp_explain.specs.FoundFaults.{IsMessageOf, ShowsFound, ShowsLand, ShowsLandIn}
 use Rattle.twp_acres.specs.Answers.{MakePlat, IsNoPlat}
 use Rattle.twp_acres.proofs.OneAnswer.{not_platted}
 use Rattle.twp_explain.specs.ExplainedPlaces.{IsSpotOfStop, IsSpotRefused, IsExplainedWhereRefused}
 
-located_at : (file : Given) (refusal : Refusal) (place : Location) (spot : Option Spot) (at : ℕ)
-    → BeginsAt file.bytes.now at place → ((s : Spot) → IsSpotIn file at s → IsSpotRefused file refusal s)
+-- a place of a text that is a file is the same in the file
+whole_place : (origin : Origin) (file : Given) (at : ℕ) → IsWholeFile origin → origin.file ≡ file
+    → place_of origin at ≡ min at (length file.bytes.now)
+whole_place origin file at whole is =
+    let here : place_of origin at ≡ min at (length origin.file.bytes.now) =
+    rw (whole.starts, whole.plain) (omega arith) in
+    subst (λ (f : Given). place_of origin at ≡ min at (length f.bytes.now)) is here
+
+located_at : (origin : Origin) (file : Given) (refusal : Refusal) (place : Location) (spot : Option Spot)
+    (at : ℕ)
+    → IsWholeFile origin → origin.file ≡ file
+    → BeginsAt origin at place → ((s : Spot) → IsSpotIn file at s → IsSpotRefused file refusal s)
     → IsSpotOf file place spot
     → MatchOption spot ((refusal.number ≡ TOO_LARGE) ⊎ (MOST_BYTES < length file.bytes.now))
     (IsSpotRefused file refusal)
-located_at file refusal place spot at begins refused is =
+located_at origin file refusal place spot at whole of_file begins refused is =
     go spot (subst (λ (p : Location). IsSpotOf file p spot) begins.is_part is)
   where
     go : (s : Option Spot) → IsSpotAt file begins.span.start s
@@ -32,41 +47,65 @@ located_at file refusal place spot at begins refused is =
         (IsSpotRefused file refusal)
     go None long = inr long
     go (Some s) here =
-        let starts : begins.span.start ≡ min at (length file.bytes.now) = begins.starts in
+        let starts : begins.span.start ≡ min at (length file.bytes.now) =
+        begins.starts ∙ whole_place origin file at whole of_file in
         refused s (same_spot file begins.span.start at s (omega arith) here)
 
-explained_refused : (file : Given) (refusal : Refusal) (place : Location) (spot : Option Spot)
-    → ShowsRefused file.bytes.now refusal place → IsSpotOf file place spot
+explained_refused : (origin : Origin) (file : Given) (refusal : Refusal) (place : Location)
+    (spot : Option Spot) → IsWholeFile origin → origin.file ≡ file
+    → ShowsRefused origin file.bytes.now refusal place → IsSpotOf file place spot
     → MatchOption spot ((refusal.number ≡ TOO_LARGE) ⊎ (MOST_BYTES < length file.bytes.now))
     (IsSpotRefused file refusal)
-explained_refused file refusal place spot (as_a_whole large whole) is =
-    let none : spot ≡ None = subst (λ (p : Location). IsSpotOf file p spot) whole is in
+explained_refused origin file refusal place spot whole of_file (as_a_whole large shown) is =
+    let none : spot ≡ None = subst (λ (p : Location). IsSpotOf file p spot) shown is in
     subst (λ (s : Option Spot). MatchOption s
     ((refusal.number ≡ TOO_LARGE) ⊎ (MOST_BYTES < length file.bytes.now)) (IsSpotRefused file refusal))
     (sym none) (inl large)
-explained_refused file refusal place spot (there begins) is =
-    located_at file refusal place spot refusal.at begins (λ s here. inl here) is
-explained_refused file refusal place spot (at_the_end white begins) is =
-    located_at file refusal place spot (end_of file.bytes.now) begins (λ s here. inr (white, here)) is
+explained_refused origin file refusal place spot whole of_file (there begins) is =
+    located_at origin file refusal place spot refusal.at whole of_file begins (λ s here. inl here) is
+explained_refused origin file refusal place spot whole of_file (at_the_end white begins) is =
+    located_at origin file refusal place spot (end_of file.bytes.now) whole of_file begins
+    (λ s here. inr (white, here)) is
 
-pub explained_where : (file : Given) (stopped : Failure) (explanation : Explanation)
-    → IfShown file.bytes.now stopped → IsOf stopped explanation.refusal
+pub explained_where : (origin : Origin) (file : Given) (township : Designation) (stopped : Failure)
+    (explanation : Explanation) → IsWholeFile origin → origin.file ≡ file
+    → IfFinds stopped (ShowsFound origin township file.bytes.now) → IsOf stopped explanation.refusal
     → IsSpotOfStop file stopped explanation → IsExplainedWhereRefused file explanation
-explained_where file (stop.Found finding) explanation shown of spot =
-    explained_refused file explanation.refusal finding.place explanation.spot
-    (subst (λ (r : Refusal). ShowsRefused file.bytes.now r finding.place) spot.0 shown) spot.1
-explained_where file stop.Memory explanation shown of spot = absurd of
+explained_where origin file township (stop.Found finding) explanation whole of_file shown of spot =
+    explained_refused origin file explanation.refusal finding.place explanation.spot whole of_file
+    (subst (λ (r : Refusal). ShowsRefused origin file.bytes.now r finding.place) spot.0 shown.begins) spot.1
+explained_where origin file township stop.Memory explanation whole of_file shown of spot = absurd of
 
 -- what is explained of what was found is explained where the description is refused
-pub tells_where : {Error : Type 0} (result : Result (Option Explanation) Error) (file : Given)
-    (stopped : Failure) → IfShown file.bytes.now stopped
+pub tells_where : {Error : Type 0} (result : Result (Option Explanation) Error) (origin : Origin)
+    (file : Given) (township : Designation) (stopped : Failure) → IsWholeFile origin → origin.file ≡ file
+    → IfFinds stopped (ShowsFound origin township file.bytes.now)
     → IfOk result (λ explained. IfSome explained (λ explanation. IsOf stopped explanation.refusal))
     → IfOk result (λ explained. IfSome explained (IsSpotOfStop file stopped))
     → IfOk result (λ explained. IfSome explained (IsExplainedWhereRefused file))
-tells_where (Ok (Some explanation)) file stopped shown of spot =
-    explained_where file stopped explanation shown of spot
-tells_where (Ok None) file stopped shown of spot = tt
-tells_where (Err error) file stopped shown of spot = tt
+tells_where (Ok (Some explanation)) origin file township stopped whole of_file shown of spot =
+    explained_where origin file township stopped explanation whole of_file shown of spot
+tells_where (Ok None) origin file township stopped whole of_file shown of spot = tt
+tells_where (Err error) origin file township stopped whole of_file shown of spot = tt
+
+-- so a description is explained by its own first fault
+pub shown_land : (origin : Origin) (file : Given) (township : Designation) (stopped : Failure)
+    (explanation : Explanation) → IsWholeFile origin → origin.file ≡ file
+    → IfFinds stopped (ShowsFound origin township file.bytes.now) → IsMessageOf stopped explanation
+    → ShowsLandIn township file explanation
+shown_land origin file township (stop.Found finding) explanation whole of_file shown of = record {
+  origin = origin;
+  file_is = of_file;
+  whole = whole;
+  shows =
+      subst (λ (other : Option OtherPlace).
+      ShowsLand origin township file.bytes.now explanation.refusal explanation.place other) of.2
+      (subst (λ (place : Location).
+      ShowsLand origin township file.bytes.now explanation.refusal place finding.other) of.1
+      (subst (λ (r : Refusal).
+      ShowsLand origin township file.bytes.now r finding.place finding.other) of.0 shown));
+}
+shown_land origin file township stop.Memory explanation whole of_file shown of = absurd of
 
 -- what was found is of the refusal that is explained
 pub found_is : (Is : Refusal → Type 0) (stopped : Failure) (refusal : Refusal) → IfFound stopped Is

@@ -1,15 +1,23 @@
 -- What is shown of a refused record of a list, and which earlier tract has its name.
-use Rattle.std.specs.Prelude.{◌≡◌, ◌≢◌, ⊤, ℕ, zero, suc, ◌≤◌, ◌<◌, min, List, length, codes}
+use Rattle.std.specs.Prelude.{◌≡◌, ◌≢◌, ℕ, zero, suc, ◌≤◌, ◌<◌, min, List, length, codes}
+use Rattle.std.specs.Prelude.{Option, None}
 use Rattle.twp_notes.specs.Records.{Fields, field, record_numbered, records_of}
-use Rattle.twp_acres.specs.Tracts.{name_in}
+use Rattle.twp_grid.specs.Townships.{Designation}
+use Rattle.twp_acres.specs.Tracts.{description_in, name_in}
 use Rattle.twp_acres.specs.declared.tract_fault.TractFault.{TractFault}
 use Rattle.twp_acres.specs.declared.tract_fault.TractFault.TheVariants as fault
+use Rattle.twp_diagnose.specs.Origins.{IsFieldAt}
 use Rattle.twp_diagnose.specs.RecordFields.{fields_listed, listed_span, number_listed, start_listed}
 use Rattle.twp_diagnose.specs.RecordFields.{IsListedAt}
 use Rattle.twp_diagnose.specs.declared.given.Given.{Given}
 use Rattle.twp_diagnose.specs.declared.listed.Listed.{Listed}
 use Rattle.twp_diagnose.specs.declared.location.Location.{Location}
-use Rattle.twp_diagnose.specs.declared.location.Location.TheVariants.{Whole, Line, Field}
+use Rattle.twp_diagnose.specs.declared.explanation.OtherPlace.{OtherPlace}
+use Rattle.twp_diagnose.specs.declared.finding.Finding.{Finding}
+use Rattle.twp_diagnose.specs.declared.location.Location.TheVariants.{Whole, Line, Field, Part}
+use Rattle.twp_diagnose.specs.declared.origin.Origin.{Origin}
+use Rattle.twp_explain.specs.FoundFaults.{ShowsFound}
+use Rattle.twp_explain.specs.Refusals.{DescribeLand}
 
 -- the number of fields of a record, and of the first record of a tract
 abbrev pub COLUMNS : ℕ
@@ -45,20 +53,65 @@ pub record IsFirstNamed (rows : List Fields) (name : List ℕ) (last number : �
   pub until : number ≤ last
   pub others : (other : ℕ) → FIRST_TRACT ≤ other → other < number
       → name_in (record_numbered rows other) ≢ name
+  pub is_tract : number < last → FIRST_TRACT ≤ number
   pub same : number < last → name_in (record_numbered rows number) ≡ name
 
+-- what is shown of a text is shown of its list: on the tract's line, if the text is shown as a whole
+abbrev pub place_in_list : Location → Listed → Location
+place_in_list Whole listed = Line (start_listed listed)
+place_in_list (Line at_) listed = Line at_
+place_in_list (Field span) listed = Field span
+place_in_list (Part span) listed = Part span
+
+-- the description of a record of a list
+abbrev pub description_listed : Listed → List ℕ
+description_listed listed = description_in (fields_listed listed)
+
+-- the text is the description of a record, where it is in the list
+pub record IsDescriptionOf (listed : Listed) (origin : Origin) : Type 0 where
+  pub file_is : origin.file ≡ listed.file
+  pub in_its_field : IsFieldAt (listed_span listed 1).start origin
+
+-- a tract's description is refused, and what was found is its own first fault, where it is in the list
+pub record IsRefusedTract (township : Designation) (listed : Listed) (finding : Finding) : Type 0 where
+  pub origin : Origin
+  pub origin_is : IsDescriptionOf listed origin
+  pub shows : ShowsFound origin township (description_listed listed) finding
+
+-- that is shown in the list
+pub record ShowsRefusedTract (township : Designation) (listed : Listed) (location : Location)
+    (other : Option OtherPlace) : Type 0 where
+  pub finding : Finding
+  pub is : IsRefusedTract township listed finding
+  pub location_is : location ≡ place_in_list finding.place listed
+  pub other_is : other ≡ finding.other
+
+-- so it is; of a description that names land on the plat, the tract's line is shown
+pub data ShowsTract (township : Designation) (listed : Listed) (location : Location)
+    (other : Option OtherPlace) : Type 0 where
+  refused : ShowsRefusedTract township listed location other → ShowsTract township listed location other
+  described : DescribeLand township (description_listed listed) → location ≡ Line (start_listed listed)
+      → other ≡ None → ShowsTract township listed location other
+
 -- where a fault of a record is shown in it: a bad heading or tract at the field to blame, a repeated name at
--- the name, and one tract too many, or one that overlaps, at the record's line
-abbrev pub IsShownInRecord : Listed → TractFault → Location → Type 0
-IsShownInRecord listed (fault.TractRow number) location = ShowsRow listed location
-IsShownInRecord listed (fault.NameRepeated number) location = location ≡ Field (listed_span listed 0)
-IsShownInRecord listed (fault.TractRefused number inner) location = ⊤
-IsShownInRecord listed other location = location ≡ Line (start_listed listed)
+-- the name, a refused description where it is refused, and one tract too many, or one that overlaps, at the
+-- record's line
+abbrev pub IsShownInRecord : Designation → Listed → TractFault → Location → Type 0
+IsShownInRecord township listed (fault.TractRow number) location = ShowsRow listed location
+IsShownInRecord township listed (fault.NameRepeated number) location =
+    location ≡ Field (listed_span listed 0)
+IsShownInRecord township listed (fault.TractRefused number inner) location =
+    (other : Option OtherPlace) × ShowsTract township listed location other
+IsShownInRecord township listed (fault.TractsOverlap number) location = location ≡ Line (start_listed listed)
+IsShownInRecord township listed fault.TooManyTracts location = location ≡ Line (start_listed listed)
+IsShownInRecord township listed fault.TractsTooLarge location = location ≡ Line (start_listed listed)
+IsShownInRecord township listed fault.Memory location = location ≡ Line (start_listed listed)
 
 -- a fault of a list is shown in the record of this number; the list is shown as a whole where there is no
 -- such record
-pub data ShowsTractFault (tracts : Given) (is : TractFault) (number : ℕ) (location : Location) : Type 0 where
+pub data ShowsTractFault (tracts : Given) (township : Designation) (is : TractFault) (number : ℕ)
+    (location : Location) : Type 0 where
   as_a_whole : length (records_of tracts.bytes.now) < number → location ≡ Whole
-      → ShowsTractFault tracts is number location
-  in_its_record : (listed : Listed) → IsListedAt tracts number listed → IsShownInRecord listed is location
-      → ShowsTractFault tracts is number location
+      → ShowsTractFault tracts township is number location
+  in_its_record : (listed : Listed) → IsListedAt tracts number listed
+      → IsShownInRecord township listed is location → ShowsTractFault tracts township is number location

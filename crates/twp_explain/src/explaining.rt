@@ -4,10 +4,10 @@ ghost use Rattle.std.specs.Prelude.{◌≡◌, Some, None, IfOk, IfSome, IfErr};
 ghost use Rattle.twp_acres.specs.Answers.{ArePlatted, MakePlat, IsNoPlat, IsNoDescription, IsRefusal};
 ghost use Rattle.twp_explain.specs.Refusals.{IsOfNone, IsNotOf, DescribeLand};
 ghost use Rattle.twp_explain.specs.ExplainedPlaces.{IsSpotOfStop, IsExplainedWhereRefused};
-ghost use Rattle.twp_diagnose.specs.Findings.{IfFound, IsOf};
+ghost use Rattle.twp_diagnose.specs.Findings.{IfFinds, IfFound, IsOf};
 ghost use Rattle.twp_diagnose.specs.ShownMessages.{ShowsIn};
+ghost use Rattle.twp_explain.specs.FoundFaults.{ShowsFound};
 ghost use Rattle.twp_explain.specs.ShownFaults.{ShowsFault};
-ghost use Rattle.twp_explain_text.specs.ShownPlaces.{IsTextOf, IfShown};
 ghost use Rattle.twp_acres.specs.declared.verdict.Verdict.TheVariants.{Refused};
 
 use std::alloc::{AllocError, Global};
@@ -114,7 +114,7 @@ pub(crate) fn plat_of(alloc: Global, file: &Given<'_>) -> Result<Plat, Failure>
 }
 
 /// Goes through a text that describes land of a township, or gives what is wrong with it.
-#[tactic(auto, using(crate::proofs::FindingFacts::text_refused, crate::proofs::FindingFacts::items_refused))]
+#[tactic(auto, using(crate::proofs::FindingFacts::text_refused, crate::proofs::FindingFacts::items_refused, crate::proofs::FindingFacts::text_shows, crate::proofs::FindingFacts::items_show))]
 #[inline(never)]
 pub(crate) fn describe(
     alloc: Global,
@@ -124,7 +124,7 @@ pub(crate) fn describe(
 ) -> Result<(), Failure>
     ensures land { IfOk result (λ _. DescribeLand township bytes.now) }
     ensures found { IfErr result (λ stop. IfFound stop (IsNoDescription township bytes.now)) }
-    ensures shown { IsTextOf origin.now bytes.now → IfErr result (IfShown bytes.now) }
+    ensures shown { IfErr result (λ stop. IfFinds stop (ShowsFound origin.now township bytes.now)) }
 {
     let description = match Description::read(alloc, bytes) {
         Ok(description) => description,

@@ -7,6 +7,7 @@ ghost use Rattle.twp_explain.specs.Refusals.{DescribeLand, HasAccount};
 ghost use Rattle.twp_diagnose.specs.ShownMessages.{ShowsIn};
 ghost use Rattle.twp_explain.specs.ExplainedPlaces.{IsSpotOfStop, IsExplainedWhereRefused};
 ghost use Rattle.twp_diagnose.specs.Findings.{IsOf};
+ghost use Rattle.twp_explain.specs.FoundFaults.{IsMessageOf, ShowsLandIn};
 
 use crate::explaining::{describe, plat_of};
 use crate::list::{explain_fault, fault_of};
@@ -41,6 +42,7 @@ pub fn explain_description(
     ensures none { IfOk result (λ explained. explained ≡ None
         → DescribeLand township description.now.bytes.now) }
     ensures shows { IfOk result (λ explained. IfSome explained (ShowsIn description.now)) }
+    ensures place { IfOk result (λ explained. IfSome explained (ShowsLandIn township description.now)) }
 {
     let origin = Origin::of_file(*description);
     match describe(alloc, &origin, description.bytes, township) {
@@ -86,6 +88,7 @@ fn explain_stop(alloc: Global, file: &Given<'_>, stop: Failure) -> Result<Explan
     ensures refusal { IfOk result (λ explanation. IsOf stop explanation.refusal) }
     ensures spot { IfOk result (IsSpotOfStop file.now stop) }
     ensures shows { IfOk result (ShowsIn file.now) }
+    ensures place { IfOk result (IsMessageOf stop) }
 {
     let Failure::Found(finding) = stop else {
         return Err(AllocError);

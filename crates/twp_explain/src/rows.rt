@@ -25,6 +25,7 @@ pub(crate) fn explain(
 ) -> Result<(), AllocError>
     ensures refusal { finding.new.refusal ≡ finding.old.refusal }
     ensures place { OnOk result (ShowsRow listed.now finding.new.place) }
+    ensures other { finding.new.other ≡ finding.old.other }
 {
     if listed.number() == 1 {
         finding.place = Location::Field(listed.span(heading_place(listed)));

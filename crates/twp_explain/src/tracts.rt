@@ -1,14 +1,18 @@
 //! What is wrong with lists of tracts.
-ghost use Rattle.std.specs.Prelude.{◌≡◌, ◌≤◌, ◌↔◌, IfOk, IfErr, IsTrue, OnOk};
+ghost use Rattle.std.specs.Prelude.{◌≡◌, ◌≤◌, ◌↔◌, None, IfOk, IfErr, IfSome, IsTrue, OnOk};
 ghost use Rattle.csv.specs.Records.{fields_of};
 ghost use Rattle.twp_notes.specs.Records.{records_of};
-ghost use Rattle.twp_acres.specs.Answers.{IsNoDescription};
-ghost use Rattle.twp_acres.specs.Tracts.{description_in, name_in};
+ghost use Rattle.twp_acres.specs.Tracts.{name_in};
 ghost use Rattle.twp_diagnose.specs.RecordFields.{fields_listed, listed_span, number_listed};
 ghost use Rattle.twp_diagnose.specs.RecordFields.{start_listed, IsListedAt};
 ghost use Rattle.twp_diagnose.specs.declared.location.Location.TheVariants.{Field, Line, Whole};
-ghost use Rattle.twp_explain.specs.BlamedTracts.{IsFirstNamed, IsShownInRecord, ShowsTractFault};
-ghost use Rattle.twp_diagnose.specs.Findings.{IfFound};
+ghost use Rattle.twp_diagnose.specs.Findings.{IfFinds};
+ghost use Rattle.twp_explain.specs.BlamedTracts.{IsFirstNamed, IsRefusedTract, IsShownInRecord};
+ghost use Rattle.twp_explain.specs.BlamedTracts.{ShowsTract, ShowsTractFault, description_listed};
+ghost use Rattle.twp_explain.specs.BlamedTracts.{place_in_list};
+ghost use Rattle.twp_explain.specs.OtherTracts.{IsFieldOf, IsNamedBefore, IsOtherInRecord};
+ghost use Rattle.twp_explain.specs.OtherTracts.{IsOtherTract, IsSharedBefore};
+ghost use Rattle.twp_explain.specs.Refusals.{DescribeLand};
 
 use crate::explaining::describe;
 use crate::rows;
@@ -16,7 +20,7 @@ use crate::sharing::{FIRST_TRACT, first_sharing_record};
 use csv::ByteRecord;
 use std::alloc::{AllocError, Global};
 use twp_acres::TractFault;
-use twp_diagnose::{Failure, Finding, Given, Listed, Location, Origin, text_in};
+use twp_diagnose::{Failure, Finding, Given, Listed, Location, Origin, OtherPlace, text_in};
 use twp_excerpt::write_escaped;
 use twp_explain_text::write_land;
 use twp_grid::{Refusal, Township};
@@ -35,7 +39,9 @@ pub(crate) fn find(
 ) -> Result<Finding, AllocError>
     ensures refusal { IfOk result (λ finding. finding.refusal ≡ refusal) }
     ensures place { 1 ≤ refusal.at → IfOk result (λ finding.
-        ShowsTractFault tracts.now fault refusal.at finding.place) }
+        ShowsTractFault tracts.now township fault refusal.at finding.place) }
+    ensures other { 1 ≤ refusal.at → IfOk result (λ finding.
+        IsOtherTract tracts.now township fault refusal.at finding.other) }
 {
     let Some(listed) = Listed::numbered(alloc, *tracts, refusal.at)? else {
         return find_none(alloc, fault, refusal);
@@ -45,6 +51,8 @@ pub(crate) fn find(
         place: Location::Line(listed.start()),
         sentence: String::new(alloc),
         help: String::new(alloc),
+        other: None,
+        corrected: None,
     };
     explain(alloc, &listed, township, fault, &mut finding)?;
     Ok(finding)
@@ -59,8 +67,12 @@ fn explain(
     finding: &mut Finding,
 ) -> Result<(), AllocError>
     ensures refusal { finding.new.refusal ≡ finding.old.refusal }
-    ensures place { finding.old.place ≡ Line (start_listed listed.now)
-        → OnOk result (IsShownInRecord listed.now fault finding.new.place) }
+    ensures place { finding.old.place ≡ Line (start_listed listed.now) → finding.old.other ≡ None
+        → OnOk result (IsShownInRecord township listed.now fault finding.new.place) }
+    ensures other { finding.old.other ≡ None → finding.old.place ≡ Line (start_listed listed.now)
+        → 1 ≤ number_listed listed.now
+        → IsListedAt listed.now.file (number_listed listed.now) listed.now
+        → OnOk result (IsOtherInRecord township listed.now fault finding.new.other) }
 {
     match fault {
         TractFault::TractRow(_) => rows::explain(alloc, listed, finding),
@@ -75,6 +87,7 @@ fn explain(
 fn find_none(alloc: Global, fault: TractFault, refusal: Refusal) -> Result<Finding, AllocError>
     ensures refusal { IfOk result (λ finding. finding.refusal ≡ refusal) }
     ensures place { IfOk result (λ finding. finding.place ≡ Whole) }
+    ensures other { IfOk result (λ finding. finding.other ≡ None) }
 {
     let mut sentence = String::new(alloc);
     let mut help = String::new(alloc);
@@ -84,18 +97,14 @@ fn find_none(alloc: Global, fault: TractFault, refusal: Refusal) -> Result<Findi
         sentence.push_str("the list of tracts is longer than 1,048,576 bytes")?;
         help.push_str("split the list in two")?;
     }
-    Ok(Finding {
-        refusal,
-        place: Location::Whole,
-        sentence,
-        help,
-    })
+    Ok(Finding::new(refusal, Location::Whole, sentence, help))
 }
 
 /// Tells of one tract too many.
 fn explain_many(listed: &Listed<'_>, finding: &mut Finding) -> Result<(), AllocError>
     ensures refusal { finding.new.refusal ≡ finding.old.refusal }
     ensures place { finding.new.place ≡ finding.old.place }
+    ensures other { finding.new.other ≡ finding.old.other }
 {
     write!(
         finding.sentence,
@@ -110,6 +119,9 @@ fn explain_many(listed: &Listed<'_>, finding: &mut Finding) -> Result<(), AllocE
 fn explain_name(alloc: Global, listed: &Listed<'_>, finding: &mut Finding) -> Result<(), AllocError>
     ensures refusal { finding.new.refusal ≡ finding.old.refusal }
     ensures place { OnOk result (finding.new.place ≡ Field (listed_span listed.now 0)) }
+    ensures other { finding.old.other ≡ None → 1 ≤ number_listed listed.now
+        → IsListedAt listed.now.file (number_listed listed.now) listed.now
+        → OnOk result (IfSome finding.new.other (IsNamedBefore listed.now)) }
 {
     finding.place = Location::Field(listed.span(0));
     write_tract(listed, &mut finding.sentence)?;
@@ -120,11 +132,22 @@ fn explain_name(alloc: Global, listed: &Listed<'_>, finding: &mut Finding) -> Re
     let Some(earlier) = Listed::numbered(alloc, listed.file, number)? else {
         return Ok(());
     };
+    finding.other = Some(other_place(&earlier, 0));
     write!(
         finding.sentence,
         ", record {number} on line {}",
         earlier.line()
     )
+}
+
+/// Where a field of an earlier record is.
+fn other_place(earlier: &Listed<'_>, place: usize) -> OtherPlace
+    ensures { IsFieldOf earlier.now place result }
+{
+    OtherPlace {
+        number: earlier.number(),
+        span: earlier.span(place),
+    }
 }
 
 /// The number of the first tract's record that has the name of one.
@@ -171,6 +194,8 @@ fn explain_tract(
     finding: &mut Finding,
 ) -> Result<(), AllocError>
     ensures refusal { finding.new.refusal ≡ finding.old.refusal }
+    ensures shows { finding.old.place ≡ Line (start_listed listed.now) → finding.old.other ≡ None
+        → OnOk result (ShowsTract township listed.now finding.new.place finding.new.other) }
 {
     write_tract(listed, &mut finding.sentence)?;
     let inner = match describe_tract(alloc, listed, township) {
@@ -180,24 +205,36 @@ fn explain_tract(
     };
     finding.sentence.push_str(": ")?;
     finding.sentence.push_str(inner.sentence.as_str())?;
-    if inner.place != Location::Whole {
-        finding.place = inner.place;
-    }
-    if inner.refusal.number == 42
-        && inner.refusal.at == 0
-        && listed.field(1).first() == Some(&b'"')
-    {
+    finding.place = shown_in_list(inner.place, listed);
+    finding.other = inner.other;
+    if is_quoted(&inner, listed) {
         return finding.help.push_str(
             "delete the quotation marks: the spreadsheet adds those that it needs",
         );
     }
+    finding.corrected = inner.corrected;
     finding.help.push_str(inner.help.as_str())
+}
+
+/// Where in its list the place of a description is shown: on the tract's line, if it is shown as a whole.
+fn shown_in_list(place: Location, listed: &Listed<'_>) -> Location
+    ensures { result ≡ place_in_list place listed.now }
+{
+    match place {
+        Location::Whole => Location::Line(listed.start()),
+        _ => place,
+    }
+}
+
+/// Whether a description is refused because it begins with a quotation mark.
+fn is_quoted(inner: &Finding, listed: &Listed<'_>) -> bool {
+    inner.refusal.number == 42 && inner.refusal.at == 0 && listed.field(1).first() == Some(&b'"')
 }
 
 /// Goes through the description of a tract, or gives what is wrong with it.
 fn describe_tract(alloc: Global, listed: &Listed<'_>, township: Township) -> Result<(), Failure>
-    ensures { IfErr result (λ stop. IfFound stop
-        (IsNoDescription township (description_in (fields_listed listed.now)))) }
+    ensures land { IfOk result (λ _. DescribeLand township (description_listed listed.now)) }
+    ensures shown { IfErr result (λ stop. IfFinds stop (IsRefusedTract township listed.now)) }
 {
     let origin = Origin::of_field(listed.file, listed.span(1).start);
     describe(alloc, &origin, listed.field(1), township)
@@ -213,6 +250,8 @@ fn explain_overlap(
 ) -> Result<(), AllocError>
     ensures refusal { finding.new.refusal ≡ finding.old.refusal }
     ensures place { finding.new.place ≡ finding.old.place }
+    ensures other { finding.old.other ≡ None
+        → OnOk result (IfSome finding.new.other (IsSharedBefore township listed.now)) }
 {
     write_tract(listed, &mut finding.sentence)?;
     let mut common = Lanes::empty();
@@ -221,6 +260,7 @@ fn explain_overlap(
     };
     finding.sentence.push_str(" overlaps ")?;
     write_tract(&earlier, &mut finding.sentence)?;
+    finding.other = Some(other_place(&earlier, 1));
     let number = earlier.number();
     write!(finding.sentence, " (record {number}); both include ")?;
     let land = spell(alloc, &common, township)?;

@@ -1,21 +1,25 @@
 -- Which field of a record fails, over plain values.
-use Rattle.std.proofs.Common.{◌≡◌, ◌≢◌, ◌⊎◌, ℕ, List, length, codes, inl, inr, refl, ◌∙◌, Option, Some, None}
-use Rattle.std.specs.Prelude.{IfSome}
-use Rattle.csv.specs.Records.{fields_of}
+use Rattle.std.proofs.Common.{◌≡◌, ◌≢◌, ◌⊎◌, ◌<◌, ℕ, List, length, codes, inl, inr, refl, ◌∙◌, arith}
+use Rattle.std.proofs.Common.{Option, Some, None, [], ◌∷◌}
+use Rattle.std.proofs.lemmas.List.Elements.{All-cons, All-nil}
+use Rattle.std.specs.Prelude.{MatchOption}
 use Rattle.twp_measure.specs.LengthTexts.{IsLengthText}
+use Rattle.twp_grid.specs.Lines.{IsLine, IsSide, LiesBeside}
 use Rattle.twp_grid.specs.Townships.{north_south_letter, east_west_letter}
 use Rattle.twp_grid.specs.Townships.{designation}
 use Rattle.twp_grid.specs.declared.township.NorthSouth.{NorthSouth}
 use Rattle.twp_grid.specs.declared.township.NorthSouth.TheVariants as side
 use Rattle.twp_grid.specs.declared.township.EastWest.{EastWest}
-use Rattle.twp_notes.specs.Records.{Fields, field}
+use Rattle.twp_notes.specs.Records.{Fields, field, records_of}
 use Rattle.twp_notes.specs.FieldNotes.{FIELDS, heading, IsTownshipRecord, IsSectionText, IsNeighborText}
 use Rattle.twp_notes.specs.FieldNotes.{NamesLine}
 use Rattle.twp_notes.specs.NotesFaults.{HasNone, HasNoSection, HasNoLength}
 use Rattle.twp_notes.proofs.FieldFacts.{five_fields}
 use Rattle.twp_plat.specs.PlatFaults.{place_of}
 use Rattle.twp_plat.specs.declared.fault.PlatFault.{PlatFault}
+use Rattle.twp_diagnose.specs.RecordFields.{IsFirstOfLine, NoneNames}
 use Rattle.twp_diagnose.specs.declared.location.Location.{Location}
+use Rattle.twp_diagnose.specs.declared.location.Location.TheVariants.{Whole}
 use Rattle.twp_diagnose.specs.declared.records.Record.{Record}
 use Rattle.twp_explain_notes.specs.Blamed.{IsTownshipText}
 use Rattle.twp_explain_notes.specs.BlamedDistances.{distance_of, as_a_whole, in_its_record, IsShownIn}
@@ -71,7 +75,42 @@ no_corner fields quarter is (inr none) = none
 
 -- a distance is shown in the record of its line, or the notes as a whole
 pub shown_distance : (notes : List ℕ) (is : PlatFault) (found : Option Record) (location : Location)
-    → IfSome found (λ named. NamesLine (fields_of named.row) (place_of is))
+    → MatchOption found (NoneNames (place_of is) (records_of notes)) (IsFirstOfLine notes (place_of is))
     → IsShownIn found (distance_of is) location → ShowsDistance notes is location
-shown_distance notes is None location named shown = as_a_whole shown
+shown_distance notes is None location none shown = as_a_whole none shown
 shown_distance notes is (Some found) location named shown = in_its_record found named shown
+
+-- a side of a section is a line of the township
+side_is_line : (section index : ℕ) → IsSide section index → IsLine index
+side_is_line section index is =
+    let row : is.row < 6 = is.stands.row_range in
+    let column : is.column < 6 = is.stands.column_range in
+    elim is.side [
+      | inl east ↦ omega arith
+      | inr others ↦ elim others [
+        | inl west ↦ omega arith
+        | inr tiers ↦ elim tiers [
+          | inl north ↦ omega arith
+          | inr south ↦ omega arith
+        ]
+      ]
+    ]
+
+-- and so is a line beside a section
+beside_is_line : (section : ℕ) (other : Option ℕ) (index : ℕ) → LiesBeside section other index → IsLine index
+beside_is_line section None index is = side_is_line section index is.0
+beside_is_line section (Some other) index is = side_is_line section index is.1
+
+-- records name lines of the township alone
+none_names_no_line : (place : ℕ) (rows : List Fields) → (IsLine place → ⊥) → NoneNames place rows
+none_names_no_line place [] outside = All-nil (λ (row : Fields). ¬ NamesLine row place)
+none_names_no_line place (row ∷ rows) outside =
+    All-cons (λ (row : Fields). ¬ NamesLine row place) row rows
+    (λ names. outside (beside_is_line names.section names.other place names.line_is.1))
+    (none_names_no_line place rows outside)
+
+-- where a fault's place is no line, the notes are shown as a whole
+pub shown_no_line : (notes : List ℕ) (is : PlatFault) (location : Location) → (IsLine (place_of is) → ⊥)
+    → location ≡ Whole → ShowsDistance notes is location
+shown_no_line notes is location outside shown =
+    as_a_whole (none_names_no_line (place_of is) (records_of notes) outside) shown

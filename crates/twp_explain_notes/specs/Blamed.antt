@@ -81,13 +81,28 @@ AreBlamed (fault.Section number) fields range = HasNoSection fields
 AreBlamed (fault.NoLine number) fields range = (range.first ≡ 1) × (range.last ≡ 2)
 AreBlamed (fault.Length number) fields range = HasNoLength fields
     → IsOneField (IsNoDistance fields) range
-AreBlamed other fields range = AreAllFields fields range
+AreBlamed (fault.Repeated number) fields range = AreAllFields fields range
+AreBlamed fault.TooLarge fields range = AreAllFields fields range
+AreBlamed fault.Empty fields range = AreAllFields fields range
+AreBlamed (fault.Missing line) fields range = AreAllFields fields range
+AreBlamed fault.Read fields range = AreAllFields fields range
+AreBlamed fault.Memory fields range = AreAllFields fields range
 
--- the fault is one of a record: not of the size of the notes, and not a missing line
+-- the fault is one of a record: not of the notes as a whole, not a missing line, and not of the reader
 abbrev pub IsOfRecord : NotesFault → Type 0
 IsOfRecord fault.TooLarge = ⊥
+IsOfRecord fault.Empty = ⊥
+IsOfRecord fault.Heading = ⊤
+IsOfRecord (fault.Columns number) = ⊤
+IsOfRecord fault.Township = ⊤
+IsOfRecord (fault.Run number) = ⊤
+IsOfRecord (fault.Section number) = ⊤
+IsOfRecord (fault.NoLine number) = ⊤
+IsOfRecord (fault.Length number) = ⊤
+IsOfRecord (fault.Repeated number) = ⊤
 IsOfRecord (fault.Missing line) = ⊥
-IsOfRecord other = ⊤
+IsOfRecord fault.Read = ⊥
+IsOfRecord fault.Memory = ⊥
 
 -- the record is the one of this number, and a fault of this kind is one of a record
 pub record IsRecordOf (notes : List ℕ) (is : NotesFault) (number : ℕ) (found : Record) : Type 0 where

@@ -1,12 +1,12 @@
 -- Which distance of a record is to blame where notes make no plat, and its limits.
 use Rattle.std.specs.Prelude.{◌≡◌, ℕ, ◌+◌, ◌-◌, List, Option, Some, None}
-use Rattle.twp_notes.specs.FieldNotes.{NamesLine}
+use Rattle.twp_notes.specs.Records.{records_of}
 use Rattle.twp_plat.specs.Closing.{HALF_MILE, TOLERANCE, CLOSING_LEAST, CLOSING_MOST}
 use Rattle.twp_plat.specs.PlatFaults.{place_of}
 use Rattle.twp_plat.specs.declared.fault.HalfMile.TheVariants as half
 use Rattle.twp_plat.specs.declared.fault.PlatFault.{PlatFault}
 use Rattle.twp_plat.specs.declared.fault.PlatFault.TheVariants as fault
-use Rattle.twp_diagnose.specs.RecordFields.{fields_in, fields_span}
+use Rattle.twp_diagnose.specs.RecordFields.{fields_span, IsFirstOfLine, NoneNames}
 use Rattle.twp_diagnose.specs.declared.location.Location.{Location}
 use Rattle.twp_diagnose.specs.declared.location.Location.TheVariants.{Whole, Field}
 use Rattle.twp_diagnose.specs.declared.records.Record.{Record}
@@ -41,10 +41,11 @@ abbrev pub IsShownIn : Option Record → ℕ → Location → Type 0
 IsShownIn None place location = location ≡ Whole
 IsShownIn (Some found) place location = location ≡ Field (fields_span found place place)
 
--- A fault of a line is shown at its distance in a record that names the line; if there is none, the notes are
--- shown as a whole.
+-- A fault of a line is shown at its distance in the first record that names the line; the notes are shown as
+-- a whole only if no record does.
 pub data ShowsDistance (notes : List ℕ) (is : PlatFault) (location : Location) : Type 0 where
-  as_a_whole : location ≡ Whole → ShowsDistance notes is location
-  in_its_record : (found : Record) → NamesLine (fields_in found) (place_of is)
+  as_a_whole : NoneNames (place_of is) (records_of notes) → location ≡ Whole
+      → ShowsDistance notes is location
+  in_its_record : (found : Record) → IsFirstOfLine notes (place_of is) found
       → location ≡ Field (fields_span found (distance_of is) (distance_of is))
       → ShowsDistance notes is location

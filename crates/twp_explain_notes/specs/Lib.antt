@@ -1,3 +1,4 @@
 pub mod Blamed
+pub mod OtherRecords
 pub mod BlamedDistances
 pub mod steps

@@ -1,16 +1,19 @@
 //! What is wrong with field notes.
-ghost use Rattle.std.specs.Prelude.{◌≡◌, ◌≤◌, ◌<◌, length, IfOk, IfSome, MatchOption};
+ghost use Rattle.std.specs.Prelude.{◌≡◌, ◌≤◌, ◌<◌, Some, None, length, IfOk, IfSome, MatchOption};
 ghost use Rattle.twp_notes.specs.Records.{records_of};
 ghost use Rattle.twp_diagnose.specs.RecordFields.{fields_in};
 ghost use Rattle.twp_explain_notes.specs.Blamed.{IsOfRecord, IsRecordOf, ShowsBlamed};
-ghost use Rattle.twp_explain_notes.specs.steps.EarlierRecords.{IsEarlierRecord};
+ghost use Rattle.twp_explain_notes.specs.OtherRecords.{IsOtherRecord};
+ghost use Rattle.twp_explain_notes.specs.steps.EarlierRecords.{IsEarlierOf, IsEarlierRecord};
+ghost use Rattle.twp_explain_notes.specs.steps.EarlierRecords.{place_of_record};
 
 use crate::blamed::{blamed, section_in};
 use crate::lines::{write_names, write_side};
 use crate::note_faults::write_fault;
 use crate::note_hints::advice_on;
 use std::alloc::{AllocError, Global};
-use twp_diagnose::{Finding, Given, Location, Record, line_in};
+use twp_diagnose::{Finding, Given, Location, OtherPlace, Record, line_in};
+use twp_excerpt::Span;
 use twp_grid::{Line, Refusal, Run, Section};
 use twp_notes::NotesFault;
 
@@ -24,20 +27,20 @@ pub(crate) fn find(
     ensures refusal { IfOk result (λ finding. finding.refusal ≡ refusal) }
     ensures place { (IsOfRecord fault → 1 ≤ refusal.at) → IfOk result (λ finding.
         ShowsBlamed notes.now.bytes.now fault refusal.at finding.place) }
+    ensures other { (IsOfRecord fault → 1 ≤ refusal.at) → IfOk result (λ finding.
+        IsOtherRecord notes.now.bytes.now fault refusal.at finding.other) }
 {
     let Some(record) = refused_record(alloc, notes, fault, refusal)? else {
-        return Ok(Finding {
-            refusal,
-            place: Location::Whole,
-            sentence: whole_sentence(alloc, fault)?,
-            help: String::new(alloc),
-        });
+        let sentence = whole_sentence(alloc, fault)?;
+        let help = String::new(alloc);
+        return Ok(Finding::new(refusal, Location::Whole, sentence, help));
     };
     let fields = blamed(fault, &record);
     let mut sentence = String::new(alloc);
     write_fault(fault, &record, fields.first, &mut sentence)?;
     let mut help = String::new(alloc);
-    write_help(alloc, notes, fault, &record, &mut help)?;
+    let earlier = earlier_of(alloc, notes, fault, &record)?;
+    write_help(fault, &record, earlier.as_ref(), &mut help)?;
     if let Some(advice) = advice_on(refusal.number, &record, fields.first) {
         help.push_str(advice)?;
     }
@@ -46,6 +49,8 @@ pub(crate) fn find(
         place: Location::Field(record.span(fields.first, fields.last)),
         sentence,
         help,
+        other: other_of(earlier),
+        corrected: None,
     })
 }
 
@@ -61,7 +66,11 @@ fn refused_record<'a>(
         (IsRecordOf notes.now.bytes.now fault refusal.at)) }
 {
     match fault {
-        NotesFault::TooLarge | NotesFault::Missing(_) => Ok(None),
+        NotesFault::TooLarge
+        | NotesFault::Empty
+        | NotesFault::Missing(_)
+        | NotesFault::Read
+        | NotesFault::Memory => Ok(None),
         _ => Record::numbered(alloc, notes.bytes, refusal.at),
     }
 }
@@ -102,33 +111,55 @@ fn missing(alloc: Global, fault: NotesFault, index: u8) -> Result<String, AllocE
 
 /// Appends what more is to say of a record that names no line, or one that was named before.
 fn write_help(
-    alloc: Global,
-    notes: &Given<'_>,
     fault: NotesFault,
     record: &Record<'_>,
+    earlier: Option<&Earlier>,
     out: &mut String,
 ) -> Result<(), AllocError> {
-    match fault {
-        NotesFault::NoLine(_) => write_other_run(record, out),
-        NotesFault::Repeated(_) => match earlier_of(alloc, notes, record)? {
-            Some(Earlier { number, line }) => {
-                write!(out, "record {number} at line {line} also returns this line")
-            }
-            None => Ok(()),
-        },
-        _ => Ok(()),
+    if let NotesFault::NoLine(_) = fault {
+        return write_other_run(record, out);
+    }
+    match earlier {
+        Some(Earlier { number, line, .. }) => {
+            write!(out, "record {number} at line {line} also returns this line")
+        }
+        None => Ok(()),
     }
 }
 
-/// The first record of a line, and the line of the file on which that record begins.
+/// The first record of a line, its bytes, and the line of the file on which it begins.
 #[derive(Clone, Copy)]
 struct Earlier {
     number: u32,
     line: u32,
+    span: Span,
+}
+
+/// The place of an earlier record.
+fn other_of(earlier: Option<Earlier>) -> Option<OtherPlace>
+    ensures { MatchOption earlier (result ≡ None) (λ is. result ≡ Some (place_of_record is)) }
+{
+    let Earlier { number, span, .. } = earlier?;
+    Some(OtherPlace { number, span })
+}
+
+/// The first record of the line that a repeated record names; none for any other fault.
+fn earlier_of(
+    alloc: Global,
+    notes: &Given<'_>,
+    fault: NotesFault,
+    record: &Record<'_>,
+) -> Result<Option<Earlier>, AllocError>
+    ensures { IfOk result (IsEarlierOf notes.now fault (fields_in «record».now)) }
+{
+    match fault {
+        NotesFault::Repeated(_) => first_of_line(alloc, notes, record),
+        _ => Ok(None),
+    }
 }
 
 /// The first record of the line that a record names.
-fn earlier_of(
+fn first_of_line(
     alloc: Global,
     notes: &Given<'_>,
     record: &Record<'_>,
@@ -145,6 +176,7 @@ fn earlier_of(
     Ok(Some(Earlier {
         number: earlier.number,
         line: line_in(notes, earlier.start()),
+        span: earlier.span(0, earlier.len().saturating_sub(1)),
     }))
 }
 

@@ -1,5 +1,6 @@
 //! Why field notes make no plat.
-ghost use Rattle.std.specs.Prelude.{◌≡◌, IfOk, IfSome};
+ghost use Rattle.std.specs.Prelude.{◌≡◌, IfOk, SomeIff};
+ghost use Rattle.twp_grid.specs.Lines.{IsLine};
 ghost use Rattle.twp_plat.specs.PlatFaults.{place_of as line_of_fault};
 ghost use Rattle.twp_diagnose.specs.RecordFields.{fields_span};
 ghost use Rattle.twp_explain_notes.specs.BlamedDistances.{distance_of, least_of, most_of};
@@ -32,12 +33,9 @@ pub(crate) fn find(
         ShowsDistance file.now.bytes.now fault finding.place) }
 {
     let Some(line) = line_of(fault) else {
-        return Ok(Finding {
-            refusal,
-            place: Location::Whole,
-            sentence: fault.to_string(alloc)?,
-            help: String::new(alloc),
-        });
+        let sentence = fault.to_string(alloc)?;
+        let help = String::new(alloc);
+        return Ok(Finding::new(refusal, Location::Whole, sentence, help));
     };
     let record = Record::of_line(alloc, file.bytes, line)?;
     let returned = notes.line(line);
@@ -52,6 +50,8 @@ pub(crate) fn find(
             fault,
             advice_of(&record, refusal, fault),
         )?,
+        other: None,
+        corrected: None,
     })
 }
 
@@ -97,7 +97,7 @@ fn help(
 
 /// The line that a fault is on.
 fn line_of(fault: PlatFault) -> Option<Line>
-    ensures { IfSome result (λ line. line ≡ line_of_fault fault) }
+    ensures { SomeIff result (IsLine (line_of_fault fault)) (line_of_fault fault) }
 {
     let (PlatFault::Irregular { line, .. }
     | PlatFault::ClosingShort(line)

@@ -1,2 +1,3 @@
 pub mod ShownPlaces
 pub mod Underlined
+pub mod OtherPlaces

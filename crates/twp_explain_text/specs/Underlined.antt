@@ -7,21 +7,23 @@ use Rattle.twp_resolve.specs.declared.place_fault.PlaceFault.{PlaceFault}
 use Rattle.twp_resolve.specs.declared.place_fault.PlaceFault.TheVariants as fault
 use Rattle.twp_resolve.specs.PlaceFaults.{start_of}
 use Rattle.twp_diagnose.specs.Marks.{IsTokenSpan, IsChainSpan, IsHeadingSpan, IsRangeSpan}
+use Rattle.twp_diagnose.specs.Origins.{place_of}
 use Rattle.twp_diagnose.specs.Sights.{shown_place, TakesSign}
 use Rattle.twp_diagnose.specs.declared.location.Location.{Location}
 use Rattle.twp_diagnose.specs.declared.location.Location.TheVariants.{Part}
+use Rattle.twp_diagnose.specs.declared.origin.Origin.{Origin}
 
--- what is underlined ends at this place of the text, or with it
-pub record EndsAt (text : List ℕ) (end : ℕ) (place : Location) : Type 0 where
+-- what is underlined ends where this place of a text is in its file
+pub record EndsAt (origin : Origin) (end : ℕ) (place : Location) : Type 0 where
   pub shown : Span
   pub is_part : place ≡ Part shown
-  pub ends : shown.end ≡ min end (length text)
+  pub ends : shown.end ≡ place_of origin end
 
 -- what is underlined of a text that isn't read is the first sign from a place on; nothing at the end
-pub record EndsWithSign (text : List ℕ) (at : ℕ) (place : Location) : Type 0 where
+pub record EndsWithSign (origin : Origin) (text : List ℕ) (at : ℕ) (place : Location) : Type 0 where
   pub size : ℕ
   pub sign : TakesSign (drop at text) size
-  pub ends : EndsAt text (shown_place text at + size) place
+  pub ends : EndsAt origin (min (shown_place text at + size) (length text)) place
 
 -- the bytes of an item: a heading, a range from its first number to its last, an aliquot part, or a word
 abbrev pub IsItemSpan : List ℕ → Item → Span → Type 0
@@ -65,8 +67,8 @@ pub record EndsAs (IsOfKind : Span → Type 0) (end : ℕ) : Type 0 where
   pub ends : end ≡ span.end
 
 -- what is underlined ends where what is at fault does
-pub record EndsWithFault (text : List ℕ) (items : List Item) (fault : PlaceFault) (place : Location)
-    : Type 0 where
+pub record EndsWithFault (origin : Origin) (text : List ℕ) (items : List Item) (fault : PlaceFault)
+    (place : Location) : Type 0 where
   pub end : ℕ
   pub of_fault : EndsAs (IsFaultSpan text items fault) end
-  pub ends : EndsAt text end place
+  pub ends : EndsAt origin end place

@@ -1,15 +1,18 @@
 //! Why a description names no land on the plat.
-ghost use Rattle.std.specs.Prelude.{◌≡◌, IfOk, MatchOption};
+ghost use Rattle.std.specs.Prelude.{◌≡◌, None, IfOk, MatchOption};
 ghost use Rattle.twp_diagnose.specs.Marks.{IsTokenSpan, IsChainSpan, IsHeadingSpan};
-ghost use Rattle.twp_explain_text.specs.ShownPlaces.{IsTextOf, BeginsAt};
+ghost use Rattle.twp_explain_text.specs.OtherPlaces.{IsEarlierPlace, IsOtherPlace};
+ghost use Rattle.twp_explain_text.specs.ShownPlaces.{BeginsAt};
 ghost use Rattle.twp_explain_text.specs.Underlined.{EndsAs, EndsWithFault, IsFaultSpan, IsItemAt};
 ghost use Rattle.twp_explain_text.specs.Underlined.{IsSpanAt, NoneAt};
 
+mod earlier;
 mod items;
 mod words;
 
+use crate::places::earlier::Earlier;
 use crate::places::items::{
-    begins_at, bytes_of, item_span, number_at, range_to, section_after, section_of_number,
+    begins_at, item_span, number_at, range_to, section_after, section_of_number,
 };
 pub use crate::places::words::write_land;
 use crate::places::words::{
@@ -18,8 +21,8 @@ use crate::places::words::{
 };
 use std::alloc::{AllocError, Global};
 use twp_diagnose::{
-    Finding, Location, Origin, PartOfLots, Shared, chain_span, heading_span, part_of_lots,
-    shared_land_text, spot_in, token_span, write_quoted,
+    Finding, Location, Origin, OtherPlace, PartOfLots, chain_span, heading_span, part_of_lots,
+    token_span,
 };
 use twp_excerpt::Span;
 use twp_grammar::{Item, Step, Steps};
@@ -40,12 +43,13 @@ struct Described<'a> {
 }
 
 /// The explanation of one fault: where what is underlined of the text ends, which begins at the fault's
-/// place; what is wrong with it, and what helps.
+/// place; what is wrong with it, and what helps; and where else in the file the same land is named.
 #[derive(Drop)]
 struct Explained {
     end: usize,
     sentence: String,
     help: String,
+    other: Option<OtherPlace>,
 }
 
 /// The explanation of a description, read from a text, that has a fault on the plat of a township.
@@ -59,10 +63,11 @@ pub(crate) fn find(
     refusal: Refusal,
 ) -> Result<Finding, AllocError>
     ensures refusal { IfOk result (λ finding. finding.refusal ≡ refusal) }
-    ensures place { IfOk result (λ finding. IsTextOf origin.now text.now
-        → BeginsAt text.now refusal.at finding.place) }
-    ensures end { IfOk result (λ finding. IsTextOf origin.now text.now
-        → EndsWithFault text.now description.now fault finding.place) }
+    ensures place { IfOk result (λ finding. BeginsAt origin.now refusal.at finding.place) }
+    ensures end { IfOk result (λ finding.
+        EndsWithFault origin.now text.now description.now fault finding.place) }
+    ensures other { IfOk result (λ finding.
+        IsOtherPlace origin.now text.now township description.now fault finding.other) }
 {
     let described = Described {
         origin,
@@ -80,14 +85,18 @@ pub(crate) fn find(
         place: Location::Part(span),
         sentence: explained.sentence,
         help: explained.help,
+        other: explained.other,
+        corrected: None,
     })
 }
 
 impl<'a> Described<'a> {
     /// The explanation of a fault.
     fn explain(&self, alloc: Global, fault: PlaceFault) -> Result<Explained, AllocError>
-        ensures { IfOk result (λ explained.
+        ensures span { IfOk result (λ explained.
             EndsAs (IsFaultSpan self.now.text.now self.now.description.now fault) explained.end) }
+        ensures other { IfOk result (λ explained. IsOtherPlace self.now.origin.now self.now.text.now
+            self.now.township self.now.description.now fault explained.other) }
     {
         match fault {
             PlaceFault::OtherTownship { at } => self.explain_heading(alloc, at),
@@ -127,7 +136,8 @@ impl<'a> Described<'a> {
 
     /// A heading of another township.
     fn explain_heading(&self, alloc: Global, at: u32) -> Result<Explained, AllocError>
-        ensures { IfOk result (λ explained. EndsAs (IsHeadingSpan self.now.text.now at) explained.end) }
+        ensures span { IfOk result (λ explained. EndsAs (IsHeadingSpan self.now.text.now at) explained.end) }
+        ensures other { IfOk result (λ explained. explained.other ≡ None) }
     {
         let mut sentence = String::new(alloc);
         sentence.push_str("this heading says ")?;
@@ -140,12 +150,14 @@ impl<'a> Described<'a> {
             end: heading_span(self.text, at as usize).end,
             sentence,
             help: String::new(alloc),
+            other: None,
         })
     }
 
     /// A number that is no section's.
     fn explain_section(&self, alloc: Global, at: u32) -> Result<Explained, AllocError>
-        ensures { IfOk result (λ explained. EndsAs (IsTokenSpan self.now.text.now at) explained.end) }
+        ensures span { IfOk result (λ explained. EndsAs (IsTokenSpan self.now.text.now at) explained.end) }
+        ensures other { IfOk result (λ explained. explained.other ≡ None) }
     {
         let mut sentence = String::new(alloc);
         let number = number_at(self.description.items(), at);
@@ -158,12 +170,14 @@ impl<'a> Described<'a> {
             end: token_span(self.text, at as usize).end,
             sentence,
             help: String::new(alloc),
+            other: None,
         })
     }
 
     /// A range whose last number is less than its first.
     fn explain_range(&self, alloc: Global, at: u32) -> Result<Explained, AllocError>
-        ensures { IfOk result (λ explained. EndsAs (IsTokenSpan self.now.text.now at) explained.end) }
+        ensures span { IfOk result (λ explained. EndsAs (IsTokenSpan self.now.text.now at) explained.end) }
+        ensures other { IfOk result (λ explained. explained.other ≡ None) }
     {
         let (first, last) = range_to(self.description.items(), at);
         let mut sentence = String::new(alloc);
@@ -176,12 +190,14 @@ impl<'a> Described<'a> {
             end: token_span(self.text, at as usize).end,
             sentence,
             help: turned_range(alloc, first, last)?,
+            other: None,
         })
     }
 
     /// A number that is no lot's.
     fn explain_lot(&self, alloc: Global, at: u32) -> Result<Explained, AllocError>
-        ensures { IfOk result (λ explained. EndsAs (IsTokenSpan self.now.text.now at) explained.end) }
+        ensures span { IfOk result (λ explained. EndsAs (IsTokenSpan self.now.text.now at) explained.end) }
+        ensures other { IfOk result (λ explained. explained.other ≡ None) }
     {
         let mut sentence = String::new(alloc);
         if let Some(section) = section_of_number(self.description.items(), at) {
@@ -191,12 +207,14 @@ impl<'a> Described<'a> {
             end: token_span(self.text, at as usize).end,
             sentence,
             help: String::new(alloc),
+            other: None,
         })
     }
 
     /// An aliquot part that is finer than places are.
     fn explain_fine_part(&self, alloc: Global, at: u32) -> Result<Explained, AllocError>
-        ensures { IfOk result (λ explained. EndsAs (IsChainSpan self.now.text.now at) explained.end) }
+        ensures span { IfOk result (λ explained. EndsAs (IsChainSpan self.now.text.now at) explained.end) }
+        ensures other { IfOk result (λ explained. explained.other ≡ None) }
     {
         let mut sentence = String::new(alloc);
         sentence.push_str(
@@ -209,12 +227,14 @@ impl<'a> Described<'a> {
             end: chain_span(self.text, at as usize).end,
             sentence,
             help,
+            other: None,
         })
     }
 
     /// An aliquot part that includes land of lots.
     fn explain_part_of_lots(&self, alloc: Global, at: u32) -> Result<Explained, AllocError>
-        ensures { IfOk result (λ explained. EndsAs (IsChainSpan self.now.text.now at) explained.end) }
+        ensures span { IfOk result (λ explained. EndsAs (IsChainSpan self.now.text.now at) explained.end) }
+        ensures other { IfOk result (λ explained. explained.other ≡ None) }
     {
         let mut sentence = String::new(alloc);
         let mut help = String::new(alloc);
@@ -231,6 +251,7 @@ impl<'a> Described<'a> {
             end: chain_span(self.text, at as usize).end,
             sentence,
             help,
+            other: None,
         })
     }
 
@@ -268,23 +289,19 @@ impl<'a> Described<'a> {
 
     /// Land that was named before.
     fn explain_overlap(&self, alloc: Global, at: u32) -> Result<Explained, AllocError>
-        ensures { IfOk result (λ explained.
+        ensures span { IfOk result (λ explained.
             EndsAs (IsSpanAt self.now.text.now self.now.description.now at) explained.end) }
+        ensures other { IfOk result (λ explained. IsEarlierPlace self.now.origin.now self.now.text.now
+            self.now.township self.now.description.now explained.other) }
     {
-        let items = self.description.items();
         let mut sentence = String::new(alloc);
         sentence.push_str("this land was named before")?;
-        let mut help = String::new(alloc);
-        if let Some(shared) = shared_land_text(alloc, self.description, self.township)? {
-            if let Some(earlier) = items.get(shared.items.earlier) {
-                self.write_earlier(earlier, &mut help)?;
-                write_land(&shared.text, &mut help)?;
-            }
-        }
+        let Earlier { help, other } = self.earlier(alloc)?;
         Ok(Explained {
             end: self.span_at(at).end,
             sentence,
             help,
+            other,
         })
     }
 
@@ -296,15 +313,5 @@ impl<'a> Described<'a> {
             Some(item) => item_span(self.text, item),
             None => token_span(self.text, at as usize),
         }
-    }
-
-    /// Appends an item as it is written, and where it is.
-    fn write_earlier(&self, item: &Item, out: &mut String) -> Result<(), AllocError> {
-        let span = item_span(self.text, item);
-        write_quoted(bytes_of(self.text, span), out)?;
-        if let Some(spot) = spot_in(&self.origin.file, self.origin.in_file(span.start)) {
-            write!(out, " at {}:{}", spot.line, spot.column)?;
-        }
-        out.push_str(" overlaps it; both include ")
     }
 }

@@ -1,9 +1,12 @@
 //! What stops a run on a description.
-ghost use Rattle.std.specs.Prelude.{◌≡◌, Some};
+ghost use Rattle.std.specs.Prelude.{◌≡◌, ◌≢◌, Some, None};
 ghost use Rattle.twp_read.specs.TextFaults.{refusal_of as refusal_of_text};
 ghost use Rattle.twp_resolve.specs.PlaceFaults.{refusal_of as refusal_of_places};
-ghost use Rattle.twp_diagnose.specs.Findings.{IfFound};
-ghost use Rattle.twp_explain_text.specs.ShownPlaces.{IsTextOf, IfShown};
+ghost use Rattle.twp_read.specs.declared.fault.TextFault.TheVariants.{TooLarge};
+ghost use Rattle.twp_diagnose.specs.Findings.{IfFinds, IfFound};
+ghost use Rattle.twp_explain_text.specs.OtherPlaces.{IsOtherPlace};
+ghost use Rattle.twp_explain_text.specs.ShownPlaces.{IfShown};
+ghost use Rattle.twp_explain_text.specs.Underlined.{EndsWithFault, EndsWithSign};
 
 use crate::{places, text};
 use std::alloc::Global;
@@ -13,11 +16,14 @@ use twp_read::{Description, TextFault};
 use twp_resolve::PlaceFault;
 
 /// What is wrong with a text that isn't read.
-#[tactic(auto, using(twp_diagnose::proofs::FindingFacts::of_fault, crate::proofs::ShownFacts::text_shown))]
+#[tactic(auto, using(twp_diagnose::proofs::FindingFacts::of_fault, twp_diagnose::proofs::FindingFacts::of_found, crate::proofs::ShownFacts::text_shown))]
 #[inline(never)]
 pub fn stop_of_text(alloc: Global, origin: &Origin<'_>, bytes: &[u8], fault: TextFault) -> Failure
     ensures refusal { IfFound result (λ refusal. refusal_of_text fault ≡ Some refusal) }
-    ensures shown { IsTextOf origin.now bytes.now → IfShown bytes.now result }
+    ensures shown { IfShown origin.now bytes.now result }
+    ensures ends { fault ≢ TooLarge → IfFinds result (λ finding.
+        EndsWithSign origin.now bytes.now finding.refusal.at finding.place) }
+    ensures other { IfFinds result (λ finding. finding.other ≡ None) }
 {
     let Some(refusal) = fault.refusal() else {
         return Failure::Memory;
@@ -26,7 +32,7 @@ pub fn stop_of_text(alloc: Global, origin: &Origin<'_>, bytes: &[u8], fault: Tex
 }
 
 /// What is wrong with a description that names no land on the plat of the township.
-#[tactic(auto, using(twp_diagnose::proofs::FindingFacts::of_fault, crate::proofs::ShownFacts::items_shown))]
+#[tactic(auto, using(twp_diagnose::proofs::FindingFacts::of_fault, twp_diagnose::proofs::FindingFacts::of_found, crate::proofs::ShownFacts::items_shown))]
 #[inline(never)]
 pub fn stop_of_places(
     alloc: Global,
@@ -37,7 +43,11 @@ pub fn stop_of_places(
     fault: PlaceFault,
 ) -> Failure
     ensures refusal { IfFound result (λ refusal. refusal_of_places fault ≡ Some refusal) }
-    ensures shown { IsTextOf origin.now bytes.now → IfShown bytes.now result }
+    ensures shown { IfShown origin.now bytes.now result }
+    ensures ends { IfFinds result (λ finding.
+        EndsWithFault origin.now bytes.now description.now fault finding.place) }
+    ensures other { IfFinds result (λ finding.
+        IsOtherPlace origin.now bytes.now township description.now fault finding.other) }
 {
     let Some(refusal) = fault.refusal() else {
         return Failure::Memory;

@@ -1,8 +1,8 @@
 //! Why a text isn't read as a description.
-ghost use Rattle.std.specs.Prelude.{◌≡◌, ◌≢◌, ◌+◌, length, IfOk};
+ghost use Rattle.std.specs.Prelude.{◌≡◌, ◌≢◌, ◌+◌, None, length, min, IfOk};
 ghost use Rattle.twp_diagnose.specs.Sights.{shown_place};
 ghost use Rattle.twp_read.specs.declared.fault.TextFault.TheVariants.{TooLarge};
-ghost use Rattle.twp_explain_text.specs.ShownPlaces.{IsTextOf, ShowsAt};
+ghost use Rattle.twp_explain_text.specs.ShownPlaces.{ShowsAt};
 ghost use Rattle.twp_explain_text.specs.Underlined.{EndsAt, EndsWithSign};
 
 mod character;
@@ -28,10 +28,11 @@ pub(crate) fn find(
     refusal: Refusal,
 ) -> Result<Finding, AllocError>
     ensures refusal { IfOk result (λ finding. finding.refusal ≡ refusal) }
-    ensures place { IfOk result (λ finding. IsTextOf origin.now text.now
-        → ShowsAt text.now fault (shown_place text.now refusal.at) finding.place) }
-    ensures end { fault ≢ TooLarge → IfOk result (λ finding. IsTextOf origin.now text.now
-        → EndsWithSign text.now refusal.at finding.place) }
+    ensures place { IfOk result (λ finding.
+        ShowsAt origin.now fault (shown_place text.now refusal.at) finding.place) }
+    ensures end { fault ≢ TooLarge → IfOk result (λ finding.
+        EndsWithSign origin.now text.now refusal.at finding.place) }
+    ensures other { IfOk result (λ finding. finding.other ≡ None) }
 {
     let expected = expected(fault);
     let sight = Surroundings::of(text, refusal, expected);
@@ -43,6 +44,8 @@ pub(crate) fn find(
         place: place(origin, text, &sight, fault),
         sentence,
         help: advice.text,
+        other: None,
+        corrected: advice.corrected,
     })
 }
 
@@ -57,10 +60,9 @@ fn expected(fault: TextFault) -> Option<Expected> {
 /// What is underlined: the refused sign, or the place where the text ends.
 #[tactic(auto, using(crate::proofs::UnderlinedFacts::shows_a_part))]
 fn place(origin: &Origin<'_>, text: &[u8], sight: &Surroundings<'_>, fault: TextFault) -> Location
-    ensures begins { IsTextOf origin.now text.now
-        → ShowsAt text.now fault sight.now.start result }
-    ensures ends { fault ≢ TooLarge → IsTextOf origin.now text.now
-        → EndsAt text.now (sight.now.start + length sight.now.at.bytes.now) result }
+    ensures begins { ShowsAt origin.now fault sight.now.start result }
+    ensures ends { fault ≢ TooLarge
+        → EndsAt origin.now (min (sight.now.start + length sight.now.at.bytes.now) (length text.now)) result }
 {
     if fault == TextFault::TooLarge {
         return Location::Whole;

@@ -187,6 +187,24 @@ static township_answer call_explain_list(void) {
                                  BYTES("tracts.csv"), room_text(texts), MOST_TEXT);
 }
 
+static township_explanation explanation;
+
+static township_answer call_explain_notes_parts(void) {
+    return township_explain_notes_parts(BYTES("line,between\n"), BYTES("notes.csv"), room_text(texts), MOST_TEXT,
+                                        &explanation);
+}
+
+/* The corrected description is read again, which takes memory too. */
+static township_answer call_explain_description_parts(void) {
+    return township_explain_description_parts(&plat, BYTES("sec. 14, NE/4 and SE/4."), BYTES("land.txt"),
+                                              room_text(texts), MOST_TEXT, &explanation);
+}
+
+static township_answer call_explain_list_parts(void) {
+    return township_explain_list_parts(&plat, BYTES("name,description\nA,\"sec. 14, NE/4 and SE/4.\"\n"),
+                                       BYTES("tracts.csv"), room_text(texts), MOST_TEXT, &explanation);
+}
+
 static township_answer call_write_notes(void) {
     return township_write_notes(&plat, room_text(texts), MOST_TEXT);
 }
@@ -281,6 +299,9 @@ static const struct {
     {"township_explain_notes", call_explain_notes},
     {"township_explain_description", call_explain_description},
     {"township_explain_list", call_explain_list},
+    {"township_explain_notes_parts", call_explain_notes_parts},
+    {"township_explain_description_parts", call_explain_description_parts},
+    {"township_explain_list_parts", call_explain_list_parts},
     {"township_explain_description, accepted with a note", call_note_description},
     {"township_explain_list, accepted with a note", call_note_list},
     {"township_write_notes", call_write_notes},

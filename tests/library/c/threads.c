@@ -7,7 +7,7 @@
 #include "check.h"
 
 #define THREADS 4
-#define CALLS 31
+#define CALLS 34
 
 /* The stack that the library requires, and room for the thread's own calls. */
 #define STACK ((256 + 64) * 1024)
@@ -29,6 +29,7 @@ typedef struct round_answers {
     township_lots lots;
     township_fraction areas[3];
     township_part parts[16];
+    township_explanation explanations[3];
     uint8_t texts[CALLS][8192];
 } round_answers;
 
@@ -70,6 +71,19 @@ static void call_on_land(const township_plat *plat, round_answers *to) {
     answer[28] = township_land_parts(&to->combined, to->parts, sizeof to->parts / sizeof *to->parts);
 }
 
+/* Calls each function that explains and gives the parts of its text. */
+static void call_explaining(const township_plat *plat, round_answers *to) {
+    township_answer *answer = to->answers;
+
+    answer[31] = township_explain_notes_parts(BYTES("line,between\n"), BYTES("notes.csv"), to->texts[31],
+                                              sizeof to->texts[31], &to->explanations[0]);
+    answer[32] = township_explain_description_parts(plat, BYTES("sec. 14, NE1/4 and N1/2."), BYTES("land.txt"),
+                                                    to->texts[32], sizeof to->texts[32], &to->explanations[1]);
+    answer[33] = township_explain_list_parts(plat, BYTES("name,description\nA,\"sec. 14, NE/4.\"\n"),
+                                             BYTES("tracts.csv"), to->texts[33], sizeof to->texts[33],
+                                             &to->explanations[2]);
+}
+
 /* Calls each function once. */
 static void call_all(bytes notes, const township_plat *plat, round_answers *to) {
     static const size_t offsets[] = {0, 7, 21};
@@ -103,6 +117,7 @@ static void call_all(bytes notes, const township_plat *plat, round_answers *to) 
     answer[29] = township_report_each(plat, BYTES("name,description\nA,sec. 6.\nA,sec. 7.\n"), to->each, 2);
     answer[30] = township_overlaps(plat, BYTES("name,description\nA,sec. 6.\nA,sec. 6.\n"), to->overlaps, 2);
     call_on_land(plat, to);
+    call_explaining(plat, to);
 }
 
 /* Whether the land, the lot tables, and the areas of two rounds are the same. */
@@ -130,7 +145,13 @@ static bool same_round(const round_answers *a, const round_answers *b) {
         }
     }
     return memcmp(&a->read, &b->read, sizeof a->read) == 0 && memcmp(&a->area, &b->area, sizeof a->area) == 0 &&
-           memcmp(a->texts, b->texts, sizeof a->texts) == 0 && same_figures(a, b) && same_land(a, b);
+           memcmp(a->texts, b->texts, sizeof a->texts) == 0 &&
+           memcmp(a->explanations, b->explanations, sizeof a->explanations) == 0 && same_figures(a, b) && same_land(a, b);
+}
+
+/* Whether a call of a round explains a refusal. */
+static bool is_explained(int call) {
+    return (call >= 7 && call <= 9) || call >= 27;
 }
 
 static void *run(void *given) {
@@ -165,7 +186,7 @@ static round_answers *answers_alone(bytes notes, const township_plat *plat) {
     for (int call = 0; call < CALLS; call++) {
         uint32_t verdict = wanted->answers[call].verdict;
 
-        CHECK(call < 7 || call > 9 ? verdict == TOWNSHIP_ACCEPTED : wanted->texts[call][0] != 0);
+        CHECK(is_explained(call) ? wanted->texts[call][0] != 0 : verdict == TOWNSHIP_ACCEPTED);
     }
     CHECK(wanted->texts[11][0] != 0 && wanted->texts[12][0] != 0);
     CHECK(wanted->answers[7].verdict == TOWNSHIP_REFUSED && wanted->answers[8].verdict == TOWNSHIP_REFUSED &&

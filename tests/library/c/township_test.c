@@ -7,6 +7,7 @@
 
 #include "area.h"
 #include "check.h"
+#include "explanations.h"
 #include "given.h"
 #include "land.h"
 #include "lists.h"
@@ -660,6 +661,7 @@ int main(int count, char **words) {
     notes_description(&plat);
     notes_list(&plat);
     names_files(&plat);
+    gives_parts(&plat);
     makes_plats(&plat);
     refuses_plats();
     refuses_accounts(&plat);

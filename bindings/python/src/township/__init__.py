@@ -18,6 +18,7 @@ from __future__ import annotations
 from . import _library
 from ._account import Account
 from ._differences import Difference
+from ._explanation import OtherPlace
 from ._field_notes import Notes
 from ._figures import Section
 from ._land import Land
@@ -42,6 +43,7 @@ __all__ = [
     "NorthSouth",
     "Note",
     "Notes",
+    "OtherPlace",
     "Overlap",
     "Part",
     "Plat",
@@ -58,7 +60,7 @@ __all__ = [
 ]
 
 for _public in (
-    *(Answers, Difference, Land, Lots, Note, Notes, Overlap, Part, Plat),
+    *(Answers, Difference, Land, Lots, Note, Notes, OtherPlace, Overlap, Part, Plat),
     *(Refusal, Refused, Report, Section, Township, Tract, TractAnswer),
 ):
     # Tracebacks and pickles name each class as users import it.

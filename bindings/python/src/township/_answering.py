@@ -9,6 +9,7 @@ from typing import Callable, Iterable, Iterator, List, Sequence, Tuple, Union
 from . import _library
 from ._account import Account, code_of
 from ._differences import Difference, differences_of
+from ._explanation import explained_by
 from ._figures import acres_of_hundredths, fraction_of
 from ._land import Land
 from ._lots import Lots
@@ -98,12 +99,14 @@ class Answering(Reporting):
 write a comma after NE1/4 (320.00 acres)
         """
         given = encoded(description)
-        explain = _library.explain_description
+        explain = _library.explain_description_parts
         parts = byref(self._parts)
-        answer, text = _library.text_by(explain, parts, given, len(given), DESCRIPTION, len(DESCRIPTION))
+        answer, text, explained = explained_by(
+            explain, parts, given, len(given), DESCRIPTION, len(DESCRIPTION)
+        )
         if answer.verdict != _library.ACCEPTED:
             raise self._exception_of(answer, given)
-        return notes_of(answer, text)
+        return notes_of(answer, text, explained)
 
     def acres_of(
         self, descriptions: Iterable[Text], account: Account = "exact"
@@ -183,5 +186,5 @@ write a comma after NE1/4 (320.00 acres)
 
     def _exception_of(self, answer: _library.Answer, given: bytes) -> Exception:
         """Return the exception for a description that is not accepted."""
-        explain = _library.explain_description
+        explain = _library.explain_description_parts
         return exception_of(answer, explain, byref(self._parts), given, len(given), source=DESCRIPTION)

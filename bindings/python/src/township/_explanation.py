@@ -1,46 +1,108 @@
-"""The parts of an explanation, which is a text of at most 8 lines.
-
-It begins with the program, the name of the text, the line and column if there are any, and the sentence.
-An excerpt of the text may follow, and then help. A sentence that is too long for its line is continued on
-at most two more, which are indented.
-"""
+"""The parts of an explanation or of a note, as the library gives them."""
 from __future__ import annotations
 
-import re
+from ctypes import byref
+from typing import Callable, List, NamedTuple, Optional, Tuple
+
+from . import _library
 
 _PROGRAM = "township: "
-_PLACE = re.compile(r"(?::[0-9]+){0,2}: ")
-_ANY_PLACE = re.compile(r".*?(?::[0-9]+){0,2}: ")
-_EXCERPT = re.compile(r" *[0-9]+ \| ")
-
-_COLUMNS = 100
-_SENTENCE_LINES = 3
 
 
-def message_of(explanation: str) -> str:
-    """Return the place and the sentence, on one line and without the program."""
-    lines = explanation.splitlines()[:1]
-    others = explanation.splitlines()[1:]
-    has_excerpt = any(map(_EXCERPT.match, others))
-    for line in others:
-        if _EXCERPT.match(line) or not (has_excerpt or _continues(lines, line)):
-            break
-        lines.append(line)
-    message = " ".join(line.strip() for line in lines)
-    return message[len(_PROGRAM) :] if message.startswith(_PROGRAM) else message
+class OtherPlace(NamedTuple):
+    """Another place that an explanation names: where the same land, name, or line was given before.
 
-
-def _continues(lines: "list[str]", line: str) -> bool:
-    """Return whether a line continues a sentence: its first word would not fit on the line before.
-
-    If there is an excerpt, everything before it is the sentence. Otherwise this tells the sentence from help.
+    >>> description = "sec. 14, NE1/4 and N1/2."
+    >>> try:
+    ...     plat.acres(description)
+    ... except township.Refused as refusal:
+    ...     other = refusal.other
+    >>> other
+    OtherPlace(record=None, start=9, end=14)
+    >>> description[other.start : other.end]
+    'NE1/4'
     """
-    word = line.split(maxsplit=1)[:1]
-    return len(lines) < _SENTENCE_LINES and len(" ".join([lines[-1], *word])) > _COLUMNS
+
+    #: Its record in a list of tracts or in field notes, counted from 1. None in a description.
+    record: Optional[int]
+    #: Where it begins in the input: a byte of the UTF-8 text, counted from 0.
+    start: int
+    #: Where it ends: the first byte after it.
+    end: int
 
 
-def sentence_of(message: str, source: str) -> str:
-    """Return the sentence of a message about the text or the file with this name."""
-    if source and message.startswith(source):
-        return _PLACE.sub("", message[len(source) :], count=1)
-    return _ANY_PLACE.sub("", message, count=1)
+class Explained(NamedTuple):
+    """The parts of an explanation or of a note."""
+
+    #: The name of the input, and the line and column that are given, such as `description:1:20`.
+    location: str = ""
+    #: What is wrong, or noted, on one line.
+    sentence: str = ""
+    #: How to correct it, or related facts, one line each.
+    hints: Tuple[str, ...] = ()
+    #: A description that can be read, with all faults repaired.
+    repair: Optional[str] = None
+    #: The bytes of the input that are underlined.
+    start: Optional[int] = None
+    end: Optional[int] = None
+    other: Optional[OtherPlace] = None
+
+    @property
+    def message(self) -> str:
+        """The location and the sentence."""
+        return f"{self.location}: {self.sentence}"
+
+
+def explained_by(
+    call: Callable[..., _library.Answer], *given: object
+) -> Tuple[_library.Answer, str, Explained]:
+    """Call a function that explains. Return its answer, the text, and the parts, which are empty if it is."""
+    parts = _library.Explanation()
+
+    def explain(*arguments: object) -> _library.Answer:
+        return call(*arguments, byref(parts))
+
+    answer, text = _library.text_by(explain, *given)
+    return answer, text, _explained(text.encode(), parts)
+
+
+def _explained(text: bytes, parts: _library.Explanation) -> Explained:
+    """Return the parts of a text. Each is an offset and a length in it."""
+    is_underlined = parts.shown == _library.SHOWN_BYTES
+    other = None
+    if parts.has_other:
+        other = OtherPlace(parts.other_record or None, parts.other_start, parts.other_end)
+    return Explained(
+        location=_location_in(text[: parts.sentence].decode()),
+        sentence=" ".join(_lines(text, parts.sentence, parts.sentence_length)),
+        hints=_hints(_lines(text, parts.hints, parts.hints_length), parts.continued),
+        repair=_part(text, parts.repair, parts.repair_length) or None,
+        start=parts.start if is_underlined else None,
+        end=parts.end if is_underlined else None,
+        other=other,
+    )
+
+
+def _location_in(head: str) -> str:
+    """Return the location in what is before a sentence, such as `township: notes:12: `."""
+    return (head[len(_PROGRAM) :] if head.startswith(_PROGRAM) else head).rstrip().rstrip(":")
+
+
+def _part(text: bytes, start: int, length: int) -> str:
+    return text[start : start + length].decode()
+
+
+def _lines(text: bytes, start: int, length: int) -> List[str]:
+    """Return the lines of a part, without their indentation."""
+    return [line.strip() for line in _part(text, start, length).split("\n") if line]
+
+
+def _hints(lines: List[str], continued: int) -> Tuple[str, ...]:
+    """Return the hints in some lines. A line continues the one before if its bit is set."""
+    hints: List[str] = []
+    for index, line in enumerate(lines):
+        if hints and continued >> index & 1:
+            hints[-1] += f" {line}"
+        else:
+            hints.append(line)
+    return tuple(hints)

@@ -85,7 +85,7 @@ class Land:
         designation = _library.Designation(*codes_of(township))
         answer = _library.land_read(byref(designation), given, len(given), byref(parts))
         if answer.verdict != _library.ACCEPTED:
-            explain = _library.explain_description
+            explain = _library.explain_description_parts
             raise exception_of(answer, explain, byref(plat), given, len(given), source=source)
         return cls._of_struct(parts)
 

@@ -60,6 +60,9 @@ IS_CONTAINED = 2
 OVERLAPS = 3
 DISJOINT = 4
 
+# What an explanation shows of the input.
+SHOWN_BYTES = 2
+
 # Sides of the base line, and of the principal meridian.
 NORTH = 0
 SOUTH = 1
@@ -122,6 +125,29 @@ class Figures(ctypes.Structure):
         ("lots", c_uint64 * LOTS_MOST * SECTIONS),
         ("sections", c_uint64 * SECTIONS),
         ("township", c_uint64),
+    ]
+
+
+class Explanation(ctypes.Structure):
+    """`township_explanation`: 112 bytes."""
+
+    _fields_ = [
+        ("shown", c_uint32),
+        ("has_other", c_uint32),
+        ("other_record", c_uint32),
+        ("continued", c_uint32),
+        ("start", c_uint64),
+        ("end", c_uint64),
+        ("other_start", c_uint64),
+        ("other_end", c_uint64),
+        ("sentence", c_uint64),
+        ("sentence_length", c_uint64),
+        ("excerpt", c_uint64),
+        ("excerpt_length", c_uint64),
+        ("hints", c_uint64),
+        ("hints_length", c_uint64),
+        ("repair", c_uint64),
+        ("repair_length", c_uint64),
     ]
 
 
@@ -218,6 +244,7 @@ _AREA = POINTER(Area)
 _NUMBER = POINTER(c_uint32)
 _TRACT_ANSWERS = (POINTER(TractAnswer), c_size_t)
 _OVERLAPS = (POINTER(Overlap), c_size_t)
+_EXPLANATION = POINTER(Explanation)
 
 
 def _call(name: str, *types: Any) -> Callable[..., Answer]:
@@ -244,6 +271,9 @@ acres_many = _call("township_acres_many", _PLAT, *_BYTES, *_OFFSETS, c_uint32, *
 explain_notes = _call("township_explain_notes", *_BYTES, *_BYTES, *_ROOM)
 explain_description = _call("township_explain_description", _PLAT, *_BYTES, *_BYTES, *_ROOM)
 explain_list = _call("township_explain_list", _PLAT, *_BYTES, *_BYTES, *_ROOM)
+explain_notes_parts = _call("township_explain_notes_parts", *_BYTES, *_BYTES, *_ROOM, _EXPLANATION)
+explain_description_parts = _call("township_explain_description_parts", _PLAT, *_BYTES, *_BYTES, *_ROOM, _EXPLANATION)
+explain_list_parts = _call("township_explain_list_parts", _PLAT, *_BYTES, *_BYTES, *_ROOM, _EXPLANATION)
 version = _call("township_version", *_ROOM)
 land_read = _call("township_land_read", _TOWNSHIP, *_BYTES, _LAND)
 land_acres = _call("township_land_acres", _PLAT, _LAND, c_uint32)

@@ -2,6 +2,7 @@
 from __future__ import annotations
 
 from . import _library
+from ._explanation import Explained
 from ._refused import Refusal, Refused
 
 #: The number of the refusal of land with a lot that the table lacks.
@@ -30,8 +31,9 @@ def refused_lots(answer: _library.Answer, source: str) -> Refused:
         inner = Refusal(answer.inner_number, answer.inner_at)
         number, at = inner
     record = f"record {answer.at}: " if inner else ""
-    explanation = f"township: {source}: {record}{_sentence_of(number, at)}\n"
-    return Refused(answer.number, answer.at, None, None, explanation, inner, source)
+    explained = Explained(location=source, sentence=f"{record}{_sentence_of(number, at)}")
+    explanation = f"township: {explained.message}\n"
+    return Refused(answer.number, answer.at, None, None, explanation, inner, source, explained)
 
 
 def _sentence_of(number: int, at: int) -> str:

@@ -180,7 +180,7 @@ class Lots:
         if answer.verdict == _library.REFUSED and answer.number == LACKING:
             raise refused_lots(answer, DESCRIPTION.decode())
         if answer.verdict != _library.ACCEPTED:
-            explain = _library.explain_description
+            explain = _library.explain_description_parts
             plat = nominal_plat_of(self.township)
             raise exception_of(answer, explain, byref(plat), given, len(given), source=DESCRIPTION)
 

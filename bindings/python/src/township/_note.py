@@ -4,9 +4,7 @@ from __future__ import annotations
 from typing import List, NamedTuple
 
 from . import _library
-from ._explanation import message_of, sentence_of
-
-_MARK = "note: "
+from ._explanation import Explained
 
 
 class Note(NamedTuple):
@@ -15,6 +13,10 @@ class Note(NamedTuple):
     >>> note, = plat.notes("sec. 14, NE1/4 SE1/4.")
     >>> note.line, note.column
     (1, 16)
+    >>> note.start, note.end
+    (15, 20)
+    >>> print(note.sentence.partition(";")[0])
+    NE1/4 SE1/4 is read as one part of 40.00 acres, the NE1/4 of the SE1/4
     >>> print(note.text, end="")
     township: description:1:16: note: NE1/4 SE1/4 is read as one part of 40.00 acres, the NE1/4 of the
       SE1/4; if two parts were meant, write a comma after NE1/4 (320.00 acres)
@@ -29,17 +31,16 @@ class Note(NamedTuple):
     #: The note, in the form that the program `township` prints on standard error.
     text: str
 
-    @property
-    def sentence(self) -> str:
-        """Both readings of the place, with their acreage, without the location.
-
-        >>> print(plat.notes("sec. 14, NE1/4 SE1/4.")[0].sentence.partition(";")[0])
-        NE1/4 SE1/4 is read as one part of 40.00 acres, the NE1/4 of the SE1/4
-        """
-        sentence = sentence_of(message_of(self.text), "")
-        return sentence[len(_MARK) :] if sentence.startswith(_MARK) else sentence
+    #: Both readings of the place, with their acreage, without the location.
+    sentence: str
+    #: Where the place begins in the description: a byte of the UTF-8 text, counted from 0.
+    start: int
+    #: Where the place ends: the first byte after it.
+    end: int
 
 
-def notes_of(answer: _library.Answer, text: str) -> List[Note]:
+def notes_of(answer: _library.Answer, text: str, explained: Explained) -> List[Note]:
     """Return the note beside the answer that accepts a description, or nothing."""
-    return [Note(answer.line, answer.column, text)] if text else []
+    if explained.start is None or explained.end is None:
+        return []
+    return [Note(answer.line, answer.column, text, explained.sentence, explained.start, explained.end)]

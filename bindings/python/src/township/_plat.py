@@ -100,7 +100,7 @@ class Plat(Answering):
         parts = _library.Plat()
         answer = _library.read(notes, len(notes), byref(parts))
         if answer.verdict != _library.ACCEPTED:
-            raise exception_of(answer, _library.explain_notes, notes, len(notes), source=source)
+            raise exception_of(answer, _library.explain_notes_parts, notes, len(notes), source=source)
         return cls._of_struct(parts)
 
     @classmethod

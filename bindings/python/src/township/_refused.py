@@ -1,10 +1,10 @@
 """Refusals, and the other ways a call can fail."""
 from __future__ import annotations
 
-from typing import Callable, NamedTuple, Optional
+from typing import Callable, NamedTuple, Optional, Tuple
 
 from . import _library
-from ._explanation import message_of, sentence_of
+from ._explanation import Explained, OtherPlace, explained_by
 from ._township import Township
 
 # The name that the library uses for each text when it explains a refusal.
@@ -55,6 +55,18 @@ class Refused(ValueError):
       1 | sec. 14, NE1/4 and N1/2.
         |                    ^^^^
       `NE1/4` at 1:10 overlaps it; both include sec. 14, NE1/4.
+    >>> refused.start, refused.end, refused.other
+    (19, 23, OtherPlace(record=None, start=9, end=14))
+    >>> refused.hints
+    ('`NE1/4` at 1:10 overlaps it; both include sec. 14, NE1/4.',)
+
+    If all of a description can be repaired with certainty, `repair` is the corrected description.
+
+    >>> try:
+    ...     plat.acres("sec. 14, NE/4.")
+    ... except township.Refused as refusal:
+    ...     print(refusal.repair)
+    sec. 14, NE1/4.
     """
 
     #: What is wrong: 1 to 11 and 21 to 23 for field notes, 41 to 44 and 61 to 67 for a description, 80 to 85
@@ -83,9 +95,10 @@ class Refused(ValueError):
         explanation: str = "",
         inner: Optional[Refusal] = None,
         source: str = "",
+        explained: Optional[Explained] = None,
     ) -> None:
         # The base class pickles an exception by its arguments, so it needs all of them.
-        super().__init__(number, at, line, column, explanation, inner, source)
+        super().__init__(number, at, line, column, explanation, inner, source, explained)
         self.number = number
         self.at = at
         self.line = line
@@ -93,14 +106,40 @@ class Refused(ValueError):
         self.explanation = explanation
         self.inner = inner
         self.source = source
+        self._explained = explained or Explained()
 
     def __str__(self) -> str:
-        return message_of(self.explanation) or f"refused {self.number} at {self.at}"
+        return self._explained.message if self._explained.sentence else f"refused {self.number} at {self.at}"
 
     @property
     def sentence(self) -> str:
         """What is wrong, without the location."""
-        return sentence_of(str(self), self.source)
+        return self._explained.sentence or str(self)
+
+    @property
+    def start(self) -> Optional[int]:
+        """Where the explanation begins to underline the input: a byte of the UTF-8 text. None if it does not."""
+        return self._explained.start
+
+    @property
+    def end(self) -> Optional[int]:
+        """Where it stops: the first byte that is not underlined. None if none is."""
+        return self._explained.end
+
+    @property
+    def other(self) -> Optional[OtherPlace]:
+        """The other place that the explanation names, where the same land, name, or line was given before."""
+        return self._explained.other
+
+    @property
+    def hints(self) -> Tuple[str, ...]:
+        """How to correct the input, or related facts."""
+        return self._explained.hints
+
+    @property
+    def repair(self) -> Optional[str]:
+        """The corrected description, if all faults can be repaired. It can be read."""
+        return self._explained.repair
 
     def __eq__(self, other: object) -> bool:
         if not isinstance(other, Refused):
@@ -114,6 +153,7 @@ class Refused(ValueError):
 def hinted(refused: Refused, hint: str) -> Refused:
     """Return a refusal whose explanation ends with one more line. Tracebacks show it from Python 3.11 on."""
     explanation = f"{refused.explanation}  {hint}\n"
+    explained = refused._explained._replace(hints=(*refused.hints, hint))
     again = Refused(
         refused.number,
         refused.at,
@@ -122,6 +162,7 @@ def hinted(refused: Refused, hint: str) -> Refused:
         explanation,
         refused.inner,
         refused.source,
+        explained,
     )
     if hasattr(again, "add_note"):
         again.add_note(hint)
@@ -164,14 +205,14 @@ def exception_of(
     """
     if answer.verdict not in _REFUSALS:
         return failure_of(answer.verdict)
-    explained, text = _library.text_by(explain, *given, source, len(source))
-    if explained.verdict not in _REFUSALS:
-        return failure_of(explained.verdict)
-    if (explained.number, explained.at) != (answer.number, answer.at):
+    told, text, explained = explained_by(explain, *given, source, len(source))
+    if told.verdict not in _REFUSALS:
+        return failure_of(told.verdict)
+    if (told.number, told.at) != (answer.number, answer.at):
         # A list can be refused as a whole, and what is explained is a tract's fault that comes before.
         return Refused(answer.number, answer.at, source=source.decode())
     inner = inner_refusal(answer)
     # The line and column are both 0 if the error is not on any line.
-    line, column = explained.line or None, explained.column or None
-    return Refused(answer.number, answer.at, line, column, text, inner, source.decode())
+    line, column = told.line or None, told.column or None
+    return Refused(answer.number, answer.at, line, column, text, inner, source.decode(), explained)
 

@@ -102,5 +102,5 @@ class Reporting:
 
     def _list_exception(self, answer: _library.Answer, given: bytes) -> Exception:
         """Return the exception for a list of tracts that is not accepted."""
-        explain = _library.explain_list
+        explain = _library.explain_list_parts
         return exception_of(answer, explain, byref(self._parts), given, len(given), source=LIST)

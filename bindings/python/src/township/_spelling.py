@@ -99,7 +99,7 @@ def _answer(spelling: str, township: Township) -> Optional[Refused]:
     answer = _library.acres(byref(plat), given, len(given), _library.EXACT)
     if answer.verdict == _library.ACCEPTED:
         return None
-    explain = _library.explain_description
+    explain = _library.explain_description_parts
     exception = exception_of(answer, explain, byref(plat), given, len(given), source=DESCRIPTION)
     if not isinstance(exception, Refused):
         raise exception

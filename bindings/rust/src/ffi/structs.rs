@@ -142,6 +142,31 @@ pub(crate) struct Overlap {
     pub(crate) hundredths: u64,
 }
 
+/// `township_explanation`: the parts of an explanation or of a note. Offsets and lengths are in bytes.
+#[repr(C)]
+#[derive(Clone, Copy, Debug, Default, PartialEq, Eq)]
+pub(crate) struct Explanation {
+    pub(crate) shown: u32,
+    pub(crate) has_other: u32,
+    pub(crate) other_record: u32,
+    /// Which lines of the hints continue the line before: bit 1 is for the second line.
+    pub(crate) continued: u32,
+    /// Offsets in the input.
+    pub(crate) start: u64,
+    pub(crate) end: u64,
+    pub(crate) other_start: u64,
+    pub(crate) other_end: u64,
+    /// Offsets and lengths in the text.
+    pub(crate) sentence: u64,
+    pub(crate) sentence_length: u64,
+    pub(crate) excerpt: u64,
+    pub(crate) excerpt_length: u64,
+    pub(crate) hints: u64,
+    pub(crate) hints_length: u64,
+    pub(crate) repair: u64,
+    pub(crate) repair_length: u64,
+}
+
 /// `township_designation`: the parts of a township's designation, which may or may not be valid.
 #[repr(C)]
 #[derive(Clone, Copy, Debug, PartialEq, Eq, Hash)]
@@ -217,6 +242,7 @@ const _: () = assert!(size_of::<Figures>() == 2312 && offset_of!(Figures, sectio
 const _: () = assert!(size_of::<Tract>() == 80 && offset_of!(Tract, name) == 12);
 const _: () = assert!(size_of::<Totals>() == 16 && size_of::<Overlap>() == 16);
 const _: () = assert!(size_of::<TractAnswer>() == 120 && offset_of!(TractAnswer, name) == 52);
+const _: () = assert!(size_of::<Explanation>() == 112 && offset_of!(Explanation, start) == 16);
 const _: () = assert!(size_of::<Designation>() == 4);
 const _: () = assert!(size_of::<Land>() == 4612 && offset_of!(Land, township) == 4608);
 const _: () = assert!(size_of::<Lots>() == 192 && offset_of!(Lots, township) == 188);

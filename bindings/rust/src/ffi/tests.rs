@@ -93,7 +93,29 @@ fn parts_of_no_plat_are_found_out_by_each_call() {
         no_plat
     );
     assert_eq!(explain_list(&none, b"", "tracts", &mut room), no_plat);
-    assert_eq!(room, [0; 64]);
+    let mut parts = Explanation::default();
+    assert_eq!(
+        explain_description_parts(&none, b"sec. 37.", "land", &mut room, &mut parts),
+        no_plat
+    );
+    assert_eq!(
+        explain_list_parts(&none, b"", "tracts", &mut room, &mut parts),
+        no_plat
+    );
+    assert_eq!((room, parts), ([0; 64], Explanation::default()));
+}
+
+#[test]
+fn texts_of_both_kinds_of_calls_are_the_same() {
+    let (mut room, mut room_with_parts) = ([0; 512], [0; 512]);
+    let mut parts = Explanation::default();
+    let answer = explain_notes(b"line\n", "notes", &mut room);
+    assert_eq!(
+        explain_notes_parts(b"line\n", "notes", &mut room_with_parts, &mut parts),
+        answer
+    );
+    assert_eq!(room, room_with_parts);
+    assert_eq!(parts.shown, SHOWN_BYTES);
 }
 
 /// T. 2 N., R. 3 W., and the township north of it.

@@ -5,6 +5,7 @@ use crate::account::Account;
 use crate::acres::Acres;
 use crate::answer::Fault;
 use crate::area::Area;
+use crate::explanation::explained_by;
 use crate::ffi::{self, Answer};
 use crate::figures::Figures;
 use crate::note::Note;
@@ -145,10 +146,11 @@ impl Plat {
     /// ```
     pub fn notes(&self, description: impl AsRef<[u8]>) -> Result<Vec<Note>, Refused> {
         let description = description.as_ref();
-        let (answer, text) =
-            text_by(|room| ffi::explain_description(&self.parts, description, DESCRIPTION, room));
+        let (answer, explained) = explained_by(|room, parts| {
+            ffi::explain_description_parts(&self.parts, description, DESCRIPTION, room, parts)
+        });
         match answer.accepted() {
-            Ok(answer) => Ok(Note::beside(answer, text)),
+            Ok(answer) => Ok(Note::beside(answer, explained)),
             Err(fault) => Err(self.description_refused(fault, description)),
         }
     }
@@ -261,8 +263,8 @@ impl Plat {
 
     /// Returns the refusal of a description on this plat, with its explanation.
     fn description_refused(&self, fault: Fault, description: &[u8]) -> Refused {
-        Refused::explained(fault, |room| {
-            ffi::explain_description(&self.parts, description, DESCRIPTION, room)
+        Refused::explained(fault, |room, parts| {
+            ffi::explain_description_parts(&self.parts, description, DESCRIPTION, room, parts)
         })
     }
 }

@@ -226,8 +226,8 @@ impl Plat {
 
     /// Returns the refusal of a list of tracts on this plat, with its explanation.
     fn list_refused(&self, fault: Fault, list: &[u8]) -> Refused {
-        Refused::explained(fault, |room| {
-            ffi::explain_list(&self.parts, list, LIST, room)
+        Refused::explained(fault, |room, parts| {
+            ffi::explain_list_parts(&self.parts, list, LIST, room, parts)
         })
     }
 }

@@ -1,17 +1,14 @@
 """Refusals and notes, as JSON."""
 from __future__ import annotations
 
-import re
 from typing import Dict, Optional, Tuple
 
 from .._note import Note
 from .._refused import Refused
+from .._text import encoded
 
 #: A JSON object.
 Json = Dict[str, object]
-
-#: The line of an explanation that marks a place.
-_CARETS = re.compile(r"^ *\| *(\^+)$", re.MULTILINE)
 
 
 def refused_json(refused: Refused, of: str, text: Optional[str] = None) -> Json:
@@ -28,13 +25,13 @@ def refused_json(refused: Refused, of: str, text: Optional[str] = None) -> Json:
     if refused.inner is not None:
         found["inner"] = {"number": refused.inner.number, "at": refused.inner.at}
     if text is not None:
-        found["start"], found["end"] = _range(text, refused.line, refused.column, refused.explanation)
+        found["start"], found["end"] = _range(text, refused.start, refused.end)
     return found
 
 
 def note_json(note: Note, text: str) -> Json:
     """Return a note on a place of a text."""
-    start, end = _range(text, note.line, note.column, note.text)
+    start, end = _range(text, note.start, note.end)
     return {
         "line": note.line,
         "column": note.column,
@@ -44,14 +41,13 @@ def note_json(note: Note, text: str) -> Json:
     }
 
 
-def _range(
-    text: str, line: Optional[int], column: Optional[int], explanation: str
-) -> Tuple[Optional[int], Optional[int]]:
-    """Return where a place begins and ends in a text: characters (Unicode code points), counted from 0."""
-    if line is None or column is None:
+def _range(text: str, start: Optional[int], end: Optional[int]) -> Tuple[Optional[int], Optional[int]]:
+    """Return where bytes begin and end in a text, as characters (Unicode code points), counted from 0.
+
+    At the end of the text there are none, and the next character, if there is one, is marked instead.
+    """
+    if start is None or end is None:
         return None, None
-    lines = text.split("\n")
-    start = min(sum(len(each) + 1 for each in lines[: line - 1]) + column - 1, len(text))
-    marked = _CARETS.search(explanation)
-    length = len(marked.group(1)) if marked else 1
-    return start, min(start + length, len(text))
+    given = encoded(text)
+    first, last = (len(given[:offset].decode("utf-8", "surrogateescape")) for offset in (start, end))
+    return first, max(last, min(first + 1, len(text)))

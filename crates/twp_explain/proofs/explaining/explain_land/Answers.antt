@@ -1,5 +1,5 @@
 -- Nothing is explained of land on the plat of the notes, or where the refusal is another.
-use Rattle.std.proofs.Common.{ap, subst}
+use Rattle.std.proofs.Common.{subst}
 use Rattle.twp_acres.specs.Answers.{IsNoDescription}
 use Rattle.twp_diagnose.specs.Findings.{IfFound}
 use Rattle.twp_explain.specs.Refusals.{DescribeLand}
@@ -41,12 +41,10 @@ returns-in-Err-clause-spot c =
 
 pub returns-in-Err-describe-clause-spot : goal.returns-in-Err-describe-clause-spot
 returns-in-Err-describe-clause-spot c = λ makes.
-    tells_where c.explain-in-Err-describe.result c.args.description.now c.in-Err-describe.stop
-    (c.in-Err-describe.ensures.shown (record {
-      whole = c.of_file-origin.ensures.whole;
-      same = ap (λ file. file.bytes.now) c.of_file-origin.ensures.file;
-    }))
-    c.explain-in-Err-describe.ensures.found c.explain-in-Err-describe.ensures.spot
+    tells_where c.explain-in-Err-describe.result c.of_file-origin.result c.args.description.now
+    c.township.result c.in-Err-describe.stop c.of_file-origin.ensures.whole c.of_file-origin.ensures.file
+    c.in-Err-describe.ensures.shown c.explain-in-Err-describe.ensures.found
+    c.explain-in-Err-describe.ensures.spot
 
 pub returns-in-Err-clause-shows : goal.returns-in-Err-clause-shows
 returns-in-Err-clause-shows c =

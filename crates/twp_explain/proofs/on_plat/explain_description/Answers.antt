@@ -1,6 +1,5 @@
-use Rattle.std.proofs.Common.{ap}
 use Rattle.twp_acres.specs.Answers.{IsNoDescription}
-use Rattle.twp_explain.proofs.ShownFacts.{found_is, explained_where}
+use Rattle.twp_explain.proofs.ShownFacts.{found_is, explained_where, shown_land}
 use Rattle.twp_explain.proofs.on_plat.explain_description.Goals as goal
 
 pub returns-in_ok-explain_stop-in-Err-clause-refusal :
@@ -12,9 +11,13 @@ returns-in_ok-explain_stop-in-Err-clause-refusal c =
 
 pub returns-in_ok-explain_stop-in-Err-clause-spot : goal.returns-in_ok-explain_stop-in-Err-clause-spot
 returns-in_ok-explain_stop-in-Err-clause-spot c =
-    explained_where c.args.description.now c.in-Err.stop c.in_ok-explain_stop-in-Err.field-0
-    (c.in-Err.ensures.shown (record {
-      whole = c.of_file-origin.ensures.whole;
-      same = ap (λ file. file.bytes.now) c.of_file-origin.ensures.file;
-    }))
-    c.in_ok-explain_stop-in-Err.ensures.refusal c.in_ok-explain_stop-in-Err.ensures.spot
+    explained_where c.of_file-origin.result c.args.description.now c.args.township c.in-Err.stop
+    c.in_ok-explain_stop-in-Err.field-0 c.of_file-origin.ensures.whole c.of_file-origin.ensures.file
+    c.in-Err.ensures.shown c.in_ok-explain_stop-in-Err.ensures.refusal
+    c.in_ok-explain_stop-in-Err.ensures.spot
+
+pub returns-in_ok-explain_stop-in-Err-clause-place : goal.returns-in_ok-explain_stop-in-Err-clause-place
+returns-in_ok-explain_stop-in-Err-clause-place c =
+    shown_land c.of_file-origin.result c.args.description.now c.args.township c.in-Err.stop
+    c.in_ok-explain_stop-in-Err.field-0 c.of_file-origin.ensures.whole c.of_file-origin.ensures.file
+    c.in-Err.ensures.shown c.in_ok-explain_stop-in-Err.ensures.place

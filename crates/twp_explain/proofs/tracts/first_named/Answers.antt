@@ -16,6 +16,7 @@ returns-then-is_named c = λ listed.
     record {
       until = omega (arith, c.number-last.ensures, c.records-test.true);
       others = c.records.invariant.others;
+      is_tract = λ below. (c.is_named.ensures.0 c.if-is_named.true).0;
       same = λ below.
           ap name_in is.is ∙ ((c.is_named.ensures.0 c.if-is_named.true).1 ∙ c.field.ensures);
     }

@@ -7,7 +7,6 @@ returns-clause-refusal c = refl
 
 pub returns-clause-shows : goal.returns-clause-shows
 returns-clause-shows c = record {
-  location = c.args.self.now.place;
   spot_is = c.in_ok-spot.ensures.spot;
   text_is = c.in_ok-spot.ensures.text;
 }

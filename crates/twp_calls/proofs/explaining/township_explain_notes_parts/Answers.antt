@@ -5,11 +5,15 @@ use Rattle.twp_calls.specs.Calls.{refused_for}
 use Rattle.twp_calls.specs.Explanations.{PutsExplanation}
 use Rattle.twp_diagnose.specs.ShownMessages.{ShowsIn}
 use Rattle.twp_calls.proofs.CallFacts.{refused_in, held_by}
-use Rattle.twp_calls.proofs.explaining.township_explain_notes.Goals as goal
+use Rattle.twp_calls.proofs.ExplanationPartFacts.{or_no_memory, shown_in_parts}
+use Rattle.twp_calls.proofs.explaining.township_explain_notes_parts.Goals as goal
 
 pub returns-in-Ok-Some-clause-answer : goal.returns-in-Ok-Some-clause-answer
 returns-in-Ok-Some-clause-answer c =
-    refused_for (record {
+    or_no_memory _ _ c.of_refusal-refused.result c.in-Ok-Some.explained c.args.text.now
+    c.put_explained.new.text c.put_explained.new.explanation c.put_explained.result
+    c.put_explained.ensures.explained
+    (λ puts. refused_for (record {
       refusal = c.in-Err-Refused.refusal;
       first =
           refused_in c.args.notes.now c.in-Err-Refused.field-0 c.in-Err-Refused.refusal
@@ -23,24 +27,22 @@ returns-in-Ok-Some-clause-answer c =
         explained_is =
             subst
             (λ explained.
-            PutsExplanation explained c.in-Ok-Some.explained c.args.text.now c.put_explanation.new.text
-            c.put_explanation.result)
-            c.of_refusal-refused.ensures c.put_explanation.ensures.explained;
+            PutsExplanation explained c.in-Ok-Some.explained c.args.text.now c.put_explained.new.text
+            c.put_explained.result)
+            c.of_refusal-refused.ensures puts;
       };
-    })
+    }))
 
 pub returns-in-Ok-Some-clause-shows : goal.returns-in-Ok-Some-clause-shows
-returns-in-Ok-Some-clause-shows c = λ is. record {
-  file = c.given.result;
-  file_is = record {
-    name_is = c.given.ensures.name;
-    bytes_are = c.given.ensures.bytes;
-    first_line_is = c.given.ensures.first_line;
-  };
-  explanation = c.in-Ok-Some.explained;
-  shows =
-      held_by (ShowsIn c.given.result) c.in-Ok-Some.field-0 c.in-Ok-Some.explained c.in-Ok-Some.field-0-is
-      c.in-Ok-Some.ensures.shows;
-  refused = c.of_refusal-refused.result;
-  explained_is = c.put_explanation.ensures.explained;
-}
+returns-in-Ok-Some-clause-shows c =
+    shown_in_parts c.args.notes.now c.args.name.now c.args.text.now c.put_explained.new.text
+    c.put_explained.new.explanation c.of_refusal-refused.result c.put_explained.result c.given.result
+    c.in-Ok-Some.explained
+    (record {
+      name_is = c.given.ensures.name;
+      bytes_are = c.given.ensures.bytes;
+      first_line_is = c.given.ensures.first_line;
+    })
+    (held_by (ShowsIn c.given.result) c.in-Ok-Some.field-0 c.in-Ok-Some.explained c.in-Ok-Some.field-0-is
+    c.in-Ok-Some.ensures.shows)
+    c.put_explained.ensures.explained

@@ -1,0 +1,180 @@
+#include "explanations.h"
+
+#include <stddef.h>
+#include <stdlib.h>
+#include <string.h>
+
+#include "check.h"
+#include "given.h"
+
+_Static_assert(sizeof(township_explanation) == 112, "an explanation has 4 numbers of 4 bytes and 12 of 8");
+_Static_assert(offsetof(township_explanation, start) == 16, "the numbers of 4 bytes are first");
+
+#define NAME ((const uint8_t *)"f"), 1
+
+/* Something that no call writes. */
+static township_explanation other_parts(void) {
+    township_explanation parts;
+
+    memset(&parts, 0xA5, sizeof parts);
+    return parts;
+}
+
+static bool is_kept(const township_explanation *parts) {
+    township_explanation other = other_parts();
+
+    return memcmp(parts, &other, sizeof other) == 0;
+}
+
+/* Whether a part of a text consists of these bytes. */
+static bool is_part(const uint8_t *text, uint64_t start, uint64_t length, const char *wanted) {
+    return length == strlen(wanted) && memcmp(text + start, wanted, length) == 0;
+}
+
+/* What an explanation has to say. */
+typedef struct said {
+    const char *shown; /* the bytes of the input that are underlined; LINE if a line is named; NULL if neither is */
+    const char *other; /* the bytes of the other place; NULL if there is none */
+    uint32_t record;
+    const char *sentence;
+    const char *excerpt;
+    const char *hints;
+    const char *repair;
+} said;
+
+/* Of a line, no bytes are underlined. */
+static const char LINE[] = "";
+
+static uint32_t shown_of(const char *shown) {
+    return shown == NULL ? TOWNSHIP_SHOWN_NOTHING : shown == LINE ? TOWNSHIP_SHOWN_LINE : TOWNSHIP_SHOWN_BYTES;
+}
+
+static void check_parts(bytes input, const uint8_t *text, township_answer answer, township_explanation parts,
+                        said wanted) {
+    CHECK(parts.shown == shown_of(wanted.shown));
+    CHECK(is_part(input.at, parts.start, parts.end - parts.start, wanted.shown == NULL ? "" : wanted.shown));
+    CHECK(parts.has_other == (wanted.other != NULL) && parts.other_record == wanted.record);
+    CHECK(is_part(input.at, parts.other_start, parts.other_end - parts.other_start,
+                  wanted.other == NULL ? "" : wanted.other));
+    CHECK(is_part(text, parts.sentence, parts.sentence_length, wanted.sentence));
+    CHECK(is_part(text, parts.excerpt, parts.excerpt_length, wanted.excerpt));
+    CHECK(is_part(text, parts.hints, parts.hints_length, wanted.hints));
+    CHECK(is_part(text, parts.repair, parts.repair_length, wanted.repair));
+    CHECK(parts.sentence + parts.sentence_length + 1 == parts.excerpt);
+    CHECK(parts.excerpt + parts.excerpt_length == parts.hints);
+    CHECK(parts.hints + parts.hints_length == answer.length);
+}
+
+/* The calls with and without the parts, for one kind of input. */
+typedef struct kind {
+    township_answer (*alone)(const township_plat *plat, bytes input, uint8_t *text, size_t size);
+    township_answer (*with_parts)(const township_plat *plat, bytes input, uint8_t *text, size_t size,
+                                  township_explanation *parts);
+} kind;
+
+static township_answer notes_alone(const township_plat *plat, bytes input, uint8_t *text, size_t size) {
+    (void)plat;
+    return township_explain_notes(input.at, input.length, NAME, text, size);
+}
+
+static township_answer notes_parts(const township_plat *plat, bytes input, uint8_t *text, size_t size,
+                                   township_explanation *parts) {
+    (void)plat;
+    return township_explain_notes_parts(input.at, input.length, NAME, text, size, parts);
+}
+
+static township_answer land_alone(const township_plat *plat, bytes input, uint8_t *text, size_t size) {
+    return township_explain_description(plat, input.at, input.length, NAME, text, size);
+}
+
+static township_answer land_parts(const township_plat *plat, bytes input, uint8_t *text, size_t size,
+                                  township_explanation *parts) {
+    return township_explain_description_parts(plat, input.at, input.length, NAME, text, size, parts);
+}
+
+static township_answer list_alone(const township_plat *plat, bytes input, uint8_t *text, size_t size) {
+    return township_explain_list(plat, input.at, input.length, NAME, text, size);
+}
+
+static township_answer list_parts(const township_plat *plat, bytes input, uint8_t *text, size_t size,
+                                  township_explanation *parts) {
+    return township_explain_list_parts(plat, input.at, input.length, NAME, text, size, parts);
+}
+
+static const kind NOTES = {notes_alone, notes_parts};
+static const kind LAND = {land_alone, land_parts};
+static const kind LIST = {list_alone, list_parts};
+
+/* The same answer and text as without the parts; and neither a text nor parts if the room is a byte too small. */
+static void explains(kind it, const township_plat *plat, const char *given, said wanted) {
+    bytes input = bytes_of(given);
+    township_explanation parts = other_parts();
+    room *alone = room_new();
+    room *r = room_new();
+    township_answer answer = it.alone(plat, input, room_text(alone), MOST_TEXT);
+    township_answer without_room = it.with_parts(plat, input, room_text(r), answer.length - 1, &parts);
+
+    CHECK(without_room.verdict == TOWNSHIP_NO_ROOM && without_room.length == answer.length);
+    CHECK(is_kept(&parts) && room_holds(r, "", 0));
+    CHECK_ANSWER(it.with_parts(plat, input, room_text(r), MOST_TEXT, &parts), answer);
+    CHECK(memcmp(room_text(r), room_text(alone), answer.length) == 0);
+    check_parts(input, room_text(r), answer, parts, wanted);
+    drop(input);
+    free(alone);
+    free(r);
+}
+
+/* Input of which nothing is explained: neither text nor parts are written. */
+static void explains_nothing(const township_plat *plat, uint32_t verdict) {
+    township_explanation parts = other_parts();
+    bytes land = bytes_of("sec. 14.");
+    bytes list = bytes_of("name,description\nA,sec. 14.\n");
+    room *r = room_new();
+
+    CHECK_ANSWER(township_explain_description_parts(plat, land.at, land.length, NAME, room_text(r), MOST_TEXT, &parts),
+                 bare(verdict));
+    CHECK_ANSWER(township_explain_list_parts(plat, list.at, list.length, NAME, room_text(r), MOST_TEXT, &parts),
+                 bare(verdict));
+    CHECK(is_kept(&parts) && room_holds(r, "", 0));
+    drop(land);
+    drop(list);
+    free(r);
+}
+
+void gives_parts(const township_plat *plat) {
+    township_plat none = *plat;
+
+    none.number = 0;
+    explains_nothing(plat, TOWNSHIP_ACCEPTED);
+    explains_nothing(&none, TOWNSHIP_NO_PLAT);
+    explains(LAND, plat, "sec. 14, NE1/4 and N1/2.",
+             (said){"N1/2", "NE1/4", 0, "this land was named before",
+                    "  1 | sec. 14, NE1/4 and N1/2.\n    |                    ^^^^\n",
+                    "  `NE1/4` at 1:10 overlaps it; both include sec. 14, NE1/4.\n", ""});
+    explains(LAND, plat, "sec. 14, NE/4.",
+             (said){"/", NULL, 0, "`/` is allowed only in 1/2 and 1/4",
+                    "  1 | sec. 14, NE/4.\n    |            ^\n",
+                    "  write NE1/4\n  corrected: sec. 14, NE1/4.\n", "sec. 14, NE1/4."});
+    explains(LAND, plat, "sec. 14, NE1/4 SE1/4.",
+             (said){"SE1/4", NULL, 0,
+                    "NE1/4 SE1/4 is read as one part of 40.00 acres, the NE1/4 of the SE1/4; if\n"
+                    "  two parts were meant, write a comma after NE1/4 (320.00 acres)",
+                    "  1 | sec. 14, NE1/4 SE1/4.\n    |                ^^^^^\n", "", ""});
+    explains(LIST, plat, "name,description\nA,\"sec. 14, NE1/4 and N1/2.\"\n",
+             (said){"N1/2", "NE1/4", 0, "tract `A`: this land was named before",
+                    "  2 | A,\"sec. 14, NE1/4 and N1/2.\"\n    |                       ^^^^\n",
+                    "  `NE1/4` at 2:13 overlaps it; both include sec. 14, NE1/4.\n", ""});
+    explains(LIST, plat, "name,description\nA,sec. 13.\nB,\"sec. 14, NE1/4.\"\nC,sec. 14.\n",
+             (said){LINE, "\"sec. 14, NE1/4.\"", 3,
+                    "tract `C` overlaps tract `B` (record 3); both include sec. 14, NE1/4.", "", "", ""});
+    explains(LIST, plat, "name,description\nA,sec. 13.\nA,sec. 14.\n",
+             (said){"A", "A", 2, "tract `A` has the same name as an earlier tract, record 2 on line 2",
+                    "  3 | A,sec. 14.\n    | ^\n", "", ""});
+    explains(NOTES, plat, "line,between,and,quarter,corner\nT,2,N,3,W\nN,1,2,40.000,80.000\nN,1,2,40.000,80.000\n",
+             (said){"N,1,2,40.000,80.000", "N,1,2,40.000,80.000", 3, "duplicate record: N,1,2 (section line 1)",
+                    "  4 | N,1,2,40.000,80.000\n    | ^^^^^^^^^^^^^^^^^^^\n",
+                    "  record 3 at line 3 also returns this line\n", ""});
+    explains(NOTES, plat, "",
+             (said){NULL, NULL, 0,
+                    "the field notes are empty: they begin with `line,between,and,quarter,corner`", "", "", ""});
+}
