@@ -1,5 +1,5 @@
 -- What the text of an explanation says of the place that it shows in a file.
-use Rattle.std.specs.Prelude.{◌≡◌, ◌⊎◌, ℕ, List, Option, Some, None}
+use Rattle.std.specs.Prelude.{◌≡◌, ℕ, List, Option, Some, None}
 use Rattle.twp_excerpt.specs.Messages.{IsInParts}
 use Rattle.twp_excerpt.specs.declared.message.Extract.{Extract}
 use Rattle.twp_excerpt.specs.declared.message.Heading.{Heading}

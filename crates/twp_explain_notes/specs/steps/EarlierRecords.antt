@@ -1,9 +1,8 @@
 -- Which earlier record names the line of a repeated one. No public contract cites this module.
-use Rattle.std.specs.Prelude.{◌≡◌, ◌≤◌, ◌-◌, ℕ, length, Option, None, IfSome}
+use Rattle.std.specs.Prelude.{◌≡◌, ◌≤◌, length, Option, None, IfSome}
 use Rattle.twp_notes.specs.Records.{Fields}
 use Rattle.twp_notes.specs.declared.fault.NotesFault.{NotesFault}
 use Rattle.twp_notes.specs.declared.fault.NotesFault.TheVariants as fault
-use Rattle.twp_diagnose.specs.RecordFields.{fields_in, fields_span}
 use Rattle.twp_diagnose.specs.Spots.{MOST_BYTES, IsLineIn}
 use Rattle.twp_diagnose.specs.declared.explanation.OtherPlace.{OtherPlace}
 use Rattle.twp_diagnose.specs.declared.given.Given.{Given}

@@ -1,4 +1,4 @@
-use Rattle.std.proofs.Common.{◌≡◌, ◌++◌, ℕ, List, length, min}
+use Rattle.std.proofs.Common.{◌≡◌, ◌++◌, List, length, min}
 use Rattle.twp_notes.specs.Records.{Fields, records_of, records_left, IsReading}
 use Rattle.twp_diagnose.specs.RecordFields.{NoneNames}
 use Rattle.twp_diagnose.proofs.records.Record.of_line.Given as goal
