@@ -151,7 +151,7 @@ static bool same_round(const round_answers *a, const round_answers *b) {
 
 /* Whether a call of a round explains a refusal. */
 static bool is_explained(int call) {
-    return (call >= 7 && call <= 9) || call >= 27;
+    return (call >= 7 && call <= 9) || call >= 31;
 }
 
 static void *run(void *given) {
