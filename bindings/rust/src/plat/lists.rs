@@ -2,6 +2,7 @@
 
 use super::Plat;
 use crate::answer::{Fault, Verdict};
+use crate::explanation::explained_by;
 use crate::ffi::{self, TRACTS_MOST};
 use crate::refused::{Refused, LIST};
 use crate::report::{list_of, Overlap, Report, TractAnswer};
@@ -217,7 +218,9 @@ impl Plat {
     /// Returns the refusal of a list as a whole. It has no explanation if a tract's fault comes
     /// before it, since that fault would be explained.
     fn whole_list_refused(&self, fault: Fault, list: &[u8]) -> Refused {
-        let (explained, _) = text_by(|room| ffi::explain_list(&self.parts, list, LIST, room));
+        let (explained, _) = explained_by(|room, parts| {
+            ffi::explain_list_parts(&self.parts, list, LIST, room, parts)
+        });
         if explained.accepted() == Err(fault) {
             return self.list_refused(fault, list);
         }
