@@ -5,6 +5,7 @@
 mod allowed;
 mod arranging;
 mod asides;
+mod beyond;
 mod candidates;
 mod change;
 mod draft;
@@ -25,6 +26,7 @@ mod rule;
 mod same;
 mod tables;
 
+pub use beyond::{Beyond, beyond_of};
 pub use change::Change;
-pub use reading::{Reading, readings_of};
+pub use reading::{Manner, Reading, readings_of};
 pub use rule::Rule;

@@ -9,11 +9,25 @@ use std::alloc::{AllocError, Global};
 use twp_doubts::doubts_in;
 use twp_read::{Clarity, Description, TextFault};
 
-/// A reading of a text: the changes, from left to right, and the description that they make.
+/// How the description of a reading comes of the changed text.
+#[derive(Clone, Copy, Debug, PartialEq, Eq)]
+pub enum Manner {
+    /// It is the changed text.
+    Changed,
+    /// It is the canonical description of the land of the changed text, in which an aliquot part includes lots. They
+    /// are named in its place.
+    LotsNamed,
+    /// It is the canonical description of what is left: the land of the changed text before `except`, without the
+    /// land after it.
+    Remainder,
+}
+
+/// A reading of a text: the changes, from left to right, and the description that comes of them.
 #[derive(Drop)]
 pub struct Reading<'a> {
     pub changes: Vec<Change<'a>>,
     pub text: Vec<u8>,
+    pub manner: Manner,
 }
 
 /// The most readings that are given.
@@ -64,6 +78,7 @@ fn itself<'a>(alloc: Global, text: &'a [u8]) -> Result<Vec<Reading<'a>>, AllocEr
     readings.push(Reading {
         changes: Vec::new(alloc),
         text: copy,
+        manner: Manner::Changed,
     })?;
     Ok(readings)
 }
@@ -115,6 +130,7 @@ fn reading_with<'a>(
     Ok(Some(Reading {
         changes,
         text: made,
+        manner: Manner::Changed,
     }))
 }
 
