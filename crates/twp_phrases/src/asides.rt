@@ -38,6 +38,10 @@ impl<'a> Draft<'a> {
                 return Some((Rule::Label, end));
             }
         }
+        let is_number = matches!(self.pieces.kind(index), Kind::Number(_));
+        if is_number && !self.pieces.begins_line(index) {
+            return None;
+        }
         let end = self.pieces.end_of_label(index)?;
         Some((Rule::Label, end))
     }

@@ -16,6 +16,9 @@ const TENS: &str = "twenty 2;thirty 3";
 
 /// The digits of a word in a list.
 fn digits_in(list: &'static str, word: &[u8]) -> Option<&'static [u8]> {
+    if word.len() < 3 {
+        return None;
+    }
     for line in list.split(';') {
         if let Some((name, digits)) = line.split_once(' ') {
             if is_one_of(word, name) {

@@ -72,6 +72,9 @@ impl Size {
 
 /// The letters of a word for a direction.
 fn letters_of(word: &[u8]) -> Option<&'static [u8]> {
+    if word.len() < 4 {
+        return None;
+    }
     for line in DIRECTIONS.split(';') {
         if let Some((name, letters)) = line.split_once(' ') {
             if is_one_of(word, name) {
@@ -97,15 +100,35 @@ fn are_corners(letters: &[u8]) -> bool {
 
 /// The step with these letters, as it is written in a description.
 fn written_step(letters: &[u8]) -> &'static [u8] {
-    const STEPS: &str = "N N1/2;S S1/2;E E1/2;W W1/2;NE NE1/4;NW NW1/4;SE SE1/4;SW SW1/4";
-    for line in STEPS.split(';') {
-        if let Some((name, step)) = line.split_once(' ') {
-            if is_one_of(letters, name) {
-                return step.as_bytes();
-            }
+    match letters {
+        [side] => written_half(side.to_ascii_uppercase()),
+        [first, second] => {
+            written_quarter(first.to_ascii_uppercase(), second.to_ascii_uppercase())
         }
+        _ => b"",
     }
-    b""
+}
+
+/// The half on the side with this letter.
+fn written_half(side: u8) -> &'static [u8] {
+    match side {
+        b'N' => b"N1/2",
+        b'S' => b"S1/2",
+        b'E' => b"E1/2",
+        b'W' => b"W1/2",
+        _ => b"",
+    }
+}
+
+/// The quarter in the corner with these letters.
+fn written_quarter(first: u8, second: u8) -> &'static [u8] {
+    match (first, second) {
+        (b'N', b'E') => b"NE1/4",
+        (b'N', b'W') => b"NW1/4",
+        (b'S', b'E') => b"SE1/4",
+        (b'S', b'W') => b"SW1/4",
+        _ => b"",
+    }
 }
 
 impl<'a> Draft<'a> {

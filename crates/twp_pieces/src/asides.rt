@@ -17,6 +17,9 @@ const MERIDIANS_OF_TWO: &str =
 const MERIDIAN_LETTERS: &str =
     "BM PM NMPM MDM MDBM SBM SBBM WM SLM SLBM UM USM CRM FM GSRM GSRBM MPM";
 
+/// The most sections of a township: a greater number alone in a cell is acreage.
+const SECTIONS: u16 = 36;
+
 /// The most letters for a meridian.
 const LETTERS_MOST: usize = 5;
 
@@ -72,7 +75,7 @@ impl<'a> Pieces<'a> {
         let has_decimals = end > plus(index, 2)
             && self.is(end.saturating_sub(2), ".")
             && self.bytes(end.saturating_sub(1)).len() == 2;
-        let is_cell = self.has_break_before(index) && self.bytes(index).len() >= 2;
+        let is_cell = self.has_break_before(index) && self.number(index).unwrap_or(0) > SECTIONS;
         if end == self.len() && index > 0 && (has_decimals || is_cell) {
             Some(end)
         } else {
@@ -180,7 +183,8 @@ impl<'a> Pieces<'a> {
             if is_mark && place > index {
                 continue;
             }
-            let is_letter = bytes.len() == 1 && bytes.is_ascii() && count < LETTERS_MOST;
+            let is_letter = matches!(bytes, [byte] if byte.is_ascii_alphabetic())
+                && count < LETTERS_MOST;
             if !is_letter || (place > index && !self.is_joined(place)) {
                 break;
             }

@@ -39,6 +39,10 @@ unsurveyed|||the land is unsurveyed
 surface||to|it differs by depth
 shl bhl|||a location of a well is a point
 ff|||FF is no aliquot part
+except excepting excluding less||<n>|the excepted land is not located
+except excepting excluding exception|||exceptions of other land than lots and aliquot parts are not located
+rs||<n>|it is in several townships
+tps||<n>|it is in several townships
 row|||a right-of-way needs a survey
 way|of||a right-of-way needs a survey
 bed|||a portion needs a survey

@@ -335,7 +335,9 @@ impl<'a> Plan<'a> {
                     let is_again = is_excepting && lands == 0 && self.is_again(section, phrase);
                     let land = first.and_then(|index| list.get_mut(index));
                     let is_all = lands == 1 && land_names(&land) == Some(Names::All);
-                    let is_each = !is_excepting && land_names(&land) == Some(Names::Part);
+                    let is_each = lands == 1
+                        && !is_excepting
+                        && land_names(&land) == Some(Names::Part);
                     unsure = unsure
                         || (is_several && (!(is_all || is_each) || self.has_range(phrase)))
                         || (is_ended && !is_again);
