@@ -20,8 +20,9 @@ Calls = Dict[str, List[Parameter]]
 
 BYTES, ROOM, LENGTH = "bytes", "room for bytes", "length"
 OFFSETS, ANSWERS = "offsets", "room for answers"
+READINGS, CHANGES = "room for readings", "room for changes"
 # Each of these is a pointer, and its length follows it.
-SLICES = (BYTES, ROOM, OFFSETS, ANSWERS)
+SLICES = (BYTES, ROOM, OFFSETS, ANSWERS, READINGS, CHANGES)
 # What each type is, in the languages where a slice is a pointer and a length, and in Rattle.
 C_TYPES = {
     "const township_plat *": "plat",
@@ -36,6 +37,9 @@ C_TYPES = {
     "uint32_t *": "number to write",
     "const size_t *": OFFSETS,
     "township_answer *": ANSWERS,
+    "township_reading *": READINGS,
+    "township_change *": CHANGES,
+    "township_suggestion *": "suggestion to write",
     "uint32_t": "number",
     "size_t": LENGTH,
 }
@@ -46,6 +50,9 @@ RUST_TYPES = {
     "*mut Figures": "figures to write",
     "*const usize": OFFSETS,
     "*mut Answer": ANSWERS,
+    "*mut Reading": READINGS,
+    "*mut Change": CHANGES,
+    "*mut Suggestion": "suggestion to write",
     "*const u8": BYTES,
     "*mut u8": ROOM,
     "*const Designation": "township",
@@ -70,6 +77,9 @@ RATTLE_TYPES = {
     "&mut u32": "number to write",
     "&[usize]": OFFSETS,
     "&mut [TownshipAnswer]": ANSWERS,
+    "&mut [TownshipReading]": READINGS,
+    "&mut [TownshipChange]": CHANGES,
+    "&mut TownshipSuggestion": "suggestion to write",
     "&[u8]": BYTES,
     "&mut [u8]": ROOM,
     "u32": "number",
@@ -82,6 +92,9 @@ PYTHON_TYPES = {
     "POINTER(Figures)": "figures to write",
     "*_OFFSETS": OFFSETS,
     "*_ANSWERS": ANSWERS,
+    "*_READINGS": READINGS,
+    "*_CHANGES": CHANGES,
+    "POINTER(Suggestion)": "suggestion to write",
     "_TOWNSHIP": "township",
     "_LAND": "land",
     "_LOTS": "lots",

@@ -76,6 +76,7 @@ OTHERS = (
             "twp_calls::explaining::township_explain_description",
             "twp_calls::explaining::township_explain_list",
             "twp_calls::explaining::township_version",
+            "twp_calls::suggesting::township_suggest",
         ),
     ),
     Subject(

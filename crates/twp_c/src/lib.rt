@@ -7,3 +7,4 @@ mod exports;
 mod figures;
 mod land;
 mod lots;
+mod suggesting;

@@ -5,4 +5,5 @@ pub mod FigureFacts
 pub mod ManyFacts
 pub mod NoteFacts
 pub mod PlaceFacts
+pub mod SuggestionFacts
 pub mod WritingFacts

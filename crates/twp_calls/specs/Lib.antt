@@ -8,6 +8,7 @@ pub mod Figures
 pub mod LandCalls
 pub mod LotCalls
 pub mod ManyAnswers
+pub mod Suggestions
 pub mod Names
 pub mod ShownTexts
 pub mod Explanations

@@ -3,3 +3,4 @@ pub mod Filling
 pub mod LotSteps
 pub mod Noting
 pub mod Returning
+pub mod Suggesting

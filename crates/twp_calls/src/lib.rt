@@ -17,6 +17,8 @@ mod lots;
 mod many;
 mod plat;
 mod reading;
+mod suggesting;
+mod suggestion;
 mod text;
 mod verdict;
 mod version;
@@ -44,4 +46,6 @@ pub use lot_answers::{
 pub use lots::TownshipLots;
 pub use many::township_acres_many;
 pub use plat::TownshipPlat;
+pub use suggesting::township_suggest;
+pub use suggestion::{TownshipChange, TownshipReading, TownshipSuggestion};
 pub use writing::township_write_notes;

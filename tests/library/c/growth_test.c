@@ -115,6 +115,9 @@ static township_answer answers[2];
 static township_land land;
 static township_lots lots;
 static uint32_t comparison;
+static township_reading readings[TOWNSHIP_READINGS_MOST];
+static township_change changes[8];
+static township_suggestion suggestion;
 static room *texts;
 
 /* Land of the township of the plat, and another. */
@@ -242,6 +245,16 @@ static township_answer call_lots_land_area(void) {
     return township_lots_land_area(&table, &first, &area);
 }
 
+static township_answer call_suggest(void) {
+    return township_suggest(BYTES("sec. 14: NE1/4NE1/4 SW1/4SW1/4"), readings, TOWNSHIP_READINGS_MOST, changes, 8,
+                            room_text(texts), MOST_TEXT, &suggestion);
+}
+
+static township_answer call_suggest_itself(void) {
+    return township_suggest(BYTES("sec. 14, NE1/4."), readings, TOWNSHIP_READINGS_MOST, changes, 8, room_text(texts),
+                            MOST_TEXT, &suggestion);
+}
+
 static const struct {
     const char *name;
     township_answer (*call)(void);
@@ -272,6 +285,8 @@ static const struct {
     {"township_lots_area", call_lots_area},
     {"township_lots_land_acres", call_lots_land_acres},
     {"township_lots_land_area", call_lots_land_area},
+    {"township_suggest", call_suggest},
+    {"township_suggest, a description", call_suggest_itself},
 };
 
 /* Everything that a call can write. */
@@ -282,6 +297,9 @@ typedef struct written {
     township_land land;
     township_lots lots;
     uint32_t comparison;
+    township_reading readings[TOWNSHIP_READINGS_MOST];
+    township_change changes[8];
+    township_suggestion suggestion;
     room texts;
 } written;
 
@@ -295,6 +313,9 @@ static void clear(void) {
     memset(&land, 0, sizeof land);
     memset(&lots, 0, sizeof lots);
     comparison = 0;
+    memset(readings, 0, sizeof readings);
+    memset(changes, 0, sizeof changes);
+    memset(&suggestion, 0, sizeof suggestion);
     room_clear(texts);
 }
 
@@ -305,6 +326,9 @@ static void keep(written *in) {
     in->land = land;
     in->lots = lots;
     in->comparison = comparison;
+    memcpy(in->readings, readings, sizeof readings);
+    memcpy(in->changes, changes, sizeof changes);
+    in->suggestion = suggestion;
     in->texts = *texts;
 }
 

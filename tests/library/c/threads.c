@@ -7,7 +7,7 @@
 #include "check.h"
 
 #define THREADS 4
-#define CALLS 27
+#define CALLS 28
 
 /* The stack that the library requires, and room for the thread's own calls. */
 #define STACK ((256 + 64) * 1024)
@@ -24,6 +24,9 @@ typedef struct round_answers {
     uint32_t comparison;
     township_lots lots;
     township_fraction areas[3];
+    township_reading readings[2];
+    township_change changes[2];
+    township_suggestion suggestion;
     uint8_t texts[CALLS][8192];
 } round_answers;
 
@@ -93,6 +96,8 @@ static void call_all(bytes notes, const township_plat *plat, round_answers *to) 
     answer[14] = township_acres_many(plat, BYTES("sec. 6.sec. 7, lot 5."), offsets, 3, TOWNSHIP_EXACT, to->many, 2);
     answer[15] = township_write_notes(plat, to->texts[15], sizeof to->texts[15]);
     call_on_land(plat, to);
+    answer[27] = township_suggest(BYTES("sec. 14: NE1/4NE1/4 SW1/4SW1/4"), to->readings, 2, to->changes, 2,
+                                  to->texts[27], sizeof to->texts[27], &to->suggestion);
 }
 
 /* Whether the land, the lot tables, and the areas of two rounds are the same. */
@@ -100,6 +105,13 @@ static bool same_land(const round_answers *a, const round_answers *b) {
     return memcmp(&a->land, &b->land, sizeof a->land) == 0 && a->comparison == b->comparison &&
            memcmp(&a->combined, &b->combined, sizeof a->combined) == 0 &&
            memcmp(&a->lots, &b->lots, sizeof a->lots) == 0 && memcmp(a->areas, b->areas, sizeof a->areas) == 0;
+}
+
+/* Whether the readings of two rounds are the same. */
+static bool same_readings(const round_answers *a, const round_answers *b) {
+    return memcmp(a->readings, b->readings, sizeof a->readings) == 0 &&
+           memcmp(a->changes, b->changes, sizeof a->changes) == 0 &&
+           memcmp(&a->suggestion, &b->suggestion, sizeof a->suggestion) == 0;
 }
 
 /* Whether the figures and the answers to many descriptions of two rounds are the same. */
@@ -115,7 +127,8 @@ static bool same_round(const round_answers *a, const round_answers *b) {
         }
     }
     return memcmp(&a->read, &b->read, sizeof a->read) == 0 && memcmp(&a->area, &b->area, sizeof a->area) == 0 &&
-           memcmp(a->texts, b->texts, sizeof a->texts) == 0 && same_figures(a, b) && same_land(a, b);
+           memcmp(a->texts, b->texts, sizeof a->texts) == 0 && same_figures(a, b) && same_land(a, b) &&
+           same_readings(a, b);
 }
 
 static void *run(void *given) {

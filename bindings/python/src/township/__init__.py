@@ -25,6 +25,7 @@ from ._lots import Lots
 from ._many import Answers
 from ._note import Note
 from ._plat import Plat
+from ._readings import Change, Reading, Readings, suggest
 from ._refused import Refusal, Refused, failure_of
 from ._rounding import rounded
 from ._township import EastWest, NorthSouth, Township
@@ -33,6 +34,7 @@ from ._version import __version__
 __all__ = [
     "Account",
     "Answers",
+    "Change",
     "Difference",
     "EastWest",
     "Land",
@@ -41,6 +43,8 @@ __all__ = [
     "Note",
     "Notes",
     "Plat",
+    "Reading",
+    "Readings",
     "Refusal",
     "Refused",
     "Report",
@@ -49,12 +53,13 @@ __all__ = [
     "Tract",
     "__version__",
     "rounded",
+    "suggest",
     "version",
 ]
 
 for _public in (
-    *(Answers, Difference, Land, Lots, Note, Notes, Plat),
-    *(Refusal, Refused, Report, Section, Township, Tract),
+    *(Answers, Change, Difference, Land, Lots, Note, Notes, Plat),
+    *(Reading, Readings, Refusal, Refused, Report, Section, Township, Tract),
 ):
     # Tracebacks and pickles name each class as users import it.
     _public.__module__ = __name__

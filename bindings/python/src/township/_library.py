@@ -56,6 +56,14 @@ IS_CONTAINED = 2
 OVERLAPS = 3
 DISJOINT = 4
 
+# Manners of readings.
+CHANGED = 0
+LOTS_NAMED = 1
+REMAINDER = 2
+
+#: The most readings of a text.
+READINGS_MOST = 8
+
 # Sides of the base line, and of the principal meridian.
 NORTH = 0
 SOUTH = 1
@@ -150,6 +158,48 @@ class Lots(ctypes.Structure):
     ]
 
 
+class Reading(ctypes.Structure):
+    """`township_reading`: 40 bytes."""
+
+    _fields_ = [
+        ("text", c_uint64),
+        ("text_length", c_uint64),
+        ("changes", c_uint64),
+        ("changes_length", c_uint64),
+        ("manner", c_uint32),
+        ("reserved", c_uint32),
+    ]
+
+
+class Change(ctypes.Structure):
+    """`township_change`: 56 bytes."""
+
+    _fields_ = [
+        ("start", c_uint64),
+        ("end", c_uint64),
+        ("written", c_uint64),
+        ("written_length", c_uint64),
+        ("copied", c_uint64),
+        ("copied_end", c_uint64),
+        ("rule", c_uint32),
+        ("assumes", c_uint32),
+    ]
+
+
+class Suggestion(ctypes.Structure):
+    """`township_suggestion`: 56 bytes."""
+
+    _fields_ = [
+        ("readings", c_uint64),
+        ("changes", c_uint64),
+        ("bytes", c_uint64),
+        ("reason", c_uint64),
+        ("reason_length", c_uint64),
+        ("beyond", c_uint64),
+        ("beyond_end", c_uint64),
+    ]
+
+
 def _load() -> ctypes.CDLL:
     """Load the library that the environment variable names, or else the one in the package's folder."""
     path = os.environ.get(VARIABLE) or BESIDE
@@ -168,6 +218,8 @@ _BYTES = (c_char_p, c_size_t)
 _ROOM = (POINTER(c_char), c_size_t)
 _OFFSETS = (POINTER(c_size_t), c_size_t)
 _ANSWERS = (POINTER(Answer), c_size_t)
+_READINGS = (POINTER(Reading), c_size_t)
+_CHANGES = (POINTER(Change), c_size_t)
 _TOWNSHIP = POINTER(Designation)
 _LAND = POINTER(Land)
 _LOTS = POINTER(Lots)
@@ -196,6 +248,7 @@ acres_many = _call("township_acres_many", _PLAT, *_BYTES, *_OFFSETS, c_uint32, *
 explain_notes = _call("township_explain_notes", *_BYTES, *_BYTES, *_ROOM)
 explain_description = _call("township_explain_description", _PLAT, *_BYTES, *_BYTES, *_ROOM)
 explain_list = _call("township_explain_list", _PLAT, *_BYTES, *_BYTES, *_ROOM)
+suggest = _call("township_suggest", *_BYTES, *_READINGS, *_CHANGES, *_ROOM, POINTER(Suggestion))
 version = _call("township_version", *_ROOM)
 land_read = _call("township_land_read", _TOWNSHIP, *_BYTES, _LAND)
 land_acres = _call("township_land_acres", _PLAT, _LAND, c_uint32)

@@ -43,6 +43,9 @@ fn numbers_are_those_of_the_header() {
         ("IS_CONTAINED", IS_CONTAINED),
         ("OVERLAPS", OVERLAPS),
         ("DISJOINT", DISJOINT),
+        ("CHANGED", CHANGED),
+        ("LOTS_NAMED", LOTS_NAMED),
+        ("REMAINDER", REMAINDER),
         ("EXACT", EXACT),
         ("BY_PLAT", BY_PLAT),
         ("NORTH", u32::from(NORTH)),
@@ -58,6 +61,7 @@ fn numbers_are_those_of_the_header() {
         ("SECTIONS", SECTIONS),
         ("PLACES_ACROSS", PLACES_ACROSS),
         ("LOTS", LOTS),
+        ("READINGS_MOST", READINGS_MOST),
     ] {
         assert!(HEADER.contains(&format!("#define TOWNSHIP_{name} {number}\n")));
     }
