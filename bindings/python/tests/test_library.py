@@ -55,6 +55,8 @@ class Declared(unittest.TestCase):
         self.assertEqual([ctypes.sizeof(struct) for struct in structs], [340, 48, 24, 2312])
         structs = (_library.Designation, _library.Land, _library.Lots)
         self.assertEqual([ctypes.sizeof(struct) for struct in structs], [4, 4612, 192])
+        structs = (_library.Reading, _library.Change, _library.Suggestion)
+        self.assertEqual([ctypes.sizeof(struct) for struct in structs], [40, 56, 56])
 
     def test_fields_are_those_of_the_header(self):
         header = (TOP / "include" / "township.h").read_text()
@@ -66,6 +68,9 @@ class Declared(unittest.TestCase):
             (_library.Designation, "designation"),
             (_library.Land, "land"),
             (_library.Lots, "lots"),
+            (_library.Reading, "reading"),
+            (_library.Change, "change"),
+            (_library.Suggestion, "suggestion"),
         )
         for struct, name in structs:
             body = header.partition(f"typedef struct township_{name} {{")[2].partition("}")[0]
@@ -118,6 +123,7 @@ class Verdicts(unittest.TestCase):
         "figures": lambda: township.Plat.read(NOTES).total,
         "write_notes": lambda: uneven().write_notes(),
         "acres_many": lambda: uneven().acres_many(["sec. 14."]),
+        "suggest": lambda: township.suggest("sec. 14."),
         "version": township.version,
         "explain_notes": lambda: township.Plat.read(b""),
         "explain_description": lambda: uneven().acres(""),

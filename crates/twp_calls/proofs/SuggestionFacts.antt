@@ -8,11 +8,13 @@ use Rattle.std.proofs.lemmas.Slice.Zip.{AllZip-long}
 use Rattle.std.specs.List.{AllZip}
 use Rattle.twp_suggest.specs.declared.change.Change.{Change}
 use Rattle.twp_suggest.specs.declared.reading.Reading.{Reading}
-use Rattle.twp_calls.specs.Suggestions.{IsChangeData, IsPiece, IsReadingData, IsSaid, Rooms, manner_of, none, one}
+use Rattle.twp_calls.specs.Suggestions.{IsChangeData, IsPiece, IsReadingData, IsSaid, Rooms, manner_of, none}
+use Rattle.twp_calls.specs.Suggestions.{one}
 use Rattle.twp_calls.specs.declared.suggestion.TownshipChange.{TownshipChange}
 use Rattle.twp_calls.specs.declared.suggestion.TownshipReading.{TownshipReading}
 use Rattle.twp_calls.specs.declared.suggestion.TownshipSuggestion.{TownshipSuggestion}
-use Rattle.twp_calls.specs.steps.Suggesting.{AreChangesAdded, AreDataOf, HasNoReadings, IsFound, IsReadingAdded}
+use Rattle.twp_calls.specs.steps.Suggesting.{AreChangesAdded, AreDataOf, HasNoReadings, IsFound}
+use Rattle.twp_calls.specs.steps.Suggesting.{IsReadingAdded}
 use Rattle.twp_calls.specs.steps.Suggesting.{change_data, no_reason, shown, suggestion_of}
 use Rattle.twp_calls.specs.declared.suggesting.Found.{Found}
 use Rattle.twp_calls.specs.declared.suggesting.Reason.{Reason}
@@ -148,40 +150,41 @@ pub reading_added : (reading : Reading) (old new : Rooms) (made : TownshipReadin
     → made.text_length ≡ length reading.text.items → made.changes ≡ length old.changes
     → made.changes_length ≡ length reading.changes.items → made.manner ≡ manner_of reading.manner
     → made.reserved ≡ 0 → IsReadingAdded reading old new
-reading_added reading old new made bytes_between text_is added readings_are text_at long changes_at count manner
+reading_added reading old new made bytes_between text_is added readings_are text_at long changes_at count
+    manner
     reserved =
-  record {
-  made = made;
-  new_is = readings_are;
-  changes = added.made;
-  changes_are = added.new_is;
-  bytes = reading.text.items ++ added.more;
-  bytes_are =
-      added.bytes_are ∙ ap (λ l. l ++ added.more) text_is
-      ∙ append_assoc old.bytes reading.text.items added.more;
-  is = record {
-    text_is = record {
-      before = old.bytes;
-      after = added.more;
-      all_is =
+    record {
+      made = made;
+      new_is = readings_are;
+      changes = added.made;
+      changes_are = added.new_is;
+      bytes = reading.text.items ++ added.more;
+      bytes_are =
           added.bytes_are ∙ ap (λ l. l ++ added.more) text_is
           ∙ append_assoc old.bytes reading.text.items added.more;
-      start_is = text_at;
-      count_is = long;
-    };
-    list = added.made;
-    changes_are = record {
-      before = old.changes;
-      after = [];
-      all_is = added.new_is ∙ ap (λ l. old.changes ++ l) (sym (append-nil added.made));
-      start_is = changes_at;
-      count_is = count ∙ zip_long (IsChangeData new.bytes) reading.changes.items added.made added.each;
-    };
-    each = added.each;
-    manner_is = manner;
-    reserved_is = reserved;
-  };
-}
+      is = record {
+        text_is = record {
+          before = old.bytes;
+          after = added.more;
+          all_is =
+              added.bytes_are ∙ ap (λ l. l ++ added.more) text_is
+              ∙ append_assoc old.bytes reading.text.items added.more;
+          start_is = text_at;
+          count_is = long;
+        };
+        list = added.made;
+        changes_are = record {
+          before = old.changes;
+          after = [];
+          all_is = added.new_is ∙ ap (λ l. old.changes ++ l) (sym (append-nil added.made));
+          start_is = changes_at;
+          count_is = count ∙ zip_long (IsChangeData new.bytes) reading.changes.items added.made added.each;
+        };
+        each = added.each;
+        manner_is = manner;
+        reserved_is = reserved;
+      };
+    }
 
 -- one more reading
 one_more_reading : (list : List Reading) (reading : Reading) (old new : Rooms) → AreDataOf list old
@@ -207,13 +210,15 @@ pub next_change : (list : List Change) (i at : ℕ) (d : Change) (made : Townshi
 next_change list i at d made old before after bytes bytes_before bytes_after is at_end within added bytes_are
     after_is =
     subst (λ l. AreChangesAdded l old after bytes bytes_after) (sym (take_more list i d within))
-    (one_more_change (take i list) (get_or list i d) old before after bytes bytes_before bytes_after added bytes_are
+    (one_more_change (take i list) (get_or list i d) old before after bytes bytes_before bytes_after added
+    bytes_are
     (after_is
     ∙ ap (λ m. before ++ (m ∷ [])) (is ∙ ap (λ n. change_data (get_or list i d) n) at_end)))
 
 -- the next reading of a list
 pub next_reading : (list : List Reading) (i : ℕ) (d : Reading) (old new : Rooms) → i < length list
-    → AreDataOf (take i list) old → IsReadingAdded (get_or list i d) old new → AreDataOf (take (i + 1) list) new
+    → AreDataOf (take i list) old → IsReadingAdded (get_or list i d) old new
+    → AreDataOf (take (i + 1) list) new
 next_reading list i d old new within all added =
     subst (λ l. AreDataOf l new) (sym (take_more list i d within))
     (one_more_reading (take i list) (get_or list i d) old new all added)

@@ -53,8 +53,8 @@ abbrev pub copied_to : Rule → ℕ
 copied_to (Copied from to) = to
 copied_to _ = 0
 
--- 1 for a rule that assumes something: of the meridian, that it is that of the field notes; of acreage, that it
--- is right; and of a label, that it isn't land
+-- 1 for a rule that assumes something: of the meridian, that it is that of the field notes; of acreage, that
+-- it is right; and of a label, that it isn't land
 abbrev pub assumes_of : Rule → ℕ
 assumes_of Meridian = 1
 assumes_of Acreage = 1
@@ -133,8 +133,8 @@ pub record AreSizes (made : Rooms) (suggestion : TownshipSuggestion) : Type 0 wh
   pub changes : suggestion.changes ≡ length made.changes
   pub bytes : suggestion.bytes ≡ length made.bytes
 
--- Why there are no readings, if lots and aliquot parts can't describe the land: a phrase among the bytes. Where there
--- is no such reason, each of its numbers is 0.
+-- Why there are no readings, if lots and aliquot parts can't describe the land: a phrase among the bytes.
+-- Where there is no such reason, each of its numbers is 0.
 pub data IsReason (made : Rooms) (suggestion : TownshipSuggestion) : Type 0 where
   none : suggestion.reason ≡ 0 → suggestion.reason_length ≡ 0 → suggestion.beyond ≡ 0
       → suggestion.beyond_end ≡ 0 → IsReason made suggestion
