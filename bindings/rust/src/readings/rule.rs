@@ -121,7 +121,10 @@ mod tests {
             let line = format!("#define {} {number}u ", name_in_header(rule));
             assert!(HEADER.contains(&line), "the header has no line {line}");
         }
-        assert_eq!(HEADER.matches("#define TOWNSHIP_RULE_").count(), RULES.len());
+        assert_eq!(
+            HEADER.matches("#define TOWNSHIP_RULE_").count(),
+            RULES.len()
+        );
     }
 
     #[test]
