@@ -1,10 +1,11 @@
 //! How the phrases of a text go together: which land belongs to which section, and what is left out or moved.
 
-use crate::draft::{Draft, Form, Names, Phrase};
-use crate::pieces::plus;
-use crate::rule::Rule;
+use crate::plan::Plan;
 use std::alloc::{AllocError, Global};
 use twp_grammar::Kind;
+use twp_phrases::{Form, Names, Phrase};
+use twp_pieces::plus;
+use twp_rules::Rule;
 
 /// What becomes of a phrase.
 #[derive(Clone, Copy, PartialEq, Eq)]
@@ -20,7 +21,7 @@ pub(crate) enum Role {
 pub(crate) struct Placed {
     pub(crate) phrase: Phrase,
     pub(crate) role: Role,
-    /// The phrase that is written before it, which names its section, and is left out where it is.
+    /// The phrase for its section that is written before it: it is left out where it is, or the land is excepted.
     pub(crate) section: Option<Phrase>,
 }
 
@@ -30,13 +31,17 @@ struct Group {
     section: Phrase,
     has_land: bool,
     has_part: bool,
+    /// Whether what follows is excepted.
+    is_excepting: bool,
+    /// Whether its parts are for each of several sections.
+    is_shared: bool,
 }
 
-impl<'a> Draft<'a> {
+impl<'a> Plan<'a> {
     /// The phrases with what becomes of them.
     pub(crate) fn arranged(&mut self, alloc: Global) -> Result<Vec<Placed>, AllocError> {
         let mut list = Vec::new(alloc);
-        for phrase in &self.phrases {
+        for phrase in &self.draft.phrases {
             let role = match phrase.names {
                 Names::Nothing(rule) => Role::LeftOut(rule),
                 _ => Role::Kept(0),
@@ -48,17 +53,18 @@ impl<'a> Draft<'a> {
             })?;
         }
         self.place_headings(&mut list);
+        self.share_sections(&mut list);
         match self.first_of_land() {
             Some(Names::Sections) => self.place_land_after(&mut list),
             Some(_) => self.place_land_before(&mut list),
-            None => self.doubt(),
+            None => self.draft.doubt(),
         }
         Ok(list)
     }
 
     /// What the first phrase of a section and its land names.
     fn first_of_land(&self) -> Option<Names> {
-        for phrase in &self.phrases {
+        for phrase in &self.draft.phrases {
             if !matches!(phrase.names, Names::Nothing(_) | Names::Heading) {
                 return Some(phrase.names);
             }
@@ -86,7 +92,7 @@ impl<'a> Draft<'a> {
             }
         }
         if differ {
-            self.doubt();
+            self.draft.doubt();
         }
     }
 
@@ -98,8 +104,8 @@ impl<'a> Draft<'a> {
 
     /// A number of a township and range, and the first letter of its side.
     pub(crate) fn tier_of(&self, heading: Phrase, index: usize) -> Option<(u16, u8)> {
-        let number = self.numbers.get(plus(heading.numbers.first, index))?;
-        let side = self.pieces.bytes(number.end).first()?;
+        let number = self.draft.numbers.get(plus(heading.numbers.first, index))?;
+        let side = self.draft.pieces.bytes(number.end).first()?;
         Some((number.value, side.to_ascii_uppercase()))
     }
 
@@ -109,11 +115,12 @@ impl<'a> Draft<'a> {
     }
 
     /// The number of a phrase, if it has only one.
-    fn only_number(&self, phrase: Phrase) -> Option<u16> {
+    pub(crate) fn only_number(&self, phrase: Phrase) -> Option<u16> {
         if self.count_of(phrase) != 1 {
             return None;
         }
-        self.numbers
+        self.draft
+            .numbers
             .get(phrase.numbers.first)
             .map(|number| number.value)
     }
@@ -121,7 +128,9 @@ impl<'a> Draft<'a> {
     /// Whether a range of numbers is in a phrase.
     fn has_range(&self, phrase: Phrase) -> bool {
         for index in phrase.first..phrase.end {
-            if matches!(self.pieces.kind(index), Kind::To) || self.pieces.is_dash(index) {
+            if matches!(self.draft.pieces.kind(index), Kind::To)
+                || self.draft.pieces.is_dash(index)
+            {
                 return true;
             }
         }
@@ -132,10 +141,22 @@ impl<'a> Draft<'a> {
     fn place_land_after(&mut self, list: &mut Vec<Placed>) {
         let mut group: Option<Group> = None;
         let mut count: usize = 0;
+        let mut is_first_excepted = false;
         let mut landless: usize = 0;
         let mut unsure = false;
         for placed in list.iter_mut() {
             let phrase = placed.phrase;
+            if let Some(before) = self.excepting(group, phrase) {
+                placed.role = Role::Kept(count);
+                if phrase.names == Names::Except {
+                    unsure = unsure || is_excepting(group) || self.count_of(before.section) > 1;
+                } else if is_first_excepted {
+                    placed.section = Some(before.section);
+                }
+                is_first_excepted = phrase.names == Names::Except;
+                group = Some(before);
+                continue;
+            }
             match (phrase.names, group) {
                 (Names::Nothing(_) | Names::Heading, _) => {}
                 (Names::Sections, Some(before))
@@ -143,32 +164,87 @@ impl<'a> Draft<'a> {
                     placed.role = Role::LeftOut(Rule::MovedSection);
                 }
                 (Names::Sections, before) => {
-                    unsure = unsure || !self.is_sure_group(before);
+                    unsure = unsure || !self.is_sure_group(before) || is_excepting(before);
                     landless = landless.saturating_add(usize::from(is_landless(before)));
                     count = count.saturating_add(1);
-                    placed.role = Role::Kept(count);
+                    if placed.role == Role::Kept(0) {
+                        placed.role = Role::Kept(count);
+                    }
                     group = Some(Group {
                         section: phrase,
                         has_land: false,
                         has_part: false,
+                        is_excepting: false,
+                        is_shared: false,
                     });
                 }
                 (names, Some(before)) => {
                     placed.role = Role::Kept(count);
+                    let is_shared = before.is_shared
+                        || (!before.has_land && placed.section.is_some());
+                    unsure = unsure || (is_shared && names != Names::Part);
                     group = Some(Group {
                         has_land: true,
                         has_part: before.has_part || names != Names::All,
+                        is_shared,
                         ..before
                     });
                 }
                 (_, None) => unsure = true,
             }
         }
-        unsure = unsure || !self.is_sure_group(group);
+        unsure = unsure || !self.is_sure_group(group) || is_first_excepted;
         landless = landless.saturating_add(usize::from(is_landless(group)));
         if unsure || (landless > 0 && landless < count && !self.are_set_apart(list)) {
-            self.doubt();
+            self.draft.doubt();
         }
+    }
+
+    /// Whether a phrase names the section that was named before, and no other.
+    fn is_again(&self, section: Option<Phrase>, phrase: Phrase) -> bool {
+        match section {
+            Some(section) => self.is_same_section(section, phrase),
+            None => false,
+        }
+    }
+
+    /// Leaves out several sections before a colon and aliquot parts, which are for each of them, and are written after
+    /// each.
+    fn share_sections(&mut self, list: &mut Vec<Placed>) {
+        let mut shared: Option<usize> = None;
+        for index in 0..list.len() {
+            let Some(phrase) = list.get(index).map(|placed| placed.phrase) else {
+                break;
+            };
+            match phrase.names {
+                Names::Sections => {
+                    let is_shared = self.count_of(phrase) > 1
+                        && !self.has_range(phrase)
+                        && matches!(self.draft.pieces.kind(phrase.end), Kind::Colon);
+                    shared = if is_shared { Some(index) } else { None };
+                }
+                Names::Nothing(_) | Names::Heading => {}
+                names => {
+                    if let (Some(sections), Names::Part) = (shared, names) {
+                        share(list, sections, index);
+                    }
+                    shared = None;
+                }
+            }
+        }
+    }
+
+    /// The group whose exception a phrase begins or continues, if it does.
+    fn excepting(&self, group: Option<Group>, phrase: Phrase) -> Option<Group> {
+        let group = group?;
+        let is_land = matches!(phrase.names, Names::Part | Names::Lots | Names::All);
+        if phrase.names == Names::Except || (group.is_excepting && is_land) {
+            return Some(Group {
+                is_excepting: true,
+                ..group
+            });
+        }
+        None
     }
 
     /// Whether two phrases name the same section, and no others.
@@ -188,7 +264,7 @@ impl<'a> Draft<'a> {
             && is_several
             && !group.has_land
             && self.has_range(group.section);
-        !(is_several && group.has_part) && !is_unsure_list
+        !(is_several && group.has_part && !group.is_shared) && !is_unsure_list
     }
 
     /// Whether semicolons separate each section from those before it.
@@ -216,7 +292,7 @@ impl<'a> Draft<'a> {
     /// Whether a semicolon is among some pieces.
     fn has_semicolon(&self, first: usize, end: usize) -> bool {
         for index in first..end {
-            if matches!(self.pieces.kind(index), Kind::Semicolon) {
+            if matches!(self.draft.pieces.kind(index), Kind::Semicolon) {
                 return true;
             }
         }
@@ -226,7 +302,7 @@ impl<'a> Draft<'a> {
     /// Whether a comma is among some pieces.
     fn has_comma(&self, first: usize, end: usize) -> bool {
         for index in first..end {
-            if matches!(self.pieces.kind(index), Kind::Comma) {
+            if matches!(self.draft.pieces.kind(index), Kind::Comma) {
                 return true;
             }
         }
@@ -241,6 +317,10 @@ impl<'a> Draft<'a> {
         let mut count: usize = 1;
         let mut has_comma = false;
         let mut unsure = false;
+        let mut section: Option<Phrase> = None;
+        let mut excepted: Option<usize> = None;
+        let mut is_excepting = false;
+        let mut is_ended = false;
         for index in 0..list.len() {
             let Some(placed) = list.get_mut(index) else {
                 break;
@@ -252,16 +332,48 @@ impl<'a> Draft<'a> {
                     placed.role = Role::LeftOut(Rule::MovedSection);
                     has_comma = has_comma || self.has_comma(last, phrase.first);
                     let is_several = self.count_of(phrase) > 1;
+                    let is_again = is_excepting && lands == 0 && self.is_again(section, phrase);
                     let land = first.and_then(|index| list.get_mut(index));
                     let is_all = lands == 1 && land_names(&land) == Some(Names::All);
-                    unsure = unsure || (is_several && (!is_all || self.has_range(phrase)));
+                    let is_each = !is_excepting && land_names(&land) == Some(Names::Part);
+                    unsure = unsure
+                        || (is_several && (!(is_all || is_each) || self.has_range(phrase)))
+                        || (is_ended && !is_again);
                     match land {
                         Some(land) => land.section = Some(phrase),
-                        None => unsure = true,
+                        None => unsure = unsure || !is_again,
                     }
+                    if is_excepting && !is_again {
+                        let land = excepted.and_then(|index| list.get_mut(index));
+                        match land {
+                            Some(land) => land.section = Some(phrase),
+                            None => unsure = true,
+                        }
+                    }
+                    is_ended = is_excepting;
+                    section = Some(phrase);
                     first = None;
                     lands = 0;
                     count = count.saturating_add(1);
+                }
+                Names::Except => {
+                    placed.role = Role::Kept(count);
+                    excepted = None;
+                    unsure = unsure || is_excepting;
+                    is_excepting = true;
+                    if lands == 0 {
+                        count = count.saturating_sub(1);
+                        placed.role = Role::Kept(count);
+                    }
+                }
+                _ if is_excepting => {
+                    placed.role = Role::Kept(count);
+                    if excepted.is_none() {
+                        excepted = Some(index);
+                        if lands == 0 {
+                            placed.section = section;
+                        }
+                    }
                 }
                 _ => {
                     placed.role = Role::Kept(count);
@@ -271,8 +383,8 @@ impl<'a> Draft<'a> {
                 }
             }
         }
-        if unsure || lands > 0 || (has_comma && count > 2) {
-            self.doubt();
+        if unsure || lands > 0 || (has_comma && count > 2) || (is_excepting && excepted.is_none()) {
+            self.draft.doubt();
         }
     }
 }
@@ -290,5 +402,26 @@ fn is_landless(group: Option<Group>) -> bool {
     match group {
         Some(group) => !group.has_land,
         None => false,
+    }
+}
+
+/// Whether what follows a group is excepted from it.
+fn is_excepting(group: Option<Group>) -> bool {
+    match group {
+        Some(group) => group.is_excepting,
+        None => false,
+    }
+}
+
+/// Leaves out sections, which are written before a part, each with it.
+fn share(list: &mut Vec<Placed>, sections: usize, part: usize) {
+    let Some(phrase) = list.get(sections).map(|placed| placed.phrase) else {
+        return;
+    };
+    if let Some(placed) = list.get_mut(sections) {
+        placed.role = Role::LeftOut(Rule::MovedSection);
+    }
+    if let Some(placed) = list.get_mut(part) {
+        placed.section = Some(phrase);
     }
 }

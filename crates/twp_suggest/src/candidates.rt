@@ -1,28 +1,39 @@
-//! The candidates for readings: the changes of the whole text, with each joint between parts as a comma or as
-//! nothing.
+//! The candidates for readings: the changes of the whole text, with each joint read in one of its two ways.
 
-use crate::change::Change;
-use crate::draft::Draft;
-use crate::gaps::{Joint, Outline};
+use crate::gaps::Outline;
 use crate::judging::{Judged, judge};
-use crate::rule::Rule;
+use crate::manner::Manner;
+use crate::plan::Plan;
 use std::alloc::{AllocError, Global};
+use twp_rules::Change;
 
 /// The most joints of a text whose readings are given: each doubles their number.
 const JOINTS_MOST: usize = 3;
 
-/// The candidates for the readings of a text, in order: two parts before one. One that names some land twice is left
-/// out; if one of them names what no township has, there are none.
+/// A candidate for a reading: its changes, and how its description comes of the changed text.
+#[derive(Drop)]
+pub(crate) struct Candidate<'a> {
+    pub(crate) changes: Vec<Change<'a>>,
+    pub(crate) manner: Manner,
+}
+
+/// The candidates for the readings of a text, in order: the first way of each joint before the second. One that names
+/// some land twice is left out; if one of them names what no township has, there are none.
 pub(crate) fn candidates_of<'a>(
     alloc: Global,
     text: &'a [u8],
-) -> Result<Vec<Vec<Change<'a>>>, AllocError> {
-    let mut draft = Draft::new(alloc, text)?;
-    draft.find_phrases()?;
-    let arranged = draft.arranged(alloc)?;
-    let outline = draft.outline(alloc, arranged.as_slice())?;
+) -> Result<Vec<Candidate<'a>>, AllocError> {
+    let mut plan = Plan::of(alloc, text)?;
+    if plan.draft.is_unsure {
+        return Ok(Vec::new(alloc));
+    }
+    let arranged = plan.arranged(alloc)?;
+    if plan.draft.is_unsure || !plan.claims_hold(alloc, arranged.as_slice())? {
+        return Ok(Vec::new(alloc));
+    }
+    let outline = plan.outline(alloc, arranged.as_slice())?;
     let joints = outline.joints.len();
-    if draft.is_unsure || joints > JOINTS_MOST {
+    if plan.draft.is_unsure || joints > JOINTS_MOST {
         return Ok(Vec::new(alloc));
     }
     let choices: [usize; 4] = [1, 2, 4, 8];
@@ -36,19 +47,16 @@ fn land_among<'a>(
     text: &'a [u8],
     outline: &Outline<'a>,
     count: usize,
-) -> Result<Vec<Vec<Change<'a>>>, AllocError> {
+) -> Result<Vec<Candidate<'a>>, AllocError> {
     let mut list = Vec::new(alloc);
     for choice in 0..count {
         let changes = with_joints(alloc, outline, choice)?;
         let made = made_by(alloc, text, changes.as_slice())?;
-        let judged = judge(alloc, made.as_slice())?;
-        if judged == Judged::Refused {
-            return Ok(Vec::new(alloc));
+        match judge(alloc, made.as_slice(), outline.has_except)? {
+            Judged::Land(manner) => list.push(Candidate { changes, manner })?,
+            Judged::Overlapping => {}
+            Judged::Refused => return Ok(Vec::new(alloc)),
         }
-        if judged == Judged::Overlapping {
-            continue;
-        }
-        list.push(changes)?;
     }
     Ok(list)
 }
@@ -78,29 +86,16 @@ fn with_joints<'a>(
     for joint in &outline.joints {
         let some = outline.changes.get(from..joint.changes).unwrap_or(&[]);
         changes.extend_from_slice(some)?;
-        changes.push(change_of(*joint, digits % 2 == 0))?;
+        let way = if digits % 2 == 0 {
+            joint.first
+        } else {
+            joint.second
+        };
+        let options = outline.options.get(way.first..way.end).unwrap_or(&[]);
+        changes.extend_from_slice(options)?;
         from = joint.changes;
         digits /= 2;
     }
     changes.extend_from_slice(outline.changes.get(from..).unwrap_or(&[]))?;
     Ok(changes)
-}
-
-/// The change at a joint, for two parts or for one.
-fn change_of<'a>(joint: Joint, are_two: bool) -> Change<'a> {
-    let Joint { start, end, .. } = joint;
-    if are_two {
-        return Change {
-            start,
-            end: start,
-            written: b",",
-            rule: Rule::Comma,
-        };
-    }
-    Change {
-        start,
-        end,
-        written: b"",
-        rule: Rule::OnePart,
-    }
 }

@@ -1,63 +1,66 @@
-//! Whether a description names land of its township.
+//! Whether a changed text names land of its township.
 
+use crate::described::around_except;
+use crate::manner::Manner;
+use crate::named::land_with_lots;
+use crate::on_plat::{first_township, land_on, read, township_of};
 use std::alloc::{AllocError, Global};
-use twp_acres::{Stop, land_of};
-use twp_grammar::Item;
-use twp_grid::{EastWest, NorthSouth, Township};
-use twp_read::{Description, TextFault};
+use twp_land::{Land, Lanes};
+use twp_resolve::{PlaceFault, resolve};
 
-/// What a description names.
+/// What a text names.
 #[derive(Clone, Copy, PartialEq, Eq)]
 pub(crate) enum Judged {
-    /// Land.
-    Land,
+    /// Land, by a description that comes of the text in this manner.
+    Land(Manner),
     /// Some land twice.
     Overlapping,
     /// What no township has.
     Refused,
 }
 
-/// The refusal of land that is named twice.
-const OVERLAP: u8 = 67;
+/// What a changed text names, in its township, or in any if it names none.
+pub(crate) fn judge(alloc: Global, text: &[u8], has_except: bool) -> Result<Judged, AllocError> {
+    if !has_except {
+        return judge_whole(alloc, text);
+    }
+    match around_except(text) {
+        Some(parts) => judge_remainder(alloc, parts.whole, parts.excepted),
+        None => Ok(Judged::Refused),
+    }
+}
 
-/// What a description names, in its township, or in any if it names none.
-pub(crate) fn judge(alloc: Global, text: &[u8]) -> Result<Judged, AllocError> {
-    let Some(township) = township_of(alloc, text)? else {
+/// What is left of the land of a text without that of another, which has to be in it, and not all of it.
+fn judge_remainder(alloc: Global, whole: &[u8], excepted: &[u8]) -> Result<Judged, AllocError> {
+    let Some(township) = township_of(alloc, whole)? else {
         return Ok(Judged::Refused);
     };
-    match land_of(alloc, township, text) {
-        Ok(_) => Ok(Judged::Land),
-        Err(Stop::Refused(refusal)) if refusal.number == OVERLAP => Ok(Judged::Overlapping),
-        Err(Stop::Refused(_)) => Ok(Judged::Refused),
-        Err(Stop::Failed(_)) => Err(AllocError),
+    let Some(land) = land_on(alloc, whole, township)? else {
+        return Ok(Judged::Refused);
+    };
+    let Some(less) = land_on(alloc, excepted, township)? else {
+        return Ok(Judged::Refused);
+    };
+    if land.holds_land(&less) && !land.same(&less) {
+        return Ok(Judged::Land(Manner::Remainder));
     }
+    Ok(Judged::Refused)
 }
 
-/// The township of a description. None if it isn't read, or if there is no such township.
-fn township_of(alloc: Global, text: &[u8]) -> Result<Option<Township>, AllocError> {
-    match Description::read(alloc, text) {
-        Ok(description) => Ok(first_township(description.items())),
-        Err(TextFault::Memory) => Err(AllocError),
-        Err(_) => Ok(None),
-    }
-}
-
-/// The township that the first item names, or any if it names none.
-fn first_township(items: &[Item]) -> Option<Township> {
-    match items.first() {
-        Some(
-            Item::Heading {
-                number,
-                north_south,
-                range,
-                east_west,
-                ..
-            },
-        ) => {
-            let tier = u8::try_from(*number).ok()?;
-            let range = u8::try_from(*range).ok()?;
-            Township::new(tier, *north_south, range, *east_west)
+/// What a text without an exception names.
+fn judge_whole(alloc: Global, text: &[u8]) -> Result<Judged, AllocError> {
+    let Some(description) = read(alloc, text)? else {
+        return Ok(Judged::Refused);
+    };
+    let Some(township) = first_township(description.items()) else {
+        return Ok(Judged::Refused);
+    };
+    match resolve::<Lanes>(&description, township) {
+        Ok(_) => Ok(Judged::Land(Manner::Changed)),
+        Err(PlaceFault::Overlap { .. }) => Ok(Judged::Overlapping),
+        Err(PlaceFault::OnLot { .. }) if land_with_lots::<Lanes>(&description).is_some() => {
+            Ok(Judged::Land(Manner::LotsNamed))
         }
-        _ => Township::new(1, NorthSouth::N, 1, EastWest::E),
+        Err(_) => Ok(Judged::Refused),
     }
 }

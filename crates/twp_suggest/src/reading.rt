@@ -3,24 +3,15 @@ ghost use Rattle.std.specs.Prelude.{◌≡◌, ◌↔◌, true, IsTrue, IfOk, If
 ghost use Rattle.twp_suggest.specs.Readings.{AreReadings, IsReading, IsAccepted, IsClear, AreOther};
 ghost use Rattle.twp_suggest.specs.Readings.{MayBeAdded};
 
-use crate::candidates::candidates_of;
-use crate::change::{Change, are_changes, changed};
+use crate::candidates::{Candidate, candidates_of};
+use crate::described::described;
+use crate::manner::Manner;
+use crate::on_plat::{land_on, township_of};
 use std::alloc::{AllocError, Global};
 use twp_doubts::doubts_in;
+use twp_land::Land;
 use twp_read::{Clarity, Description, TextFault};
-
-/// How the description of a reading comes of the changed text.
-#[derive(Clone, Copy, Debug, PartialEq, Eq)]
-pub enum Manner {
-    /// It is the changed text.
-    Changed,
-    /// It is the canonical description of the land of the changed text, in which an aliquot part includes lots. They
-    /// are named in its place.
-    LotsNamed,
-    /// It is the canonical description of what is left: the land of the changed text before `except`, without the
-    /// land after it.
-    Remainder,
-}
+use twp_rules::{Change, are_changes, changed};
 
 /// A reading of a text: the changes, from left to right, and the description that comes of them.
 #[derive(Drop)]
@@ -44,22 +35,29 @@ pub fn readings_of<'a>(alloc: Global, text: &'a [u8]) -> Result<Vec<Reading<'a>>
     }
     let list = candidates_of(alloc, text)?;
     let mut readings = Vec::new(alloc);
-    for changes in list {
-        let reading = reading_with(alloc, text, changes)?;
-        add(&mut readings, reading)?;
+    for candidate in list {
+        let Some(reading) = reading_with(alloc, text, candidate)? else {
+            return Ok(Vec::new(alloc));
+        };
+        add(alloc, &mut readings, reading)?;
     }
     Ok(readings)
 }
 
-/// Adds a reading to others, if there is one, and room for it, and none of them has its text.
+/// Adds a reading to others, if there is room for it, and each of them has other land.
 #[tactic(auto, using(crate::proofs::ReadingFacts::one_more))]
-fn add<'a>(readings: &mut Vec<Reading<'a>>, new: Option<Reading<'a>>) -> Result<(), AllocError>
+fn add<'a>(
+    alloc: Global,
+    readings: &mut Vec<Reading<'a>>,
+    new: Reading<'a>,
+) -> Result<(), AllocError>
     ensures { IfOk result (λ _. MayBeAdded new.entry readings.old.items readings.new.items) }
 {
-    let Some(new) = new else {
+    if readings.len() >= READINGS_MOST {
         return Ok(());
-    };
-    if readings.len() >= READINGS_MOST || !is_other(readings.as_slice(), &new) {
+    }
+    let is_new = is_other(alloc, readings.as_slice(), &new)?;
+    if !is_new {
         return Ok(());
     }
     readings.push(new)?;
@@ -116,21 +114,25 @@ fn has_no_doubt(alloc: Global, text: &[u8]) -> Result<bool, AllocError>
 fn reading_with<'a>(
     alloc: Global,
     text: &'a [u8],
-    changes: Vec<Change<'a>>,
+    candidate: Candidate<'a>,
 ) -> Result<Option<Reading<'a>>, AllocError>
     ensures { IfOk result (λ it. IfSome it (IsReading text.now)) }
 {
+    let Candidate { changes, manner } = candidate;
     if !are_changes(text, changes.as_slice()) {
         return Ok(None);
     }
     let made = changed(alloc, text, changes.as_slice())?;
-    if !is_accepted(alloc, made.as_slice())? {
+    let Some(text) = described(alloc, made, manner)? else {
+        return Ok(None);
+    };
+    if !is_accepted(alloc, text.as_slice())? {
         return Ok(None);
     }
     Ok(Some(Reading {
         changes,
-        text: made,
-        manner: Manner::Changed,
+        text,
+        manner,
     }))
 }
 
@@ -145,21 +147,42 @@ fn is_accepted(alloc: Global, text: &[u8]) -> Result<bool, AllocError>
     }
 }
 
-/// Whether the text of a reading is none of these readings' texts.
-fn is_other(readings: &[Reading<'_>], new: &Reading<'_>) -> bool
-    ensures { result ≡ true → All (λ reading. AreOther reading new.now) readings.now }
+/// Whether the text of a reading is none of these readings' texts, and names other land.
+fn is_other(alloc: Global, readings: &[Reading<'_>], new: &Reading<'_>) -> Result<bool, AllocError>
+    ensures { IfOk result (λ it. it ≡ true → All (λ reading. AreOther reading new.now) readings.now) }
 {
     for reading in readings {
-        if !are_other(reading, new) {
-            return false;
+        let differs = are_other(alloc, reading, new)?;
+        if !differs {
+            return Ok(false);
         }
     }
-    true
+    Ok(true)
 }
 
-/// Whether two readings have different texts.
-fn are_other(one: &Reading<'_>, other: &Reading<'_>) -> bool
-    ensures { result ≡ true → AreOther one.now other.now }
+/// Whether two readings have different texts, which name different land.
+fn are_other(alloc: Global, one: &Reading<'_>, other: &Reading<'_>) -> Result<bool, AllocError>
+    ensures { IfOk result (λ it. it ≡ true → AreOther one.now other.now) }
 {
-    one.text.as_slice() != other.text.as_slice()
+    let are_texts = have_same_text(one, other);
+    if are_texts {
+        return Ok(false);
+    }
+    let Some(township) = township_of(alloc, one.text.as_slice())? else {
+        return Ok(false);
+    };
+    let Some(land) = land_on(alloc, one.text.as_slice(), township)? else {
+        return Ok(false);
+    };
+    let Some(more) = land_on(alloc, other.text.as_slice(), township)? else {
+        return Ok(false);
+    };
+    Ok(!land.same(&more))
+}
+
+/// Whether two readings have the same text.
+fn have_same_text(one: &Reading<'_>, other: &Reading<'_>) -> bool
+    ensures { IsTrue result ↔ (one.now.text.items ≡ other.now.text.items) }
+{
+    one.text.as_slice() == other.text.as_slice()
 }

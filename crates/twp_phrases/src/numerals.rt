@@ -1,0 +1,222 @@
+//! Numbers in digits and in words.
+
+use crate::draft::{Draft, Numeral};
+use std::alloc::AllocError;
+use twp_grammar::Kind;
+use twp_pieces::{is_one_of, plus};
+use twp_rules::Rule;
+
+/// Words for numbers, and their digits.
+const WORDS: &str =
+    "one 1;two 2;three 3;four 4;five 5;six 6;seven 7;eight 8;nine 9;ten 10;eleven 11;twelve 12;\
+    thirteen 13;fourteen 14;fifteen 15;sixteen 16;seventeen 17;eighteen 18;nineteen 19;twenty 20;thirty 30";
+
+/// The first word of a number that has two, and its digit.
+const TENS: &str = "twenty 2;thirty 3";
+
+/// The digits of a word in a list.
+fn digits_in(list: &'static str, word: &[u8]) -> Option<&'static [u8]> {
+    for line in list.split(';') {
+        if let Some((name, digits)) = line.split_once(' ') {
+            if is_one_of(word, name) {
+                return Some(digits.as_bytes());
+            }
+        }
+    }
+    None
+}
+
+/// The value of up to four digits.
+fn value_of(digits: &[u8]) -> u16 {
+    let mut value: u16 = 0;
+    for digit in digits {
+        value = value
+            .saturating_mul(10)
+            .saturating_add(u16::from(digit.saturating_sub(b'0')));
+    }
+    value
+}
+
+impl<'a> Draft<'a> {
+    /// The number at an index, in digits or in words. What repeats it in parentheses is part of it.
+    pub fn numeral(&self, index: usize) -> Option<Numeral> {
+        let found = match self.pieces.kind(index) {
+            Kind::Number(value) if self.pieces.bytes(index).len() <= 3 => Numeral {
+                value,
+                first: index,
+                last: index,
+                end: plus(index, 1),
+            },
+            Kind::Other => match self.damaged_digit(index) {
+                Some(digit) => Numeral {
+                    value: digit,
+                    first: index,
+                    last: index,
+                    end: plus(index, 1),
+                },
+                None => self.numeral_in_words(index)?,
+            },
+            _ => return None,
+        };
+        let found = self.with_damaged_digit(found);
+        let end = found.end;
+        let is_repeated = self.pieces.is(end, "(")
+            && self.pieces.number(plus(end, 1)) == Some(found.value)
+            && self.pieces.is(plus(end, 2), ")");
+        Some(Numeral {
+            end: if is_repeated { plus(end, 3) } else { end },
+            ..found
+        })
+    }
+
+    /// The digit that scanning makes a letter of, at an index: `l` and `I` are 1, and `O` is 0.
+    fn damaged_digit(&self, index: usize) -> Option<u16> {
+        match self.pieces.bytes(index) {
+            b"l" | b"I" => Some(1),
+            b"O" => Some(0),
+            _ => None,
+        }
+    }
+
+    /// A number of one digit with another after it, one of which is a letter.
+    fn with_damaged_digit(&self, number: Numeral) -> Numeral {
+        let next = number.end;
+        if !self.pieces.is_joined(next)
+            || number.value > 9
+            || self.pieces.bytes(number.first).len() != 1
+        {
+            return number;
+        }
+        let digit = match self.pieces.number(next) {
+            Some(value) if self.pieces.has_digits(next, 1) => value,
+            Some(_) => return number,
+            None => match self.damaged_digit(next) {
+                Some(value) => value,
+                None => return number,
+            },
+        };
+        Numeral {
+            value: number.value.saturating_mul(10).saturating_add(digit),
+            last: next,
+            end: plus(next, 1),
+            ..number
+        }
+    }
+
+    /// The number at an index that is written in words.
+    fn numeral_in_words(&self, index: usize) -> Option<Numeral> {
+        let word = self.pieces.bytes(index);
+        let value = value_of(digits_in(WORDS, word)?);
+        let alone = Numeral {
+            value,
+            first: index,
+            last: index,
+            end: plus(index, 1),
+        };
+        if digits_in(TENS, word).is_none() {
+            return Some(alone);
+        }
+        let mut next = plus(index, 1);
+        if self.pieces.is(next, "-") {
+            next = plus(next, 1);
+        }
+        match digits_in(WORDS, self.pieces.bytes(next)) {
+            Some(digits) if digits.len() == 1 => Some(Numeral {
+                value: value.saturating_add(value_of(digits)),
+                first: index,
+                last: next,
+                end: plus(next, 1),
+            }),
+            _ => Some(alone),
+        }
+    }
+
+    /// Where the digits of a number begin that aren't zeros before it.
+    fn without_zeros(&self, index: usize) -> usize {
+        let digits = self.pieces.bytes(index);
+        let zeros = digits.iter().take_while(|digit| **digit == b'0').count();
+        let zeros = zeros.min(digits.len().saturating_sub(1));
+        plus(self.pieces.start(index), zeros)
+    }
+
+    /// Writes a number in digits, without zeros before them, where it is, and leaves out what repeats it.
+    pub fn write_numeral(&mut self, number: Numeral) -> Result<(), AllocError> {
+        self.write_digits(number)?;
+        let last = plus(number.last, 1);
+        if number.end > last {
+            self.leave_out(last, number.end, Rule::Repeated)?;
+        }
+        self.numbers.push(number)?;
+        Ok(())
+    }
+
+    /// The same, without what repeats it.
+    fn write_digits(&mut self, number: Numeral) -> Result<(), AllocError> {
+        let Numeral { first, last, .. } = number;
+        let start = self.pieces.start(first);
+        if self.is_damaged(number) {
+            return self.mend_digits(first, plus(last, 1));
+        }
+        if matches!(self.pieces.kind(first), Kind::Number(_)) {
+            let begin = self.without_zeros(first);
+            if begin > start {
+                self.write(start, begin, b"", Rule::Zeros)?;
+            }
+            return Ok(());
+        }
+        let mut from = start;
+        if last > first {
+            from = self.pieces.start(last);
+            let tens = digits_in(TENS, self.pieces.bytes(first)).unwrap_or(b"");
+            self.write(start, from, tens, Rule::Numeral)?;
+        }
+        let digits = digits_in(WORDS, self.pieces.bytes(last)).unwrap_or(b"");
+        let end = self.pieces.end(last);
+        self.write(from, end, digits, Rule::Numeral)
+    }
+
+    /// Whether a digit of a number is a letter.
+    fn is_damaged(&self, number: Numeral) -> bool {
+        self.damaged_digit(number.first).is_some() || self.damaged_digit(number.last).is_some()
+    }
+
+    /// Writes the digits that are letters, from one index up to another.
+    fn mend_digits(&mut self, first: usize, end: usize) -> Result<(), AllocError> {
+        for index in first..end {
+            match self.damaged_digit(index) {
+                Some(0) => self.replace(index, b"0", Rule::Damage)?,
+                Some(_) => self.replace(index, b"1", Rule::Damage)?,
+                None => {}
+            }
+        }
+        Ok(())
+    }
+
+    /// Writes a number at a place where it isn't, without the last so many digits.
+    pub fn copy_numeral(
+        &mut self,
+        place: usize,
+        number: Numeral,
+        dropped: usize,
+    ) -> Result<(), AllocError> {
+        let Numeral { first, last, .. } = number;
+        if self.is_damaged(number) {
+            self.doubt();
+        }
+        if matches!(self.pieces.kind(first), Kind::Number(_)) {
+            let from = self.without_zeros(first);
+            let to = self.pieces.end(first).saturating_sub(dropped);
+            return self.copy(place, from, to);
+        }
+        let mut from = self.pieces.start(first);
+        if last > first {
+            let to = self.pieces.start(last);
+            let tens = digits_in(TENS, self.pieces.bytes(first)).unwrap_or(b"");
+            self.write(place, place, tens, Rule::Copied(from, to))?;
+            from = to;
+        }
+        let digits = digits_in(WORDS, self.pieces.bytes(last)).unwrap_or(b"");
+        let to = self.pieces.end(last);
+        self.write(place, place, digits, Rule::Copied(from, to))
+    }
+}

@@ -1,0 +1,299 @@
+//! The phrases of a text, from left to right.
+
+use crate::draft::{Draft, Form, Names, Phrase};
+use std::alloc::AllocError;
+use twp_grammar::Kind;
+use twp_pieces::plus;
+use twp_rules::Rule;
+
+impl<'a> Draft<'a> {
+    /// Finds the phrases. Where a piece is in none, and doesn't join them, the text isn't sure.
+    pub fn find_phrases(&mut self) -> Result<(), AllocError> {
+        let mut index = 0;
+        for here in 0..self.pieces.len() {
+            if here < index {
+                continue;
+            }
+            if self.is_unsure {
+                return Ok(());
+            }
+            match self.phrase_at(here)? {
+                Some(phrase) => {
+                    index = phrase.end;
+                    self.phrases.push(phrase)?;
+                }
+                None if self.joins_phrases(here) => {}
+                None => self.doubt(),
+            }
+        }
+        Ok(())
+    }
+
+    /// Whether a piece only joins phrases.
+    pub fn joins_phrases(&self, index: usize) -> bool {
+        self.pieces.is_dash(index)
+            || self.pieces.is(
+                index,
+                ", ; : . and of the in said & \" \u{201C} \u{201D} thereof \\",
+            )
+    }
+
+    /// The phrase at an index.
+    fn phrase_at(&mut self, index: usize) -> Result<Option<Phrase>, AllocError> {
+        let from = self.extent();
+        if let Some(phrase) = self.aside(index)? {
+            return Ok(Some(phrase));
+        }
+        self.shrink(from);
+        if let Some(phrase) = self.of_register(index)? {
+            return Ok(Some(phrase));
+        }
+        self.shrink(from);
+        if let Some(phrase) = self.heading(index)? {
+            return Ok(Some(phrase));
+        }
+        self.shrink(from);
+        if let Some(phrase) = self.sections(index)? {
+            return Ok(Some(phrase));
+        }
+        self.shrink(from);
+        if let Some(phrase) = self.section_of_letter(index)? {
+            return Ok(Some(phrase));
+        }
+        self.shrink(from);
+        if let Some(phrase) = self.lots(index)? {
+            return Ok(Some(phrase));
+        }
+        self.shrink(from);
+        if let Some(phrase) = self.all(index)? {
+            return Ok(Some(phrase));
+        }
+        self.shrink(from);
+        if let Some(phrase) = self.part(index)? {
+            self.doubt_part(phrase);
+            return Ok(Some(phrase));
+        }
+        self.shrink(from);
+        if let Some(phrase) = self.except(index)? {
+            return Ok(Some(phrase));
+        }
+        self.shrink(from);
+        self.bare_section(index)
+    }
+
+    /// All of a section, at an index.
+    fn all(&mut self, index: usize) -> Result<Option<Phrase>, AllocError> {
+        let from = self.extent();
+        let mut next = index;
+        if self.pieces.is(next, "the") {
+            self.leave_out(next, plus(next, 1), Rule::Word)?;
+            next = plus(next, 1);
+        }
+        if self.pieces.is(next, "entire") && self.pieces.is(plus(next, 1), "section") {
+            self.replace(next, b"all", Rule::Word)?;
+            self.leave_out(plus(next, 1), plus(next, 2), Rule::Word)?;
+            return Ok(Some(self.phrase(Names::All, index, plus(next, 2), from)));
+        }
+        if !matches!(self.pieces.kind(next), Kind::All) {
+            return Ok(None);
+        }
+        next = plus(next, 1);
+        if self.pieces.is(next, "entire") && self.pieces.is(plus(next, 1), "section") {
+            self.leave_out_each(next, plus(next, 2), Rule::Word)?;
+            next = plus(next, 2);
+        }
+        next = self.after_lands(next)?;
+        Ok(Some(self.phrase(Names::All, index, next, from)))
+    }
+
+    /// The index after `public domain lands`, or words like it, before `in` or `of`, which are left out.
+    fn after_lands(&mut self, index: usize) -> Result<usize, AllocError> {
+        let mut next = index;
+        for place in index..plus(index, 5) {
+            if self.pieces.is(place, "public domain federal land lands") && place == next {
+                next = plus(place, 1);
+            }
+        }
+        if next == index || !self.pieces.is(next, "in of") {
+            return Ok(index);
+        }
+        self.leave_out_each(index, next, Rule::Word)?;
+        Ok(next)
+    }
+
+    /// `except`, or words like it, at an index.
+    fn except(&mut self, index: usize) -> Result<Option<Phrase>, AllocError> {
+        let from = self.extent();
+        let Some(end) = self.after_except(index) else {
+            return Ok(None);
+        };
+        if self.pieces.is(index, "L") {
+            let start = self.pieces.start(index);
+            let stop = self.pieces.end_before(end);
+            self.write(start, stop, b" except ", Rule::Exception)?;
+        } else {
+            self.replace(index, b" except ", Rule::Exception)?;
+            self.leave_out_each(plus(index, 1), end, Rule::Word)?;
+        }
+        Ok(Some(self.phrase(Names::Except, index, end, from)))
+    }
+
+    /// The index after words for an exception at an index.
+    fn after_except(&self, index: usize) -> Option<usize> {
+        let pieces = &self.pieces;
+        let second = plus(index, 1);
+        let third = plus(index, 2);
+        if pieces.is(index, "L") && pieces.is(second, "&") && pieces.is(third, "E") {
+            return Some(plus(third, 1));
+        }
+        if pieces.is(index, "less save")
+            && pieces.is(second, "and &")
+            && pieces.is(third, "except excepting")
+        {
+            return Some(plus(third, 1));
+        }
+        if pieces.is(index, "except excepting less excluding exc exclusive") {
+            let is_word = pieces.is(second, "for therefrom of");
+            return Some(if is_word { third } else { second });
+        }
+        None
+    }
+
+    /// Doubts a part that may be something else: `S2` at the beginning, a half after lots, a corner, a part with a
+    /// slash.
+    fn doubt_part(&mut self, part: Phrase) {
+        let digit = plus(part.first, 1);
+        let is_digit = part.end == plus(part.first, 2) && self.pieces.has_digits(digit, 1);
+        let is_south = is_digit && part.first == 0 && self.pieces.is(0, "S");
+        let is_location = self.pieces.number(part.end).is_some()
+            && self.pieces.is_dash(plus(part.end, 1));
+        if is_south && !is_location && !self.pieces.is(part.end, "of") {
+            self.doubt();
+        }
+        let is_half = is_digit && self.pieces.number(digit) == Some(2);
+        if is_half && self.is_after_one_lot() {
+            self.doubt();
+        }
+        if self.pieces.is(part.end, "corner cor /") {
+            self.doubt();
+        }
+    }
+
+    /// Whether the phrase before is of one lot, after a word that may be for several.
+    fn is_after_one_lot(&self) -> bool {
+        match self.phrases.last() {
+            Some(phrase) => {
+                phrase.names == Names::Lots
+                    && phrase.numbers.end.saturating_sub(phrase.numbers.first) == 1
+                    && !self.pieces.is(phrase.first, "L lot")
+            }
+            None => false,
+        }
+    }
+
+    /// The section of a location, as in `S14 T2N R3W`.
+    fn section_of_letter(&mut self, index: usize) -> Result<Option<Phrase>, AllocError> {
+        let from = self.extent();
+        let digits = plus(index, 1);
+        let next = plus(index, 2);
+        if !self.pieces.is(index, "S")
+            || !self.pieces.is_joined(digits)
+            || self.pieces.is_joined(next)
+        {
+            return Ok(None);
+        }
+        let Some(number) = self.section_number(digits) else {
+            return Ok(None);
+        };
+        let is_after = self.last_names() == Some(Names::Heading) && self.pieces.is(next, ":");
+        let is_tag = self.pieces.is(next, "T") && self.has_heading(next)?;
+        if !is_after && !is_tag {
+            return Ok(None);
+        }
+        self.replace(index, b"sec. ", Rule::SectionWord)?;
+        self.write_numeral(number)?;
+        Ok(Some(self.phrase(Names::Sections, index, next, from)))
+    }
+
+    /// The number of a section without a word for it.
+    fn bare_section(&mut self, index: usize) -> Result<Option<Phrase>, AllocError> {
+        let from = self.extent();
+        let Some(number) = self.section_number(index) else {
+            return Ok(None);
+        };
+        if !matches!(self.pieces.kind(index), Kind::Number(_)) {
+            return Ok(None);
+        }
+        let is_list = self.last_names() == Some(Names::All)
+            && self.pieces.is(index.saturating_sub(1), "of");
+        if !is_list && !self.is_bare_section(index)? {
+            return Ok(None);
+        }
+        let place = self.pieces.start(index);
+        self.write(place, place, b"sec. ", Rule::SectionWord)?;
+        self.write_numeral(number)?;
+        let end = if is_list {
+            self.more_sections(number)?
+        } else {
+            number.end
+        };
+        let phrase = self.phrase(Names::Sections, index, end, from);
+        let form = if is_list { Form::Plural } else { Form::Plain };
+        Ok(Some(Phrase { form, ..phrase }))
+    }
+
+    /// Whether a dash with white space on both sides is at an index, and land after it.
+    fn is_before_dash_and_land(&self, index: usize) -> bool {
+        let land = plus(index, 1);
+        self.pieces.is_dash(index)
+            && !self.pieces.is_joined(index)
+            && !self.pieces.is_joined(land)
+            && matches!(
+                self.pieces.kind(land),
+                Kind::NorthSouth(_) | Kind::EastWest(_) | Kind::Corner(_) | Kind::All | Kind::Lot
+            )
+    }
+
+    /// Whether the number at an index is that of a section: before a location or a colon, after a township and range,
+    /// at the beginning of a row, or after land.
+    fn is_bare_section(&mut self, index: usize) -> Result<bool, AllocError> {
+        let next = plus(index, 1);
+        let before = index.saturating_sub(1);
+        let last = self.last_names();
+        if self.pieces.is_dash(next) && self.has_heading(plus(next, 1))? {
+            return Ok(true);
+        }
+        if self.is_before_dash_and_land(next) && self.pieces.begins_line(index) {
+            return Ok(true);
+        }
+        let is_first = last.is_none() || matches!(last, Some(Names::Heading | Names::Nothing(_)));
+        let is_apart = self.pieces.is(before, "; ,")
+            || self.pieces.is_dash(before)
+            || self.pieces.begins_line(index);
+        let is_alone = plus(next, 1) >= self.pieces.len();
+        if self.pieces.is(next, ":") && (is_first || is_apart) {
+            return Ok(!is_alone);
+        }
+        if self.is_before_dash_and_land(next) && is_apart {
+            return Ok(true);
+        }
+        let follows_comma = self.pieces.is(before, ",") && index > 0;
+        if last == Some(Names::Heading) && !follows_comma {
+            return Ok(true);
+        }
+        if self.pieces.begins_line(index)
+            && self.pieces.bytes(index).len() >= 2
+            && (index > 0 || self.pieces.has_digits(index, 3))
+        {
+            return Ok(next < self.pieces.len());
+        }
+        if last != Some(Names::Part)
+            || self.pieces.is_joined(index)
+            || self.pieces.is(before, ", ; : .")
+        {
+            return Ok(false);
+        }
+        let is_end = next >= self.pieces.len() || self.pieces.is(next, "; , and &");
+        Ok(is_end || self.has_heading(next)?)
+    }
+}
