@@ -227,25 +227,29 @@ typedef struct township_lots {
 #define TOWNSHIP_RULE_DIRECTION 3u       /* a word for a side or a corner is written as its letters */
 #define TOWNSHIP_RULE_NUMERAL 4u         /* a word for a number is written in digits */
 #define TOWNSHIP_RULE_COPIED 5u          /* a number that the text contains elsewhere is written where it belongs */
-#define TOWNSHIP_RULE_ZEROS 6u           /* the zeros before a number are left out */
-#define TOWNSHIP_RULE_FRACTION_DIGIT 7u  /* the fraction digit of a register is left out: a 0 after the number of a
+#define TOWNSHIP_RULE_COPIED_STEP 6u     /* a step of an aliquot part is written again where it belongs, too */
+#define TOWNSHIP_RULE_DAMAGE 7u          /* a digit is written for a letter that scanning made of it, or a letter for
+                                            a digit */
+#define TOWNSHIP_RULE_EXCEPTION 8u       /* what follows is what the land is without */
+#define TOWNSHIP_RULE_ZEROS 9u           /* the zeros before a number are left out */
+#define TOWNSHIP_RULE_FRACTION_DIGIT 10u /* the fraction digit of a register is left out: a 0 after the number of a
                                             township or a range */
-#define TOWNSHIP_RULE_HEADING 8u         /* the township and range are written `T. 2 N., R. 3 W.` */
-#define TOWNSHIP_RULE_SECTION_WORD 9u    /* the word for a section is written `sec.`, and for several `secs.` */
-#define TOWNSHIP_RULE_LOT_WORD 10u       /* the word for lots is written `lot` or `lots` */
-#define TOWNSHIP_RULE_THROUGH 11u        /* a hyphen or a dash between numbers is written `thru` */
-#define TOWNSHIP_RULE_AND 12u            /* an ampersand is written `and` */
-#define TOWNSHIP_RULE_COMMA 13u          /* a comma is written between parts, before them, or after a heading */
-#define TOWNSHIP_RULE_SEMICOLON 14u      /* a semicolon is written between one section, with its parts, and another */
-#define TOWNSHIP_RULE_ONE_PART 15u       /* white space within a part is left out */
-#define TOWNSHIP_RULE_MARK 16u           /* a mark that means nothing is left out */
-#define TOWNSHIP_RULE_WORD 17u           /* a word that means nothing is left out */
-#define TOWNSHIP_RULE_REPEATED 18u       /* parentheses that repeat what is before them are left out */
-#define TOWNSHIP_RULE_MOVED_SECTION 19u  /* a section is left out where it follows its land, and written before it */
-#define TOWNSHIP_RULE_MOVED_HEADING 20u  /* a township and range are left out, and written at the beginning */
-#define TOWNSHIP_RULE_MERIDIAN 21u       /* assumed: the meridian, state, or county is that of the field notes */
-#define TOWNSHIP_RULE_ACREAGE 22u        /* assumed: the acreage, which is not compared, is right */
-#define TOWNSHIP_RULE_LABEL 23u          /* assumed: a label is not land */
+#define TOWNSHIP_RULE_HEADING 11u        /* the township and range are written `T. 2 N., R. 3 W.` */
+#define TOWNSHIP_RULE_SECTION_WORD 12u   /* the word for a section is written `sec.`, and for several `secs.` */
+#define TOWNSHIP_RULE_LOT_WORD 13u       /* the word for lots is written `lot` or `lots` */
+#define TOWNSHIP_RULE_THROUGH 14u        /* a hyphen or a dash between numbers is written `thru` */
+#define TOWNSHIP_RULE_AND 15u            /* an ampersand is written `and` */
+#define TOWNSHIP_RULE_COMMA 16u          /* a comma is written between parts, before them, or after a heading */
+#define TOWNSHIP_RULE_SEMICOLON 17u      /* a semicolon is written between one section, with its parts, and another */
+#define TOWNSHIP_RULE_ONE_PART 18u       /* white space within a part is left out */
+#define TOWNSHIP_RULE_MARK 19u           /* a mark that means nothing is left out */
+#define TOWNSHIP_RULE_WORD 20u           /* a word that means nothing is left out */
+#define TOWNSHIP_RULE_REPEATED 21u       /* parentheses that repeat what is before them are left out */
+#define TOWNSHIP_RULE_MOVED_SECTION 22u  /* a section is left out where it follows its land, and written before it */
+#define TOWNSHIP_RULE_MOVED_HEADING 23u  /* a township and range are left out, and written at the beginning */
+#define TOWNSHIP_RULE_MERIDIAN 24u       /* assumed: the meridian, state, or county is that of the field notes */
+#define TOWNSHIP_RULE_ACREAGE 25u        /* assumed: the acreage, which is not compared, is right */
+#define TOWNSHIP_RULE_LABEL 26u          /* assumed: a label is not land */
 
 /* Manners: how the text of a reading comes of the changed text. */
 #define TOWNSHIP_CHANGED 0u    /* it is the changed text */
@@ -263,7 +267,7 @@ typedef struct township_change {
     uint64_t end;
     uint64_t written;
     uint64_t written_length;
-    uint64_t copied;     /* TOWNSHIP_RULE_COPIED: the number is in the text from here to before `copied_end` */
+    uint64_t copied;     /* what rule 5 or 6 copies is in the text from here to before `copied_end` */
     uint64_t copied_end; /* with other rules, both are 0 */
     uint32_t rule;       /* such as TOWNSHIP_RULE_QUARTER */
     uint32_t assumes;    /* 1 if the rule assumes something that the text does not say; otherwise 0 */

@@ -6,7 +6,7 @@ use Rattle.std.proofs.Common.{Result, Ok, Err, IfOk}
 use Rattle.std.proofs.lemmas.List.{take_more}
 use Rattle.std.proofs.lemmas.Slice.Zip.{AllZip-long}
 use Rattle.std.specs.List.{AllZip}
-use Rattle.twp_suggest.specs.declared.change.Change.{Change}
+use Rattle.twp_rules.specs.declared.change.Change.{Change}
 use Rattle.twp_suggest.specs.declared.reading.Reading.{Reading}
 use Rattle.twp_calls.specs.Suggestions.{IsChangeData, IsPiece, IsReadingData, IsSaid, Rooms, manner_of, none}
 use Rattle.twp_calls.specs.Suggestions.{one}

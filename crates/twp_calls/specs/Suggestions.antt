@@ -2,16 +2,17 @@
 use Rattle.std.specs.Prelude.{◌≡◌, ℕ, ◌<◌, ◌≤◌, ◌++◌, ◌⊎◌, List, [], length, drop}
 use Rattle.std.specs.List.{AllZip}
 use Rattle.twp_suggest.specs.Readings.{AreReadings}
-use Rattle.twp_suggest.specs.declared.change.Change.{Change}
-use Rattle.twp_suggest.specs.declared.reading.Manner.{Manner}
-use Rattle.twp_suggest.specs.declared.reading.Manner.TheVariants.{Changed, LotsNamed, Remainder}
+use Rattle.twp_rules.specs.declared.change.Change.{Change}
+use Rattle.twp_suggest.specs.declared.manner.Manner.{Manner}
+use Rattle.twp_suggest.specs.declared.manner.Manner.TheVariants.{Changed, LotsNamed, Remainder}
 use Rattle.twp_suggest.specs.declared.reading.Reading.{Reading}
-use Rattle.twp_suggest.specs.declared.rule.Rule.{Rule}
-use Rattle.twp_suggest.specs.declared.rule.Rule.TheVariants.{Half, Quarter, Direction, Numeral, Copied}
-use Rattle.twp_suggest.specs.declared.rule.Rule.TheVariants.{Zeros, FractionDigit, Heading, SectionWord}
-use Rattle.twp_suggest.specs.declared.rule.Rule.TheVariants.{LotWord, Through, And, Comma, Semicolon}
-use Rattle.twp_suggest.specs.declared.rule.Rule.TheVariants.{OnePart, Mark, Word, Repeated, MovedSection}
-use Rattle.twp_suggest.specs.declared.rule.Rule.TheVariants.{MovedHeading, Meridian, Acreage, Label}
+use Rattle.twp_rules.specs.declared.rule.Rule.{Rule}
+use Rattle.twp_rules.specs.declared.rule.Rule.TheVariants.{Half, Quarter, Direction, Numeral, Copied}
+use Rattle.twp_rules.specs.declared.rule.Rule.TheVariants.{CopiedStep, Damage, Exception}
+use Rattle.twp_rules.specs.declared.rule.Rule.TheVariants.{Zeros, FractionDigit, Heading, SectionWord}
+use Rattle.twp_rules.specs.declared.rule.Rule.TheVariants.{LotWord, Through, And, Comma, Semicolon}
+use Rattle.twp_rules.specs.declared.rule.Rule.TheVariants.{OnePart, Mark, Word, Repeated, MovedSection}
+use Rattle.twp_rules.specs.declared.rule.Rule.TheVariants.{MovedHeading, Meridian, Acreage, Label}
 use Rattle.twp_calls.specs.Answers.{ACCEPTED, NO_MEMORY, NO_ROOM, bare}
 use Rattle.twp_calls.specs.declared.answer.TownshipAnswer.{TownshipAnswer}
 use Rattle.twp_calls.specs.declared.suggestion.TownshipChange.{TownshipChange}
@@ -25,32 +26,37 @@ number_of Quarter = 2
 number_of Direction = 3
 number_of Numeral = 4
 number_of (Copied from to) = 5
-number_of Zeros = 6
-number_of FractionDigit = 7
-number_of Heading = 8
-number_of SectionWord = 9
-number_of LotWord = 10
-number_of Through = 11
-number_of And = 12
-number_of Comma = 13
-number_of Semicolon = 14
-number_of OnePart = 15
-number_of Mark = 16
-number_of Word = 17
-number_of Repeated = 18
-number_of MovedSection = 19
-number_of MovedHeading = 20
-number_of Meridian = 21
-number_of Acreage = 22
-number_of Label = 23
+number_of (CopiedStep from to) = 6
+number_of Damage = 7
+number_of Exception = 8
+number_of Zeros = 9
+number_of FractionDigit = 10
+number_of Heading = 11
+number_of SectionWord = 12
+number_of LotWord = 13
+number_of Through = 14
+number_of And = 15
+number_of Comma = 16
+number_of Semicolon = 17
+number_of OnePart = 18
+number_of Mark = 19
+number_of Word = 20
+number_of Repeated = 21
+number_of MovedSection = 22
+number_of MovedHeading = 23
+number_of Meridian = 24
+number_of Acreage = 25
+number_of Label = 26
 
--- where the number that a rule copies begins and ends, or 0
+-- where what a rule copies begins and ends, or 0
 abbrev pub copied_from : Rule → ℕ
 copied_from (Copied from to) = from
+copied_from (CopiedStep from to) = from
 copied_from _ = 0
 
 abbrev pub copied_to : Rule → ℕ
 copied_to (Copied from to) = to
+copied_to (CopiedStep from to) = to
 copied_to _ = 0
 
 -- 1 for a rule that assumes something: of the meridian, that it is that of the field notes; of acreage, that

@@ -222,12 +222,12 @@ fn of_change(change: &Change<'_>, written: usize) -> TownshipChange
     }
 }
 
-/// Where a rule copies a number from, or 0.
+/// Where a rule copies a number or a step from, or 0.
 fn copied_by(rule: Rule) -> (usize, usize)
     ensures { result ≡ (copied_from rule, copied_to rule) }
 {
     match rule {
-        Rule::Copied(from, to) => (from, to),
+        Rule::Copied(from, to) | Rule::CopiedStep(from, to) => (from, to),
         _ => (0, 0),
     }
 }
@@ -242,24 +242,27 @@ fn rule_number(rule: Rule) -> u32
         Rule::Direction => 3,
         Rule::Numeral => 4,
         Rule::Copied(_, _) => 5,
-        Rule::Zeros => 6,
-        Rule::FractionDigit => 7,
-        Rule::Heading => 8,
-        Rule::SectionWord => 9,
-        Rule::LotWord => 10,
-        Rule::Through => 11,
-        Rule::And => 12,
-        Rule::Comma => 13,
-        Rule::Semicolon => 14,
-        Rule::OnePart => 15,
-        Rule::Mark => 16,
-        Rule::Word => 17,
-        Rule::Repeated => 18,
-        Rule::MovedSection => 19,
-        Rule::MovedHeading => 20,
-        Rule::Meridian => 21,
-        Rule::Acreage => 22,
-        Rule::Label => 23,
+        Rule::CopiedStep(_, _) => 6,
+        Rule::Damage => 7,
+        Rule::Exception => 8,
+        Rule::Zeros => 9,
+        Rule::FractionDigit => 10,
+        Rule::Heading => 11,
+        Rule::SectionWord => 12,
+        Rule::LotWord => 13,
+        Rule::Through => 14,
+        Rule::And => 15,
+        Rule::Comma => 16,
+        Rule::Semicolon => 17,
+        Rule::OnePart => 18,
+        Rule::Mark => 19,
+        Rule::Word => 20,
+        Rule::Repeated => 21,
+        Rule::MovedSection => 22,
+        Rule::MovedHeading => 23,
+        Rule::Meridian => 24,
+        Rule::Acreage => 25,
+        Rule::Label => 26,
     }
 }
 

@@ -31,7 +31,7 @@ pub struct TownshipChange {
     pub written: u64,
     /// How many bytes are written.
     pub written_length: u64,
-    /// Where the number that is copied begins in the text, or 0.
+    /// Where what is copied begins in the text, or 0.
     pub copied: u64,
     /// Where it ends, or 0.
     pub copied_end: u64,

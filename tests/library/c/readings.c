@@ -77,16 +77,16 @@ static void has_readings(void) {
     reads("sec. 14, NE1/4.", "sec. 14, NE1/4.|0\n");
     /* White space between two parts: a comma is written at byte 17, or the space from there to 18 is left out. */
     reads("sec. 14: NE\302\274NE\302\274 SW\302\274SW\302\274", "sec. 14: NE\302\274NE\302\274, SW\302\274SW\302\274|0\n"
-                                                               "17-17 13 0 0-0 [,]\n"
+                                                               "17-17 16 0 0-0 [,]\n"
                                                                "sec. 14: NE\302\274NE\302\274SW\302\274SW\302\274|0\n"
-                                                               "17-18 15 0 0-0 []\n");
+                                                               "17-18 18 0 0-0 []\n");
     /* Without the space between them, they are one part. */
     reads("sec. 14, NENE", "sec. 14, NE1/4NE1/4|0\n"
                            "11-11 2 0 0-0 [1/4]\n"
                            "13-13 2 0 0-0 [1/4]\n");
     /* The label is left out, and assumed not to be land. */
     reads("TRACT 1: sec. 14, NE1/4.", " sec. 14, NE1/4.|0\n"
-                                      "0-8 23 1 0-0 []\n");
+                                      "0-8 26 1 0-0 []\n");
     /* Nothing is certain. */
     reads("", "");
     reads("the old mill", "");

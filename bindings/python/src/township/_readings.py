@@ -11,9 +11,10 @@ from ._text import Text, encoded
 
 #: The names of the rules, in the order of their numbers, which begin with 1.
 RULES = (
-    *("half", "quarter", "direction", "numeral", "copied", "zeros", "fraction digit", "heading"),
-    *("section word", "lot word", "through", "and", "comma", "semicolon", "one part", "mark", "word"),
-    *("repeated", "moved section", "moved heading", "meridian", "acreage", "label"),
+    *("half", "quarter", "direction", "numeral", "copied", "copied step", "damage", "exception"),
+    *("zeros", "fraction digit", "heading", "section word", "lot word", "through", "and", "comma"),
+    *("semicolon", "one part", "mark", "word", "repeated", "moved section", "moved heading", "meridian"),
+    *("acreage", "label"),
 )
 
 #: What rules assume that the text does not say.

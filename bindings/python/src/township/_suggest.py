@@ -3,7 +3,7 @@ from __future__ import annotations
 
 import argparse
 import itertools
-from typing import Any, Iterable, List, Optional, Sequence
+from typing import Any, List, Optional, Sequence
 
 from . import _library
 from ._account import ACCOUNTS
@@ -36,6 +36,12 @@ exit status:
 SEVERAL_READINGS, NO_READING = 1, 4
 
 _NOT_CERTAIN = "no reading is certain"
+
+#: What is said of a reading that is not the changed text itself.
+_MANNERS = {
+    "lots named": "the aliquot part includes lots, which are named in its place",
+    "remainder": "this is the land that is left without the exception",
+}
 
 #: The width of the column of phrases, if none is wider.
 _PHRASE = 9
@@ -126,7 +132,8 @@ def _refusal_of(reading: Reading) -> str:
     return "" if refused is None else f"refused {refused.number}: {refused.sentence}"
 
 
-def _explained(given: bytes, changes: Sequence[Change], readings: Iterable[Reading]) -> List[str]:
+def _explained(given: bytes, changes: Sequence[Change], readings: Sequence[Reading]) -> List[str]:
     """Return a line for each phrase that changes make something else, and for each assumption of the readings."""
     phrases = [f"     {phrase.text:<{_PHRASE}} {phrase.meaning}" for phrase in phrases_of(given, changes)]
-    return phrases + [f"     {assumption}" for assumption in assumptions_of(readings)]
+    manners = dict.fromkeys(_MANNERS[each.manner] for each in readings if each.manner in _MANNERS)
+    return phrases + [f"     {said}" for said in (*manners, *assumptions_of(readings))]

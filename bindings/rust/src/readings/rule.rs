@@ -15,6 +15,12 @@ pub enum Rule {
     Numeral,
     /// A number that the text contains elsewhere is written where it belongs.
     Copied,
+    /// A step of an aliquot part is written again where it belongs, too.
+    CopiedStep,
+    /// A digit is written for a letter that scanning made of it, or a letter for a digit.
+    Damage,
+    /// What follows is what the land is without.
+    Exception,
     /// The zeros before a number are left out.
     Zeros,
     /// The fraction digit of a register is left out: a 0 after the number of a township or a range.
@@ -54,12 +60,15 @@ pub enum Rule {
 }
 
 /// The rules, in the order of their numbers, which begin with 1.
-const RULES: [Rule; 23] = [
+const RULES: [Rule; 26] = [
     Rule::Half,
     Rule::Quarter,
     Rule::Direction,
     Rule::Numeral,
     Rule::Copied,
+    Rule::CopiedStep,
+    Rule::Damage,
+    Rule::Exception,
     Rule::Zeros,
     Rule::FractionDigit,
     Rule::Heading,
@@ -128,8 +137,8 @@ mod tests {
     }
 
     #[test]
-    #[should_panic(expected = "rule 24, which is unknown here")]
+    #[should_panic(expected = "rule 27, which is unknown here")]
     fn unknown_rule() {
-        Rule::of(24);
+        Rule::of(27);
     }
 }

@@ -1,7 +1,7 @@
 -- What the functions that make the data of readings promise one another.
 use Rattle.std.specs.Prelude.{◌≡◌, ℕ, ◌++◌, List, [], ◌∷◌, length}
 use Rattle.std.specs.List.{AllZip}
-use Rattle.twp_suggest.specs.declared.change.Change.{Change}
+use Rattle.twp_rules.specs.declared.change.Change.{Change}
 use Rattle.twp_suggest.specs.declared.reading.Reading.{Reading}
 use Rattle.twp_calls.specs.Suggestions.{AreSuggested, IsChangeData, IsReadingData, IsReason, Rooms, rooms}
 use Rattle.twp_calls.specs.Suggestions.{assumes_of, copied_from, copied_to, number_of}
