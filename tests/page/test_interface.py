@@ -95,7 +95,7 @@ def test_compare_refused(server: Interface) -> None:
     assert list(refused) == ["first"] and refused["first"]["number"] == 66
 
 
-@pytest.mark.parametrize("text", ["NENE, S2NE4 Sec 14-2N-3W", "sec. 14: NE¼NE¼ SW¼SW¼", "N2 Sec 5", "the old mill", ""])
+@pytest.mark.parametrize("text", ["NENE, S2NE4 Sec 14-2N-3W", "sec. 14: NE¼NE¼ SW¼SW¼", "N2 Sec 5", "N2 Sec 14-3N-3W", "the old mill", ""])
 def test_suggest(server: Interface, text: str) -> None:
     answer = server.ask("suggest", notes=NOTES, text=text)
     readings = PLAT.suggest(text)

@@ -33,6 +33,7 @@ class Suggested(unittest.TestCase):
             self.assertGreater(len(readings), 0, text)
             for reading in readings:
                 at, made = 0, b""
+                self.assertEqual(reading.manner, "changed")
                 for change in reading.changes:
                     self.assertEqual(given[change.start : change.end].decode(), change.left_out)
                     made += given[at : change.start] + change.written.encode()
@@ -82,6 +83,14 @@ class Suggested(unittest.TestCase):
         start, end = readings.beyond
         self.assertIn("portion", text[start:end])
         self.assertEqual(township.suggest("sec. 14.").reason, None)
+
+    def test_manners(self):
+        for text, manner, land in (
+            ("N2 Sec 5", "lots named", "sec. 5, lots 1 to 4, S1/2N1/2."),
+            ("Sec 14, less and except the NE/4", "remainder", "sec. 14, NW1/4, S1/2."),
+        ):
+            reading, = PLAT.suggest(text)
+            self.assertEqual((reading.manner, reading.normal), (manner, PLAT.normal(land)))
 
     def test_text_of_bytes(self):
         self.assertEqual(township.suggest(TWO.encode()), township.suggest(TWO))
@@ -175,11 +184,30 @@ class Command(BatchCase):
 
     def test_refused_by_the_plat(self):
         self.assertShows(
+            "N2 Sec 14-3N-3W", 0,
+            "1. T. 3 N., R. 3 W., sec. 14, N1/2.    refused 61: this heading says T. 3 N., R. 3 W.; the field notes are for "
+            "T. 2 N., R. 3 W.",
+            "     N2        is N1/2",
+            "     Sec 14-3N-3W is section, township, and range",
+        )
+
+    def test_lots_are_named(self):
+        # 40.45 + 40.55 + 40.65 + 40.75, and two parts of 80 acres.
+        self.assertShows(
             "N2 Sec 5", 0,
-            "1. sec. 5, N1/2.    refused 66: this part includes lots; name the lots instead",
+            "1. sec. 5, lots 1, 2, 3, 4, S1/2NE1/4, S1/2NW1/4.    322.40 acres",
             "     N2        is N1/2",
             "     Sec 5     is the section",
+            "     the aliquot part includes lots, which are named in its place",
         )
+
+    def test_what_remains(self):
+        # 640 acres without 160.
+        run = self.run_words("suggest", NOTES, "-", input=b"Sec 14, less and except the NE/4")
+        self.assertEqual(run.returncode, 0, run.stdout)
+        lines = run.stdout.decode().splitlines()
+        self.assertEqual(lines[0], "1. sec. 14, NW1/4, S1/2.    480.00 acres")
+        self.assertEqual(lines[-1], "     this is the land that is left without the exception")
 
     def test_not_expressible(self):
         text = "that portion of the NE/4 lying north of the road"
@@ -216,7 +244,7 @@ class Batch(BatchCase):
         return run.returncode, records(run.stdout)
 
     def test_columns(self):
-        data = f'description\n"{MANY}"\n{TWO}\n"sec. 14, NE1/4."\nthe old mill\n"N2 Sec 5"\n"TRACT 1: sec. 14."\n'
+        data = f'description\n"{MANY}"\n{TWO}\n"sec. 14, NE1/4."\nthe old mill\n"N2 Sec 14-3N-3W"\n"TRACT 1: sec. 14."\n'
         status, (heading, *rows) = self.answers("--suggest", data=data)
         self.assertEqual((status, heading), (1, ["description", *ADDED, *SUGGESTED]))
         self.assertEqual([row[-4:] for row in rows], [
@@ -224,7 +252,7 @@ class Batch(BatchCase):
             ["", "2", "", ""],
             ["sec. 14, NE1/4.", "1", "", "160.00"],
             ["", "0", "", ""],
-            ["sec. 5, N1/2.", "1", "", ""],
+            ["T. 3 N., R. 3 W., sec. 14, N1/2.", "1", "", ""],
             ["sec. 14.", "1", "without `TRACT 1:`: this is not land", "640.00"],
         ])
         # The columns of the answer are the same as without readings.

@@ -118,8 +118,8 @@ write a comma after NE1/4 (320.00 acres)
         ...     print(reading.acres, reading.text)
         80.00 sec. 14: NE¼NE¼, SW¼SW¼
         2.50 sec. 14: NE¼NE¼SW¼SW¼
-        >>> plat.suggest("N2 Sec 5")[0].refused.number
-        66
+        >>> plat.suggest("N2 Sec 14-3N-3W")[0].refused.number
+        61
         """
         code_of(account)
         found = suggest(text)
