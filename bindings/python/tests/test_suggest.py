@@ -173,6 +173,21 @@ class Command(BatchCase):
             "4. sec. 14, NE1/4NE1/4SW1/4SW1/4NW1/4.          0.63 acres    as it is written",
         )
 
+    def test_an_of_for_both_parts(self):
+        # 320 acres and 80; or two parts of 80 acres each.
+        self.assertShows(
+            "Sec 14: W½ and E½ of SE¼", 1,
+            "1. Sec 14, W1/2 and E1/2 of SE1/4.         400.00 acres    as it is written",
+            "2. Sec 14, W1/2SE1/4 and E1/2 of SE1/4.    160.00 acres    if the `of` is for both parts",
+        )
+
+    def test_several_sections(self):
+        self.assertShows(
+            "Sections 14 and 23: W½", 0,
+            "1. sec. 14, W1/2; sec. 23, W1/2.    640.00 acres",
+            "     Sections 14 and 23 is several sections: the land is written for each of them",
+        )
+
     def test_assumptions_are_said(self):
         self.assertShows(
             "TRACT 1: sec. 14, NE/4, Boise Meridian", 0,
@@ -258,7 +273,8 @@ class Batch(BatchCase):
         # The columns of the answer are the same as without readings.
         without = self.answers(data=data)[1]
         self.assertEqual([row[: len(ADDED) + 1] for row in (heading, *rows)], without)
-        self.assertEqual(rows[0][1:3], ["", "44"])
+        # A hyphen is not allowed in a description.
+        self.assertEqual(rows[0][1:3], ["", "42"])
 
     def test_in_several_processes_and_resumed(self):
         data = "description\n" + f'"{MANY}"\n{TWO}\nsec. 14.\n' * 500

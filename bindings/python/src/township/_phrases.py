@@ -21,6 +21,9 @@ _NOTHING = "is left out: it means nothing here"
 #: Why a mark is another one.
 _REASONS = {"comma": ": a part of the same section follows", "semicolon": ": another section follows"}
 
+#: Sections, in the plural.
+_SECTIONS = re.compile(r"\s*sec(?:tion)?s\b", re.IGNORECASE)
+
 #: What ends a word.
 _WORD = re.compile(rb"[\s,;:]")
 
@@ -61,6 +64,7 @@ def tidy(description: str) -> str:
 def phrases_of(given: bytes, changes: Sequence[Change]) -> List[Phrase]:
     """Return the phrases of a text that changes make something else, from left to right."""
     rows = list(_rows(given, [change for change in changes if change.rule in _LEFT_OUT]))
+    # Where a section, or a township and range, is written that is left out elsewhere.
     moved_to = {change.start for change in changes if change.rule == "copied"}
     kept = [
         change
@@ -83,11 +87,17 @@ def assumptions_of(readings: Iterable[Reading]) -> List[str]:
 
 
 def condition_of(given: bytes, reading: Reading, others: Sequence[Reading]) -> Optional[str]:
-    """Return the condition of a reading among others, if all of them differ in white space between parts."""
+    """Return the condition of a reading among others, if all of them differ in one of two ways.
+
+    White space may be within a part, or between two parts; or an `of` may be for one part, or for both.
+    """
+    deciding = {change.rule for each in others for change in _deciding(each, others)}
     own = _deciding(reading, others)
-    if not own or not all(change.rule in ("comma", "one part") for change in own):
-        return None
+    if deciding == {"copied step"}:
+        return "if the `of` is for both parts" if own else "as it is written"
     between = [change for change in own if change.rule == "comma"]
+    if not deciding or not deciding <= {"comma", "one part"}:
+        return None
     if not between:
         return "as it is written"
     if len(between) < len(own):
@@ -124,8 +134,10 @@ def _left_out(given: bytes, row: Sequence[Change]) -> Iterator[Tuple[int, Phrase
     moved = [change for change in row if change.rule.startswith("moved")]
     if moved:
         text = _shown(given[moved[0].start : moved[-1].end])
-        meaning = _MOVED[tuple(sorted({change.rule for change in moved}))]
-        yield moved[0].start, Phrase(" ".join(text.split()).strip(",; "), f"is {meaning}")
+        meaning = f"is {_MOVED[tuple(sorted({change.rule for change in moved}))]}"
+        if _SECTIONS.match(text):
+            meaning = "is several sections: the land is written for each of them"
+        yield moved[0].start, Phrase(" ".join(text.split()).strip(",; "), meaning)
     for change in row:
         text = " ".join(_shown(given[change.start : change.end]).split())
         if change.rule == "repeated":

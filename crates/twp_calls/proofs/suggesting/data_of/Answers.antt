@@ -1,6 +1,6 @@
 use Rattle.twp_calls.specs.Suggestions.{rooms}
 use Rattle.twp_calls.proofs.SuggestionFacts.{next_reading}
-use Rattle.std.proofs.Common.{subst, sym}
+use Rattle.std.proofs.Common.{subst}
 use Rattle.twp_calls.specs.steps.Suggesting.{IsReadingAdded}
 use Rattle.twp_calls.proofs.suggesting.data_of.Goals as goal
 
