@@ -75,6 +75,7 @@ bench:
 	@sh bench/lands.sh
 	@sh bench/descriptions.sh
 	@sh bench/library.sh
+	@sh bench/readings.sh
 	@sh bench/instructions.sh
 
 ## install        install what `make township lib` built below PREFIX, /usr/local if none is given; proves nothing again

@@ -239,17 +239,43 @@ while read -r name; do
     same "docs/GLOSSARY.md: $name"
 done < names
 
-# docs/ARCHITECTURE.md names every crate and every module.
-for file in "$root"/crates/*/src/*.rt; do
-    module=$(basename "$file" .rt)
-    crate=$(basename "$(dirname "$(dirname "$file")")")
-    [ "$module" != lib ] || module=$crate
-    echo "$crate: $module"
-done > wanted
-while IFS=': ' read -r crate module; do
-    grep -q "\`$module\`" "$docs/ARCHITECTURE.md" && echo "$crate: $module"
-done < wanted > found
+# docs/ARCHITECTURE.md names every crate and every module in the rows of its crate, and exactly the modules of definitions
+# that there are. Every crate that has laws has them in modules of the same name.
+names_in() {
+    awk -v from="$1" -v to="$2" '
+        /^## / { on = $0 == from || (on && $0 != to) }
+        on && /^[|]/ {
+            split($0, cells, "|")
+            rest = cells[2] ~ /^ `twp_/ ? cells[2] cells[3] : cells[3]
+            while (match(rest, /`[^`]*`/)) {
+                name = substr(rest, RSTART + 1, RLENGTH - 2)
+                rest = substr(rest, RSTART + RLENGTH)
+                if (name ~ /^twp_/) crate = name
+                else print crate ": " name
+            }
+        }' "$docs/ARCHITECTURE.md" | sort -u
+}
+module_of() {
+    crate=${1#"$root"/crates/}
+    name=${1##*/}
+    echo "${crate%%/*}: ${name%.*}"
+}
+names_in '## The modules' '## Where a definition lives' > named
+for file in "$root"/crates/*/src/*.rt; do module_of "$file"; done | grep -v -e ': lib$' -e ': laws$' > wanted
+grep -xF -f wanted named > found
+sort -u -o wanted wanted
 same 'the modules of docs/ARCHITECTURE.md'
+names_in '## Where a definition lives' '' | grep ': [A-Z]' > found
+for file in "$root"/crates/*/specs/*.antt "$root"/crates/*/specs/steps/*.antt; do module_of "$file"; done |
+    grep -v -e ': Lib$' -e ': steps$' -e ': Laws$' | sort -u > wanted
+grep -v ': Laws$' found > others
+mv others found
+same 'the modules of definitions in docs/ARCHITECTURE.md'
+for crate in "$root"/crates/*; do
+    grep -q "^| \`${crate##*/}\` |" "$docs/ARCHITECTURE.md" || echo "${crate##*/}"
+done > found
+: > wanted
+same 'the crates of docs/ARCHITECTURE.md'
 
 # The files that documents name exist, and so do the sections that they name, as in `PERFORMANCE.md`, "Land".
 folders='docs|tools|samples|examples|tests|bench|bindings|include|completions|man'

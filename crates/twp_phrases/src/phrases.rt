@@ -6,10 +6,14 @@ use twp_grammar::Kind;
 use twp_pieces::plus;
 use twp_rules::Rule;
 
+/// The most pieces that join two phrases.
+const JOINING_MOST: usize = 16;
+
 impl<'a> Draft<'a> {
-    /// Finds the phrases. Where a piece is in none, and doesn't join them, the text isn't sure.
+    /// Finds the phrases. Where a piece is in none, and doesn't join them, the text isn't sure, nor where many pieces join
+    /// two of them.
     pub fn find_phrases(&mut self) -> Result<(), AllocError> {
-        let mut index = 0;
+        let mut index: usize = 0;
         for here in 0..self.pieces.len() {
             if here < index {
                 continue;
@@ -22,7 +26,7 @@ impl<'a> Draft<'a> {
                     index = phrase.end;
                     self.phrases.push(phrase)?;
                 }
-                None if self.joins_phrases(here) => {}
+                None if self.joins_phrases(here) && here < plus(index, JOINING_MOST) => {}
                 None => self.doubt(),
             }
         }
@@ -38,8 +42,52 @@ impl<'a> Draft<'a> {
             )
     }
 
-    /// The phrase at an index.
+    /// The phrase at an index: of a piece that begins only one kind of phrase, that one, before the others are looked for.
     fn phrase_at(&mut self, index: usize) -> Result<Option<Phrase>, AllocError> {
+        let from = self.extent();
+        let found = match self.pieces.kind(index) {
+            Kind::Comma | Kind::Semicolon | Kind::Stop | Kind::Colon | Kind::And | Kind::To => {
+                return Ok(None);
+            }
+            Kind::Half | Kind::Quarter => return Ok(None),
+            Kind::BadByte if !self.pieces.is(index, "( \u{A7}") => return Ok(None),
+            Kind::Sec => self.sections(index)?,
+            Kind::Lot => self.lots(index)?,
+            Kind::T => self.heading(index)?,
+            Kind::Corner(_) => self.sure_part(index)?,
+            Kind::NorthSouth(_) | Kind::EastWest(_) if !self.pieces.is(plus(index, 1), ".") => {
+                self.half_or_section(index)?
+            }
+            _ => None,
+        };
+        if found.is_some() {
+            return Ok(found);
+        }
+        self.shrink(from);
+        self.any_phrase_at(index)
+    }
+
+    /// The section of a location, or the aliquot part, at an index.
+    fn half_or_section(&mut self, index: usize) -> Result<Option<Phrase>, AllocError> {
+        let from = self.extent();
+        if let Some(phrase) = self.section_of_letter(index)? {
+            return Ok(Some(phrase));
+        }
+        self.shrink(from);
+        self.sure_part(index)
+    }
+
+    /// The aliquot part at an index, which is doubted if it may be something else.
+    fn sure_part(&mut self, index: usize) -> Result<Option<Phrase>, AllocError> {
+        let part = self.part(index)?;
+        if let Some(phrase) = part {
+            self.doubt_part(phrase);
+        }
+        Ok(part)
+    }
+
+    /// The phrase at an index, of whatever kind.
+    fn any_phrase_at(&mut self, index: usize) -> Result<Option<Phrase>, AllocError> {
         let from = self.extent();
         if let Some(phrase) = self.aside(index)? {
             return Ok(Some(phrase));
@@ -69,8 +117,7 @@ impl<'a> Draft<'a> {
             return Ok(Some(phrase));
         }
         self.shrink(from);
-        if let Some(phrase) = self.part(index)? {
-            self.doubt_part(phrase);
+        if let Some(phrase) = self.sure_part(index)? {
             return Ok(Some(phrase));
         }
         self.shrink(from);

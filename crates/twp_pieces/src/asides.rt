@@ -172,7 +172,7 @@ impl<'a> Pieces<'a> {
         let mut count: usize = 0;
         let mut next = index;
         for place in index..plus(index, 2 * LETTERS_MOST) {
-            if self.is(place, MERIDIAN_LETTERS) && place == index {
+            if place == index && self.is(place, MERIDIAN_LETTERS) {
                 return Some(self.after_point(plus(place, 1)));
             }
             let bytes = self.bytes(place);

@@ -31,11 +31,15 @@ impl<'a> Pieces<'a> {
                 Kind::BadByte => bytes.len(),
                 _ => size_of_first(list.as_slice(), &token),
             };
-            if let (Some(first), Some(rest)) = (bytes.get(..size), bytes.get(size..)) {
+            if size == bytes.len() {
+                list.push(Token {
+                    kind: token.kind,
+                    text: bytes,
+                    at: token.at,
+                })?;
+            } else if let (Some(first), Some(rest)) = (bytes.get(..size), bytes.get(size..)) {
                 list.push(piece(first, token.kind, token.at))?;
-                if !rest.is_empty() {
-                    list.push(piece(rest, token.kind, token.at.saturating_add(size)))?;
-                }
+                list.push(piece(rest, token.kind, token.at.saturating_add(size)))?;
             }
         }
         Ok(Pieces { text, list })
@@ -149,12 +153,29 @@ pub fn is_one_of(bytes: &[u8], texts: &str) -> bool {
     if bytes.is_empty() {
         return false;
     }
-    for text in texts.split(' ') {
-        if bytes.eq_ignore_ascii_case(text.as_bytes()) {
-            return true;
+    let mut count: usize = 0;
+    let mut fits = true;
+    for byte in texts.as_bytes() {
+        if *byte == b' ' {
+            if fits && count == bytes.len() {
+                return true;
+            }
+            count = 0;
+            fits = true;
+        } else if fits {
+            fits = is_letter(bytes, count, *byte);
+            count = count.saturating_add(1);
         }
     }
-    false
+    fits && count == bytes.len()
+}
+
+/// Whether the byte at an index is this one, in either case.
+fn is_letter(bytes: &[u8], index: usize, letter: u8) -> bool {
+    match bytes.get(index) {
+        Some(byte) => byte.eq_ignore_ascii_case(&letter),
+        None => false,
+    }
 }
 
 /// How many bytes of a token are its first piece: those of the meridian in the six digits that a register begins with,

@@ -5,6 +5,8 @@ use crate::judging::{Judged, judge};
 use crate::manner::Manner;
 use crate::plan::Plan;
 use std::alloc::{AllocError, Global};
+use twp_land::{Land, Lanes};
+use twp_read::TEXT_LIMIT;
 use twp_rules::Change;
 
 /// The most joints of a text whose readings are given: each doubles their number.
@@ -23,6 +25,9 @@ pub(crate) fn candidates_of<'a>(
     alloc: Global,
     text: &'a [u8],
 ) -> Result<Vec<Candidate<'a>>, AllocError> {
+    if text.len() > TEXT_LIMIT {
+        return Ok(Vec::new(alloc));
+    }
     let mut plan = Plan::of(alloc, text)?;
     if plan.draft.is_unsure {
         return Ok(Vec::new(alloc));
@@ -49,10 +54,11 @@ fn land_among<'a>(
     count: usize,
 ) -> Result<Vec<Candidate<'a>>, AllocError> {
     let mut list = Vec::new(alloc);
+    let mut land = Lanes::empty();
     for choice in 0..count {
         let changes = with_joints(alloc, outline, choice)?;
         let made = made_by(alloc, text, changes.as_slice())?;
-        match judge(alloc, made.as_slice(), outline.has_except)? {
+        match judge(alloc, made.as_slice(), outline.has_except, &mut land)? {
             Judged::Land(manner) => list.push(Candidate { changes, manner })?,
             Judged::Overlapping => {}
             Judged::Refused => return Ok(Vec::new(alloc)),

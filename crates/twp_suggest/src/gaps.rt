@@ -20,6 +20,16 @@ pub(crate) struct Joint {
     pub(crate) second: Span,
 }
 
+/// Which steps of one of two parts may be for both.
+#[derive(Clone, Copy, PartialEq, Eq)]
+enum Shared {
+    Nothing,
+    /// Those after the `of` of the second part.
+    Tail,
+    /// Those before the `of` of the first part.
+    Head,
+}
+
 /// The changes of a whole text, but for its joints, and those at its joints.
 #[derive(Drop)]
 pub(crate) struct Outline<'a> {
@@ -92,15 +102,36 @@ impl<'a> Plan<'a> {
             if one.phrase.names == Names::Except || other.phrase.names == Names::Except {
                 return self.write_pieces(gap, left_out, Some(gap.end), false, out);
             }
-            let is_shared = self.write_shared_of(one, other, joining, out)?;
-            if !is_shared && self.is_unsure_gap(one, other, joining, left_out) {
-                self.draft.doubt();
+            let shared = self.shared_of(one, other, joining, out);
+            match shared {
+                Shared::Nothing if self.is_unsure_gap(one, other, joining, left_out) => {
+                    self.draft.doubt();
+                }
+                Shared::Tail => self.write_tail(one.phrase, other.phrase, out)?,
+                Shared::Head => {
+                    self.write_between(before, after, gap, left_out, joining, out)?;
+                    return self.write_head(one.phrase, other.phrase, out);
+                }
+                _ => {}
             }
             let is_apart = matches!(joining, Joining::Nothing | Joining::Stop);
             if is_joint(one, other) && is_apart && left_out.is_empty() {
                 return self.write_joint(gap, one.phrase, other.phrase, out);
             }
         }
+        self.write_between(before, after, gap, left_out, joining, out)
+    }
+
+    /// Writes what has to be between two phrases, if it isn't written so.
+    fn write_between(
+        &mut self,
+        before: Option<Placed>,
+        after: Option<Placed>,
+        gap: Gap,
+        left_out: &[Placed],
+        joining: Joining,
+        out: &mut Outline<'a>,
+    ) -> Result<(), AllocError> {
         if is_written(before, after, gap.between, joining) {
             return self.write_pieces(gap, left_out, None, false, out);
         }
@@ -169,37 +200,49 @@ impl<'a> Plan<'a> {
         Ok(())
     }
 
-    /// Notes that an `of` in one of two parts with `and` between them may be for both: it is as it is written, or the
-    /// steps are written again in the other part. False if there is no such `of`.
-    fn write_shared_of(
-        &mut self,
-        one: Placed,
-        other: Placed,
-        joining: Joining,
-        out: &mut Outline<'a>,
-    ) -> Result<bool, AllocError> {
+    /// Which steps of one of two parts with `and` between them may be for both.
+    fn shared_of(&self, one: Placed, other: Placed, joining: Joining, out: &Outline<'a>) -> Shared {
         let (before, after) = (one.phrase, other.phrase);
         let is_and = joining == Joining::And
             || (joining == Joining::Other && self.draft.pieces.is(before.end, "&"));
-        if !is_joint(one, other) || !is_and || before.form == after.form {
-            return Ok(false);
+        let is_close = after.first <= plus(before.end, 1) && out.joints.len() <= 1;
+        if !is_joint(one, other) || !is_and || !is_close || before.form == after.form {
+            return Shared::Nothing;
         }
-        if after.first > plus(before.end, 1) || out.joints.len() > 1 {
-            return Ok(false);
-        }
-        let begin = out.options.len();
         if after.form == Form::WithOf {
-            let place = self.draft.pieces.end_before(before.end);
-            self.copy_steps_of(after, true, place, out)?;
+            Shared::Tail
         } else {
-            let place = match self.draft.steps_of(after).first() {
-                Some(step) => step.start,
-                None => return Ok(false),
-            };
-            self.copy_steps_of(before, false, place, out)?;
+            Shared::Head
         }
-        self.note_joint(begin, begin, out)?;
-        Ok(true)
+    }
+
+    /// Notes that the `of` of a part may be for the one before it too.
+    fn write_tail(
+        &mut self,
+        one: Phrase,
+        other: Phrase,
+        out: &mut Outline<'a>,
+    ) -> Result<(), AllocError> {
+        let begin = out.options.len();
+        let place = self.draft.pieces.end_before(one.end);
+        self.copy_steps_of(other, true, place, out)?;
+        self.note_joint(begin, begin, out)
+    }
+
+    /// Notes that the steps before the `of` of a part may be for the one after it too.
+    fn write_head(
+        &mut self,
+        one: Phrase,
+        other: Phrase,
+        out: &mut Outline<'a>,
+    ) -> Result<(), AllocError> {
+        let begin = out.options.len();
+        let place = match self.draft.steps_of(other) {
+            [step, ..] => step.start,
+            [] => self.draft.pieces.start(other.first),
+        };
+        self.copy_steps_of(one, false, place, out)?;
+        self.note_joint(begin, begin, out)
     }
 
     /// Writes the steps of a part after its first `of`, or those before it, at a place where they aren't.

@@ -6,7 +6,7 @@ use crate::named::land_with_lots;
 use crate::on_plat::{first_township, land_on, read, township_of};
 use std::alloc::{AllocError, Global};
 use twp_land::{Land, Lanes};
-use twp_resolve::{PlaceFault, resolve};
+use twp_resolve::{PlaceFault, resolve_into};
 
 /// What a text names.
 #[derive(Clone, Copy, PartialEq, Eq)]
@@ -19,10 +19,15 @@ pub(crate) enum Judged {
     Refused,
 }
 
-/// What a changed text names, in its township, or in any if it names none.
-pub(crate) fn judge(alloc: Global, text: &[u8], has_except: bool) -> Result<Judged, AllocError> {
+/// What a changed text names, in its township, or in any if it names none. It is looked for in `land`.
+pub(crate) fn judge(
+    alloc: Global,
+    text: &[u8],
+    has_except: bool,
+    land: &mut Lanes,
+) -> Result<Judged, AllocError> {
     if !has_except {
-        return judge_whole(alloc, text);
+        return judge_whole(alloc, text, land);
     }
     match around_except(text) {
         Some(parts) => judge_remainder(alloc, parts.whole, parts.excepted),
@@ -48,14 +53,14 @@ fn judge_remainder(alloc: Global, whole: &[u8], excepted: &[u8]) -> Result<Judge
 }
 
 /// What a text without an exception names.
-fn judge_whole(alloc: Global, text: &[u8]) -> Result<Judged, AllocError> {
+fn judge_whole(alloc: Global, text: &[u8], land: &mut Lanes) -> Result<Judged, AllocError> {
     let Some(description) = read(alloc, text)? else {
         return Ok(Judged::Refused);
     };
     let Some(township) = first_township(description.items()) else {
         return Ok(Judged::Refused);
     };
-    match resolve::<Lanes>(&description, township) {
+    match resolve_into(land, &description, township) {
         Ok(_) => Ok(Judged::Land(Manner::Changed)),
         Err(PlaceFault::Overlap { .. }) => Ok(Judged::Overlapping),
         Err(PlaceFault::OnLot { .. }) if land_with_lots::<Lanes>(&description).is_some() => {
