@@ -443,7 +443,7 @@ typedef struct township_explanation {
     uint64_t other_start;     /* the bytes of the other place in the input */
     uint64_t other_end;
     uint64_t sentence;        /* what is wrong or noted, without the location; a line feed in it, and the two spaces after
-                                 it, stand for a space */
+                                 it, are to be read as one space */
     uint64_t sentence_length;
     uint64_t excerpt;         /* the lines that show the input, each with its line feed */
     uint64_t excerpt_length;

@@ -75,15 +75,15 @@ impl Refused {
         fault: Fault,
         explain: impl Fn(&mut [u8], &mut ffi::Explanation) -> Answer,
     ) -> Refused {
-        let (told, explained) = explained_by(explain);
+        let (answer, explained) = explained_by(explain);
         assert_eq!(
-            told.accepted(),
+            answer.accepted(),
             Err(fault),
             "the library explains what it refused"
         );
         Refused {
-            line: counted(told.line),
-            column: counted(told.column),
+            line: counted(answer.line),
+            column: counted(answer.column),
             ..Refused::new(fault, explained)
         }
     }

@@ -205,14 +205,14 @@ def exception_of(
     """
     if answer.verdict not in _REFUSALS:
         return failure_of(answer.verdict)
-    told, text, explained = explained_by(explain, *given, source, len(source))
-    if told.verdict not in _REFUSALS:
-        return failure_of(told.verdict)
-    if (told.number, told.at) != (answer.number, answer.at):
+    shown, text, explained = explained_by(explain, *given, source, len(source))
+    if shown.verdict not in _REFUSALS:
+        return failure_of(shown.verdict)
+    if (shown.number, shown.at) != (answer.number, answer.at):
         # A list can be refused as a whole, and what is explained is a tract's fault that comes before.
         return Refused(answer.number, answer.at, source=source.decode())
     inner = inner_refusal(answer)
     # The line and column are both 0 if the error is not on any line.
-    line, column = told.line or None, told.column or None
+    line, column = shown.line or None, shown.column or None
     return Refused(answer.number, answer.at, line, column, text, inner, source.decode(), explained)
 
